@@ -1,0 +1,24 @@
+-- The record of a clash, as bytes. Numbers are little-endian.
+use Rattle.std.specs.Prelude.{ℕ, List, ◌++◌, length}
+use Rattle.std.specs.Int.{w32, w64, to_le_bytes}
+use Rattle.clash_record.specs.declared.registrations.Registration.{Registration}
+use Rattle.clash_record.specs.Name.{padded}
+
+-- how many bytes a record has
+abbrev pub record_len : ℕ
+record_len = 128
+
+-- the length of the name, four zeros, and the name with zeros up to 32 bytes
+abbrev pub name_field : List ℕ → List ℕ
+name_field name = to_le_bytes w32 (length name) ++ (to_le_bytes w32 0 ++ padded name)
+
+-- node, serial number, stamp, weight and the extra bytes
+abbrev pub registration_bytes : Registration → List ℕ
+registration_bytes r =
+    to_le_bytes w32 r.owner.node ++ (to_le_bytes w32 r.owner.serial
+    ++ (to_le_bytes w64 r.stamp ++ (to_le_bytes w64 r.weight ++ r.extra)))
+
+-- the record of a clash of two registrations of a name, at a word
+abbrev pub clash_bytes : List ℕ → Registration → Registration → ℕ → List ℕ
+clash_bytes name first second word =
+    name_field name ++ (to_le_bytes w64 word ++ (registration_bytes first ++ registration_bytes second))

@@ -1,0 +1,103 @@
+//! The record of a clash.
+ghost use Rattle.std.specs.Prelude.{◌≡◌, ◌<◌, length, All};
+ghost use Rattle.std.specs.Int.{w64, to_le_bytes};
+ghost use Rattle.clash_record.specs.Record.{record_len, name_field, registration_bytes, clash_bytes};
+
+use crate::names::Name;
+use crate::registrations::Registration;
+use byteorder::{ByteOrder, LittleEndian};
+use std::marker::Model;
+
+/// How many bytes a record has.
+pub const RECORD_LEN: usize = 128;
+
+/// The record that a program reads as it judges a clash. A contract sees it as the list of its bytes.
+#[derive(Clone, Copy, Debug, PartialEq, Eq)]
+pub struct ClashRecord {
+    bytes: [u8; RECORD_LEN],
+}
+
+impl Model for ClashRecord {
+    ghost use Rattle.std.specs.Prelude.{ℕ, List};
+
+    ghost Value = { List ℕ };
+
+    ghost view = { λ r. r.bytes };
+
+    ghost inverse = { λ bytes. record { bytes = bytes } };
+}
+
+impl ClashRecord {
+    /// The bytes of the record.
+    pub fn bytes(&self) -> &[u8; RECORD_LEN]
+        ensures value { result.now ≡ self.now }
+        ensures whole { length result.now ≡ record_len }
+        ensures bytes { All (λ byte. byte < 256) result.now }
+    {
+        let bytes = &self.bytes;
+        bytes_fit(bytes);
+        bytes
+    }
+}
+
+// Each byte is below 256.
+fn bytes_fit(bytes: &[u8])
+    ensures { All (λ byte. byte < 256) bytes.now }
+{}
+
+/// The record of a clash of these two registrations of the name, at this word.
+pub fn record(name: &Name, first: &Registration, second: &Registration, word: u64) -> ClashRecord
+    ensures { result ≡ clash_bytes name.now first.now second.now word }
+{
+    let mut filled = [0; RECORD_LEN];
+    write_record(&mut filled, name, first, second, word);
+    ClashRecord { bytes: filled }
+}
+
+/// The record of these bytes, whatever they are.
+pub fn record_of(bytes: [u8; RECORD_LEN]) -> ClashRecord
+    ensures { result ≡ bytes }
+{
+    ClashRecord { bytes }
+}
+
+// Writes the name, the word and the two registrations, one after another.
+fn write_record(out: &mut [u8], name: &Name, first: &Registration, second: &Registration, word: u64)
+    requires { length out.old ≡ record_len }
+    ensures { out.new ≡ clash_bytes name.now first.now second.now word }
+{
+    write_name(&mut out[..40], name);
+    write_word(&mut out[40..48], word);
+    write_registration(&mut out[48..88], first);
+    write_registration(&mut out[88..], second);
+}
+
+// Writes the length of the name, four zeros, and the name with zeros behind it.
+fn write_name(out: &mut [u8], name: &Name)
+    requires { length out.old ≡ 40 }
+    ensures { out.new ≡ name_field name.now }
+{
+    LittleEndian::write_u32(out, name.bytes().len() as u32);
+    LittleEndian::write_u32(&mut out[4..], 0);
+    out[8..].copy_from_slice(name.padded());
+}
+
+// Writes the word, the lowest byte first.
+fn write_word(out: &mut [u8], word: u64)
+    requires { length out.old ≡ 8 }
+    ensures { out.new ≡ to_le_bytes w64 word }
+{
+    LittleEndian::write_u64(out, word);
+}
+
+// Writes a registration's fields, one after another.
+fn write_registration(out: &mut [u8], registration: &Registration)
+    requires { length out.old ≡ 40 }
+    ensures { out.new ≡ registration_bytes registration.now }
+{
+    LittleEndian::write_u32(out, registration.owner.node);
+    LittleEndian::write_u32(&mut out[4..], registration.owner.serial);
+    LittleEndian::write_u64(&mut out[8..], registration.stamp);
+    LittleEndian::write_u64(&mut out[16..], registration.weight);
+    out[24..].copy_from_slice(&registration.extra);
+}

@@ -1,0 +1,75 @@
+//! The record of two registrations of `db`, names that are none, and the orders.
+use super::*;
+use std::test::Fail;
+
+// The name db, word 7, the first 1.10 with stamp 5, the second 2.20 with stamp 9.
+#[rattlefmt::skip]
+const DB: [u8; RECORD_LEN] = [
+    0x02, 0x00, 0x00, 0x00, 0x00, 0x00, 0x00, 0x00, 0x64, 0x62, 0x00, 0x00, 0x00, 0x00, 0x00, 0x00,
+    0x00, 0x00, 0x00, 0x00, 0x00, 0x00, 0x00, 0x00, 0x00, 0x00, 0x00, 0x00, 0x00, 0x00, 0x00, 0x00,
+    0x00, 0x00, 0x00, 0x00, 0x00, 0x00, 0x00, 0x00, 0x07, 0x00, 0x00, 0x00, 0x00, 0x00, 0x00, 0x00,
+    0x01, 0x00, 0x00, 0x00, 0x0a, 0x00, 0x00, 0x00, 0x05, 0x00, 0x00, 0x00, 0x00, 0x00, 0x00, 0x00,
+    0x00, 0x00, 0x00, 0x00, 0x00, 0x00, 0x00, 0x00, 0x00, 0x00, 0x00, 0x00, 0x00, 0x00, 0x00, 0x00,
+    0x00, 0x00, 0x00, 0x00, 0x00, 0x00, 0x00, 0x00, 0x02, 0x00, 0x00, 0x00, 0x14, 0x00, 0x00, 0x00,
+    0x09, 0x00, 0x00, 0x00, 0x00, 0x00, 0x00, 0x00, 0x00, 0x00, 0x00, 0x00, 0x00, 0x00, 0x00, 0x00,
+    0x00, 0x00, 0x00, 0x00, 0x00, 0x00, 0x00, 0x00, 0x00, 0x00, 0x00, 0x00, 0x00, 0x00, 0x00, 0x00,
+];
+
+fn registration(node: u32, serial: u32, stamp: u64) -> Registration {
+    Registration {
+        owner: Owner { node, serial },
+        stamp,
+        weight: 0,
+        extra: [0; 16],
+        resolver: ResolverId::Builtin(Builtin::Exit),
+    }
+}
+
+#[test]
+fn record_of_db(rt: HostRuntime) -> Result<(), Fail> {
+    let first = registration(1, 10, 5);
+    let second = registration(2, 20, 9);
+    let made = record(&name(b"db")?, &first, &second, 7);
+    assert_eq!(rt; made.bytes().as_slice(), DB.as_slice());
+    assert_eq!(rt; record_of(DB).bytes().as_slice(), DB.as_slice());
+    Ok(())
+}
+
+#[test]
+fn names_that_are_none(rt: HostRuntime) {
+    assert_eq!(rt; name(b"").err().map(|fault| fault.number()), Some(44));
+    assert_eq!(rt;
+        name(&[b'a'; 33]).err().map(|fault| fault.number()),
+        Some(44)
+    );
+    assert_eq!(rt; name(b"a b").err().map(|fault| fault.number()), Some(44));
+    assert!(rt; name(&[b'~'; 32]).is_ok());
+}
+
+#[test]
+fn names_in_order(rt: HostRuntime) -> Result<(), Fail> {
+    let a = name(b"a")?;
+    let ab = name(b"ab")?;
+    let b = name(b"b")?;
+    assert!(rt; a < ab);
+    assert!(rt; ab < b);
+    assert_eq!(rt; ab, name(b"ab")?);
+    assert_eq!(rt; ab.bytes(), b"ab".as_slice());
+    Ok(())
+}
+
+#[test]
+fn registrations_in_order(rt: HostRuntime) {
+    order_theorem();
+    let earlier = registration(1, 9, 0);
+    let later = registration(2, 1, 0);
+    assert!(rt; earlier.precedes(&later));
+    assert!(rt; !later.precedes(&earlier));
+    assert!(rt; !later.precedes(&later));
+    let mut program = earlier;
+    program.resolver = ResolverId::Program(ProgramId([0; 32]));
+    let mut all = earlier;
+    all.resolver = ResolverId::Builtin(Builtin::NotifyAll);
+    assert!(rt; all.precedes(&program));
+    assert!(rt; earlier.precedes(&all));
+}

@@ -1,0 +1,2 @@
+pub mod ByLayout
+pub mod SignedDivision

@@ -1,0 +1,5 @@
+pub mod Operations
+pub mod Machine
+pub mod Encoding
+pub mod Faults
+pub mod Slots

@@ -1,0 +1,88 @@
+//! Why bytes are no code.
+ghost use Rattle.std.specs.Prelude.{◌≡◌, None, Some};
+ghost use Rattle.insn_codec.specs.Faults.{length_fault_number, slot_fault_number, fault_number, fault_slot};
+
+/// What is wrong with the number of bytes.
+#[derive(Clone, Copy, Debug, PartialEq, Eq)]
+pub enum LengthFault {
+    /// There is no byte.
+    Empty,
+    /// There are more bytes than 1,024 slots have.
+    TooLong,
+    /// The last slot isn't whole.
+    Ragged,
+}
+
+/// What is wrong with the instruction at a slot.
+#[derive(Clone, Copy, Debug, PartialEq, Eq)]
+pub enum SlotFault {
+    /// The opcode, or a field that selects the operation, names none that is known here.
+    UnknownOpcode,
+    /// A register field that is used is above ten.
+    BadRegister,
+    /// A field that isn't used isn't zero.
+    FieldNotZero,
+    /// The second slot of a wide load is missing.
+    CutWide,
+}
+
+/// Why bytes were not decoded.
+#[derive(Clone, Copy, Debug, PartialEq, Eq)]
+pub enum CodecFault {
+    /// The number of bytes is wrong.
+    Length(LengthFault),
+    /// The instruction whose first slot this is is wrong.
+    Slot { fault: SlotFault, slot: u32 },
+    /// Memory ran out.
+    OutOfMemory,
+}
+
+impl LengthFault {
+    /// Its number among the refusals.
+    pub fn number(self) -> u32
+        ensures { result ≡ length_fault_number self }
+    {
+        match self {
+            LengthFault::Empty => 1,
+            LengthFault::TooLong => 2,
+            LengthFault::Ragged => 3,
+        }
+    }
+}
+
+impl SlotFault {
+    /// Its number among the refusals.
+    pub fn number(self) -> u32
+        ensures { result ≡ slot_fault_number self }
+    {
+        match self {
+            SlotFault::UnknownOpcode => 4,
+            SlotFault::BadRegister => 5,
+            SlotFault::FieldNotZero => 6,
+            SlotFault::CutWide => 7,
+        }
+    }
+}
+
+impl CodecFault {
+    /// Its number among the refusals.
+    pub fn number(self) -> u32
+        ensures { result ≡ fault_number self }
+    {
+        match self {
+            CodecFault::Length(fault) => fault.number(),
+            CodecFault::Slot { fault, .. } => fault.number(),
+            CodecFault::OutOfMemory => 90,
+        }
+    }
+
+    /// The slot that it names, if it names one.
+    pub fn slot(self) -> Option<u32>
+        ensures { result ≡ fault_slot self }
+    {
+        match self {
+            CodecFault::Slot { slot, .. } => Some(slot),
+            _ => None,
+        }
+    }
+}
