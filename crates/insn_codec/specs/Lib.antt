@@ -3,3 +3,6 @@ pub mod Machine
 pub mod Encoding
 pub mod Faults
 pub mod Slots
+pub mod Forms
+pub mod Front
+pub mod Decoding

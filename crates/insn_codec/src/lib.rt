@@ -2,6 +2,13 @@
 #![tactic(auto)]
 
 pub mod code;
+pub mod decoder;
+pub mod encoder;
 pub mod fault;
+mod fields;
+mod form;
 pub mod insn;
+mod opcode;
 pub mod operations;
+#[cfg(test)]
+mod tests;

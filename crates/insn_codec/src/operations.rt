@@ -1,6 +1,9 @@
 //! What each operation computes (RFC 9669, sections 4.1 to 4.3), on 64-bit words.
-ghost use Rattle.std.specs.Prelude.{◌≡◌, ◌%◌, ◌^◌};
-ghost use Rattle.insn_codec.specs.Operations.{cut_alu, cut_test, alu_of, neg_of, mov_sx_of, end_of, is_taken, swapped, IsMovSxBits, IsEndBits};
+ghost use Rattle.std.specs.Prelude.{◌≡◌, ℕ, ◌<◌, ◌%◌, ◌^◌};
+ghost use Rattle.insn_codec.specs.Operations.{bits_of, cut_alu, cut_test, alu_of, neg_of, mov_sx_of, end_of, is_taken, swapped, IsMovSxBits, IsEndBits};
+ghost use Rattle.insn_codec.specs.declared.insn.Width.{Width};
+ghost use Rattle.insn_codec.specs.declared.insn.AluOp.{AluOp};
+ghost use Rattle.insn_codec.specs.declared.insn.EndKind.{EndKind};
 ghost use Rattle.insn_codec.specs.declared.insn.Width.TheVariants.{W32, W64};
 ghost use Rattle.insn_codec.specs.declared.insn.AluOp.TheVariants.{SDiv, SMod};
 ghost use Rattle.insn_codec.specs.declared.insn.EndKind.TheVariants.{Swap};
@@ -237,3 +240,11 @@ fn test32(test: Test, a: u32, b: u32) -> bool
         Test::Jsle => a.cast_signed() <= b.cast_signed(),
     }
 }
+
+/// Each result is a word of the width that the operation works on, whatever its operands are.
+pub fn results_fit()
+    ensures alu { (width : Width) → (op : AluOp) → (a b : ℕ) → alu_of width op a b < 2 ^ bits_of width }
+    ensures neg { (width : Width) → (a : ℕ) → neg_of width a < 2 ^ bits_of width }
+    ensures movsx { (width : Width) → (bits a : ℕ) → IsMovSxBits width bits → mov_sx_of width bits a < 2 ^ bits_of width }
+    ensures end { (kind : EndKind) → (bits a : ℕ) → IsEndBits bits → end_of kind bits a < 2 ^ 64 }
+{}
