@@ -1,0 +1,3 @@
+pub mod WrittenBytes
+pub mod Views
+pub mod Shifts

@@ -1,0 +1,77 @@
+//! Which bytes of the stack are written.
+ghost use Rattle.std.specs.Prelude.{◌≡◌, ℕ, ◌+◌, ◌<◌, ◌≤◌, false, ◌&&◌, ◌==◌, if◌then◌else◌, bit_and, length, slice_index};
+
+/// How many bytes the stack has.
+pub const STACK_LEN: usize = 512;
+
+/// The set of the stack's 512 bytes that are written. Bytes are counted from the stack's lowest.
+#[derive(Clone, Copy, Debug, PartialEq, Eq)]
+pub struct StackState {
+    words: [u64; 8],
+    ghost eight: { length words ≡ 8 },
+}
+
+impl StackState {
+    ghost use Rattle.abstract_value.specs.StackBytes.{is_written, all_written, marked};
+
+    /// No byte is written.
+    pub fn empty() -> StackState
+        ensures { (k : ℕ) → is_written result k ≡ false }
+    {
+        StackState { words: [0; 8] }
+    }
+
+    /// Whether a byte is written.
+    pub fn is_written(&self, at: usize) -> bool
+        requires { at < STACK_LEN }
+        ensures { result ≡ is_written self.now at }
+    {
+        (self.words[at / 64] >> (at % 64)) & 1 == 1
+    }
+
+    /// Whether so many bytes from one on are written.
+    pub fn all_written(&self, from: usize, count: usize) -> bool
+        requires { from + count ≤ STACK_LEN }
+        ensures { result ≡ all_written (is_written self.now) from count }
+    {
+        for at in from..from + count {
+            if !self.is_written(at) {
+                return false;
+            }
+        }
+        true
+    }
+
+    /// Adds so many bytes from one on.
+    pub fn mark(&mut self, from: usize, count: usize)
+        requires { from + count ≤ STACK_LEN }
+        ensures { (k : ℕ) → is_written self.new k ≡ marked (is_written self.old) from count k }
+    {
+        for at in from..from + count {
+            self.mark_one(at);
+        }
+    }
+
+    fn mark_one(&mut self, at: usize)
+        requires { at < STACK_LEN }
+        ensures { (k : ℕ) → is_written self.new k ≡ marked (is_written self.old) at 1 k }
+    {
+        self.words[at / 64] |= 1 << (at % 64);
+    }
+
+    /// Leaves the bytes that the other has too.
+    pub fn intersect(&mut self, other: &StackState)
+        ensures { (k : ℕ) → is_written self.new k ≡ (is_written self.old k && is_written other.now k) }
+    {
+        for i in 0..8 {
+            self.intersect_word(i, other);
+        }
+    }
+
+    fn intersect_word(&mut self, i: usize, other: &StackState)
+        requires { i < 8 }
+        ensures { (j : ℕ) → slice_index self.new.words j ≡ (if j == i then bit_and (slice_index self.old.words i) (slice_index other.now.words i) else slice_index self.old.words j) }
+    {
+        self.words[i] &= other.words[i];
+    }
+}

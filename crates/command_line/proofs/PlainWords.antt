@@ -1,0 +1,24 @@
+-- What plain words ask for.
+use Rattle.std.proofs.Common.{◌≡◌, false, [], ◌∷◌, None, refl, codes}
+use Rattle.std.specs.Str.{bytes_eq}
+use Rattle.clap.specs.Lexer.{strip_byte}
+use Rattle.clap.specs.Words.{Text}
+use Rattle.clap.proofs.OnLiterals.{clap_on_literals}
+use Rattle.command_line.specs.Asked.{Asks, judge}
+use Rattle.command_line.specs.Plain.{IsPlain}
+
+no_hyphen : (word : Text) → IsPlain word → strip_byte 45 word ≡ None
+no_hyphen [] plain = refl
+no_hyphen (x ∷ xs) plain = rw plain refl
+
+no_end : (word : Text) → IsPlain word → bytes_eq word (45 ∷ 45 ∷ []) ≡ false
+no_end [] plain = refl
+no_end (x ∷ xs) plain = rw plain refl
+
+pub plain_judge : (name code clash : Text) → IsPlain code → IsPlain clash → Asks (name ∷ codes "judge" ∷ code ∷ clash ∷ []) (judge code clash)
+unfolding clap_on_literals
+plain_judge name code clash plain-code plain-clash =
+    let a = no_hyphen code plain-code in
+    let b = no_hyphen clash plain-clash in
+    let d = no_end code plain-code in
+    let e = no_end clash plain-clash in (simp (a, b, d, e), simp (a, b, d, e))

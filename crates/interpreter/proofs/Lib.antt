@@ -1,0 +1,4 @@
+pub mod Bytes
+pub mod Turns
+pub mod Ending
+pub mod Counts

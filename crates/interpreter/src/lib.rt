@@ -1,0 +1,8 @@
+//! Runs verified code on a clash record: its answer is the code's meaning.
+#![tactic(auto)]
+
+mod machine;
+mod memory;
+mod running;
+
+pub use running::{Ended, one_meaning, run};

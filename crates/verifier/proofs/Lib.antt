@@ -1,0 +1,15 @@
+pub mod Tags
+pub mod Accesses
+pub mod Moves
+pub mod Onward
+pub mod Reaching
+pub mod Steps
+pub mod Places
+pub mod Safe
+pub mod Marks
+pub mod Order
+pub mod RuleOrder
+pub mod Pass
+pub mod Spans
+pub mod Rulings
+pub mod Look

@@ -1,0 +1,29 @@
+-- When code is refused.
+use Rattle.std.specs.Prelude.{ℕ, ◌+◌, List}
+use Rattle.insn_codec.specs.declared.insn.Insn.{Insn}
+use Rattle.abstract_value.specs.Laws.{Ops}
+use Rattle.verifier.specs.declared.rule.Rule.{Rule}
+use Rattle.verifier.specs.declared.rule.Rule.TheVariants.{Backward, Outside, IntoWide, FallsOff, NoEdge}
+use Rattle.verifier.specs.declared.refusal.VerifyFault.{VerifyFault}
+use Rattle.verifier.specs.declared.refusal.VerifyFault.TheVariants.{Refused, OutOfMemory}
+use Rattle.verifier.specs.Structure.{IsIllStructured}
+use Rattle.verifier.specs.Assignments.{Assignment, FulfilsBefore, FailsLeast}
+
+-- a rule is the first that fails in the least state at a slot, and no assignment fulfils the rules up to there
+pub record IsUnfulfilled {D : Type 0} (o : Ops D) (code : List Insn) (slot : ℕ) (rule : Rule) : Type 0 where
+  pub fails : FailsLeast o code slot rule
+  pub unfulfilled : (states : Assignment D) → FulfilsBefore o code (slot + 1) states → ⊥
+
+-- a rule of structure fails there first, or one of the others does in the least state
+abbrev pub IsRefusedAt : {D : Type 0} → Ops D → List Insn → ℕ → Rule → Type 0
+IsRefusedAt o code slot Backward = IsIllStructured code slot Backward
+IsRefusedAt o code slot Outside = IsIllStructured code slot Outside
+IsRefusedAt o code slot IntoWide = IsIllStructured code slot IntoWide
+IsRefusedAt o code slot FallsOff = IsIllStructured code slot FallsOff
+IsRefusedAt o code slot NoEdge = IsIllStructured code slot NoEdge
+IsRefusedAt o code slot rule = IsUnfulfilled o code slot rule
+
+-- why `verify` gives nothing; that memory ran out says nothing of the code
+abbrev pub IsRefused : {D : Type 0} → Ops D → List Insn → VerifyFault → Type 0
+IsRefused o code (Refused r) = IsRefusedAt o code r.slot r.rule
+IsRefused o code OutOfMemory = Unit {0}

@@ -1,0 +1,56 @@
+//! Kinds of registers: numbers, addresses, and those that can't be read.
+ghost use Rattle.std.specs.Prelude.{◌≡◌};
+ghost use Rattle.abstract_value.specs.States.{view};
+ghost use Rattle.verifier.specs.Rules.{is_readable, is_pointer, is_scalar, operand, writes};
+ghost use Rattle.verifier.specs.Values.{number_of};
+
+use abstract_value::domain::Domain;
+use abstract_value::state::{RegState, State};
+use insn_codec::insn::{Insn, Register, Source};
+
+/// Whether a register can be read.
+pub(crate) fn is_readable<D>(state: &RegState<D>) -> bool
+    ensures { result ≡ is_readable state.now }
+{
+    !matches!(state, RegState::Unreadable)
+}
+
+/// Whether a register has an address.
+pub(crate) fn is_pointer<D>(state: &RegState<D>) -> bool
+    ensures { result ≡ is_pointer state.now }
+{
+    matches!(state, RegState::Record(_) | RegState::Stack(_))
+}
+
+/// Whether a register has a number.
+pub(crate) fn is_scalar<D>(state: &RegState<D>) -> bool
+    ensures { result ≡ is_scalar state.now }
+{
+    matches!(state, RegState::Scalar(_))
+}
+
+/// The second operand: a register, or a number of the instruction extended by its sign.
+pub(crate) fn operand<D: Domain>(state: &State<D>, source: Source) -> RegState<D>
+    ensures { result ≡ operand D.ops (view state.now) source }
+{
+    match source {
+        Source::Imm(number) => RegState::Scalar(D::single((number as i64).cast_unsigned())),
+        Source::Reg(register) => state.register(register),
+    }
+}
+
+/// The register that an instruction writes, if it writes one.
+pub(crate) fn destination(insn: Insn) -> Option<Register>
+    ensures { number_of result ≡ writes insn }
+{
+    match insn {
+        Insn::Alu { dst, .. } => Some(dst),
+        Insn::Neg { dst, .. } => Some(dst),
+        Insn::MovSx { dst, .. } => Some(dst),
+        Insn::End { dst, .. } => Some(dst),
+        Insn::LoadWide { dst, .. } => Some(dst),
+        Insn::Load { dst, .. } => Some(dst),
+        Insn::LoadSx { dst, .. } => Some(dst),
+        _ => None,
+    }
+}

@@ -1,0 +1,167 @@
+//! Accesses to memory, and the rules 21 to 25.
+ghost use Rattle.std.specs.Prelude.{◌≡◌, ◌≤◌, ◌+ℤ◌, ◌-ℤ◌, ◌+◌, pos, IsTrue, MatchOption};
+ghost use Rattle.insn_codec.specs.Machine.{bytes_of};
+ghost use Rattle.abstract_value.specs.StackBytes.{is_written};
+ghost use Rattle.verifier.specs.Rules.{whole, reach_of, access_of, is_inside, in_stack, stack_index, inside_record, leaves_record, inside_stack, finds_written};
+ghost use Rattle.verifier.specs.Reaches.{as_reach, as_reaches, ReachPasses, ReachFails};
+
+use crate::kinds::is_scalar;
+use crate::rule::Rule;
+use abstract_value::stack::{STACK_LEN, StackState};
+use abstract_value::state::{RegState, Span};
+use insn_codec::insn::{Insn, Register, Size};
+
+/// How many bytes a clash record has.
+const RECORD_LEN: i32 = 128;
+
+/// An access to memory: the register of its address, the offset, and the size.
+#[derive(Clone, Copy)]
+pub(crate) struct Access {
+    pub(crate) base: Register,
+    pub(crate) offset: i16,
+    pub(crate) size: Size,
+    pub(crate) is_store: bool,
+}
+
+/// The access of an instruction, if it has one.
+pub(crate) fn access_of(insn: &Insn) -> Option<Access>
+    ensures { as_reaches result ≡ reach_of insn.now }
+{
+    let (base, offset, size, is_store) = match *insn {
+        Insn::Load {
+            size,
+            base,
+            offset,
+            ..
+        } => (base, offset, size, false),
+        Insn::LoadSx {
+            size,
+            base,
+            offset,
+            ..
+        } => (base, offset, size, false),
+        Insn::Store {
+            size,
+            base,
+            offset,
+            ..
+        } => (base, offset, size, true),
+        Insn::StoreImm {
+            size,
+            base,
+            offset,
+            ..
+        } => (base, offset, size, true),
+        _ => return None,
+    };
+    Some(Access {
+        base,
+        offset,
+        size,
+        is_store,
+    })
+}
+
+/// How many bytes a load or a store moves.
+pub(crate) fn bytes_of(size: Size) -> usize
+    ensures value { result ≡ bytes_of size }
+    ensures few { result ≤ 8 }
+{
+    match size {
+        Size::Byte => 1,
+        Size::Half => 2,
+        Size::Word => 4,
+        Size::Double => 8,
+    }
+}
+
+/// The offset of the first byte that an access may reach through an address, and the one behind the last.
+fn reach(span: Span, offset: i16, size: Size) -> (i32, i32)
+    ensures first { result.0 ≡ (access_of span offset size).lo }
+    ensures end { result.1 ≡ (access_of span offset size).hi +ℤ pos (bytes_of size) }
+{
+    let offset = offset as i32;
+    let bytes = bytes_of(size) as i32;
+    (span.lo + offset, span.hi + offset + bytes)
+}
+
+/// The first byte of the stack that an access may reach, counted from the lowest, and how many from there on.
+pub(crate) fn stack_bytes(span: Span, offset: i16, size: Size) -> (usize, usize)
+    requires { IsTrue (in_stack (access_of span offset size)) }
+    ensures first { result.0 ≡ stack_index (access_of span offset size).lo }
+    ensures count { result.1 ≡ whole ((access_of span offset size).hi -ℤ (access_of span offset size).lo) + bytes_of size }
+    ensures inside { result.0 + result.1 ≤ STACK_LEN }
+{
+    let (start, _) = reach(span, offset, size);
+    let first = (start + STACK_LEN as i32) as usize;
+    (first, (span.hi - span.lo) as usize + bytes_of(size))
+}
+
+impl Access {
+    /// Whether all bytes that it may reach lie from `first` on before `end`.
+    fn is_within(&self, span: Span, first: i32, end: i32) -> bool
+        ensures { result ≡ is_inside first end (access_of span self.now.offset self.now.size) }
+    {
+        let (start, stop) = reach(span, self.offset, self.size);
+        first <= start && stop <= end
+    }
+
+    fn is_inside_record<D>(&self, base: &RegState<D>) -> bool
+        ensures { result ≡ inside_record base.now (as_reach self.now) }
+    {
+        match base {
+            RegState::Record(span) => self.is_within(*span, 0, RECORD_LEN),
+            _ => true,
+        }
+    }
+
+    fn leaves_record<D>(&self, base: &RegState<D>) -> bool
+        ensures { result ≡ leaves_record base.now (as_reach self.now) }
+    {
+        match base {
+            RegState::Record(_) => !self.is_store,
+            _ => true,
+        }
+    }
+
+    fn is_inside_stack<D>(&self, base: &RegState<D>) -> bool
+        ensures { result ≡ inside_stack base.now (as_reach self.now) }
+    {
+        match base {
+            RegState::Stack(span) => self.is_within(*span, -(STACK_LEN as i32), 0),
+            _ => true,
+        }
+    }
+
+    fn finds_written<D>(&self, base: &RegState<D>, stack: &StackState) -> bool
+        requires { IsTrue (inside_stack base.now (as_reach self.now)) }
+        ensures { result ≡ finds_written (is_written stack.now) base.now (as_reach self.now) }
+    {
+        match base {
+            RegState::Stack(span) if !self.is_store => {
+                let (first, count) = stack_bytes(*span, self.offset, self.size);
+                stack.all_written(first, count)
+            }
+            _ => true,
+        }
+    }
+
+    /// The first of the rules 21 to 25 that it fails, through a register in this state.
+    pub(crate) fn check<D>(&self, base: &RegState<D>, stack: &StackState) -> Option<Rule>
+        ensures { MatchOption result (ReachPasses (is_written stack.now) base.now (as_reach self.now)) (λ rule. ReachFails (is_written stack.now) base.now (as_reach self.now) rule) }
+    {
+        if !self.is_inside_record(base) {
+            Some(Rule::OutsideRecord)
+        } else if !self.leaves_record(base) {
+            Some(Rule::WritesRecord)
+        } else if !self.is_inside_stack(base) {
+            Some(Rule::OutsideStack)
+        } else if !self.finds_written(base, stack) {
+            Some(Rule::UnwrittenStack)
+        } else if is_scalar(base) {
+            Some(Rule::ScalarAddress)
+        } else {
+            None
+        }
+    }
+}

@@ -1,0 +1,101 @@
+//! Addresses moved by numbers.
+ghost use Rattle.std.specs.Prelude.{◌≡◌, ◌-◌, ◌^◌, ◌≤◌, ◌-ℤ◌, ◌≤ℤ◌, pos, negsuc, Some, None, IfSome, if◌then◌else◌};
+ghost use Rattle.abstract_value.specs.States.{make_span};
+ghost use Rattle.verifier.specs.Rules.{steps_of, is_near, moved, pair_in_range, to_record, to_stack, added};
+
+use abstract_value::domain::Domain;
+use abstract_value::state::{RegState, Span};
+use insn_codec::insn::{AluOp, Width};
+
+/// A word just below 2 ^ 64, as the number below zero that it stands for.
+fn below_zero(word: u64) -> i32
+    requires { 2 ^ 64 - 65536 ≤ word }
+    ensures { result ≡ pos word -ℤ pos (2 ^ 64) }
+{
+    -1 - (u64::MAX - word) as i32
+}
+
+/// The least and the greatest step by which a number moves an address: small, or small below zero.
+fn steps_of<D: Domain>(number: &D) -> Option<(i32, i32)>
+    ensures value { result ≡ steps_of D.ops number.now }
+    ensures small { IfSome result (λ steps. (negsuc 65535 ≤ℤ steps.0) × (steps.0 ≤ℤ steps.1) × (steps.1 ≤ℤ pos 65535)) }
+{
+    let (low, high) = number.bounds();
+    if high <= 65_535 {
+        Some((low as i32, high as i32))
+    } else if u64::MAX - 65_535 <= low {
+        Some((below_zero(low), below_zero(high)))
+    } else {
+        None
+    }
+}
+
+/// The offsets from `lo` to `hi`, where they are near.
+fn near_span(lo: i32, hi: i32) -> Option<Span>
+    requires { lo ≤ℤ hi }
+    ensures { result ≡ (if is_near lo hi then Some (make_span lo hi) else None) }
+{
+    if -65_536 <= lo && hi <= 65_536 {
+        Some(Span::new(lo, hi))
+    } else {
+        None
+    }
+}
+
+/// The offsets after an address is moved by a number, where they are near.
+pub(crate) fn moved<D: Domain>(op: AluOp, span: Span, number: &D) -> Option<Span>
+    ensures { result ≡ moved D.ops op span number.now }
+{
+    let (least, greatest) = steps_of(number)?;
+    match op {
+        AluOp::Sub => near_span(span.lo - greatest, span.hi - least),
+        _ => near_span(span.lo + least, span.hi + greatest),
+    }
+}
+
+/// Whether a sum or a difference of 64 bits leaves an address near.
+pub(crate) fn pair_in_range<D: Domain>(op: AluOp, a: &RegState<D>, b: &RegState<D>) -> bool
+    ensures { result ≡ pair_in_range D.ops op a.now b.now }
+{
+    match (op, a, b) {
+        (_, RegState::Record(a), RegState::Scalar(b)) => moved(op, *a, b).is_some(),
+        (_, RegState::Stack(a), RegState::Scalar(b)) => moved(op, *a, b).is_some(),
+        (AluOp::Add, RegState::Scalar(a), RegState::Record(b)) => moved(op, *b, a).is_some(),
+        (AluOp::Add, RegState::Scalar(a), RegState::Stack(b)) => moved(op, *b, a).is_some(),
+        _ => true,
+    }
+}
+
+fn to_record<D>(span: Option<Span>) -> RegState<D>
+    ensures { result ≡ to_record span }
+{
+    match span {
+        Some(span) => RegState::Record(span),
+        None => RegState::Unreadable,
+    }
+}
+
+fn to_stack<D>(span: Option<Span>) -> RegState<D>
+    ensures { result ≡ to_stack span }
+{
+    match span {
+        Some(span) => RegState::Stack(span),
+        None => RegState::Unreadable,
+    }
+}
+
+/// A sum or a difference of 64 bits, of numbers or of an address and a number.
+pub(crate) fn added<D: Domain>(op: AluOp, a: &RegState<D>, b: &RegState<D>) -> RegState<D>
+    ensures { result ≡ added D.ops op a.now b.now }
+{
+    match (op, a, b) {
+        (_, RegState::Scalar(a), RegState::Scalar(b)) => {
+            RegState::Scalar(D::alu(Width::W64, op, a, b))
+        }
+        (_, RegState::Record(a), RegState::Scalar(b)) => to_record(moved(op, *a, b)),
+        (_, RegState::Stack(a), RegState::Scalar(b)) => to_stack(moved(op, *a, b)),
+        (AluOp::Add, RegState::Scalar(a), RegState::Record(b)) => to_record(moved(op, *b, a)),
+        (AluOp::Add, RegState::Scalar(a), RegState::Stack(b)) => to_stack(moved(op, *b, a)),
+        _ => RegState::Unreadable,
+    }
+}

@@ -1,0 +1,69 @@
+//! The rules that code must fulfil.
+ghost use Rattle.std.specs.Prelude.{◌≡◌};
+ghost use Rattle.verifier.specs.Structure.{rule_number};
+
+/// A rule that an instruction may fail.
+#[derive(Clone, Copy, Debug, PartialEq, Eq)]
+pub enum Rule {
+    /// A jump leads back.
+    Backward,
+    /// A jump leads past the end.
+    Outside,
+    /// A jump leads into the second slot of a wide load.
+    IntoWide,
+    /// The code ends behind an instruction that goes on.
+    FallsOff,
+    /// No instruction leads here.
+    NoEdge,
+    /// A register is read that can't be.
+    Unreadable,
+    /// R10 is written.
+    WritesR10,
+    /// An operation takes an address as a number.
+    PointerOperation,
+    /// An address is moved too far, or by a number that isn't known well enough.
+    PointerRange,
+    /// An address is compared.
+    PointerCompared,
+    /// An address is stored.
+    PointerStored,
+    /// An access lies outside the record.
+    OutsideRecord,
+    /// The record is written.
+    WritesRecord,
+    /// An access lies outside the stack.
+    OutsideStack,
+    /// A byte of the stack is read that was not written.
+    UnwrittenStack,
+    /// A number is used as an address.
+    ScalarAddress,
+    /// An address is the answer.
+    PointerResult,
+}
+
+impl Rule {
+    /// Its number among the refusals.
+    pub fn number(self) -> u32
+        ensures { result ≡ rule_number self }
+    {
+        match self {
+            Rule::Backward => 10,
+            Rule::Outside => 11,
+            Rule::IntoWide => 12,
+            Rule::FallsOff => 13,
+            Rule::NoEdge => 14,
+            Rule::Unreadable => 15,
+            Rule::WritesR10 => 16,
+            Rule::PointerOperation => 17,
+            Rule::PointerRange => 18,
+            Rule::PointerCompared => 19,
+            Rule::PointerStored => 20,
+            Rule::OutsideRecord => 21,
+            Rule::WritesRecord => 22,
+            Rule::OutsideStack => 23,
+            Rule::UnwrittenStack => 24,
+            Rule::ScalarAddress => 25,
+            Rule::PointerResult => 26,
+        }
+    }
+}

@@ -1,0 +1,150 @@
+//! The rules of structure, 10 to 14: where jumps lead, what stands behind an instruction, and what leads to it.
+ghost use Rattle.std.specs.Prelude.{◌≡◌, ℕ, ◌+◌, ◌<◌, ◌≤◌, ◌⊎◌, true, false, length, sum_by, Some, MatchOption};
+ghost use Rattle.insn_codec.specs.Machine.{slots_of};
+ghost use Rattle.verifier.specs.declared.rule.Rule.{Rule};
+ghost use Rattle.verifier.specs.Structure.{distance_of, goes_on, leads_to, HasEdge, MeetsStructure, IsStructured, IsIllStructured};
+ghost use Rattle.verifier.specs.Edges.{MeetsBelow, FailsStructure, falls_to, mark, IsSeen};
+
+use crate::refusal::Refusal;
+use crate::rule::Rule;
+use insn_codec::code::{Code, MAX_SLOTS, Slot};
+use insn_codec::insn::Insn;
+
+/// A jump's distance, counted from the slot after it.
+fn distance_of(insn: &Insn) -> Option<i32>
+    ensures { result ≡ distance_of insn.now }
+{
+    match insn {
+        Insn::Jump { distance } => Some(*distance as i32),
+        Insn::JumpLong { distance } => Some(*distance),
+        Insn::JumpIf { distance, .. } => Some(*distance as i32),
+        _ => None,
+    }
+}
+
+/// Whether the next instruction may follow.
+fn goes_on(insn: &Insn) -> bool
+    ensures { result ≡ goes_on insn.now }
+{
+    !matches!(insn, Insn::Jump { .. } | Insn::JumpLong { .. } | Insn::Exit)
+}
+
+/// How many slots an instruction has.
+pub(crate) fn slots_of(insn: &Insn) -> usize
+    ensures { result ≡ slots_of insn.now }
+{
+    match insn {
+        Insn::LoadWide { .. } => 2,
+        _ => 1,
+    }
+}
+
+/// Where the jump at a slot leads, if it doesn't lead back.
+pub(crate) fn leads_to(slot: usize, insn: &Insn) -> Option<usize>
+    requires { slot < MAX_SLOTS }
+    ensures { result ≡ leads_to slot insn.now }
+{
+    match distance_of(insn) {
+        Some(distance) if distance >= 0 => Some(slot + 1 + distance as usize),
+        _ => None,
+    }
+}
+
+/// The slot of the next instruction, where it may follow.
+fn falls_to(slot: usize, insn: &Insn) -> Option<usize>
+    requires { slot < MAX_SLOTS }
+    ensures { result ≡ falls_to slot insn.now }
+{
+    if goes_on(insn) {
+        Some(slot + slots_of(insn))
+    } else {
+        None
+    }
+}
+
+/// The first of the rules 10 to 12 that an instruction fails.
+fn jump_fault(code: &Code, slot: usize, insn: &Insn) -> Option<Rule>
+    requires { slot < sum_by slots_of code.now }
+    ensures { MatchOption result (MeetsBelow code.now slot insn.now 13) (λ rule. FailsStructure code.now slot insn.now rule) }
+{
+    if distance_of(insn).is_none() {
+        return None;
+    }
+    let count = code.slot_count();
+    match leads_to(slot, insn) {
+        None => Some(Rule::Backward),
+        Some(to) if to >= count => Some(Rule::Outside),
+        Some(to) => match code.slot(to) {
+            Slot::First(_) => None,
+            Slot::Second => Some(Rule::IntoWide),
+        },
+    }
+}
+
+/// The first of the rules 10 to 14 that an instruction fails; an edge leads to it, or it is the first, if it is reached.
+fn fault(code: &Code, slot: usize, insn: &Insn, is_reached: bool) -> Option<Rule>
+    requires slot { slot < sum_by slots_of code.now }
+    requires reached { is_reached ≡ true → (slot ≡ 0) ⊎ HasEdge code.now slot }
+    requires unreached { is_reached ≡ false → (slot ≡ 0) ⊎ HasEdge code.now slot → ⊥ }
+    ensures { MatchOption result ((rule : Rule) → MeetsStructure code.now slot insn.now rule) (λ rule. FailsStructure code.now slot insn.now rule) }
+{
+    if let Some(rule) = jump_fault(code, slot, insn) {
+        return Some(rule);
+    }
+    let count = code.slot_count();
+    if goes_on(insn) && slot + slots_of(insn) >= count {
+        return Some(Rule::FallsOff);
+    }
+    if !is_reached {
+        return Some(Rule::NoEdge);
+    }
+    None
+}
+
+fn mark(reached: &mut [bool], to: Option<usize>)
+    requires { (k : ℕ) → to ≡ Some k → k < length reached.old }
+    ensures { reached.new ≡ mark reached.old to }
+{
+    if let Some(to) = to {
+        reached[to] = true;
+    }
+}
+
+/// Looks at one slot, and marks the slots to which its instruction leads.
+fn visit(code: &Code, slot: usize, reached: &mut [bool]) -> Option<Rule>
+    requires slot { slot < sum_by slots_of code.now }
+    requires few { sum_by slots_of code.now ≤ MAX_SLOTS }
+    requires long { length reached.old ≡ MAX_SLOTS }
+    requires seen { IsSeen code.now slot reached.old }
+    ensures { MatchOption result (IsSeen code.now (slot + 1) reached.new) (λ rule. IsIllStructured code.now slot rule) }
+{
+    let insn = match code.slot(slot) {
+        Slot::First(insn) => insn,
+        Slot::Second => return None,
+    };
+    if let Some(rule) = fault(code, slot, &insn, reached[slot]) {
+        return Some(rule);
+    }
+    mark(reached, falls_to(slot, &insn));
+    mark(reached, leads_to(slot, &insn));
+    None
+}
+
+/// The first slot whose instruction fails one of the rules 10 to 14, and the least rule that it fails.
+///
+/// Edges lead forward only, so all edges into a slot are known when the slot is looked at.
+pub(crate) fn check_structure(code: &Code) -> Option<Refusal>
+    ensures { MatchOption result (IsStructured code.now) (λ r. IsIllStructured code.now r.slot r.rule) }
+{
+    let mut reached = [false; MAX_SLOTS];
+    mark(&mut reached, Some(0));
+    for slot in 0..code.slot_count() {
+        if let Some(rule) = visit(code, slot, &mut reached) {
+            return Some(Refusal {
+                slot: slot as u32,
+                rule,
+            });
+        }
+    }
+    None
+}
