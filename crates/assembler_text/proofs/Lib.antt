@@ -1,0 +1,11 @@
+pub mod Numbers
+pub mod Tables
+pub mod Selected
+pub mod Pieces
+pub mod Texts
+pub mod Writing
+pub mod Canonical
+pub mod Readers
+pub mod Sound
+pub mod SoundLine
+pub mod SoundText
