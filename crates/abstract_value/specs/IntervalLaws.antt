@@ -10,7 +10,9 @@ use Rattle.abstract_value.specs.AluLaws.{interval_alu_holds, interval_alu_monoto
 use Rattle.abstract_value.specs.UnaryLaws.{interval_neg_holds, interval_neg_monotone, interval_mov_sx_holds, interval_mov_sx_monotone, interval_end_holds, interval_end_monotone, interval_loaded_holds, interval_loaded_sx_holds}
 use Rattle.abstract_value.specs.RefineLaws.{interval_refine_keeps, interval_refine_monotone}
 use Rattle.abstract_value.specs.Ranges.{interval_ops}
+use Rattle.abstract_value.specs.Fits.{StateFitsInMemory}
 use Rattle.abstract_value.specs.declared.interval.Interval.{Interval}
+use Rattle.abstract_value.specs.contracts.interval.Interval.{the_row}
 
 same_ends : (a b : Interval) → a.lo ≡ b.lo → a.hi ≡ b.hi → a ≡ b
 same_ends a b h k i = record {
@@ -63,3 +65,7 @@ interval_laws = record {
   refine_keeps = interval_refine_keeps;
   refine_monotone = interval_refine_monotone;
 }
+
+-- a state over ranges fits in memory
+pub interval_fits : StateFitsInMemory the_row
+interval_fits = omega arith

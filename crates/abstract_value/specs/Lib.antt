@@ -12,3 +12,4 @@ pub mod StackBytes
 pub mod States
 pub mod StateLaws
 pub mod StateOrder
+pub mod Fits

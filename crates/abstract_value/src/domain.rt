@@ -2,6 +2,7 @@
 ghost use Rattle.std.specs.Prelude.{◌≡◌};
 ghost use Rattle.insn_codec.specs.Operations.{IsMovSxBits, IsEndBits};
 ghost use Rattle.abstract_value.specs.Laws.{Ops, Laws};
+ghost use Rattle.abstract_value.specs.Fits.{StateFitsInMemory};
 
 use insn_codec::insn::{AluOp, EndKind, Size, Test, Width};
 
@@ -58,4 +59,6 @@ pub trait Domain: Copy {
         ensures { result ≡ ops.refine width test taken a.now b.now };
 
     ghost laws: { Laws ops };
+
+    ghost fits: { StateFitsInMemory Self.row };
 }

@@ -23,11 +23,13 @@ pub struct Interval {
 /// Each result is an exact range; a single word where all operands are single.
 impl Domain for Interval {
     ghost use Rattle.abstract_value.specs.Ranges.{interval_ops};
-    ghost use Rattle.abstract_value.specs.IntervalLaws.{interval_laws};
+    ghost use Rattle.abstract_value.specs.IntervalLaws.{interval_fits, interval_laws};
 
     ghost ops = { interval_ops };
 
     ghost laws = { interval_laws };
+
+    ghost fits = { interval_fits };
 
     #[inline]
     fn full() -> Interval {

@@ -6,4 +6,3 @@ pub mod Edges
 pub mod Reaches
 pub mod Values
 pub mod Refusals
-pub mod Fits

@@ -5,7 +5,6 @@ ghost use Rattle.abstract_value.specs.States.{View, view};
 ghost use Rattle.verifier.specs.Structure.{IsStructured};
 ghost use Rattle.verifier.specs.Assignments.{IsLeast, FailsLeast, IsTypable};
 ghost use Rattle.verifier.specs.Flow.{view_of, look, flowed, flow, flow_edge};
-ghost use Rattle.verifier.specs.Fits.{StateFitsInMemory};
 ghost use Rattle.verifier.specs.Refusals.{IsUnfulfilled, IsRefused};
 
 use crate::checks::check;
@@ -108,8 +107,6 @@ fn pass<D: Domain>(code: &Code, states: &mut [Option<State<D>>]) -> Option<Refus
 /// The rules of structure, 10 to 14, are looked at first, over the whole code; then the rules 15 to 26, in the least
 /// state that each slot can have. Takes memory for one state a slot, and for nothing else.
 pub fn verify<D: Domain>(alloc: Global, code: Code) -> Result<Verified, VerifyFault>
-    // Of the domain's type alone: a state over it takes fewer than 2 ^ 63 bytes.
-    requires fits { StateFitsInMemory D.row }
     // What is accepted is the code that was handed in. That it is safe stands in its type.
     ensures accepted { IfOk result (λ verified. verified ≡ code) }
     ensures structured { IfOk result (λ _. IsStructured code) }

@@ -1,5 +1,12 @@
+use Rattle.std.proofs.Common.{rules}
 use Rattle.verifier.proofs.Safe.{safe}
 use Rattle.verifier.proofs.verify.verify.Goals as goal
+
+pub no_states-requires : goal.no_states-requires
+no_states-requires g c = g.met.D.Domain.fits
+
+pub pass-requires : goal.pass-requires
+pass-requires g c = (g.met.D.Domain.fits, search rules)
 
 pub new-requires : goal.new-requires
 new-requires g c = safe g.met.D.Domain.laws c.args.code c.known.ensures c.in_default.ensures c.in_default-pass.ensures

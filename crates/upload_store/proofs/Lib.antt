@@ -1,0 +1,4 @@
+pub mod Maps
+pub mod Outcomes
+pub mod SameCode
+pub mod SameInsn

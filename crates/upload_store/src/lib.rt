@@ -1,0 +1,12 @@
+//! The store of uploaded programs: safe code by the digest of its bytes.
+#![tactic(auto)]
+
+mod fault;
+mod reading;
+mod same;
+mod store;
+#[cfg(test)]
+mod tests;
+
+pub use fault::UploadFault;
+pub use store::{MAX_PROGRAMS, UploadStore};
