@@ -1,65 +1,31 @@
 -- What is written is a line of the grammar.
-use Rattle.std.proofs.Common.{◌≡◌, refl, ap, ◌∙◌, sym, ℕ, List, [], ◌∷◌, ◌++◌, append_assoc, append-nil, inl}
+use Rattle.std.proofs.Common.{◌≡◌, refl, ap, ◌∙◌, sym, ℕ, List, [], ◌∷◌, ◌++◌, drop, append_assoc, append-nil, inl}
 use Rattle.std.specs.Prelude.{codes}
-use Rattle.std.specs.Fmt.{decimal, signed_decimal}
 use Rattle.insn_codec.specs.Encoding.{IsListed}
 use Rattle.insn_codec.specs.declared.insn.Insn.{Insn}
-use Rattle.insn_codec.specs.declared.insn.Insn.TheVariants.{Alu, Neg, MovSx, End, LoadWide, Load, LoadSx, Store, StoreImm, Jump, JumpLong, JumpIf, Exit}
-use Rattle.assembler_text.specs.Text.{alu_name, width_name, size_name, order_name, test_name, test_width_name, source_text, step_text, Operand, OfRegister, OfImm, OfValue, OfAddress, OfStep, operands_of, operand_text, others_text, operands_text, text_of, line_of, pieces_of}
+use Rattle.assembler_text.specs.Text.{Operand, OfRegister, OfImm, OfValue, OfAddress, OfStep, operands_of, mnemonic_of, operand_text, first_text, others_text, operands_text, text_of, line_of}
 use Rattle.assembler_text.specs.Grammar.{AreBlanks, IsOperand, AreSeparated, AreOperands, IsInsnLine}
 
--- the newline goes behind the last operand
-one_line : (m x n : List ℕ) → m ++ (32 ∷ (x ++ n)) ≡ (m ++ (32 ∷ (x ++ []))) ++ n
-one_line m x n = ap (λ (t : List ℕ). m ++ (32 ∷ (t ++ n))) (sym (append-nil x)) ∙ sym (append_assoc m (32 ∷ (x ++ [])) n)
+pub address_pieces : (d s : List ℕ) → codes "[r" ++ (d ++ (s ++ codes "]")) ≡ 91 ∷ (114 ∷ d) ++ s ++ 93 ∷ []
+address_pieces d s = ap (λ (t : List ℕ). 91 ∷ 114 ∷ t) (sym (append_assoc d s (93 ∷ [])))
 
-two_line : (m x y n : List ℕ) → m ++ (32 ∷ (x ++ (44 ∷ 32 ∷ (y ++ n)))) ≡ (m ++ (32 ∷ (x ++ (44 ∷ 32 ∷ (y ++ []))))) ++ n
-two_line m x y n =
-    ap (λ (t : List ℕ). m ++ (32 ∷ (x ++ (44 ∷ 32 ∷ (t ++ n))))) (sym (append-nil y))
-    ∙ ap (λ (t : List ℕ). m ++ (32 ∷ t)) (sym (append_assoc x (44 ∷ 32 ∷ (y ++ [])) n))
-    ∙ sym (append_assoc m (32 ∷ (x ++ (44 ∷ 32 ∷ (y ++ [])))) n)
+pub other_piece : (x : List ℕ) → codes ", " ++ x ≡ codes ", " ++ x ++ []
+other_piece x = sym (append-nil (codes ", " ++ x))
 
-three_line : (m x y z n : List ℕ) → m ++ (32 ∷ (x ++ (44 ∷ 32 ∷ (y ++ (44 ∷ 32 ∷ (z ++ n)))))) ≡ (m ++ (32 ∷ (x ++ (44 ∷ 32 ∷ (y ++ (44 ∷ 32 ∷ (z ++ []))))))) ++ n
-three_line m x y z n =
-    ap (λ (t : List ℕ). m ++ (32 ∷ (x ++ (44 ∷ 32 ∷ (y ++ (44 ∷ 32 ∷ (t ++ n))))))) (sym (append-nil z))
-    ∙ ap (λ (t : List ℕ). m ++ (32 ∷ (x ++ (44 ∷ 32 ∷ t)))) (sym (append_assoc y (44 ∷ 32 ∷ (z ++ [])) n))
-    ∙ ap (λ (t : List ℕ). m ++ (32 ∷ t)) (sym (append_assoc x (44 ∷ 32 ∷ (y ++ (44 ∷ 32 ∷ (z ++ [])))) n))
-    ∙ sym (append_assoc m (32 ∷ (x ++ (44 ∷ 32 ∷ (y ++ (44 ∷ 32 ∷ (z ++ [])))))) n)
+pub other_pieces : (x y : List ℕ) → codes ", " ++ (x ++ (codes ", " ++ y)) ≡ codes ", " ++ x ++ (codes ", " ++ y ++ [])
+other_pieces x y = ap (λ (t : List ℕ). codes ", " ++ x ++ t) (other_piece y)
 
--- what follows an address
-address_tail : (d s t : List ℕ) → d ++ (s ++ (93 ∷ t)) ≡ ((d ++ s) ++ 93 ∷ []) ++ t
-address_tail d s t = sym (append_assoc (d ++ s) (93 ∷ []) t ∙ append_assoc d s (93 ∷ t))
+-- mnemonic, operands and newline, however they are put together
+pub pieces_are : (m : List ℕ) (os : List Operand) (n : List ℕ) → m ++ (first_text os ++ (others_text (drop 1 os) ++ n)) ≡ (m ++ operands_text os) ++ n
+pieces_are m [] n = ap (λ (t : List ℕ). t ++ n) (sym (append-nil m))
+pieces_are m (o ∷ os) n =
+    ap (λ (t : List ℕ). m ++ t) (sym (append_assoc (first_text (o ∷ os)) (others_text os) n)) ∙ sym (append_assoc m (first_text (o ∷ os) ++ others_text os) n)
 
-load_tail : (m x d s : List ℕ) → m ++ (32 ∷ (x ++ (44 ∷ 32 ∷ 91 ∷ 114 ∷ (d ++ (s ++ (93 ∷ 10 ∷ [])))))) ≡ (m ++ (32 ∷ (x ++ (44 ∷ 32 ∷ ((91 ∷ 114 ∷ ((d ++ s) ++ 93 ∷ [])) ++ []))))) ++ (10 ∷ [])
-load_tail m x d s =
-    ap (λ (t : List ℕ). m ++ (32 ∷ (x ++ (44 ∷ 32 ∷ 91 ∷ 114 ∷ t)))) (address_tail d s (10 ∷ []))
-    ∙ two_line m x (91 ∷ 114 ∷ ((d ++ s) ++ 93 ∷ [])) (10 ∷ [])
-
-store_tail : (m d s y : List ℕ) → m ++ (32 ∷ 91 ∷ 114 ∷ (d ++ (s ++ (93 ∷ 44 ∷ 32 ∷ (y ++ 10 ∷ []))))) ≡ (m ++ (32 ∷ ((91 ∷ 114 ∷ ((d ++ s) ++ 93 ∷ [])) ++ (44 ∷ 32 ∷ (y ++ []))))) ++ (10 ∷ [])
-store_tail m d s y =
-    ap (λ (t : List ℕ). m ++ (32 ∷ 91 ∷ 114 ∷ t)) (address_tail d s (44 ∷ 32 ∷ (y ++ 10 ∷ [])))
-    ∙ two_line m (91 ∷ 114 ∷ ((d ++ s) ++ 93 ∷ [])) y (10 ∷ [])
-
-pub pieces_are : (i : Insn) → pieces_of i ≡ line_of i
+pub line_pieces : (i : Insn) → mnemonic_of i ++ (first_text (operands_of i) ++ (others_text (drop 1 (operands_of i)) ++ codes "\n")) ≡ line_of i
 unfolding text_of
-pieces_are (Alu width op dst src) = sym (append_assoc (alu_name op) (width_name width) _) ∙ two_line (alu_name op ++ width_name width) (114 ∷ decimal dst.number) (source_text src) (10 ∷ [])
-pieces_are (Neg width dst) = one_line (codes "neg" ++ width_name width) (114 ∷ decimal dst.number) (10 ∷ [])
-pieces_are (MovSx width bits dst src) =
-    ap (λ (t : List ℕ). codes "mov" ++ t) (sym (append_assoc (width_name width ++ codes "s") (decimal bits) _ ∙ append_assoc (width_name width) (codes "s") _))
-    ∙ two_line (codes "mov" ++ width_name width ++ codes "s" ++ decimal bits) (114 ∷ decimal dst.number) (114 ∷ decimal src.number) (10 ∷ [])
-pieces_are (End kind bits dst) = sym (append_assoc (order_name kind) (decimal bits) _) ∙ one_line (order_name kind ++ decimal bits) (114 ∷ decimal dst.number) (10 ∷ [])
-pieces_are (LoadWide dst value) = two_line (codes "lddw") (114 ∷ decimal dst.number) (decimal value) (10 ∷ [])
-pieces_are (Load size dst base offset) = load_tail (codes "ldx" ++ size_name size) (114 ∷ decimal dst.number) (decimal base.number) (step_text offset)
-pieces_are (LoadSx size dst base offset) = load_tail (codes "ldxs" ++ size_name size) (114 ∷ decimal dst.number) (decimal base.number) (step_text offset)
-pieces_are (Store size base offset src) = store_tail (codes "stx" ++ size_name size) (decimal base.number) (step_text offset) (114 ∷ decimal src.number)
-pieces_are (StoreImm size base offset imm) = store_tail (codes "st" ++ size_name size) (decimal base.number) (step_text offset) (signed_decimal imm)
-pieces_are (Jump distance) = one_line (codes "ja") (step_text distance) (10 ∷ [])
-pieces_are (JumpLong distance) = one_line (codes "jal") (step_text distance) (10 ∷ [])
-pieces_are (JumpIf width test dst src distance) =
-    sym (append_assoc (test_name test) (test_width_name width) _)
-    ∙ three_line (test_name test ++ test_width_name width) (114 ∷ decimal dst.number) (source_text src) (step_text distance) (10 ∷ [])
-pieces_are Exit = refl
+line_pieces i = pieces_are (mnemonic_of i) (operands_of i) (codes "\n")
 
-own_operand : (o : Operand) → IsOperand o (operand_text o)
+pub own_operand : (o : Operand) → IsOperand o (operand_text o)
 own_operand (OfRegister r) = refl
 own_operand (OfImm n) = inl refl
 own_operand (OfValue n) = inl refl

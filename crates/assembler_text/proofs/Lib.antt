@@ -9,3 +9,14 @@ pub mod Readers
 pub mod Sound
 pub mod SoundLine
 pub mod SoundText
+pub mod Plain
+pub mod Complete
+pub mod Names
+pub mod FoundWords
+pub mod CompleteLine
+pub mod CompleteText
+pub mod RoundTrip
+pub mod Refused
+pub mod LeftmostFault
+pub mod FirstFault
+pub mod LeftmostTold

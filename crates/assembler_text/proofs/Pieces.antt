@@ -3,7 +3,7 @@ use Rattle.std.proofs.Common.{◌≡◌, ℕ, suc, ◌+◌, Bool, true, false, c
 use Rattle.std.specs.List.{prefix_len}
 use Rattle.std.proofs.lemmas.List.{take-append-drop}
 use Rattle.assembler_text.specs.declared.lexer.Class.{Class}
-use Rattle.assembler_text.specs.Words.{front, rest, is_in}
+use Rattle.assembler_text.specs.Words.{front, rest, is_in, AreIn, StopsAt}
 
 -- a character of the class goes on with the front
 len_in : (k : Class) (c : ℕ) (cs : List ℕ) → is_in k c ≡ true → prefix_len (is_in k) (c ∷ cs) ≡ suc (prefix_len (is_in k) cs)
@@ -26,16 +26,6 @@ rest_out k c cs h = ap (λ n. drop n (c ∷ cs)) (len_out k c cs h)
 
 pub parts : (k : Class) (text : List ℕ) → text ≡ front k text ++ rest k text
 parts k text = sym (take-append-drop (prefix_len (is_in k) text) text)
-
--- each character of a text is of the class
-abbrev pub AreIn : Class → List ℕ → Type 0
-AreIn k [] = Unit {0}
-AreIn k (c ∷ cs) = (is_in k c ≡ true) × AreIn k cs
-
--- a text is at its end, or goes on with a character that isn't of the class
-abbrev pub StopsAt : Class → List ℕ → Type 0
-StopsAt k [] = Unit {0}
-StopsAt k (c ∷ cs) = is_in k c ≡ false
 
 pub front_is : (k : Class) (a b : List ℕ) → AreIn k a → StopsAt k b → front k (a ++ b) ≡ a
 front_is k [] [] h s = refl

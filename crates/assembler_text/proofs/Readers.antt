@@ -82,7 +82,7 @@ number_is radix most (c ∷ cs) n e =
 own : IsNumeralModel (AllDigits 10) (digits_value 10)
 own = numerals_by_value (AllDigits 10) tells_digits
 
-no_zero : (ds : List ℕ) → has_leading_zero ds ≡ false → get_or ds 0 0 ≡ 48 → length ds ≡ 1
+pub no_zero : (ds : List ℕ) → has_leading_zero ds ≡ false → get_or ds 0 0 ≡ 48 → length ds ≡ 1
 no_zero [] h z = absurd (omega arith)
 no_zero (c ∷ []) h z = refl
 no_zero (c ∷ d ∷ ds) h z = absurd (grind (arith, nat_tests))

@@ -31,7 +31,7 @@ abbrev spelled : {A : Type 0} → (A → List ℕ) → List (List ℕ × A) → 
 spelled spelling [] = true
 spelled spelling (e ∷ es) = bytes_eq e.0 (spelling e.1) && spelled spelling es
 
-both : (a b : Bool) → (a && b) ≡ true → (a ≡ true) × (b ≡ true)
+pub both : (a b : Bool) → (a && b) ≡ true → (a ≡ true) × (b ≡ true)
 both true b h = (refl, h)
 both false b h = absurd cc
 
@@ -99,7 +99,7 @@ source_is word s h = from_register (register_at word) refl h
         let is : Imm p.0 ≡ s = ok_is _ s p.2 in
         subst (ReadSource word) is (record { operand = i.spelled; fits = i.fits })
 
-inner_is : (w text : List ℕ) → inner w ≡ Some text → w ≡ 91 ∷ text ++ 93 ∷ []
+pub inner_is : (w text : List ℕ) → inner w ≡ Some text → w ≡ 91 ∷ text ++ 93 ∷ []
 unfolding inner
 inner_is w text h = from_strip (strip 91 w) refl h
   where

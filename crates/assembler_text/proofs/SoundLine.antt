@@ -12,21 +12,21 @@ use Rattle.assembler_text.specs.declared.fault.Fault.{Fault}
 use Rattle.assembler_text.specs.declared.lexer.Class.TheVariants as class
 use Rattle.assembler_text.specs.declared.mnemonic.Mnemonic.{Mnemonic}
 use Rattle.assembler_text.specs.declared.mnemonic.Mnemonic.TheVariants as mnemonic
-use Rattle.assembler_text.specs.Words.{is_blank, is_in, front, rest, word, after}
+use Rattle.assembler_text.specs.Words.{is_blank, is_in, front, rest, word, after, AreIn, StopsAt}
 use Rattle.assembler_text.specs.Mnemonics.{mnemonic_at, IsKnown}
 use Rattle.assembler_text.specs.Reading.{asked, strip, imm_at, value_at, step_at}
 use Rattle.assembler_text.specs.Operands.{register_at, source_at, address_at, comma, end_at}
 use Rattle.assembler_text.specs.Lines.{one_at, two_at, three_at, insn_at, insn_from, body, body_at, line_at}
 use Rattle.assembler_text.specs.Text.{mnemonic_of, Operand, OfRegister, OfImm, OfValue, OfAddress, OfStep, source_operand, operands_of, step_text}
 use Rattle.assembler_text.specs.Grammar.{AreBlanks, IsComment, IsOperand, Begins, AreOperands, IsLine}
-use Rattle.assembler_text.proofs.Pieces.{by_test, parts, AreIn, StopsAt, front_among, rest_stops, rest_in}
+use Rattle.assembler_text.proofs.Pieces.{by_test, parts, front_among, rest_stops, rest_in}
 use Rattle.assembler_text.proofs.Tables.{known_mnemonic}
 use Rattle.assembler_text.proofs.Readers.{bind_ok, ok_is, not_err, stripped, ReadImm, imm_is, ReadValue, value_is, short_step_is, long_step_is}
 use Rattle.assembler_text.proofs.Sound.{name_of, mnemonic_is, register_is, ReadSource, source_is, address_is}
 
 -- ---- the layout of operands
 
-blanks : (cs : List ℕ) → AreIn class.Blank cs → AreBlanks cs
+pub blanks : (cs : List ℕ) → AreIn class.Blank cs → AreBlanks cs
 blanks [] h = tt
 blanks (c ∷ cs) h = (h.0, blanks cs h.1)
 
@@ -51,15 +51,12 @@ ended : (text : List ℕ) → end_at text ≡ Ok tt → text ≡ []
 ended [] h = refl
 ended (c ∷ cs) h = absurd (not_err _ tt h)
 
-behind_comma : (text t : List ℕ) → comma text ≡ Ok t → text ≡ 44 ∷ t
+pub behind_comma : (text t : List ℕ) → comma text ≡ Ok t → text ≡ 44 ∷ t
 behind_comma text t h = from_strip (strip 44 text) refl h
   where
     from_strip : (o : Option (List ℕ)) → strip 44 text ≡ o → asked o ≡ Ok t → text ≡ 44 ∷ t
     from_strip None e f = absurd (not_err _ t f)
     from_strip (Some u) e f = stripped 44 text u e ∙ ap (λ (x : List ℕ). 44 ∷ x) (ok_is u t f)
-
-nothing_is : (u : Unit {0}) → u ≡ tt
-nothing_is u = refl
 
 pub record One {A : Type 0} (made : A → Insn) (first : List ℕ → Result A Fault) (text : List ℕ) (i : Insn) : Type 0 where
   pub a : A
@@ -167,12 +164,12 @@ pub record Parsed (m : Mnemonic) (text : List ℕ) (i : Insn) : Type 0 where
   pub operands : AreOperands text (operands_of i)
   pub listed : IsListed i
 
-end_blank : (text : List ℕ) → end_at (rest class.Blank text) ≡ Ok tt → AreBlanks text
+pub end_blank : (text : List ℕ) → end_at (rest class.Blank text) ≡ Ok tt → AreBlanks text
 end_blank text h =
     let e : rest class.Blank text ≡ [] = ended (rest class.Blank text) h in
     subst AreBlanks (sym (parts class.Blank text ∙ ap (λ (x : List ℕ). front class.Blank text ++ x) e ∙ append-nil (front class.Blank text))) (blanks _ (front_among class.Blank text))
 
-small : (z : Size) (dst base : Register) (n : ℤ) → IsKnown (mnemonic.LoadSx z) → IsSelected (LoadSx z dst base n)
+pub small : (z : Size) (dst base : Register) (n : ℤ) → IsKnown (mnemonic.LoadSx z) → IsSelected (LoadSx z dst base n)
 small Byte dst base n q = tt
 small Half dst base n q = tt
 small Word dst base n q = tt
@@ -281,7 +278,7 @@ insn_is mnemonic.Exit text i k s h =
 
 -- ---- lines
 
-comment_is : (cs : List ℕ) → StopsAt class.Instruction cs → IsComment cs
+pub comment_is : (cs : List ℕ) → StopsAt class.Instruction cs → IsComment cs
 comment_is [] h = tt
 comment_is (c ∷ cs) h = by_test (c == 59) (λ t. grind (arith, nat_tests)) (λ f. let is : true ≡ false = sym (ap not f) ∙ h in absurd cc)
 

@@ -46,3 +46,9 @@ Tells Empty read = read ≡ Err Empty
 abbrev pub Answers : Result (List Insn) LineFault → Result (List Insn) LineFault → Type 0
 Answers (Ok code) read = read ≡ Ok code
 Answers (Err fault) read = Tells fault read
+
+-- the answer is this code, or memory ran out
+abbrev pub GivesCode : List Insn → Result (List Insn) LineFault → Type 0
+GivesCode code (Ok c) = c ≡ code
+GivesCode code (Err (OutOfMemory line)) = Unit {0}
+GivesCode code (Err fault) = ⊥

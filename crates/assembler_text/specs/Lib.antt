@@ -7,3 +7,4 @@ pub mod Lines
 pub mod Text
 pub mod Grammar
 pub mod Assembled
+pub mod Refusals

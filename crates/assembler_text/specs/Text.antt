@@ -1,6 +1,7 @@
 -- The canonical text of an instruction, which is what is written.
 use Rattle.std.specs.Prelude.{ℕ, suc, List, [], ◌∷◌, ◌++◌, ℤ, pos, codes}
 use Rattle.std.specs.Fmt.{decimal, signed_decimal}
+use Rattle.std.specs.List.{flat_map}
 use Rattle.std.proofs.Common.{negsuc}
 use Rattle.insn_codec.specs.declared.insn.Width.{Width}
 use Rattle.insn_codec.specs.declared.insn.Width.TheVariants.{W32, W64}
@@ -131,6 +132,11 @@ operand_text (OfStep n) = step_text n
 abbrev pub source_text : Source → List ℕ
 source_text src = operand_text (source_operand src)
 
+-- the first operand, behind a space
+abbrev pub first_text : List Operand → List ℕ
+first_text [] = []
+first_text (o ∷ os) = codes " " ++ operand_text o
+
 -- operands behind the first, each behind a comma and a space
 abbrev pub others_text : List Operand → List ℕ
 others_text [] = []
@@ -138,7 +144,7 @@ others_text (o ∷ os) = codes ", " ++ operand_text o ++ others_text os
 
 abbrev pub operands_text : List Operand → List ℕ
 operands_text [] = []
-operands_text (o ∷ os) = codes " " ++ operand_text o ++ others_text os
+operands_text (o ∷ os) = first_text (o ∷ os) ++ others_text os
 
 -- mnemonic, one space, operands separated by a comma and a space
 unfoldable pub text_of : Insn → List ℕ
@@ -148,18 +154,6 @@ text_of i = mnemonic_of i ++ operands_text (operands_of i)
 abbrev pub line_of : Insn → List ℕ
 line_of i = text_of i ++ codes "\n"
 
--- the same, piece after piece
-abbrev pub pieces_of : Insn → List ℕ
-pieces_of (Alu width op dst src) = alu_name op ++ (width_name width ++ (codes " r" ++ (decimal dst.number ++ (codes ", " ++ (source_text src ++ (codes "\n"))))))
-pieces_of (Neg width dst) = codes "neg" ++ (width_name width ++ (codes " r" ++ (decimal dst.number ++ (codes "\n"))))
-pieces_of (MovSx width bits dst src) = codes "mov" ++ (width_name width ++ (codes "s" ++ (decimal bits ++ (codes " r" ++ (decimal dst.number ++ (codes ", r" ++ (decimal src.number ++ (codes "\n"))))))))
-pieces_of (End kind bits dst) = order_name kind ++ (decimal bits ++ (codes " r" ++ (decimal dst.number ++ (codes "\n"))))
-pieces_of (LoadWide dst value) = codes "lddw r" ++ (decimal dst.number ++ (codes ", " ++ (decimal value ++ (codes "\n"))))
-pieces_of (Load size dst base offset) = codes "ldx" ++ (size_name size ++ (codes " r" ++ (decimal dst.number ++ (codes ", [r" ++ (decimal base.number ++ (step_text offset ++ (codes "]\n")))))))
-pieces_of (LoadSx size dst base offset) = codes "ldxs" ++ (size_name size ++ (codes " r" ++ (decimal dst.number ++ (codes ", [r" ++ (decimal base.number ++ (step_text offset ++ (codes "]\n")))))))
-pieces_of (Store size base offset src) = codes "stx" ++ (size_name size ++ (codes " [r" ++ (decimal base.number ++ (step_text offset ++ (codes "], r" ++ (decimal src.number ++ (codes "\n")))))))
-pieces_of (StoreImm size base offset imm) = codes "st" ++ (size_name size ++ (codes " [r" ++ (decimal base.number ++ (step_text offset ++ (codes "], " ++ (signed_decimal imm ++ (codes "\n")))))))
-pieces_of (Jump distance) = codes "ja " ++ (step_text distance ++ (codes "\n"))
-pieces_of (JumpLong distance) = codes "jal " ++ (step_text distance ++ (codes "\n"))
-pieces_of (JumpIf width test dst src distance) = test_name test ++ (test_width_name width ++ (codes " r" ++ (decimal dst.number ++ (codes ", " ++ (source_text src ++ (codes ", " ++ (step_text distance ++ (codes "\n"))))))))
-pieces_of Exit = codes "exit\n"
+-- the canonical text of code
+abbrev pub code_text : List Insn → List ℕ
+code_text code = flat_map line_of code

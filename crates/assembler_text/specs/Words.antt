@@ -1,5 +1,5 @@
 -- The pieces of a text: lines, comments, blanks and words.
-use Rattle.std.specs.Prelude.{ℕ, Bool, not, ◌&&◌, ◌||◌, ◌==◌, List, take, drop, [], ◌∷◌, Option, Some, None, if◌then◌else◌}
+use Rattle.std.specs.Prelude.{◌≡◌, ℕ, Bool, true, false, not, ◌&&◌, ◌||◌, ◌==◌, List, take, drop, [], ◌∷◌, Option, Some, None, if◌then◌else◌}
 use Rattle.std.specs.Str.{bytes_eq}
 use Rattle.std.specs.List.{prefix_len}
 use Rattle.assembler_text.specs.declared.lexer.Class.{Class}
@@ -25,6 +25,16 @@ front class text = take (prefix_len (is_in class) text) text
 -- the text from there on
 abbrev pub rest : Class → List ℕ → List ℕ
 rest class text = drop (prefix_len (is_in class) text) text
+
+-- each character of a text is of the class
+abbrev pub AreIn : Class → List ℕ → Type 0
+AreIn k [] = Unit {0}
+AreIn k (c ∷ cs) = (is_in k c ≡ true) × AreIn k cs
+
+-- a text is at its end, or goes on with a character that isn't of the class
+abbrev pub StopsAt : Class → List ℕ → Type 0
+StopsAt k [] = Unit {0}
+StopsAt k (c ∷ cs) = is_in k c ≡ false
 
 -- the operand at the front of a text, without the blanks around it, and the text behind it
 abbrev pub word : List ℕ → List ℕ

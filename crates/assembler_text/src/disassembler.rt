@@ -1,10 +1,9 @@
 //! Code to text.
-ghost use Rattle.std.specs.Prelude.{◌≡◌, ◌++◌, IfOk, OnOk, codes};
+ghost use Rattle.std.specs.Prelude.{◌≡◌, ◌++◌, IfOk, OnOk, codes, drop};
 ghost use Rattle.std.specs.Int.{w16};
-ghost use Rattle.std.specs.List.{flat_map};
 ghost use Rattle.std.specs.String.{string_bytes};
-ghost use Rattle.assembler_text.specs.Text.{alu_name, width_name, size_name, order_name, test_name, test_width_name, source_text, step_text, pieces_of, line_of};
-ghost use Rattle.insn_codec.specs.declared.insn.Insn.TheVariants.{Alu, Neg, MovSx, End, LoadWide, Load, LoadSx, Store, StoreImm, Jump, JumpLong, JumpIf, Exit};
+ghost use Rattle.assembler_text.specs.Text.{alu_name, width_name, size_name, order_name, test_name, test_width_name, mnemonic_of, source_text, step_text, OfAddress, operands_of, operand_text, first_text, others_text, line_of, code_text};
+ghost use Rattle.assembler_text.specs.Grammar.{lines_of, AreLines};
 
 use crate::assembler::slots_of;
 use insn_codec::code::Code;
@@ -111,181 +110,108 @@ fn step_text(alloc: Global, number: i32) -> Result<String, AllocError>
     }
 }
 
-/// An operation on two operands.
-fn alu_line(
-    alloc: Global,
-    width: Width,
-    op: AluOp,
-    dst: Register,
-    src: Source,
-) -> Result<String, AllocError>
-    ensures { IfOk result (λ text. string_bytes text ≡ pieces_of (Alu width op dst src)) }
+/// A register and an offset in brackets.
+fn address_text(alloc: Global, base: Register, offset: i16) -> Result<String, AllocError>
+    ensures { IfOk result (λ text. string_bytes text ≡ operand_text (OfAddress base offset)) }
 {
-    let (name, width) = (alu_name(op), width_name(width));
-    let src = source_text(alloc, src)?;
-    format!(in alloc; "{name}{width} r{}, {src}\n", dst.number)
-}
-
-/// A load that extends by zeros.
-fn load_line(
-    alloc: Global,
-    size: Size,
-    dst: Register,
-    base: Register,
-    offset: i16,
-) -> Result<String, AllocError>
-    ensures { IfOk result (λ text. string_bytes text ≡ pieces_of (Load size dst base offset)) }
-{
-    let size = size_name(size);
     let offset = step_text(alloc, i32::from(offset))?;
-    format!(in alloc; "ldx{size} r{}, [r{}{offset}]\n", dst.number, base.number)
+    format!(in alloc; "[r{}{offset}]", base.number)
 }
 
-/// A load that extends by the sign.
-fn load_sx_line(
-    alloc: Global,
-    size: Size,
-    dst: Register,
-    base: Register,
-    offset: i16,
-) -> Result<String, AllocError>
-    ensures { IfOk result (λ text. string_bytes text ≡ pieces_of (LoadSx size dst base offset)) }
+/// The mnemonic of an instruction.
+fn mnemonic(alloc: Global, insn: Insn) -> Result<String, AllocError>
+    ensures { IfOk result (λ text. string_bytes text ≡ mnemonic_of insn) }
 {
-    let size = size_name(size);
-    let offset = step_text(alloc, i32::from(offset))?;
-    format!(in alloc; "ldxs{size} r{}, [r{}{offset}]\n", dst.number, base.number)
+    match insn {
+        Insn::Alu { width, op, .. } => format!(in alloc; "{}{}", alu_name(op), width_name(width)),
+        Insn::Neg { width, .. } => format!(in alloc; "neg{}", width_name(width)),
+        Insn::MovSx { width, bits, .. } => format!(in alloc; "mov{}s{bits}", width_name(width)),
+        Insn::End { kind, bits, .. } => format!(in alloc; "{}{bits}", order_name(kind)),
+        Insn::LoadWide { .. } => String::from_str(alloc, "lddw"),
+        Insn::Load { size, .. } => format!(in alloc; "ldx{}", size_name(size)),
+        Insn::LoadSx { size, .. } => format!(in alloc; "ldxs{}", size_name(size)),
+        Insn::Store { size, .. } => format!(in alloc; "stx{}", size_name(size)),
+        Insn::StoreImm { size, .. } => format!(in alloc; "st{}", size_name(size)),
+        Insn::Jump { .. } => String::from_str(alloc, "ja"),
+        Insn::JumpLong { .. } => String::from_str(alloc, "jal"),
+        Insn::JumpIf { width, test, .. } => {
+            format!(in alloc; "{}{}", test_name(test), test_width_name(width))
+        }
+        Insn::Exit => String::from_str(alloc, "exit"),
+    }
 }
 
-/// A store of a register.
-fn store_line(
-    alloc: Global,
-    size: Size,
-    base: Register,
-    offset: i16,
-    src: Register,
-) -> Result<String, AllocError>
-    ensures { IfOk result (λ text. string_bytes text ≡ pieces_of (Store size base offset src)) }
+/// The first operand of an instruction behind a space, if it has one.
+fn first_operand(alloc: Global, insn: Insn) -> Result<String, AllocError>
+    ensures { IfOk result (λ text. string_bytes text ≡ first_text (operands_of insn)) }
 {
-    let size = size_name(size);
-    let offset = step_text(alloc, i32::from(offset))?;
-    format!(in alloc; "stx{size} [r{}{offset}], r{}\n", base.number, src.number)
+    match insn {
+        Insn::Alu { dst, .. }
+        | Insn::Neg { dst, .. }
+        | Insn::MovSx { dst, .. }
+        | Insn::End { dst, .. }
+        | Insn::LoadWide { dst, .. }
+        | Insn::Load { dst, .. }
+        | Insn::LoadSx { dst, .. }
+        | Insn::JumpIf { dst, .. } => format!(in alloc; " r{}", dst.number),
+        Insn::Store { base, offset, .. } => {
+            format!(in alloc; " {}", address_text(alloc, base, offset)?)
+        }
+        Insn::StoreImm { base, offset, .. } => {
+            format!(in alloc; " {}", address_text(alloc, base, offset)?)
+        }
+        Insn::Jump { distance } => {
+            format!(in alloc; " {}", step_text(alloc, i32::from(distance))?)
+        }
+        Insn::JumpLong { distance } => format!(in alloc; " {}", step_text(alloc, distance)?),
+        Insn::Exit => Ok(String::new(alloc)),
+    }
 }
 
-/// A store of a number.
-fn store_imm_line(
-    alloc: Global,
-    size: Size,
-    base: Register,
-    offset: i16,
-    imm: i32,
-) -> Result<String, AllocError>
-    ensures { IfOk result (λ text. string_bytes text ≡ pieces_of (StoreImm size base offset imm)) }
+/// The operands of an instruction behind its first, each behind a comma and a space.
+fn other_operands(alloc: Global, insn: Insn) -> Result<String, AllocError>
+    ensures { IfOk result (λ text. string_bytes text ≡ others_text (drop 1 (operands_of insn))) }
 {
-    let size = size_name(size);
-    let offset = step_text(alloc, i32::from(offset))?;
-    format!(in alloc; "st{size} [r{}{offset}], {imm}\n", base.number)
-}
-
-/// A jump where a test holds.
-fn jump_if_line(
-    alloc: Global,
-    width: Width,
-    test: Test,
-    dst: Register,
-    src: Source,
-    distance: i16,
-) -> Result<String, AllocError>
-    ensures { IfOk result (λ text. string_bytes text ≡ pieces_of (JumpIf width test dst src distance)) }
-{
-    let (name, width) = (test_name(test), test_width_name(width));
-    let src = source_text(alloc, src)?;
-    let distance = step_text(alloc, i32::from(distance))?;
-    format!(in alloc; "{name}{width} r{}, {src}, {distance}\n", dst.number)
-}
-
-/// A jump.
-fn jump_line(alloc: Global, distance: i16) -> Result<String, AllocError>
-    ensures { IfOk result (λ text. string_bytes text ≡ pieces_of (Jump distance)) }
-{
-    let distance = step_text(alloc, i32::from(distance))?;
-    format!(in alloc; "ja {distance}\n")
-}
-
-/// A jump of 32 bits.
-fn jump_long_line(alloc: Global, distance: i32) -> Result<String, AllocError>
-    ensures { IfOk result (λ text. string_bytes text ≡ pieces_of (JumpLong distance)) }
-{
-    let distance = step_text(alloc, distance)?;
-    format!(in alloc; "jal {distance}\n")
+    match insn {
+        Insn::Neg { .. }
+        | Insn::End { .. }
+        | Insn::Jump { .. }
+        | Insn::JumpLong { .. }
+        | Insn::Exit => Ok(String::new(alloc)),
+        Insn::Alu { src, .. } => format!(in alloc; ", {}", source_text(alloc, src)?),
+        Insn::MovSx { src, .. } => format!(in alloc; ", r{}", src.number),
+        Insn::Store { src, .. } => format!(in alloc; ", r{}", src.number),
+        Insn::LoadWide { value, .. } => format!(in alloc; ", {value}"),
+        Insn::Load { base, offset, .. } => {
+            format!(in alloc; ", {}", address_text(alloc, base, offset)?)
+        }
+        Insn::LoadSx { base, offset, .. } => {
+            format!(in alloc; ", {}", address_text(alloc, base, offset)?)
+        }
+        Insn::StoreImm { imm, .. } => format!(in alloc; ", {imm}"),
+        Insn::JumpIf { src, distance, .. } => {
+            let src = source_text(alloc, src)?;
+            format!(in alloc; ", {src}, {}", step_text(alloc, i32::from(distance))?)
+        }
+    }
 }
 
 /// The canonical line of an instruction.
+#[tactic(auto, using(crate::proofs::Canonical::line_pieces))]
 fn line(alloc: Global, insn: Insn) -> Result<String, AllocError>
-    ensures { IfOk result (λ text. string_bytes text ≡ pieces_of insn) }
+    ensures { IfOk result (λ text. string_bytes text ≡ line_of insn) }
 {
-    match insn {
-        Insn::Alu {
-            width,
-            op,
-            dst,
-            src,
-        } => alu_line(alloc, width, op, dst, src),
-        Insn::Neg { width, dst } => {
-            format!(in alloc; "neg{} r{}\n", width_name(width), dst.number)
-        }
-        Insn::MovSx {
-            width,
-            bits,
-            dst,
-            src,
-        } => {
-            let width = width_name(width);
-            format!(in alloc; "mov{width}s{bits} r{}, r{}\n", dst.number, src.number)
-        }
-        Insn::End { kind, bits, dst } => {
-            format!(in alloc; "{}{bits} r{}\n", order_name(kind), dst.number)
-        }
-        Insn::LoadWide { dst, value } => format!(in alloc; "lddw r{}, {value}\n", dst.number),
-        Insn::Load {
-            size,
-            dst,
-            base,
-            offset,
-        } => load_line(alloc, size, dst, base, offset),
-        Insn::LoadSx {
-            size,
-            dst,
-            base,
-            offset,
-        } => load_sx_line(alloc, size, dst, base, offset),
-        Insn::Store {
-            size,
-            base,
-            offset,
-            src,
-        } => store_line(alloc, size, base, offset, src),
-        Insn::StoreImm {
-            size,
-            base,
-            offset,
-            imm,
-        } => { store_imm_line(alloc, size, base, offset, imm) }
-        Insn::Jump { distance } => jump_line(alloc, distance),
-        Insn::JumpLong { distance } => jump_long_line(alloc, distance),
-        Insn::JumpIf {
-            width,
-            test,
-            dst,
-            src,
-            distance,
-        } => { jump_if_line(alloc, width, test, dst, src, distance) }
-        Insn::Exit => String::from_str(alloc, "exit\n"),
-    }
+    let mnemonic = mnemonic(alloc, insn)?;
+    let first = first_operand(alloc, insn)?;
+    let others = other_operands(alloc, insn)?;
+    format!(in alloc; "{mnemonic}{first}{others}\n")
 }
 
 /// The text of code: the canonical line of each of its instructions, each ended by LF.
 pub fn disassemble(alloc: Global, code: &Code) -> Result<String, AllocError>
-    ensures { IfOk result (λ text. string_bytes text ≡ flat_map line_of code.now) }
+    ensures exact { IfOk result (λ text. string_bytes text ≡ code_text code.now) }
+    // Its lines give the instructions of the code in order.
+    ensures lines { IfOk result (λ text. AreLines (lines_of (string_bytes text)) code.now) }
 {
     code.known();
     let count = code.slot_count();

@@ -20,26 +20,58 @@ const GREATER_TEXT: &str =
     "ldxdw r2, [r1+56]\nldxdw r3, [r1+96]\nmov64 r0, 1\njge r2, r3, +1\nmov64 r0, 2\nexit\n";
 
 /// A line alone with the number of its refusal.
-const REFUSED: [(&str, u32); 19] = [
+const REFUSED: [(&str, u32); 34] = [
     ("foo", 60),
+    ("mov", 60),
+    ("mov64s64 r0, r1", 60),
+    ("ldxsdw r0, [r1+0]", 60),
     ("exit,", 60),
     ("ja+1", 60),
     ("exit\r", 60),
+    ("\r", 60),
+    ("mov64", 61),
     ("mov64 r0", 61),
     ("mov64 r11, 1", 61),
     ("mov64 r0, -0", 61),
     ("mov64 r0, 01", 61),
+    ("mov64 r0, 1x", 61),
+    ("mov64 r0, +1", 61),
+    ("mov64 r0, 0x", 61),
     ("mov64 r0, 0X1", 61),
     ("mov64 r0 1", 61),
+    ("mov64 r0, , 1", 61),
+    ("mov64 r0, x 2", 61),
+    ("mov64 r11, 2147483648", 61),
     ("ja 1", 61),
     ("lddw r0, -1", 61),
+    ("ldxb r0, [r1]", 61),
+    ("ldxb r0, [r1-0]", 61),
     ("ldxb r0, [r1+ 1]", 61),
     ("ldxb r0, [r1+99999", 61),
+    ("ldxb r0, [r1+99999]", 62),
     ("mov64 r0, 2147483648", 62),
+    ("mov64 r0, 0x100000000 2", 62),
     ("ja +32768", 62),
     ("lddw r0, 18446744073709551616", 62),
     ("mov64 r0, 1 2", 63),
     ("exit r1", 63),
+];
+
+/// A line alone with the line that is written of its instruction.
+const ACCEPTED: [(&str, &str); 10] = [
+    ("mov64 r0, 0x0000000001", "mov64 r0, 1\n"),
+    ("mov64 r0, 0xFfFfFfFf", "mov64 r0, -1\n"),
+    ("mov64 r0, -2147483648", "mov64 r0, -2147483648\n"),
+    ("\t mov64\tr0 ,\t1 ; 1", "mov64 r0, 1\n"),
+    ("exit;", "exit\n"),
+    ("ja -32768;x", "ja -32768\n"),
+    ("jal +2147483647", "jal +2147483647\n"),
+    ("stb [r1-1], 0x7F", "stb [r1-1], 127\n"),
+    (
+        "lddw r10, 0x00ffffffffffffffff",
+        "lddw r10, 18446744073709551615\n",
+    ),
+    ("jslt32 r1,r2,+0", "jslt32 r1, r2, +0\n"),
 ];
 
 fn told(assembled: Result<insn_codec::code::Code, LineFault>) -> Option<(u32, usize)> {
@@ -71,6 +103,16 @@ fn refusals(rt: HostRuntime) {
         told(assemble(rt.alloc(), "exit\nfoo\nja 1")),
         Some((60, 2))
     );
+}
+
+#[test]
+fn accepted(rt: HostRuntime) -> Result<(), Fail> {
+    for (line, written) in ACCEPTED {
+        let code = assemble(rt.alloc(), line).ok().ok_or("a line")?;
+        let text = disassemble(rt.alloc(), &code).ok().ok_or("memory")?;
+        assert_eq!(rt; text.as_str(), written);
+    }
+    Ok(())
 }
 
 #[test]
@@ -111,5 +153,7 @@ fn too_many_slots(rt: HostRuntime) -> Result<(), Fail> {
     assert!(rt; assemble(rt.alloc(), text.as_str()).is_ok());
     text.push_str("exit")?;
     assert_eq!(rt; told(assemble(rt.alloc(), text.as_str())), Some((2, 1025)));
+    text.push_str(" r1")?;
+    assert_eq!(rt; told(assemble(rt.alloc(), text.as_str())), Some((63, 1025)));
     Ok(())
 }

@@ -4,7 +4,7 @@ use Rattle.std.specs.Str.{bytes_eq}
 use Rattle.clap.specs.Lexer.{strip_byte}
 use Rattle.clap.specs.Words.{Text}
 use Rattle.clap.proofs.OnLiterals.{clap_on_literals}
-use Rattle.command_line.specs.Asked.{Asks, judge}
+use Rattle.command_line.specs.Asked.{Asks, asm, check, dis, judge}
 use Rattle.command_line.specs.Plain.{IsPlain}
 
 no_hyphen : (word : Text) → IsPlain word → strip_byte 45 word ≡ None
@@ -15,6 +15,12 @@ no_end : (word : Text) → IsPlain word → bytes_eq word (45 ∷ 45 ∷ []) ≡
 no_end [] plain = refl
 no_end (x ∷ xs) plain = rw plain refl
 
+pub plain_check : (name code : Text) → IsPlain code → Asks (name ∷ codes "check" ∷ code ∷ []) (check code)
+unfolding clap_on_literals
+plain_check name code plain =
+    let a = no_hyphen code plain in
+    let b = no_end code plain in (simp (a, b), simp (a, b))
+
 pub plain_judge : (name code clash : Text) → IsPlain code → IsPlain clash → Asks (name ∷ codes "judge" ∷ code ∷ clash ∷ []) (judge code clash)
 unfolding clap_on_literals
 plain_judge name code clash plain-code plain-clash =
@@ -22,3 +28,15 @@ plain_judge name code clash plain-code plain-clash =
     let b = no_hyphen clash plain-clash in
     let d = no_end code plain-code in
     let e = no_end clash plain-clash in (simp (a, b, d, e), simp (a, b, d, e))
+
+pub plain_asm : (name file : Text) → IsPlain file → Asks (name ∷ codes "asm" ∷ file ∷ []) (asm file)
+unfolding clap_on_literals
+plain_asm name file plain =
+    let a = no_hyphen file plain in
+    let b = no_end file plain in (simp (a, b), simp (a, b))
+
+pub plain_dis : (name code : Text) → IsPlain code → Asks (name ∷ codes "dis" ∷ code ∷ []) (dis code)
+unfolding clap_on_literals
+plain_dis name code plain =
+    let a = no_hyphen code plain in
+    let b = no_end code plain in (simp (a, b), simp (a, b))

@@ -10,7 +10,7 @@ use Rattle.command_line.specs.declared.CommandFault.{CommandFault}
 use Rattle.command_line.specs.declared.CommandFault.TheVariants.{Parse, NoTask}
 use Rattle.clap.specs.declared.builder.action.ArgAction.TheVariants.{Set}
 use Rattle.command_line.specs.declared.Task.{Task}
-use Rattle.command_line.specs.declared.Task.TheVariants.{Judge}
+use Rattle.command_line.specs.declared.Task.TheVariants.{Check, Judge, Asm, Dis}
 
 -- ---- the command
 
@@ -20,8 +20,25 @@ needed id = record (new_rule id) { required = true; action = Some Set }
 abbrev pub judge_app : App
 judge_app = with_rule (with_rule (new_app (codes "judge")) (needed (codes "HEX"))) (needed (codes "RECORDHEX"))
 
+-- a subcommand with one argument
+abbrev pub one_app : List ℕ → List ℕ → App
+one_app name id = with_rule (new_app name) (needed id)
+
+abbrev pub check_app : App
+check_app = one_app (codes "check") (codes "HEX")
+
+abbrev pub asm_app : App
+asm_app = one_app (codes "asm") (codes "FILE")
+
+abbrev pub dis_app : App
+dis_app = one_app (codes "dis") (codes "HEX")
+
+abbrev pub subcommands_app : App
+subcommands_app = with_subcommand (with_subcommand (with_subcommand (with_subcommand (new_app (codes "heal"))
+    check_app.top) judge_app.top) asm_app.top) dis_app.top
+
 abbrev pub heal_app : App
-heal_app = on_top (λ s. record s { subcommand_required = true }) (with_subcommand (new_app (codes "heal")) judge_app.top)
+heal_app = on_top (λ s. record s { subcommand_required = true }) subcommands_app
 
 -- the command has this shape, and no global argument
 abbrev pub IsApp : Command → App → Type 0
@@ -31,16 +48,36 @@ IsApp c app = (app_of c ≡ app) × ((out-Command c).has_globals ≡ false)
 
 -- a task without where its words lie in memory
 pub data Asked : Type 0 where
+  check : List ℕ → Asked
   judge : List ℕ → List ℕ → Asked
+  asm : List ℕ → Asked
+  dis : List ℕ → Asked
 
 abbrev pub asked_by : Task → Asked
+asked_by (Check code) = check code.now
 asked_by (Judge code clash) = judge code.now clash.now
+asked_by (Asm file) = asm file.now
+asked_by (Dis code) = dis code.now
+
+abbrev pub check_asked : List Row → Option Asked
+check_asked rows = option_map check (first_of (codes "HEX") rows)
 
 abbrev pub judge_asked : List Row → Option Asked
 judge_asked rows = option_and_then (λ code. option_map (judge code) (first_of (codes "RECORDHEX") rows)) (first_of (codes "HEX") rows)
 
+abbrev pub asm_asked : List Row → Option Asked
+asm_asked rows = option_map asm (first_of (codes "FILE") rows)
+
+abbrev pub dis_asked : List Row → Option Asked
+dis_asked rows = option_map dis (first_of (codes "HEX") rows)
+
+-- what a subcommand of this name asks for
 abbrev pub asked_of : Text × List Row → Option Asked
-asked_of sub = if bytes_eq sub.0 (codes "judge") then judge_asked sub.1 else None
+asked_of sub =
+    if bytes_eq sub.0 (codes "check") then check_asked sub.1
+    else (if bytes_eq sub.0 (codes "judge") then judge_asked sub.1
+    else (if bytes_eq sub.0 (codes "asm") then asm_asked sub.1
+    else (if bytes_eq sub.0 (codes "dis") then dis_asked sub.1 else None)))
 
 -- the words have no fault, and ask for this
 abbrev pub Asks : List Text → Asked → Type 0

@@ -4,7 +4,7 @@
 ghost use Rattle.std.specs.Prelude.{◌≡◌, ◌∷◌, [], codes, ◌⊎◌, ◌↔◌, List, ℕ, Some, IfOk, IfErr, IsTrue, false, map, option_map, option_and_then};
 ghost use Rattle.clap.specs.Words.{app_of, first_of, found_of, kind_of, rows_of, rule_of, subcommand_rows_of};
 ghost use Rattle.clap.specs.declared.error.kind.ErrorKind.TheVariants.{OutOfMemory};
-ghost use Rattle.command_line.specs.Asked.{Asked, Asks, IsApp, IsForMemory, asked_by, asked_of, heal_app, judge, judge_app, judge_asked, needed};
+ghost use Rattle.command_line.specs.Asked.{Asked, Asks, IsApp, IsForMemory, asm, asm_asked, asked_by, asked_of, check, check_asked, dis, dis_asked, heal_app, judge, judge_app, judge_asked, needed, one_app};
 ghost use Rattle.command_line.specs.Plain.{IsPlain};
 ghost use Rattle.command_line.specs.declared.CommandFault.TheVariants.{Parse};
 
@@ -16,8 +16,14 @@ use std::{error, fmt};
 /// What the words ask for.
 #[derive(Clone, Copy, Debug, PartialEq, Eq)]
 pub enum Task<'a> {
+    /// Says whether code, in hex digits, is accepted.
+    Check { code: &'a str },
     /// Judges the clash of a record by code, both in hex digits.
     Judge { code: &'a str, clash: &'a str },
+    /// Reads a file as the text of code, and prints the code in hex digits.
+    Asm { file: &'a str },
+    /// Prints code, in hex digits, as text.
+    Dis { code: &'a str },
 }
 
 /// Why the words gave no task. Its `Display` is the text for the user.
@@ -83,11 +89,25 @@ fn judge_command<'a>(alloc: Global) -> Result<Command<'a>, AllocError>
     Command::new(alloc, "judge").arg(code)?.arg(clash)
 }
 
+// A subcommand with one argument.
+fn one_command<'a>(alloc: Global, name: &'a str, id: &'a str) -> Result<Command<'a>, AllocError>
+    ensures { IfOk result (λ c. IsApp c (one_app name.entry.now id.entry.now)) }
+{
+    Command::new(alloc, name).arg(needed_arg(alloc, id))
+}
+
 fn heal<'a>(alloc: Global) -> Result<Command<'a>, AllocError>
     ensures { IfOk result (λ c. app_of c ≡ heal_app) }
 {
+    let check = one_command(alloc, "check", "HEX")?;
     let judge = judge_command(alloc)?;
-    let heal = Command::new(alloc, "heal").subcommand(judge)?;
+    let asm = one_command(alloc, "asm", "FILE")?;
+    let dis = one_command(alloc, "dis", "HEX")?;
+    let heal = Command::new(alloc, "heal")
+        .subcommand(check)?
+        .subcommand(judge)?
+        .subcommand(asm)?
+        .subcommand(dis)?;
     Ok(heal.subcommand_required(true))
 }
 
@@ -99,6 +119,13 @@ fn value<'a>(found: &ArgMatches<'a>, id: &str) -> Option<&'a str>
     found.get_str(id)
 }
 
+fn check_of<'a>(found: &ArgMatches<'a>) -> Option<Task<'a>>
+    ensures { option_map asked_by result ≡ check_asked (rows_of (found_of found.now)) }
+{
+    let code = value(found, "HEX")?;
+    Some(Task::Check { code })
+}
+
 fn judge_of<'a>(found: &ArgMatches<'a>) -> Option<Task<'a>>
     ensures { option_map asked_by result ≡ judge_asked (rows_of (found_of found.now)) }
 {
@@ -107,12 +134,32 @@ fn judge_of<'a>(found: &ArgMatches<'a>) -> Option<Task<'a>>
     Some(Task::Judge { code, clash })
 }
 
+fn asm_of<'a>(found: &ArgMatches<'a>) -> Option<Task<'a>>
+    ensures { option_map asked_by result ≡ asm_asked (rows_of (found_of found.now)) }
+{
+    let file = value(found, "FILE")?;
+    Some(Task::Asm { file })
+}
+
+fn dis_of<'a>(found: &ArgMatches<'a>) -> Option<Task<'a>>
+    ensures { option_map asked_by result ≡ dis_asked (rows_of (found_of found.now)) }
+{
+    let code = value(found, "HEX")?;
+    Some(Task::Dis { code })
+}
+
 fn task_of<'a>(matches: &ArgMatches<'a>) -> Option<Task<'a>>
     ensures { option_map asked_by result ≡ option_and_then asked_of (subcommand_rows_of matches.now) }
 {
     let (name, found) = matches.subcommand()?;
-    if name == "judge" {
+    if name == "check" {
+        check_of(found)
+    } else if name == "judge" {
         judge_of(found)
+    } else if name == "asm" {
+        asm_of(found)
+    } else if name == "dis" {
+        dis_of(found)
     } else {
         None
     }
@@ -131,6 +178,9 @@ pub fn command<'a, S: AsStr>(alloc: Global, words: &'a [S]) -> Result<Task<'a>, 
 
 /// Words that no hyphen begins are taken as they stand.
 pub fn plain_words()
+    ensures check { (name code : List ℕ) → IsPlain code → Asks (name ∷ codes "check" ∷ code ∷ []) (check code) }
     ensures judge { (name code clash : List ℕ) → IsPlain code → IsPlain clash
         → Asks (name ∷ codes "judge" ∷ code ∷ clash ∷ []) (judge code clash) }
+    ensures asm { (name file : List ℕ) → IsPlain file → Asks (name ∷ codes "asm" ∷ file ∷ []) (asm file) }
+    ensures dis { (name code : List ℕ) → IsPlain code → Asks (name ∷ codes "dis" ∷ code ∷ []) (dis code) }
 {}

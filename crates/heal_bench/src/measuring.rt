@@ -1,4 +1,6 @@
 //! The measurements.
+ghost use Rattle.std.specs.Prelude.{◌<◌};
+
 use abstract_value::interval::Interval;
 use clash_record::{RECORD_LEN, record_of};
 use hex::FromHexError;
@@ -59,7 +61,12 @@ pub(crate) enum Fault {
 }
 
 /// Decodes and verifies the program, runs it on the record, and takes the times.
-pub(crate) fn measure(rt: &HostRuntime, code: &str, clash: &str, runs: &str) -> Result<Measured, Fault> {
+pub(crate) fn measure(
+    rt: &HostRuntime,
+    code: &str,
+    clash: &str,
+    runs: &str,
+) -> Result<Measured, Fault> {
     let alloc = rt.alloc();
     let bytes = hex::decode(alloc, code)?;
     let record = record_bytes(alloc, clash)?;

@@ -1,32 +1,49 @@
--- What is wrong with bytes or with code is wrong with their text.
-use Rattle.std.proofs.Common.{◌≡◌, Ok, IfOk, ℕ, List, refl}
+-- What is wrong with bytes, with code or with a file is wrong with the task.
+use Rattle.std.proofs.Common.{◌≡◌, Ok, Err, IfOk, ℕ, List, refl}
 use Rattle.hex.specs.Hex.{decode_of}
-use Rattle.insn_codec.specs.Encoding.{Spells}
 use Rattle.insn_codec.specs.declared.insn.Insn.{Insn}
 use Rattle.heal_main.specs.declared.refusal.Failure.{Failure}
 use Rattle.heal_main.specs.declared.refusal.Failure.TheVariants.{Refused, OutOfMemory}
-use Rattle.heal_main.specs.Judging.{IsNoCode, IsUnsafe, IsProgram, IsProgramFault, IsClashText, IsClashFault, OnRefusal, first, no_code, unsafe}
-use Rattle.heal_main.specs.Lines.{IsSaid, told, code_alone, clash_alone, both}
+use Rattle.heal_main.specs.Judging.{IsNoHex, IsNoCode, IsUnsafe, IsCodeText, IsCodeFault, IsProgram, IsProgramFault, IsClashText, IsClashFault, OnRefusal, first, no_hex, no_code, not_code, unsafe}
+use Rattle.heal_main.specs.Lines.{IsChecked, IsDisassembled, IsJudged, told, code_alone, clash_alone, both}
 
-pub no_code_failure : (text bytes : List ℕ) (f : Failure) → decode_of text ≡ Ok bytes → OnRefusal (IsNoCode bytes) f → OnRefusal (IsProgramFault text) f
+pub no_hex_failure : (text : List ℕ) (f : Failure) → OnRefusal (IsNoHex text) f → OnRefusal (IsCodeFault text) f
+no_hex_failure text (Refused r) h = no_hex h
+no_hex_failure text OutOfMemory h = h
+
+pub no_code_failure : (text bytes : List ℕ) (f : Failure) → decode_of text ≡ Ok bytes → OnRefusal (IsNoCode bytes) f → OnRefusal (IsCodeFault text) f
 no_code_failure text bytes (Refused r) digits h = no_code bytes digits h
 no_code_failure text bytes OutOfMemory digits h = h
 
-pub unsafe_failure : (text bytes : List ℕ) (code : List Insn) (f : Failure) → decode_of text ≡ Ok bytes → Spells bytes code → OnRefusal (IsUnsafe code) f → OnRefusal (IsProgramFault text) f
-unsafe_failure text bytes code (Refused r) digits spelled h = unsafe bytes code digits spelled h
-unsafe_failure text bytes code OutOfMemory digits spelled h = h
+pub not_code_failure : (text : List ℕ) (f : Failure) → OnRefusal (IsCodeFault text) f → OnRefusal (IsProgramFault text) f
+not_code_failure text (Refused r) h = not_code h
+not_code_failure text OutOfMemory h = h
 
-pub ruleset failures = (no_code_failure, unsafe_failure)
+pub unsafe_failure : (text : List ℕ) (code : List Insn) (f : Failure) → IsCodeText text code → OnRefusal (IsUnsafe code) f → OnRefusal (IsProgramFault text) f
+unsafe_failure text code (Refused r) is_code h = unsafe code is_code h
+unsafe_failure text code OutOfMemory is_code h = h
 
-pub code_failure : (code clash bytes : List ℕ) (e : Failure) → OnRefusal (IsProgramFault code) e → IsClashText clash bytes → IfOk (told e) (λ said. IsSaid code clash said)
+pub ruleset failures = (no_hex_failure, no_code_failure, not_code_failure, unsafe_failure)
+
+pub check_failure : (text : List ℕ) (f : Failure) → OnRefusal (IsProgramFault text) f → IfOk (told (Err f)) (IsChecked text)
+check_failure text (Refused r) h = h
+check_failure text OutOfMemory h = tt
+
+pub dis_failure : (text : List ℕ) (f : Failure) → OnRefusal (IsCodeFault text) f → IfOk (told (Err f)) (IsDisassembled text)
+dis_failure text (Refused r) h = h
+dis_failure text OutOfMemory h = tt
+
+pub ruleset hex_wrongs = (check_failure, dis_failure)
+
+pub code_failure : (code clash bytes : List ℕ) (e : Failure) → OnRefusal (IsProgramFault code) e → IsClashText clash bytes → IfOk (told (Err e)) (IsJudged code clash)
 code_failure code clash bytes (Refused r) h k = code_alone bytes h k
 code_failure code clash bytes OutOfMemory h k = tt
 
-pub clash_failure : (code clash : List ℕ) (program : List Insn) (f : Failure) → IsProgram code program → OnRefusal (IsClashFault clash) f → IfOk (told f) (λ said. IsSaid code clash said)
+pub clash_failure : (code clash : List ℕ) (program : List Insn) (f : Failure) → IsProgram code program → OnRefusal (IsClashFault clash) f → IfOk (told (Err f)) (IsJudged code clash)
 clash_failure code clash program (Refused r) h k = clash_alone program h k
 clash_failure code clash program OutOfMemory h k = tt
 
-pub both_failures : (code clash : List ℕ) (e f : Failure) → OnRefusal (IsProgramFault code) e → OnRefusal (IsClashFault clash) f → IfOk (told (first e f)) (λ said. IsSaid code clash said)
+pub both_failures : (code clash : List ℕ) (e f : Failure) → OnRefusal (IsProgramFault code) e → OnRefusal (IsClashFault clash) f → IfOk (told (Err (first e f))) (IsJudged code clash)
 both_failures code clash (Refused e) (Refused f) h k = both e f h k refl
 both_failures code clash (Refused e) OutOfMemory h k = tt
 both_failures code clash OutOfMemory f h k = tt

@@ -1,5 +1,5 @@
 -- What code answers to a clash, and what may be wrong with the texts of both.
-use Rattle.std.specs.Prelude.{◌≡◌, ◌≢◌, ◌==◌, ℕ, List, length, nat_le, if◌then◌else◌, Option, Some, None, Ok, Err}
+use Rattle.std.specs.Prelude.{◌≡◌, ◌≢◌, ◌==◌, ℕ, List, length, nat_le, if◌then◌else◌, Option, Some, None, option_map, Ok, Err}
 use Rattle.hex.specs.Hex.{decode_of}
 use Rattle.hex.specs.declared.error.FromHexError.{FromHexError}
 use Rattle.insn_codec.specs.declared.insn.Insn.{Insn}
@@ -14,6 +14,8 @@ use Rattle.verifier.specs.Refusals.{IsRefusedAt}
 use Rattle.verifier.specs.declared.rule.Rule.{Rule}
 use Rattle.builtin_resolvers.specs.declared.verdicts.Verdict3.{Verdict3}
 use Rattle.builtin_resolvers.specs.declared.verdicts.Verdict3.TheVariants.{First, Second, Neither}
+use Rattle.heal_main.specs.declared.refusal.Place.{Place}
+use Rattle.heal_main.specs.declared.refusal.Place.TheVariants.{Slot}
 use Rattle.heal_main.specs.declared.refusal.Refusal.{Refusal}
 use Rattle.heal_main.specs.declared.refusal.Failure.{Failure}
 use Rattle.heal_main.specs.declared.refusal.Failure.TheVariants.{Refused, OutOfMemory}
@@ -41,8 +43,8 @@ pub record IsRuling (r : Ruling) : Type 0 where
 
 -- ---- what is wrong
 
-abbrev pub refusal : ℕ → Option ℕ → Refusal
-refusal number slot = record { number = number; slot = slot }
+abbrev pub refusal : ℕ → Option Place → Refusal
+refusal number place = record { number = number; place = place }
 
 -- the text isn't hex digits, two a byte
 pub record IsNoHex (text : List ℕ) (r : Refusal) : Type 0 where
@@ -54,32 +56,40 @@ pub record IsNoHex (text : List ℕ) (r : Refusal) : Type 0 where
 pub record IsNoCode (bytes : List ℕ) (r : Refusal) : Type 0 where
   pub fault : CodecFault
   pub first : IsFirstFault bytes fault
-  pub same : r ≡ refusal (fault_number fault) (fault_slot fault)
+  pub same : r ≡ refusal (fault_number fault) (option_map Slot (fault_slot fault))
 
 -- the code fulfils not every rule: this one fails first
 pub record IsUnsafe (code : List Insn) (r : Refusal) : Type 0 where
   pub slot : ℕ
   pub rule : Rule
   pub fails : IsRefusedAt interval_ops code slot rule
-  pub same : r ≡ refusal (rule_number rule) (Some slot)
+  pub same : r ≡ refusal (rule_number rule) (Some (Slot slot))
 
 -- the code fulfils every rule
 pub record IsAccepted (code : List Insn) : Type 0 where
   pub structured : IsStructured code
   pub typable : IsTypable interval_ops code
 
--- the text is that of code that is accepted
-pub record IsProgram (text : List ℕ) (code : List Insn) : Type 0 where
+-- the text is that of code
+pub record IsCodeText (text : List ℕ) (code : List Insn) : Type 0 where
   pub bytes : List ℕ
   pub digits : decode_of text ≡ Ok bytes
   pub spelled : Spells bytes code
+
+-- the text is that of no code, for this reason
+pub data IsCodeFault (text : List ℕ) (r : Refusal) : Type 0 where
+  no_hex : IsNoHex text r → IsCodeFault text r
+  no_code : (bytes : List ℕ) → decode_of text ≡ Ok bytes → IsNoCode bytes r → IsCodeFault text r
+
+-- the text is that of code that is accepted
+pub record IsProgram (text : List ℕ) (code : List Insn) : Type 0 where
+  pub is_code : IsCodeText text code
   pub accepted : IsAccepted code
 
 -- the text is that of no accepted code, for this reason
 pub data IsProgramFault (text : List ℕ) (r : Refusal) : Type 0 where
-  no_hex : IsNoHex text r → IsProgramFault text r
-  no_code : (bytes : List ℕ) → decode_of text ≡ Ok bytes → IsNoCode bytes r → IsProgramFault text r
-  unsafe : (bytes : List ℕ) (code : List Insn) → decode_of text ≡ Ok bytes → Spells bytes code → IsUnsafe code r → IsProgramFault text r
+  not_code : IsCodeFault text r → IsProgramFault text r
+  unsafe : (code : List Insn) → IsCodeText text code → IsUnsafe code r → IsProgramFault text r
 
 -- the text is that of a record
 pub record IsClashText (text bytes : List ℕ) : Type 0 where
@@ -88,7 +98,7 @@ pub record IsClashText (text bytes : List ℕ) : Type 0 where
 
 -- the text is that of no record, for this reason
 pub data IsClashFault (text : List ℕ) (r : Refusal) : Type 0 where
-  no_hex : IsNoHex text r → IsClashFault text r
+  no_digits : IsNoHex text r → IsClashFault text r
   wrong_length : (bytes : List ℕ) → decode_of text ≡ Ok bytes → length bytes ≢ record_len → r ≡ refusal 55 None → IsClashFault text r
 
 -- want of memory says nothing of the texts

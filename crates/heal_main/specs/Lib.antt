@@ -1,3 +1,4 @@
 pub mod Judging
+pub mod Sources
 pub mod Lines
 pub mod Sending

@@ -1,25 +1,32 @@
 -- What is printed for a task, and the status of the program.
-use Rattle.std.specs.Prelude.{◌≡◌, ◌++◌, ℕ, List, codes, Option, Some, None, Result, Ok, Err}
+use Rattle.std.specs.Prelude.{◌≡◌, ◌⊎◌, ◌++◌, ℕ, List, length, codes, Option, Some, None, Result, Ok, Err}
 use Rattle.std.specs.declared.alloc.AllocError.{AllocError}
 use Rattle.std.specs.Fmt.{decimal}
+use Rattle.std.specs.List.{flat_map}
 use Rattle.std.specs.Io.KnownBytes.{Appends}
+use Rattle.hex.specs.Hex.{encode_lower}
 use Rattle.insn_codec.specs.declared.insn.Insn.{Insn}
+use Rattle.insn_codec.specs.Encoding.{insn_bytes}
+use Rattle.assembler_text.specs.Text as text
 use Rattle.builtin_resolvers.specs.declared.verdicts.Verdict3.{Verdict3}
 use Rattle.builtin_resolvers.specs.declared.verdicts.Verdict3.TheVariants.{First, Second, Neither}
 use Rattle.command_line.specs.declared.Task.{Task}
-use Rattle.command_line.specs.declared.Task.TheVariants.{Judge}
+use Rattle.command_line.specs.declared.Task.TheVariants.{Check, Judge, Asm, Dis}
+use Rattle.heal_main.specs.declared.refusal.Place.{Place}
+use Rattle.heal_main.specs.declared.refusal.Place.TheVariants.{Slot, Line}
 use Rattle.heal_main.specs.declared.refusal.Refusal.{Refusal}
 use Rattle.heal_main.specs.declared.refusal.Failure.{Failure}
 use Rattle.heal_main.specs.declared.refusal.Failure.TheVariants as failure
-use Rattle.heal_main.specs.declared.obey.Said.{Said}
-use Rattle.heal_main.specs.declared.obey.Said.TheVariants.{Ruled, Refused}
-use Rattle.heal_main.specs.Judging.{IsProgram, IsProgramFault, IsClashText, IsClashFault, Ruling, IsRuling, least}
+use Rattle.heal_main.specs.declared.said.Said.{Said}
+use Rattle.heal_main.specs.declared.said.Said.TheVariants.{Accepted, Ruled, Assembled, Disassembled, Refused, DeviceFault}
+use Rattle.heal_main.specs.Sources.{OfBytes, IsSource, IsNoSource}
+use Rattle.heal_main.specs.Judging.{IsCodeText, IsCodeFault, IsProgram, IsProgramFault, IsClashText, IsClashFault, Ruling, IsRuling, least}
 use Rattle.heal_main.specs.Sending.{AppendsFront}
 
 -- ---- what is said
 
 -- both texts are right, and this is what the code answers to the record
-pub record IsJudged (code clash : List ℕ) (verdict : Verdict3) (steps : ℕ) : Type 0 where
+pub record IsVerdict (code clash : List ℕ) (verdict : Verdict3) (steps : ℕ) : Type 0 where
   pub ruling : Ruling
   pub is_program : IsProgram code ruling.code
   pub is_clash : IsClashText clash ruling.bytes
@@ -33,17 +40,52 @@ pub data IsWrong (code clash : List ℕ) (r : Refusal) : Type 0 where
   clash_alone : (program : List Insn) → IsProgram code program → IsClashFault clash r → IsWrong code clash r
   both : (e f : Refusal) → IsProgramFault code e → IsClashFault clash f → r ≡ least e f → IsWrong code clash r
 
-abbrev pub IsSaid : List ℕ → List ℕ → Said → Type 0
-IsSaid code clash (Ruled verdict steps) = IsJudged code clash verdict steps
-IsSaid code clash (Refused r) = IsWrong code clash r
+-- what is said where a clash is judged
+abbrev pub IsJudged : List ℕ → List ℕ → Said → Type 0
+IsJudged code clash (Ruled verdict steps) = IsVerdict code clash verdict steps
+IsJudged code clash (Refused r) = IsWrong code clash r
+IsJudged code clash said = ⊥
 
+-- the code is accepted, and this is the count of its instructions
+pub record IsCount (text : List ℕ) (count : ℕ) : Type 0 where
+  pub code : List Insn
+  pub is_program : IsProgram text code
+  pub count_is : count ≡ length code
+
+-- what is said where code is checked
+abbrev pub IsChecked : List ℕ → Said → Type 0
+IsChecked text (Accepted count) = IsCount text count
+IsChecked text (Refused r) = IsProgramFault text r
+IsChecked text said = ⊥
+
+-- what is said where code is written as text
+abbrev pub IsDisassembled : List ℕ → Said → Type 0
+IsDisassembled text (Disassembled code) = IsCodeText text code
+IsDisassembled text (Refused r) = IsCodeFault text r
+IsDisassembled text said = ⊥
+
+-- what is said of the bytes of a file whose text is read as code
+abbrev pub IsAssembled : List ℕ → Said → Type 0
+IsAssembled bytes (Assembled code) = IsSource bytes code
+IsAssembled bytes (Refused r) = IsNoSource bytes r
+IsAssembled bytes said = ⊥
+
+-- it is said of the bytes that a reader has, or of some bytes where it doesn't tell them; or reading failed
+abbrev pub IsOfBytes : Option (List ℕ) → Said → Type 0
+IsOfBytes known said = (said ≡ DeviceFault) ⊎ OfBytes known (λ bytes. IsAssembled bytes said)
+
+-- what is said to a task; what a file has is known only by reading it
 abbrev pub IsAnswer : Task → Said → Type 0
-IsAnswer (Judge code clash) said = IsSaid code.now clash.now said
+IsAnswer (Check code) said = IsChecked code.now said
+IsAnswer (Judge code clash) said = IsJudged code.now clash.now said
+IsAnswer (Asm file) said = IsOfBytes None said
+IsAnswer (Dis code) said = IsDisassembled code.now said
 
--- what is said of a failure, where memory serves
-abbrev pub told : Failure → Result Said AllocError
-told (failure.Refused r) = Ok (Refused r)
-told failure.OutOfMemory = Err (record {})
+-- what is said, where memory serves
+abbrev pub told : Result Said Failure → Result Said AllocError
+told (Ok said) = Ok said
+told (Err (failure.Refused r)) = Ok (Refused r)
+told (Err failure.OutOfMemory) = Err (record {})
 
 -- ---- how it is said
 
@@ -52,22 +94,40 @@ word_of First = codes "first"
 word_of Second = codes "second"
 word_of Neither = codes "none"
 
-abbrev pub refused_line : ℕ → Option ℕ → List ℕ
+-- a refusal, with the slot or the line that it names
+abbrev pub refused_line : ℕ → Option Place → List ℕ
 refused_line number None = codes "refused " ++ (decimal number ++ codes "\n")
-refused_line number (Some slot) = codes "refused " ++ (decimal number ++ (codes " at slot " ++ (decimal slot ++ codes "\n")))
+refused_line number (Some (Slot slot)) = codes "refused " ++ (decimal number ++ (codes " at slot " ++ (decimal slot ++ codes "\n")))
+refused_line number (Some (Line line)) = codes "refused " ++ (decimal number ++ (codes " at line " ++ (decimal line ++ codes "\n")))
 
+-- the bytes of code in lower-case hex digits, on one line
+abbrev pub hex_line : List Insn → List ℕ
+hex_line code = encode_lower (flat_map insn_bytes code) ++ codes "\n"
+
+-- what is printed
 abbrev pub line_of : Said → List ℕ
+line_of (Accepted count) = codes "accepted " ++ (decimal count ++ codes " instructions\n")
 line_of (Ruled verdict steps) = word_of verdict ++ (codes " in " ++ (decimal steps ++ codes " steps\n"))
-line_of (Refused r) = refused_line r.number r.slot
+line_of (Assembled code) = hex_line code
+line_of (Disassembled code) = flat_map text.line_of code
+line_of (Refused r) = refused_line r.number r.place
+line_of DeviceFault = codes "device fault\n"
 
+-- the status of the program
 abbrev pub status_of : Said → ℕ
-status_of (Ruled verdict steps) = 0
 status_of (Refused r) = 2
+status_of DeviceFault = 3
+status_of said = 0
+
+-- this is said, with this status and text
+abbrev pub IsSpoken : Result Said AllocError → ℕ → List ℕ → Type 0
+IsSpoken (Ok said) status line = (status ≡ status_of said) × (line ≡ line_of said)
+IsSpoken (Err e) status line = ⊥
 
 -- ---- what the program does
 
--- all of the line went out, with its status; or the status is 3, and a beginning of it went out, or of the line for want
--- of memory
+-- all that is printed went out, with its status; or the status is 3, and a beginning of it went out, or of the line for
+-- want of memory
 pub data Obeys (task : Task) (old new : Option (List ℕ)) (status : ℕ) : Type 0 where
   obeyed : (said : Said) → IsAnswer task said → status ≡ status_of said → Appends old new (line_of said) → Obeys task old new status
   cut : (said : Said) → IsAnswer task said → status ≡ 3 → AppendsFront old new (line_of said) → Obeys task old new status

@@ -1,9 +1,12 @@
-//! heal: judges a clash of two registrations by the code of a stranger.
+//! heal: judges a clash of two registrations by the code of a stranger, and reads and writes such code.
 #![tactic(auto)]
 
+mod arguments;
+mod files;
 mod obey;
 mod refusal;
 mod ruling;
+mod said;
 mod sending;
 #[cfg(test)]
 mod tests;
@@ -34,7 +37,7 @@ fn status(rt: &HostRuntime) -> u8 {
         }
     };
     match command(alloc, words.as_slice()) {
-        Ok(task) => obey(alloc, &task, &mut io::writer(rt)),
+        Ok(task) => obey(rt, &task, &mut io::writer(rt)),
         Err(fault) => {
             let _ = eprint!(rt; "{fault}");
             if fault.is_for_memory() { 3 } else { 1 }

@@ -1,118 +1,21 @@
 //! Carrying a task out.
-ghost use Rattle.std.specs.Prelude.{◌≡◌, Ok, Some, None, IfOk, IfErr, MatchResult, string_bytes};
-ghost use Rattle.hex.specs.Hex.{decode_of};
-ghost use Rattle.insn_codec.specs.Encoding.{Spells};
-ghost use Rattle.heal_main.specs.Judging.{IsAccepted, IsClashFault, IsClashText, IsNoCode, IsNoHex, IsProgram, IsProgramFault, IsUnsafe, OnRefusal, first, refusal};
-ghost use Rattle.heal_main.specs.Lines.{IsAnswer, IsSaid, Obeys, line_of, status_of, told, word_of};
-ghost use Rattle.heal_main.specs.declared.refusal.Failure.TheVariants as failure;
+ghost use Rattle.std.specs.Prelude.{◌≡◌, ◌≢◌, None, IfOk, IfErr, string_bytes};
+ghost use Rattle.heal_main.specs.Judging.{first};
+ghost use Rattle.heal_main.specs.Lines.{IsAnswer, IsChecked, IsDisassembled, IsOfBytes, IsJudged, IsSpoken, Obeys, told};
+ghost use Rattle.heal_main.specs.declared.refusal.Failure.TheVariants.{OutOfMemory};
+ghost use Rattle.heal_main.specs.declared.said.Said.TheVariants.{DeviceFault};
 
-use crate::refusal::{Failure, Refusal};
+use crate::arguments::{clash_of, code_of, program_of};
+use crate::files::{code_in, read_whole};
+use crate::refusal::Failure;
 use crate::ruling::judge_one;
+use crate::said::{Said, line, status, told};
 use crate::sending::send;
-use abstract_value::interval::Interval;
-use builtin_resolvers::Verdict3;
-use clash_record::{ClashRecord, RECORD_LEN, record_of};
 use command_line::Task;
-use hex::FromHexError;
-use insn_codec::code::Code;
-use insn_codec::decoder::decode;
-use insn_codec::fault::CodecFault;
 use std::alloc::{AllocError, Global};
-use std::io::Write;
-use verifier::refusal::VerifyFault;
-use verifier::verified::Verified;
-use verifier::verify::verify;
-
-/// What is said to a task.
-#[derive(Clone, Copy, Debug, PartialEq, Eq)]
-pub enum Said {
-    /// The verdict, and in how many steps it was found.
-    Ruled { verdict: Verdict3, steps: u32 },
-    /// The task was not carried out.
-    Refused(Refusal),
-}
-
-fn refused(number: u32) -> Failure
-    ensures { result ≡ failure.Refused (refusal number None) }
-{
-    Failure::Refused(Refusal { number, slot: None })
-}
-
-/// The bytes of hex digits.
-fn bytes_of(alloc: Global, text: &str) -> Result<Vec<u8>, Failure>
-    ensures ok { IfOk result (λ bytes. decode_of text.now ≡ Ok bytes.items) }
-    ensures err { IfErr result (OnRefusal (IsNoHex text.now)) }
-{
-    match hex::decode(alloc, text) {
-        Ok(bytes) => Ok(bytes),
-        Err(FromHexError::OutOfMemory) => Err(Failure::OutOfMemory),
-        Err(_) => Err(refused(50)),
-    }
-}
-
-/// The code that bytes spell.
-fn code_of(alloc: Global, bytes: &[u8]) -> Result<Code, Failure>
-    ensures ok { IfOk result (λ code. Spells bytes.now code) }
-    ensures err { IfErr result (OnRefusal (IsNoCode bytes.now)) }
-{
-    match decode(alloc, bytes) {
-        Ok(code) => Ok(code),
-        Err(CodecFault::OutOfMemory) => Err(Failure::OutOfMemory),
-        Err(fault) => Err(Failure::Refused(Refusal {
-            number: fault.number(),
-            slot: fault.slot(),
-        })),
-    }
-}
-
-/// The code, if it is accepted.
-fn accepted(alloc: Global, code: Code) -> Result<Verified, Failure>
-    ensures ok { IfOk result (λ verified. (verified ≡ code) × IsAccepted code) }
-    ensures err { IfErr result (OnRefusal (IsUnsafe code)) }
-{
-    match verify::<Interval>(alloc, code) {
-        Ok(verified) => Ok(verified),
-        Err(VerifyFault::OutOfMemory) => Err(Failure::OutOfMemory),
-        Err(VerifyFault::Refused(refusal)) => Err(Failure::Refused(Refusal {
-            number: refusal.rule.number(),
-            slot: Some(refusal.slot),
-        })),
-    }
-}
-
-/// The accepted code of hex digits.
-#[tactic(auto, using(crate::proofs::Failures::failures))]
-fn program_of(alloc: Global, text: &str) -> Result<Verified, Failure>
-    ensures ok { IfOk result (λ program. IsProgram text.now program) }
-    ensures err { IfErr result (OnRefusal (IsProgramFault text.now)) }
-{
-    let bytes = bytes_of(alloc, text)?;
-    let code = code_of(alloc, &bytes)?;
-    accepted(alloc, code)
-}
-
-/// The record of hex digits.
-fn clash_of(alloc: Global, text: &str) -> Result<ClashRecord, Failure>
-    ensures ok { IfOk result (λ clash. IsClashText text.now clash) }
-    ensures err { IfErr result (OnRefusal (IsClashFault text.now)) }
-{
-    let bytes = bytes_of(alloc, text)?;
-    if bytes.len() != RECORD_LEN {
-        return Err(refused(55));
-    }
-    let mut record = [0; RECORD_LEN];
-    record.copy_from_slice(&bytes);
-    Ok(record_of(record))
-}
-
-fn told(failure: Failure) -> Result<Said, AllocError>
-    ensures { result ≡ told failure }
-{
-    match failure {
-        Failure::Refused(refusal) => Ok(Said::Refused(refusal)),
-        Failure::OutOfMemory => Err(AllocError),
-    }
-}
+use std::io::{ErrorKind, Read, Write};
+use std::rt::Files;
+use std::{fs, io};
 
 /// Of two failures the one that is told: want of memory, else the lesser number.
 fn first(e: Failure, f: Failure) -> Failure
@@ -124,10 +27,21 @@ fn first(e: Failure, f: Failure) -> Failure
     }
 }
 
+/// Says that code is accepted, and how many instructions it has.
+#[tactic(auto, using(crate::proofs::Failures::hex_wrongs))]
+fn check(alloc: Global, code: &str) -> Result<Said, Failure>
+    ensures { IfOk (told result) (IsChecked code.now) }
+{
+    let program = program_of(alloc, code)?;
+    Ok(Said::Accepted {
+        count: program.code().len(),
+    })
+}
+
 /// Judges a clash by code. Of what is wrong with the two texts, the least number is said.
 #[tactic(auto, using(crate::proofs::Failures::wrongs))]
-fn judge(alloc: Global, code: &str, clash: &str) -> Result<Said, AllocError>
-    ensures { IfOk result (λ said. IsSaid code.now clash.now said) }
+fn judge(alloc: Global, code: &str, clash: &str) -> Result<Said, Failure>
+    ensures { IfOk (told result) (IsJudged code.now clash.now) }
 {
     match (program_of(alloc, code), clash_of(alloc, clash)) {
         (Ok(program), Ok(clash)) => {
@@ -137,72 +51,86 @@ fn judge(alloc: Global, code: &str, clash: &str) -> Result<Said, AllocError>
                 steps: answered.steps(),
             })
         }
-        (Err(e), Ok(_)) => told(e),
-        (Ok(_), Err(f)) => told(f),
-        (Err(e), Err(f)) => told(first(e, f)),
+        (Err(e), Ok(_)) => Err(e),
+        (Ok(_), Err(f)) => Err(f),
+        (Err(e), Err(f)) => Err(first(e, f)),
     }
 }
 
-fn word(verdict: Verdict3) -> &'static str
-    ensures { result.now ≡ word_of verdict }
+/// Says code as text.
+#[tactic(auto, using(crate::proofs::Failures::hex_wrongs))]
+fn dis(alloc: Global, code: &str) -> Result<Said, Failure>
+    ensures { IfOk (told result) (IsDisassembled code.now) }
 {
-    match verdict {
-        Verdict3::First => "first",
-        Verdict3::Second => "second",
-        Verdict3::Neither => "none",
+    Ok(Said::Disassembled {
+        code: code_of(alloc, code)?,
+    })
+}
+
+/// What is said where a file could not be read.
+fn unread(kind: ErrorKind) -> Result<Said, Failure>
+    ensures device { IfOk result (λ said. (said ≡ DeviceFault) × (kind ≢ ErrorKind.OutOfMemory)) }
+    ensures memory { IfErr result (λ failure. (failure ≡ OutOfMemory) × (kind ≡ ErrorKind.OutOfMemory)) }
+{
+    if kind == ErrorKind::OutOfMemory {
+        Err(Failure::OutOfMemory)
+    } else {
+        Ok(Said::DeviceFault)
     }
 }
 
-/// The line that says it.
-fn line(alloc: Global, said: &Said) -> Result<String, AllocError>
-    ensures { IfOk result (λ text. string_bytes text ≡ line_of said.now) }
+/// Says the code of the text that a reader gives, in hex digits.
+#[tactic(auto, using(crate::proofs::Readings::readings))]
+pub fn asm_from<R: Read + Drop>(alloc: Global, reader: R) -> Result<Said, Failure>
+    // Where the reader tells its bytes, it is said of all of them, however many there are.
+    ensures { IfOk (told result) (IsOfBytes (R.remaining reader)) }
 {
-    match said {
-        Said::Ruled { verdict, steps } => {
-            let word = word(*verdict);
-            format!(in alloc; "{word} in {steps} steps\n")
-        }
-        Said::Refused(Refusal { number, slot: None }) => format!(in alloc; "refused {number}\n"),
-        Said::Refused(
-            Refusal {
-                number,
-                slot: Some(slot),
-            },
-        ) => format!(in alloc; "refused {number} at slot {slot}\n"),
+    let bytes = match read_whole(alloc, reader) {
+        Ok(bytes) => bytes,
+        Err(error) => return unread(error.kind()),
+    };
+    Ok(Said::Assembled {
+        code: code_in(alloc, &bytes)?,
+    })
+}
+
+/// Says the code of a file's text, in hex digits.
+#[tactic(auto, using(crate::proofs::Readings::readings))]
+fn asm<R: Files + AllocGlobal>(rt: &R, file: &str) -> Result<Said, Failure>
+    ensures { IfOk (told result) (IsOfBytes None) }
+{
+    match fs::open(rt, file) {
+        Ok(file) => asm_from(rt.alloc(), file),
+        Err(error) => unread(error.kind()),
     }
 }
 
-fn status(said: &Said) -> u8
-    ensures { result ≡ status_of said.now }
+fn say<R: Files + AllocGlobal>(rt: &R, task: &Task<'_>) -> Result<Said, Failure>
+    ensures { IfOk (told result) (IsAnswer task.now) }
 {
-    match said {
-        Said::Ruled { .. } => 0,
-        Said::Refused(_) => 2,
-    }
-}
-
-fn say(alloc: Global, task: &Task<'_>) -> Result<Said, AllocError>
-    ensures { IfOk result (λ said. IsAnswer task.now said) }
-{
+    let alloc = rt.alloc();
     match task {
+        Task::Check { code } => check(alloc, code),
         Task::Judge { code, clash } => judge(alloc, code, clash),
+        Task::Asm { file } => asm(rt, file),
+        Task::Dis { code } => dis(alloc, code),
     }
 }
 
-/// What is said to a task, as a status and a line.
-fn answer(alloc: Global, task: &Task<'_>) -> Result<(u8, String), AllocError>
-    ensures { IfOk result (λ r. (said : _) × IsAnswer task.now said × (r.0 ≡ status_of said) × (string_bytes r.1 ≡ line_of said)) }
+/// What is said, as a status and a text.
+pub fn spoken(alloc: Global, said: Result<Said, Failure>) -> Result<(u8, String), AllocError>
+    ensures { IfOk result (λ r. IsSpoken (told said) r.0 (string_bytes r.1)) }
 {
-    let said = say(alloc, task)?;
+    let said = told(said)?;
     Ok((status(&said), line(alloc, &said)?))
 }
 
-/// Carries a task out, and answers the program's status: 0, or 2 where it was refused, or 3 where memory ran out or the
-/// writer failed.
-pub fn obey<W: Write>(alloc: Global, task: &Task<'_>, writer: &mut W) -> u8
+/// Carries a task out, and answers the program's status: 0, or 2 where it was refused, or 3 where memory ran out, or a
+/// file could not be read, or the writer failed.
+pub fn obey<R: Files + AllocGlobal, W: Write>(rt: &R, task: &Task<'_>, writer: &mut W) -> u8
     ensures { Obeys task.now (W.contents writer.old) (W.contents writer.new) result }
 {
-    match answer(alloc, task) {
+    match spoken(rt.alloc(), say(rt, task)) {
         Ok((status, text)) => match send(writer, text.as_bytes()) {
             Ok(()) => status,
             Err(_) => 3,

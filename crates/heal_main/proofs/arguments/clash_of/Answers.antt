@@ -1,6 +1,6 @@
 use Rattle.std.proofs.Common.{◌∙◌, refl}
 use Rattle.heal_main.specs.Judging.{wrong_length}
-use Rattle.heal_main.proofs.obey.clash_of.Goals as goal
+use Rattle.heal_main.proofs.arguments.clash_of.Goals as goal
 
 pub returns-then-len-ne-RECORD_LEN-clause-err : goal.returns-then-len-ne-RECORD_LEN-clause-err
 returns-then-len-ne-RECORD_LEN-clause-err c =
