@@ -21,7 +21,7 @@ fn low_half(word: u64) -> u32
 /// What `dst = dst op src` leaves in `dst`, of which the old value is `a`, where `src` is `b` (section 4.1).
 ///
 /// A 32-bit result has a zero upper half.
-#[inline]
+#[inline(always)]
 pub fn alu(width: Width, op: AluOp, a: u64, b: u64) -> u64
     ensures { result ≡ alu_of width op a b }
 {
@@ -31,7 +31,7 @@ pub fn alu(width: Width, op: AluOp, a: u64, b: u64) -> u64
     }
 }
 
-#[inline]
+#[inline(always)]
 fn alu64(op: AluOp, a: u64, b: u64) -> u64
     ensures { result ≡ cut_alu W64 op a b }
 {
@@ -79,7 +79,7 @@ fn signed_remainder64(a: u64, b: u64) -> u64
     }
 }
 
-#[inline]
+#[inline(always)]
 fn alu32(op: AluOp, a: u32, b: u32) -> u32
     ensures { result ≡ cut_alu W32 op a b }
 {
@@ -193,7 +193,7 @@ fn swap(bits: u32, a: u64) -> u64
 }
 
 /// Whether a jump that tests these words is taken (section 4.3).
-#[inline]
+#[inline(always)]
 pub fn test(width: Width, test: Test, a: u64, b: u64) -> bool
     ensures { result ≡ is_taken width test a b }
 {
