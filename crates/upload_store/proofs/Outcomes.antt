@@ -1,23 +1,19 @@
 -- What an upload answers follows from its bytes and the store.
-use Rattle.std.proofs.Common.{◌≡◌, ℕ, ◌+◌, ◌-◌, ◌<◌, ◌≤◌, ◌==◌, nat_lt, if◌then◌else◌, Bool, true, false, cond, Option, Some, None, Result, Ok, Err, IfOk, IfErr, OnOk, IsErrAnd, List, [], ◌∷◌, refl, ap, sym, subst, ◌∙◌, inl, inr, arith}
-use Rattle.std.proofs.lemmas.List.Sums.{sum_by-cons}
-use Rattle.std.proofs.lemmas.Bool.Decides.{nat_tests}
+use Rattle.std.proofs.Common.{◌≡◌, ℕ, ◌<◌, cond, Some, None, Result, Ok, Err, IfOk, IfErr, OnOk, IsErrAnd, List, refl, ap, sym, subst, ◌∙◌, inl, inr, arith}
 use Rattle.std.specs.FinMap as map
 use Rattle.insn_codec.specs.declared.insn.Insn.{Insn}
 use Rattle.insn_codec.specs.declared.fault.CodecFault.{CodecFault}
 use Rattle.insn_codec.specs.declared.fault.CodecFault.TheVariants as codec
 use Rattle.std.specs.Ordering.{is_eq}
 use Rattle.std.specs.Cmp.{tied_itself}
-use Rattle.insn_codec.specs.Machine.{slots_of, insn_at, IsSafe}
+use Rattle.insn_codec.specs.Machine.{IsSafe}
 use Rattle.insn_codec.specs.Encoding.{Spells}
 use Rattle.insn_codec.specs.Faults.{IsFirstFault}
 use Rattle.abstract_value.specs.Ranges.{interval_ops}
-use Rattle.verifier.specs.declared.rule.Rule.{Rule}
-use Rattle.verifier.specs.declared.rule.Rule.TheVariants.{Backward, Outside, IntoWide, FallsOff, NoEdge}
 use Rattle.verifier.specs.declared.refusal.Refusal.{Refusal}
-use Rattle.verifier.specs.Structure.{IsStructured, IsIllStructured, slot_count}
-use Rattle.verifier.specs.Assignments.{Assignment, IsTypable, FulfilsBefore}
-use Rattle.verifier.specs.Refusals.{IsRefusedAt, IsUnfulfilled}
+use Rattle.verifier.specs.Structure.{IsStructured}
+use Rattle.verifier.specs.Assignments.{IsTypable}
+use Rattle.verifier.specs.Refusals.{IsRefusedAt}
 use Rattle.clash_record.specs.declared.registrations.ProgramId.{ProgramId}
 use Rattle.upload_store.specs.declared.fault.UploadFault.{UploadFault}
 use Rattle.upload_store.specs.declared.fault.UploadFault.TheVariants.{Length, Slot, Refused, DigestClash, StoreFull, OutOfMemory}
@@ -25,58 +21,26 @@ use Rattle.upload_store.specs.Faults.{of_codec}
 use Rattle.upload_store.specs.Programs.{Programs, id_of, max_programs}
 use Rattle.upload_store.specs.ProgramLaws.{ids_total}
 use Rattle.upload_store.specs.Uploads.{IsAccepted, IsRejected, IsKept, IsReadingFault, IsKeepingFault, IsRefusal, Clashes, Overflows, HasPlace, Answers, IsRejection}
-use Rattle.upload_store.proofs.SameCode.{some_slots}
-
--- ---- accepted code isn't refused
-
-inside : (slot n m : ℕ) (x : Option Insn) (i : Insn) (f : ℕ → Option Insn) → 1 ≤ n → ((k : ℕ) → f k ≡ Some i → k < m) → (a b : Bool) → (slot == 0) ≡ a → nat_lt slot n ≡ b
-    → (if a then x else (if b then None else f (slot - n))) ≡ Some i → slot < n + m
-inside slot n m x i f some later true b first before h = grind (arith, nat_tests)
-inside slot n m x i f some later false true first before h = absurd (cc)
-inside slot n m x i f some later false false first before h = let rest : slot - n < m = later (slot - n) h in grind (arith, nat_tests)
-
-in_code : (code : List Insn) (slot : ℕ) (i : Insn) → insn_at code slot ≡ Some i → slot < slot_count code
-in_code [] slot i h = absurd (cc)
-in_code (j ∷ js) slot i h = subst (λ n. slot < n) (sym (sum_by-cons slots_of j js)) (inside slot (slots_of j) (slot_count js) (Some j) i (insn_at js) (some_slots j) (λ k. in_code js k i) (slot == 0) (nat_lt slot (slots_of j)) refl refl h)
-
-fulfils_less : (code : List Insn) (m n : ℕ) (states : Assignment _) → m ≤ n → FulfilsBefore interval_ops code n states → FulfilsBefore interval_ops code m states
-fulfils_less code m n states less f = record {
-  start = f.start;
-  inside = f.inside;
-  passes = λ slot i s before. f.passes slot i s (omega arith);
-  falls = λ slot i s before. f.falls slot i s (omega arith);
-  jumps = λ slot i s before. f.jumps slot i s (omega arith);
-}
-
-not_ill : (code : List Insn) (slot : ℕ) (rule : Rule) → IsStructured code → IsIllStructured code slot rule → ⊥
-not_ill code slot rule structured ill = ill.fails (structured.meets slot ill.insn rule ill.is_at)
-
-not_unfulfilled : (code : List Insn) (slot : ℕ) (rule : Rule) → IsTypable interval_ops code → IsUnfulfilled interval_ops code slot rule → ⊥
-not_unfulfilled code slot rule typable un =
-    let within : slot < slot_count code = in_code code slot un.fails.insn un.fails.is_at in
-    un.unfulfilled typable.0 (fulfils_less code (slot + 1) (slot_count code) typable.0 (omega arith) typable.1)
-
-not_refused_at : (code : List Insn) (slot : ℕ) (rule : Rule) → IsStructured code → IsTypable interval_ops code → IsRefusedAt interval_ops code slot rule → ⊥
-not_refused_at code slot Backward s t h = not_ill code slot Backward s h
-not_refused_at code slot Outside s t h = not_ill code slot Outside s h
-not_refused_at code slot IntoWide s t h = not_ill code slot IntoWide s h
-not_refused_at code slot FallsOff s t h = not_ill code slot FallsOff s h
-not_refused_at code slot NoEdge s t h = not_ill code slot NoEdge s h
-not_refused_at code slot _ s t h = not_unfulfilled code slot _ t h
 
 -- ---- each answer from what stands of the bytes and the store
 
 module _ (store : Programs) (bytes : List ℕ) (after : Programs)
     (apart : (bytes : List ℕ) (code : List Insn) (fault : CodecFault) → Spells bytes code → IsFirstFault bytes fault → ⊥)
     (one_code : (bytes : List ℕ) (code other : List Insn) → Spells bytes code → Spells bytes other → code ≡ other)
-    (one_fault : (bytes : List ℕ) (fault other : CodecFault) → IsFirstFault bytes fault → IsFirstFault bytes other → fault ≡ other) where
+    (one_fault : (bytes : List ℕ) (fault other : CodecFault) → IsFirstFault bytes fault → IsFirstFault bytes other → fault ≡ other)
+    (either : (code : List Insn) (refusal : Refusal) → IsStructured code → IsTypable interval_ops code → IsRefusedAt interval_ops code refusal.slot refusal.rule → ⊥)
+    (one_refusal : (code : List Insn) (a b : Refusal) → IsRefusedAt interval_ops code a.slot a.rule → IsRefusedAt interval_ops code b.slot b.rule → a ≡ b) where
   accepted_code : (code other : List Insn) → Spells bytes code → IsAccepted bytes other → IsAccepted bytes code
   accepted_code code other spelled accepted = subst (IsAccepted bytes) (one_code bytes other code accepted.spelled spelled) accepted
 
   not_rejected : (code : List Insn) → IsAccepted bytes code → (refusal : Refusal) → IsRejected bytes refusal → ⊥
   not_rejected code accepted refusal rejected =
       let same : IsAccepted bytes rejected.code = accepted_code rejected.code code rejected.spelled accepted in
-      not_refused_at rejected.code refusal.slot refusal.rule same.structured same.typable rejected.refused
+      either rejected.code refusal same.structured same.typable rejected.refused
+
+  one_rejection : (a b : Refusal) → IsRejected bytes a → IsRejected bytes b → a ≡ b
+  one_rejection a b p q =
+      one_refusal q.code a b (subst (λ code. IsRefusedAt interval_ops code a.slot a.rule) (one_code bytes p.code q.code p.spelled q.spelled) p.refused) q.refused
 
   not_both : (code : List Insn) → IsAccepted bytes code → Clashes store bytes → HasPlace store (id_of bytes) code → ⊥
   not_both code accepted clash (inl held) =
@@ -122,6 +86,15 @@ module _ (store : Programs) (bytes : List ℕ) (after : Programs)
   rejected (Err DigestClash) kept refused code spelled not = absurd (not (accepted_code code refused.code spelled refused.accepted))
   rejected (Err StoreFull) kept refused code spelled not = absurd (not (accepted_code code refused.code spelled refused.accepted))
   rejected (Err OutOfMemory) kept refused code spelled not = inr refl
+
+  pub rule : (result : Result ProgramId UploadFault) → IfOk result (λ id. IsKept store bytes id after) → IfErr result (IsRefusal store bytes) → (refusal : Refusal) → IsRejected bytes refusal → Answers result (Err (Refused refusal))
+  rule (Ok id) kept refused r rejected = absurd (not_rejected kept.code kept.accepted r rejected)
+  rule (Err (Length f)) kept refused r rejected = absurd (apart bytes rejected.code (codec.Length f) rejected.spelled refused)
+  rule (Err (Slot f slot)) kept refused r rejected = absurd (apart bytes rejected.code (codec.Slot f slot) rejected.spelled refused)
+  rule (Err (Refused q)) kept refused r rejected = inl (ap (λ x. Err (Refused x)) (one_rejection q r refused rejected))
+  rule (Err DigestClash) kept refused r rejected = absurd (not_rejected refused.code refused.accepted r rejected)
+  rule (Err StoreFull) kept refused r rejected = absurd (not_rejected refused.code refused.accepted r rejected)
+  rule (Err OutOfMemory) kept refused r rejected = inr refl
 
   pub clash : (result : Result ProgramId UploadFault) → IfOk result (λ id. IsKept store bytes id after) → IfErr result (IsRefusal store bytes) → Clashes store bytes → Answers result (Err DigestClash)
   clash (Ok id) kept refused clashes = absurd (not_both kept.code kept.accepted clashes (place_of id kept))

@@ -7,13 +7,15 @@ ghost use Rattle.insn_codec.specs.declared.insn.Insn.{Insn};
 ghost use Rattle.insn_codec.specs.declared.fault.CodecFault.{CodecFault};
 ghost use Rattle.insn_codec.specs.Encoding.{Spells};
 ghost use Rattle.insn_codec.specs.Faults.{IsFirstFault};
+ghost use Rattle.verifier.specs.declared.refusal.Refusal.{Refusal};
 ghost use Rattle.upload_store.specs.Faults.{of_codec};
 ghost use Rattle.upload_store.specs.Programs.{IsProgram, id_of};
-ghost use Rattle.upload_store.specs.Uploads.{IsAccepted, IsKept, HasPlace, Answers, IsRejection, IsRefusal, IsKeepingFault, Clashes, Overflows};
+ghost use Rattle.upload_store.specs.Uploads.{IsAccepted, IsKept, HasPlace, Answers, IsRejected, IsRejection, IsRefusal, IsKeepingFault, Clashes, Overflows};
 
 use crate::fault::UploadFault;
 use crate::reading::read_program;
 use crate::same::is_same;
+use abstract_value::interval::Interval;
 use clash_record::ProgramId;
 use insn_codec::decoder::one_reading;
 use sha2::{Digest, Sha256};
@@ -22,6 +24,7 @@ use std::collections::BTreeMap;
 use std::marker::Model;
 use std::sync::Arc;
 use verifier::verified::Verified;
+use verifier::verify::one_verdict;
 
 /// The most programs that a store holds.
 pub const MAX_PROGRAMS: usize = 256;
@@ -90,14 +93,16 @@ impl UploadStore {
         ensures unchanged { OnErr result (self.new ≡ self.old) }
         // Each cause has its refusal, unless memory runs out: the first fault of bytes that are no code,
         ensures faulty { (fault : CodecFault) → IsFirstFault bytes.now fault → Answers result (Err (of_codec fault)) }
-        // a rule for code that isn't accepted,
+        // a rule for code that isn't accepted, which is the only one that refuses it,
         ensures rejected { (code : List Insn) → Spells bytes.now code → (IsAccepted bytes.now code → ⊥) → IsRejection result }
+        ensures rule { (refusal : Refusal) → IsRejected bytes.now refusal → Answers result (Err (UploadFault.Refused refusal)) }
         // other code under the same id,
         ensures clash { Clashes self.old bytes.now → Answers result (Err UploadFault.DigestClash) }
         // and a new id where the store is full.
         ensures full { Overflows self.old bytes.now → Answers result (Err UploadFault.StoreFull) }
     {
         one_reading();
+        one_verdict::<Interval>();
         let program = read_program(alloc, bytes)?;
         let id = ProgramId(Sha256::digest(bytes));
         self.keep(alloc, id, program)

@@ -13,3 +13,4 @@ pub mod Pass
 pub mod Spans
 pub mod Rulings
 pub mod Look
+pub mod OneVerdict

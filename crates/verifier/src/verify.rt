@@ -1,11 +1,13 @@
 //! One forward pass over code.
-ghost use Rattle.std.specs.Prelude.{◌≡◌, ℕ, ◌<◌, ◌+◌, length, replicate, sum_by, Some, None, IfOk, IfErr, MatchOption};
+ghost use Rattle.std.specs.Prelude.{◌≡◌, ℕ, ◌<◌, ◌+◌, List, length, replicate, sum_by, Some, None, IfOk, IfErr, MatchOption};
+ghost use Rattle.insn_codec.specs.declared.insn.Insn.{Insn};
 ghost use Rattle.insn_codec.specs.Machine.{slots_of};
 ghost use Rattle.abstract_value.specs.States.{View, view};
 ghost use Rattle.verifier.specs.Structure.{IsStructured};
 ghost use Rattle.verifier.specs.Assignments.{IsLeast, FailsLeast, IsTypable};
 ghost use Rattle.verifier.specs.Flow.{view_of, look, flowed, flow, flow_edge};
-ghost use Rattle.verifier.specs.Refusals.{IsUnfulfilled, IsRefused};
+ghost use Rattle.verifier.specs.Refusals.{IsUnfulfilled, IsRefused, IsRefusedAt};
+ghost use Rattle.verifier.specs.declared.refusal.Refusal.{Refusal};
 
 use crate::checks::check;
 use crate::refusal::{Refusal, VerifyFault};
@@ -127,3 +129,11 @@ pub fn verify<D: Domain>(alloc: Global, code: Code) -> Result<Verified, VerifyFa
     code.known();
     Ok(Verified::new(code))
 }
+
+/// Code is judged in one way: it fulfils the rules, or it is refused by one rule at one slot, and never both.
+pub fn one_verdict<D: Domain>()
+    // Code that fulfils the rules isn't refused; so `verify` accepts it, unless memory runs out.
+    ensures either { (code : List Insn) (refusal : Refusal) → IsStructured code → IsTypable D.ops code → IsRefusedAt D.ops code refusal.slot refusal.rule → ⊥ }
+    // Two refusals of code are the same; so `verify` names the only one that there is.
+    ensures one_refusal { (code : List Insn) (a b : Refusal) → IsRefusedAt D.ops code a.slot a.rule → IsRefusedAt D.ops code b.slot b.rule → a ≡ b }
+{}
