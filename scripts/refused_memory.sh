@@ -1,7 +1,7 @@
 #!/bin/bash
 # refused_memory.sh FROM WORDS..: runs heal with these words in the folder crates/heal_main, the Nth allocation refused, for
-# each N from FROM on, until two runs in a row answer as with ample memory. Each run before has to end with status 3, and to
-# say `refused 90`, or on standard error that memory ran out while the words were read. A run takes about twenty seconds.
+# each N from FROM on, until four runs in a row answer as with ample memory. Each run has to answer so, or to end with status 3
+# and to say `refused 90`, or on standard error that memory ran out while the words were read. A run takes about twenty seconds.
 set -e
 from=${1:?usage: refused_memory.sh FROM WORDS..}
 shift
@@ -24,9 +24,10 @@ for n in $(seq "$from" 1000); do
     try "$n" "$@"
     if [ "$status $said" = "$ample" ]; then
         answered=$((answered + 1))
-        [ $answered = 2 ] && { echo "from $((n - 1)) on: $said"; exit 0; }
+        echo "$n: $said"
+        [ $answered -lt 4 ] || exit 0
     elif [ "$status" = 3 ] && { [ "$said" = "refused 90" ] || grep -q 'out of memory' "$out/errors"; }; then
-        [ $answered = 0 ] || { echo "$n: memory was refused after runs that answered" >&2; exit 1; }
+        answered=0
         echo "$n: refused"
     else
         echo "$n: '$said', status $status" >&2
