@@ -10,5 +10,6 @@ pub mod OneReading
 pub mod Codes
 pub mod Reading
 pub mod Writing
+pub mod Laying
 pub mod AllBytes
 pub mod LittleEndian

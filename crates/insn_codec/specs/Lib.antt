@@ -6,3 +6,5 @@ pub mod Slots
 pub mod Forms
 pub mod Front
 pub mod Decoding
+pub mod Opcodes
+pub mod Layout

@@ -1,5 +1,5 @@
 //! Code written as bytes (RFC 9669, section 3).
-ghost use Rattle.std.specs.Prelude.{◌≡◌, ◌<◌, ◌++◌, IfOk, OnOk};
+ghost use Rattle.std.specs.Prelude.{◌≡◌, ◌<◌, ◌≤◌, ◌++◌, IfOk, OnOk};
 ghost use Rattle.std.specs.List.{flat_map};
 ghost use Rattle.insn_codec.specs.Encoding as spelling;
 ghost use Rattle.insn_codec.specs.Encoding.{insn_bytes, slot_of, slot_bytes, IsListed, Spells};
@@ -55,10 +55,10 @@ fn push_slot(bytes: &mut Vec<u8>, fields: Fields) -> Result<(), AllocError>
 }
 
 /// The fields of an instruction's first slot.
-fn fields_of(insn: Insn) -> Fields
+pub(crate) fn fields_of(insn: Insn) -> Fields
     requires { IsListed insn }
     ensures fields { fields_in result ≡ slot_of insn }
-    ensures registers { (result.dst < 16) × (result.src < 16) }
+    ensures registers { (result.dst ≤ 10) × (result.src ≤ 10) }
 {
     match insn {
         Insn::Alu {
@@ -162,7 +162,7 @@ fn fields_of(insn: Insn) -> Fields
 
 fn alu_fields(width: Width, op: AluOp, dst: Register, src: Source) -> Fields
     ensures fields { fields_in result ≡ slot_of (Alu width op dst src) }
-    ensures registers { (result.dst < 16) × (result.src < 16) }
+    ensures registers { (result.dst ≤ 10) × (result.src ≤ 10) }
 {
     let (source, register, imm) = source_fields(src);
     Fields {
@@ -179,7 +179,7 @@ fn alu_fields(width: Width, op: AluOp, dst: Register, src: Source) -> Fields
 
 fn jump_fields(width: Width, test: Test, dst: Register, src: Source, distance: i16) -> Fields
     ensures fields { fields_in result ≡ slot_of (JumpIf width test dst src distance) }
-    ensures registers { (result.dst < 16) × (result.src < 16) }
+    ensures registers { (result.dst ≤ 10) × (result.src ≤ 10) }
 {
     let (source, register, imm) = source_fields(src);
     Fields {
@@ -193,7 +193,7 @@ fn jump_fields(width: Width, test: Test, dst: Register, src: Source, distance: i
 
 fn memory_fields(opcode: u8, dst: Register, src: Register, offset: i16) -> Fields
     ensures fields { fields_in result ≡ record { opcode = opcode; dst = dst.number; src = src.number; offset = cast_unsigned w16 offset; imm = 0 } }
-    ensures registers { (result.dst < 16) × (result.src < 16) }
+    ensures registers { (result.dst ≤ 10) × (result.src ≤ 10) }
 {
     Fields {
         opcode,
@@ -207,7 +207,7 @@ fn memory_fields(opcode: u8, dst: Register, src: Register, offset: i16) -> Field
 /// The source bit, the register field and the immediate of a second operand.
 fn source_fields(src: Source) -> (u8, u8, u32)
     ensures bit { (result.0 ≡ spelling.source_bit src) × (result.0 < 2) }
-    ensures register { (result.1 ≡ spelling.source_register src) × (result.1 < 16) }
+    ensures register { (result.1 ≡ spelling.source_register src) × (result.1 ≤ 10) }
     ensures imm { result.2 ≡ spelling.source_imm src }
 {
     match src {
@@ -258,7 +258,7 @@ fn jump_class(width: Width) -> u8
 
 fn end_fields(kind: EndKind, bits: u32, dst: Register) -> Fields
     ensures fields { fields_in result ≡ slot_of (End kind bits dst) }
-    ensures registers { (result.dst < 16) × (result.src < 16) }
+    ensures registers { (result.dst ≤ 10) × (result.src ≤ 10) }
 {
     let (class, source) = match kind {
         EndKind::Little => (opcode::ALU, 0),

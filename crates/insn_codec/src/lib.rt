@@ -8,7 +8,9 @@ pub mod fault;
 mod fields;
 mod form;
 pub mod insn;
+pub mod layout;
 mod opcode;
+pub mod opcodes;
 pub mod operations;
 #[cfg(test)]
 mod tests;

@@ -4,5 +4,6 @@
 mod machine;
 mod memory;
 mod running;
+mod table;
 
 pub use running::{Ended, one_meaning, run};

@@ -107,7 +107,7 @@ fn pass<D: Domain>(code: &Code, states: &mut [Option<State<D>>]) -> Option<Refus
 /// Accepts code that is safe, or names the first slot that fails and the least rule that fails there.
 ///
 /// The rules of structure, 10 to 14, are looked at first, over the whole code; then the rules 15 to 26, in the least
-/// state that each slot can have. Takes memory for one state a slot, and for nothing else.
+/// state that each slot can have. Takes memory for one state a slot and for the slots as they are run, and for nothing else.
 pub fn verify<D: Domain>(alloc: Global, code: Code) -> Result<Verified, VerifyFault>
     // What is accepted is the code that was handed in. That it is safe stands in its type.
     ensures accepted { IfOk result (λ verified. verified ≡ code) }
@@ -127,7 +127,10 @@ pub fn verify<D: Domain>(alloc: Global, code: Code) -> Result<Verified, VerifyFa
         return Err(VerifyFault::Refused(refusal));
     }
     code.known();
-    Ok(Verified::new(code))
+    match Verified::new(alloc, code) {
+        Ok(verified) => Ok(verified),
+        Err(AllocError) => Err(VerifyFault::OutOfMemory),
+    }
 }
 
 /// Code is judged in one way: it fulfils the rules, or it is refused by one rule at one slot, and never both.

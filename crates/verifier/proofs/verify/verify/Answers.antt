@@ -8,5 +8,5 @@ no_states-requires g c = g.met.D.Domain.fits
 pub pass-requires : goal.pass-requires
 pass-requires g c = (g.met.D.Domain.fits, search rules)
 
-pub new-requires : goal.new-requires
-new-requires g c = safe g.met.D.Domain.laws c.args.code c.known.ensures c.in_default.ensures c.in_default-pass.ensures
+pub new-requires-clause-safe : goal.new-requires-clause-safe
+new-requires-clause-safe g c = safe g.met.D.Domain.laws c.args.code c.known.ensures c.in_default.ensures c.in_default-pass.ensures

@@ -6,7 +6,7 @@ use Rattle.upload_store.proofs.Maps.{held, insert_again, map_after, still_kept}
 use Rattle.upload_store.proofs.store.UploadStore.keep.Goals as goal
 
 -- the code that was there is the program's
-again : (c : goal.After-drop-program-inside) → map.get c.args.self.now c.args.id ≡ Some c.args.program
+again : (c : goal.After-drop-program-inside-then-is_same) → map.get c.args.self.now c.args.id ≡ Some c.args.program
 again c =
     let there : Some (arc_value c.in-Some.kept.now) ≡ map.get c.args.self.now c.args.id = held arc_value c.self.inside.programs.entries c.args.id (Some c.in-Some.kept) c.in-Some.ensures.value ∙ ap (λ m. map.get m c.args.id) c.self.view_is in
     let equal : c.code.result.now ≡ c.code-in-Some.result.now = c.is_same.ensures.0 c.if-is_same.true in
