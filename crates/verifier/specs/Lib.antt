@@ -6,3 +6,4 @@ pub mod Edges
 pub mod Reaches
 pub mod Values
 pub mod Refusals
+pub mod Stores
