@@ -4,6 +4,8 @@ use crate::decoder::decode;
 use crate::encoder::encode;
 use crate::fault::{CodecFault, LengthFault, SlotFault};
 use crate::insn::{AluOp, EndKind, Test, Width};
+use crate::layout::lay_out;
+use crate::opcodes::Opcode;
 use crate::operations::{alu, end, movsx, neg, test};
 use std::alloc::Global;
 
@@ -139,5 +141,33 @@ fn takes_the_longest_code(rt: HostRuntime) -> Result<(), CodecFault> {
     }
     let code = decode(rt.alloc(), &bytes)?;
     assert_eq!(rt; code.slot_count(), 1024);
+    Ok(())
+}
+
+#[test]
+fn lays_out_each_slot(rt: HostRuntime) -> Result<(), CodecFault> {
+    let bytes = [
+        0x18, 0x01, 0, 0, 0x78, 0x56, 0x34, 0x12, // lddw r1, ..
+        0, 0, 0, 0, 0xf0, 0xde, 0xbc, 0x9a, // .. 0x9abcdef012345678
+        0x79, 0x12, 0xf8, 0xff, 0, 0, 0, 0, // ldxdw r2, [r1-8]
+        0x95, 0, 0, 0, 0, 0, 0, 0, // exit
+    ];
+    let rows = [
+        (Opcode::LoadWide, 1, 0, 0, 0x1234_5678),
+        (Opcode::Second, 0, 0, 0, 0x9abc_def0),
+        (Opcode::LoadDouble, 2, 1, 0xfff8, 0),
+        (Opcode::Exit, 0, 0, 0, 0),
+    ];
+    let Ok(slots) = lay_out(rt.alloc(), &decode(rt.alloc(), &bytes)?) else {
+        return Err(CodecFault::OutOfMemory);
+    };
+    assert_eq!(rt; slots.len(), 4);
+    for (slot, (opcode, dst, src, offset, imm)) in slots.iter().zip(rows) {
+        assert_eq!(rt; slot.opcode, opcode);
+        assert_eq!(rt; slot.dst.number, dst);
+        assert_eq!(rt; slot.src.number, src);
+        assert_eq!(rt; slot.offset, offset);
+        assert_eq!(rt; slot.imm, imm);
+    }
     Ok(())
 }
