@@ -1,9 +1,11 @@
 #!/bin/bash
-# compare.sh [RUNS]: runs the resolvers in C here and on the peer, DPDK's rte_bpf, on one record, side by side, and prints
-# the times in nanoseconds with their ratios (ours by the peer's). Then how the times here grow with the length of code.
+# compare.sh [RUNS]: runs the resolvers in C here and on the peer, DPDK's rte_bpf, on one record, in turn, and prints the times
+# in nanoseconds with their ratios (ours by the peer's). Then how the times here grow with the length of code. Each time is the
+# least of 25: what else a machine does makes a time longer, never shorter.
 set -e
 here=$(cd "$(dirname "$0")" && pwd)
-runs=${1:-1000000}
+runs=${1:-200000}
+rounds=25
 out=$(mktemp -d) && trap 'rm -rf "$out"' EXIT
 "$here/build.sh" "$out"
 cd "$here/../crates/heal_bench"
@@ -11,8 +13,11 @@ rt run > "$out/usage"
 ours=$PWD/out/heal_bench
 record=$(tail -1 ../heal_main/args)
 
-# The number behind a word in what a benchmark printed.
-number() { awk -v word="$1" '$1 == word { print $2 }' "$2"; }
+# The least number behind a word in what the rounds of a benchmark printed.
+number() { awk -v word="$1" '$1 == word && (least == "" || $2 < least) { least = $2 } END { print least }' "$2"; }
+
+# The benchmark of ours on a program, so many runs.
+measure() { "$ours" "$1" "$record" "$2" >> "$out/ours"; }
 
 ratio() { awk -v ours="$1" -v peers="$2" 'BEGIN { printf "%.2f", ours / peers }'; }
 
@@ -20,8 +25,12 @@ printf '%-12s %6s %8s %8s %6s %8s %8s %8s %6s\n' \
     resolver run peer ratio steps decode verify load ratio
 for program in "$out"/*.hex; do
     name=$(basename "$program" .hex)
-    "$ours" "$(cat "$program")" "$record" "$runs" > "$out/ours"
-    "$out/peer" "$(cat "$program")" "$record" "$runs" > "$out/peers" 2> "$out/log"
+    : > "$out/ours"
+    : > "$out/peers"
+    for _ in $(seq $rounds); do
+        measure "$(cat "$program")" "$runs"
+        "$out/peer" "$(cat "$program")" "$record" "$runs" >> "$out/peers" 2> "$out/log"
+    done
     [ "$(number sum "$out/ours")" = "$(number sum "$out/peers")" ] || { echo "$name: the answers differ"; exit 1; }
     run=$(number run "$out/ours") peer=$(number run "$out/peers")
     decode=$(number decode "$out/ours") verify=$(number verify "$out/ours") load=$(number load "$out/peers")
@@ -43,7 +52,8 @@ for slots in 16 128 1024; do
         else
             code=$(tests $((slots - 2)))
         fi
-        "$ours" "$code" "$record" "$((runs / 10))" > "$out/ours"
+        : > "$out/ours"
+        for _ in $(seq $rounds); do measure "$code" "$((runs / 10))"; done
         printf '%-22s %8s %8s %8s %6s\n' "$slots slots, $shape" "$(number decode "$out/ours")" \
             "$(number verify "$out/ours")" "$(number run "$out/ours")" "$(number steps "$out/ours")"
     done
