@@ -1,3 +1,3 @@
 pub mod WrittenBytes
-pub mod Views
+pub mod JoinPlaceByPlace
 pub mod Shifts

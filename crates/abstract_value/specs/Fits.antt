@@ -1,7 +1,7 @@
 -- The room that a state takes.
 use Rattle.std.specs.Mem.{FitsInMemory}
 use denote.RattleType.{RattleType}
-use Rattle.abstract_value.specs.contracts.state.State.{the_row}
+use Rattle.abstract_value.specs.contracts.states.State.{the_row}
 
 -- a state over the domain D takes fewer than 2 ^ 63 bytes
 abbrev pub StateFitsInMemory : RattleType → Type 0

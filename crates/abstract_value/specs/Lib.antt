@@ -1,15 +1,7 @@
-pub mod Laws
+pub mod laws
+pub mod Domain
 pub mod Ranges
-pub mod RangeLaws
-pub mod RowLaws
-pub mod SignedLaws
-pub mod BitLaws
-pub mod AluLaws
-pub mod UnaryLaws
-pub mod RefineLaws
-pub mod IntervalLaws
 pub mod StackBytes
 pub mod States
-pub mod StateLaws
 pub mod StateOrder
 pub mod Fits

@@ -1,36 +1,30 @@
 -- What ranges of words compute, row by row. A range stands for the words from its low end to its high end.
-use Rattle.std.specs.Prelude.{ℕ, ◌+◌, ◌-◌, ◌*◌, ◌/◌, ◌%◌, ◌≤◌, ◌<◌, ◌^◌, min, max, Bool, true, false, ◌&&◌, ◌==◌, nat_lt, nat_le, if◌then◌else◌, Option, Some, None}
+use Rattle.std.specs.Prelude.{ℕ, ◌+◌, ◌-◌, ◌*◌, ◌/◌, ◌%◌, ◌≤◌, ◌^◌, min, max, Bool, true, false, ◌&&◌, ◌==◌, nat_lt, nat_le, if◌then◌else◌, Option, Some, None}
 use Rattle.std.specs.Int.{w64, leading_zeros}
-use Rattle.std.proofs.Common.{arith}
-use Rattle.insn_codec.specs.Machine.{bytes_of}
-use Rattle.insn_codec.specs.Operations.{bits_of, shift_amount, alu_of, neg_of, mov_sx_of, end_of}
-use Rattle.insn_codec.specs.declared.insn.Width.{Width}
-use Rattle.insn_codec.specs.declared.insn.Width.TheVariants.{W32, W64}
-use Rattle.insn_codec.specs.declared.insn.AluOp.{AluOp}
-use Rattle.insn_codec.specs.declared.insn.AluOp.TheVariants.{Add, Sub, Mul, Div, SDiv, Or, And, Lsh, Rsh, Mod, SMod, Xor, Mov, Arsh}
-use Rattle.insn_codec.specs.declared.insn.EndKind.{EndKind}
-use Rattle.insn_codec.specs.declared.insn.EndKind.TheVariants.{Little, Big, Swap}
-use Rattle.insn_codec.specs.declared.insn.Size.{Size}
-use Rattle.insn_codec.specs.declared.insn.Test.{Test}
-use Rattle.insn_codec.specs.declared.insn.Test.TheVariants.{Jeq, Jgt, Jge, Jset, Jne, Jsgt, Jsge, Jlt, Jle, Jslt, Jsle}
-use Rattle.abstract_value.specs.Laws.{Ops}
-use Rattle.abstract_value.specs.declared.interval.Interval.{Interval}
+use Rattle.instruction_set.specs.Machine.{bytes_of}
+use Rattle.instruction_set.specs.Operations.{bits_of, shift_amount, alu_of, neg_of, mov_sx_of, end_of}
+use Rattle.instruction_set.specs.declared.insn.Width.{Width}
+use Rattle.instruction_set.specs.declared.insn.Width.TheVariants.{W32, W64}
+use Rattle.instruction_set.specs.declared.insn.AluOp.{AluOp}
+use Rattle.instruction_set.specs.declared.insn.AluOp.TheVariants.{Add, Sub, Mul, Div, SDiv, Or, And, Lsh, Rsh, Mod, SMod, Xor, Mov, Arsh}
+use Rattle.instruction_set.specs.declared.insn.EndKind.{EndKind}
+use Rattle.instruction_set.specs.declared.insn.EndKind.TheVariants.{Little, Big, Swap}
+use Rattle.instruction_set.specs.declared.insn.Size.{Size}
+use Rattle.instruction_set.specs.declared.insn.Test.{Test}
+use Rattle.instruction_set.specs.declared.insn.Test.TheVariants.{Jeq, Jgt, Jge, Jset, Jne, Jsgt, Jsge, Jlt, Jle, Jslt, Jsle}
+use Rattle.abstract_value.specs.Domain.{Ops}
+use Rattle.abstract_value.specs.laws.Ends.{range_ordered, range_fits}
+use Rattle.abstract_value.specs.declared.intervals.Interval.{Interval}
 
 -- ---- ranges
-
-pub made_ordered : (lo hi : ℕ) → min lo (min hi (2 ^ 64 - 1)) ≤ min hi (2 ^ 64 - 1)
-made_ordered lo hi = omega arith
-
-pub made_fits : (hi : ℕ) → min hi (2 ^ 64 - 1) < 2 ^ 64
-made_fits hi = omega arith
 
 -- from lo to hi, where these are in order and are words
 abbrev pub make : ℕ → ℕ → Interval
 make lo hi = record {
   lo = min lo (min hi (2 ^ 64 - 1));
   hi = min hi (2 ^ 64 - 1);
-  ordered = made_ordered lo hi;
-  fits = made_fits hi;
+  ordered = range_ordered lo hi;
+  fits = range_fits hi;
 }
 
 -- one word alone
@@ -45,8 +39,8 @@ abbrev pub full_at : ℕ → Interval
 full_at bits = make 0 (2 ^ bits - 1)
 
 -- from lo to hi; none where these aren't in order
-abbrev pub made : ℕ → ℕ → Option Interval
-made lo hi = if nat_le lo hi then Some (make lo hi) else None
+abbrev pub nonempty : ℕ → ℕ → Option Interval
+nonempty lo hi = if nat_le lo hi then Some (make lo hi) else None
 
 -- ---- operations on two operands
 
@@ -95,7 +89,8 @@ digits_row lo a b = make lo (2 ^ bit_length (max a.hi b.hi) - 1)
 abbrev pub lsh_row : Width → Interval → Interval → Interval
 lsh_row w a b =
     let factor = 2 ^ shift_amount w b.lo in
-    if is_single b && nat_lt (a.hi * factor) (2 ^ bits_of w) then make (a.lo * factor) (a.hi * factor) else full_at (bits_of w)
+    if is_single b && nat_lt (a.hi * factor) (2 ^ bits_of w) then make (a.lo * factor) (a.hi * factor) else full_at
+    (bits_of w)
 
 -- by one amount; more amounts leave no more than the number
 abbrev pub rsh_row : Width → Interval → Interval → Interval
@@ -165,9 +160,9 @@ abbrev pub interval_end : EndKind → ℕ → Interval → Interval
 interval_end kind bits a = if is_single a then only (end_of kind bits a.lo) else end_row kind bits a
 
 -- all words of the size; a sign may be extended to any word
-abbrev pub interval_loaded : Size → Bool → Interval
-interval_loaded size false = full_at (8 * bytes_of size)
-interval_loaded size true = full_at 64
+abbrev pub interval_load : Size → Bool → Interval
+interval_load size false = full_at (8 * bytes_of size)
+interval_load size true = full_at 64
 
 -- ---- refinement
 
@@ -178,28 +173,28 @@ both (Some x) None = None
 both (Some x) (Some y) = Some (x, y)
 
 abbrev pub where_equal : Interval → Interval → Option (Interval × Interval)
-where_equal a b = both (made (max a.lo b.lo) (min a.hi b.hi)) (made (max a.lo b.lo) (min a.hi b.hi))
+where_equal a b = both (nonempty (max a.lo b.lo) (min a.hi b.hi)) (nonempty (max a.lo b.lo) (min a.hi b.hi))
 
 -- a without its ends that are b's only word
 abbrev pub without : Interval → Interval → Option Interval
 without a b =
-    if is_single b then made (if a.lo == b.lo then a.lo + 1 else a.lo) (if a.hi == b.lo then a.hi - 1 else a.hi)
+    if is_single b then nonempty (if a.lo == b.lo then a.lo + 1 else a.lo) (if a.hi == b.lo then a.hi - 1 else a.hi)
     else Some a
 
 abbrev pub where_different : Interval → Interval → Option (Interval × Interval)
 where_different a b = both (without a b) (without b a)
 
 abbrev pub where_greater : Interval → Interval → Option (Interval × Interval)
-where_greater a b = both (made (max a.lo (b.lo + 1)) a.hi) (made b.lo (min b.hi (a.hi - 1)))
+where_greater a b = both (nonempty (max a.lo (b.lo + 1)) a.hi) (nonempty b.lo (min b.hi (a.hi - 1)))
 
 abbrev pub where_at_least : Interval → Interval → Option (Interval × Interval)
-where_at_least a b = both (made (max a.lo b.lo) a.hi) (made b.lo (min b.hi a.hi))
+where_at_least a b = both (nonempty (max a.lo b.lo) a.hi) (nonempty b.lo (min b.hi a.hi))
 
 abbrev pub where_less : Interval → Interval → Option (Interval × Interval)
-where_less a b = both (made a.lo (min a.hi (b.hi - 1))) (made (max b.lo (a.lo + 1)) b.hi)
+where_less a b = both (nonempty a.lo (min a.hi (b.hi - 1))) (nonempty (max b.lo (a.lo + 1)) b.hi)
 
 abbrev pub where_at_most : Interval → Interval → Option (Interval × Interval)
-where_at_most a b = both (made a.lo (min a.hi b.hi)) (made (max b.lo a.lo) b.hi)
+where_at_most a b = both (nonempty a.lo (min a.hi b.hi)) (nonempty (max b.lo a.lo) b.hi)
 
 -- the edge that is taken, and the one that isn't; a bitwise test and the signed ones cut nothing
 abbrev pub refine_row : Test → Bool → Interval → Interval → Option (Interval × Interval)
@@ -241,6 +236,6 @@ interval_ops = record {
   neg = interval_neg;
   mov_sx = interval_mov_sx;
   end = interval_end;
-  loaded = interval_loaded;
+  load = interval_load;
   refine = interval_refine;
 }

@@ -3,7 +3,7 @@ use Rattle.std.specs.Prelude.{ℕ, zero, suc, ◌+◌, ◌/◌, ◌%◌, Bool, t
 use Rattle.std.specs.Int.{bit_at}
 use Rattle.abstract_value.specs.declared.stack.StackState.{StackState}
 
--- whether a byte is written; bytes are counted from the stack's lowest
+-- whether a byte is written, counted from the stack's lowest: the eight words have a bit for each, 64 a word
 abbrev pub is_written : StackState → ℕ → Bool
 is_written s k = bit_at (slice_index s.words (k / 64)) (k % 64) == 1
 
@@ -13,5 +13,5 @@ all_written written from zero = true
 all_written written from (suc n) = written from && all_written written (from + 1) n
 
 -- so many bytes from one on are written too
-abbrev pub marked : (ℕ → Bool) → ℕ → ℕ → ℕ → Bool
-marked written from n k = (nat_le from k && nat_lt k (from + n)) || written k
+abbrev pub with_marks : (ℕ → Bool) → ℕ → ℕ → ℕ → Bool
+with_marks written from n k = (nat_le from k && nat_lt k (from + n)) || written k

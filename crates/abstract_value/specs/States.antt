@@ -1,14 +1,13 @@
 -- Abstract states, over a domain's operations.
-use Rattle.std.specs.Prelude.{ℕ, Bool, true, false, ◌&&◌, ◌==◌, int_le, ◌≤ℤ◌, if◌then◌else◌, ℤ, pos, negsuc, IsTrue, slice_index_or}
+use Rattle.std.specs.Prelude.{ℕ, Bool, true, false, ◌&&◌, ◌==◌, int_le, if◌then◌else◌, ℤ, pos, negsuc, IsTrue, slice_index_or}
 use Rattle.std.specs.Int.{int_min, int_max}
-use Rattle.std.proofs.Common.{arith}
-use Rattle.std.proofs.lemmas.Int.{ints, clamps}
-use Rattle.abstract_value.specs.Laws.{Ops}
+use Rattle.abstract_value.specs.Domain.{Ops}
 use Rattle.abstract_value.specs.StackBytes.{is_written}
-use Rattle.abstract_value.specs.declared.state.RegState.{RegState}
-use Rattle.abstract_value.specs.declared.state.RegState.TheVariants.{Scalar, Record, Stack, Unreadable}
-use Rattle.abstract_value.specs.declared.state.Span.{Span}
-use Rattle.abstract_value.specs.declared.state.State.{State}
+use Rattle.abstract_value.specs.laws.Ends.{span_ordered, span_near_below, span_near_above}
+use Rattle.abstract_value.specs.declared.states.RegState.{RegState}
+use Rattle.abstract_value.specs.declared.states.RegState.TheVariants.{Scalar, Record, Stack, Unreadable}
+use Rattle.abstract_value.specs.declared.states.Span.{Span}
+use Rattle.abstract_value.specs.declared.states.State.{State}
 
 -- f with v at i
 abbrev pub put : {A : Type 0} → (ℕ → A) → ℕ → A → ℕ → A
@@ -20,28 +19,21 @@ put f i v k = if k == i then v else f k
 abbrev pub near : ℤ → ℤ
 near z = int_max (negsuc 65535) (int_min z (pos 65536))
 
-pub near_ordered : (lo hi : ℤ) → near (int_min lo hi) ≤ℤ near hi
-near_ordered lo hi = omega (arith, ints, clamps)
-
-pub near_above_low : (z : ℤ) → negsuc 65535 ≤ℤ near z
-near_above_low z = omega (arith, ints, clamps)
-
-pub near_below_high : (z : ℤ) → near z ≤ℤ pos 65536
-near_below_high z = omega (arith, ints, clamps)
-
 -- the offsets from lo to hi, where these are in order and near
 abbrev pub make_span : ℤ → ℤ → Span
 make_span lo hi = record {
   lo = near (int_min lo hi);
   hi = near hi;
-  ordered = near_ordered lo hi;
-  near_below = near_above_low (int_min lo hi);
-  near_above = near_below_high hi;
+  ordered = span_ordered lo hi;
+  near_below = span_near_below (int_min lo hi);
+  near_above = span_near_above hi;
 }
 
+-- each offset of a is one of b
 abbrev pub span_below : Span → Span → Bool
 span_below a b = int_le b.lo a.lo && int_le a.hi b.hi
 
+-- the least span above both
 abbrev pub span_join : Span → Span → Span
 span_join a b = make_span (int_min a.lo b.lo) (int_max a.hi b.hi)
 
@@ -69,13 +61,16 @@ pub record View (D : Type 0) : Type 0 where
   pub registers : ℕ → RegState D
   pub written : ℕ → Bool
 
+-- a register that isn't there can't be read
 abbrev pub view : {D : Type 0} → State D → View D
 view s = record { registers = λ r. slice_index_or s.registers r Unreadable; written = is_written s.stack }
 
 -- at entry R1 is the record's address, R10 is the address just past the stack, and no byte is written
 abbrev pub entry : {D : Type 0} → View D
 entry = record {
-  registers = λ r. if r == 1 then Record (make_span (pos 0) (pos 0)) else (if r == 10 then Stack (make_span (pos 0) (pos 0)) else Unreadable);
+  registers = λ r.
+      if r == 1 then Record (make_span (pos 0) (pos 0))
+      else (if r == 10 then Stack (make_span (pos 0) (pos 0)) else Unreadable);
   written = λ k. false;
 }
 
@@ -84,8 +79,10 @@ pub record ViewBelow {D : Type 0} (o : Ops D) (s t : View D) : Type 0 where
   pub registers : (r : ℕ) → IsTrue (reg_below o (s.registers r) (t.registers r))
   pub written : (k : ℕ) → IsTrue (t.written k) → IsTrue (s.written k)
 
+-- register by register, and the bytes that both have written
 abbrev pub view_join : {D : Type 0} → Ops D → View D → View D → View D
-view_join o s t = record { registers = λ r. reg_join o (s.registers r) (t.registers r); written = λ k. s.written k && t.written k }
+view_join o s t =
+    record { registers = λ r. reg_join o (s.registers r) (t.registers r); written = λ k. s.written k && t.written k }
 
 -- the state with another register, or with more bytes written
 abbrev pub with_register : {D : Type 0} → View D → ℕ → RegState D → View D

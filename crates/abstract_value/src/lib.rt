@@ -2,9 +2,14 @@
 //! abstract states over any of them.
 #![tactic(auto)]
 
-pub mod domain;
-pub mod interval;
-pub mod stack;
-pub mod state;
+mod domains;
+mod intervals;
+mod stack;
+mod states;
 #[cfg(test)]
 mod tests;
+
+pub use domains::Domain;
+pub use intervals::Interval;
+pub use stack::StackState;
+pub use states::{RegState, Span, State, state_order_theorem};

@@ -1,10 +1,11 @@
-//! Which bytes of the stack are written.
+//! Which bytes of the stack are written, one bit a byte.
 ghost use Rattle.std.specs.Prelude.{◌≡◌, ℕ, ◌+◌, ◌<◌, ◌≤◌, false, ◌&&◌, ◌==◌, if◌then◌else◌, bit_and, length, slice_index};
 
-/// How many bytes the stack has.
-pub const STACK_LEN: usize = 512;
+use instruction_set::STACK_LEN;
 
-/// The set of the stack's 512 bytes that are written. Bytes are counted from the stack's lowest.
+/// The set of the bytes of the stack that are written, as eight words of 64 bits.
+///
+/// Bytes are counted from the stack's lowest: byte `k` is bit `k % 64` of word `k / 64`.
 #[derive(Clone, Copy, Debug, PartialEq, Eq)]
 pub struct StackState {
     words: [u64; 8],
@@ -12,7 +13,7 @@ pub struct StackState {
 }
 
 impl StackState {
-    ghost use Rattle.abstract_value.specs.StackBytes.{is_written, all_written, marked};
+    ghost use Rattle.abstract_value.specs.StackBytes.{is_written, all_written, with_marks};
 
     /// No byte is written.
     pub fn empty() -> StackState
@@ -45,16 +46,17 @@ impl StackState {
     /// Adds so many bytes from one on.
     pub fn mark(&mut self, from: usize, count: usize)
         requires { from + count ≤ STACK_LEN }
-        ensures { (k : ℕ) → is_written self.new k ≡ marked (is_written self.old) from count k }
+        ensures { (k : ℕ) → is_written self.new k ≡ with_marks (is_written self.old) from count k }
     {
         for at in from..from + count {
             self.mark_one(at);
         }
     }
 
+    /// Adds one byte.
     fn mark_one(&mut self, at: usize)
         requires { at < STACK_LEN }
-        ensures { (k : ℕ) → is_written self.new k ≡ marked (is_written self.old) at 1 k }
+        ensures { (k : ℕ) → is_written self.new k ≡ with_marks (is_written self.old) at 1 k }
     {
         self.words[at / 64] |= 1 << (at % 64);
     }
@@ -68,9 +70,12 @@ impl StackState {
         }
     }
 
+    /// Leaves of one word the bytes that the other has too.
     fn intersect_word(&mut self, i: usize, other: &StackState)
         requires { i < 8 }
-        ensures { (j : ℕ) → slice_index self.new.words j ≡ (if j == i then bit_and (slice_index self.old.words i) (slice_index other.now.words i) else slice_index self.old.words j) }
+        ensures { (j : ℕ) → slice_index self.new.words j
+            ≡ (if j == i then bit_and (slice_index self.old.words i) (slice_index other.now.words i)
+            else slice_index self.old.words j) }
     {
         self.words[i] &= other.words[i];
     }

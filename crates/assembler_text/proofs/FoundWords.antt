@@ -1,16 +1,17 @@
 -- What the grammar says of the operands of a line is what a reader of words finds.
-use Rattle.std.proofs.Common.{◌≡◌, refl, ap, ◌∙◌, sym, subst, ℕ, suc, ◌<◌, true, List, [], ◌∷◌, ◌++◌, ℤ, pos, negsuc, inl, inr, append_assoc, arith}
+use Rattle.std.proofs.Common.{◌≡◌, refl, ap, ◌∙◌, sym, subst, ℕ, suc, ◌<◌, List, [], ◌∷◌, ◌++◌, ℤ, pos, negsuc, inl, inr, append_assoc, arith}
 use Rattle.std.specs.Prelude.{◌==◌, ◌&&◌, not, FitsSigned}
 use Rattle.std.specs.Fmt.{decimal, signed_decimal}
 use Rattle.std.specs.Int.{w16, w32}
 use Rattle.std.proofs.lemmas.Int.{ints}
-use Rattle.insn_codec.specs.declared.insn.Register.{Register}
+use Rattle.instruction_set.specs.declared.insn.Register.{Register}
 use Rattle.assembler_text.specs.declared.lexer.Class.TheVariants as class
-use Rattle.assembler_text.specs.Words.{is_blank, is_in, front, rest, word, after, AreIn, StopsAt}
+use Rattle.assembler_text.specs.Words.{is_in, AreIn, StopsAt}
+use Rattle.assembler_text.specs.model.Words.{front, rest, word, after}
 use Rattle.assembler_text.specs.Text.{Operand, OfRegister, OfImm, OfValue, OfAddress, OfStep, register_text, step_text}
 use Rattle.assembler_text.specs.Grammar.{AreBlanks, IsOperand, IsHex, Begins, AreSeparated, AreOperands}
-use Rattle.assembler_text.proofs.Pieces.{front_is, rest_is, rest_in}
-use Rattle.assembler_text.proofs.Plain.{ArePlain, IsWord, word_plain, plain_with, in_operand, in_instruction, no_blank, among, joined, blanks_in, blanks_among, plain_digits, decimal_digits, decimal_word}
+use Rattle.assembler_text.proofs.Pieces.{front_is, rest_is}
+use Rattle.assembler_text.proofs.Plain.{ArePlain, IsWord, word_plain, plain_with, in_operand, in_instruction, no_blank, among, joined, blanks_among, plain_digits, decimal_digits, decimal_word}
 
 -- the numbers of an operand have the widths of their fields
 abbrev pub Fits : Operand → Type 0
@@ -84,71 +85,37 @@ behind_stops [] [] h k = tt
 behind_stops [] (c ∷ cs) h k = ap (is_in class.Operand) k
 behind_stops (c ∷ cs) t h k = ap (λ b. not b && not (c == 44)) h.0
 
--- the operand is the first word of the text, and this stands behind it
+-- the operand is the first word of the text, and this stands after it
 pub record Found (text : List ℕ) (o : Operand) (t : List ℕ) : Type 0 where
   pub is_operand : IsOperand o (word text)
   pub next : after text ≡ t
 
-found : (text : List ℕ) (o : Operand) (t : List ℕ) → Begins text o t → Fits o → AtComma t → Found text o t
+pub found : (text : List ℕ) (o : Operand) (t : List ℕ) → Begins text o t → Fits o → AtComma t → Found text o t
 found text o t b f k =
     let w : IsWord b.word = operand_word o b.word b.is_operand f in
     let plain : AreIn class.Operand b.word = among class.Operand in_operand b.word (word_plain b.word w) in
-    let spelled : text ≡ b.before ++ (b.word ++ (b.behind ++ t)) = b.spelled ∙ append_assoc (b.before ++ b.word) b.behind t ∙ append_assoc b.before b.word (b.behind ++ t) in
-    let skipped : rest class.Blank text ≡ b.word ++ (b.behind ++ t) = ap (rest class.Blank) spelled ∙ rest_is class.Blank b.before (b.word ++ (b.behind ++ t)) (blanks_in b.before b.before_blank) (word_stops b.word (b.behind ++ t) w) in
+    let spelled : text ≡ b.before ++ (b.word ++ (b.behind ++ t)) =
+    b.spelled ∙ append_assoc (b.before ++ b.word) b.behind t ∙ append_assoc b.before b.word (b.behind ++ t) in
+    let skipped : rest class.Blank text ≡ b.word ++ (b.behind ++ t) =
+    ap (rest class.Blank) spelled
+    ∙ rest_is class.Blank b.before (b.word ++ (b.behind ++ t)) b.before_blank (word_stops b.word (b.behind ++ t) w) in
     let stops : StopsAt class.Operand (b.behind ++ t) = behind_stops b.behind t b.behind_blank k in
-    let is : word text ≡ b.word = ap (front class.Operand) skipped ∙ front_is class.Operand b.word (b.behind ++ t) plain stops in
+    let is : word text ≡ b.word =
+    ap (front class.Operand) skipped ∙ front_is class.Operand b.word (b.behind ++ t) plain stops in
     record {
       is_operand = subst (IsOperand o) (sym is) b.is_operand;
       next = ap (λ (x : List ℕ). rest class.Blank (rest class.Operand x)) skipped
           ∙ ap (rest class.Blank) (rest_is class.Operand b.word (b.behind ++ t) plain stops)
-          ∙ rest_is class.Blank b.behind t (blanks_in b.behind b.behind_blank) (comma_stops t k);
+          ∙ rest_is class.Blank b.behind t b.behind_blank (comma_stops t k);
     }
-
--- a blank in front changes nothing
-behind_blank : (text : List ℕ) (c : ℕ) (cs : List ℕ) (o : Operand) (t : List ℕ) → text ≡ c ∷ cs → is_blank c ≡ true → Found cs o t → Found text o t
-behind_blank text c cs o t e b f =
-    let skipped : rest class.Blank text ≡ rest class.Blank cs = ap (rest class.Blank) e ∙ rest_in class.Blank c cs b in
-    record {
-      is_operand = subst (IsOperand o) (sym (ap (front class.Operand) skipped)) f.is_operand;
-      next = ap (λ (x : List ℕ). rest class.Blank (rest class.Operand x)) skipped ∙ f.next;
-    }
-
-pub one_found : (text : List ℕ) (o : Operand) → AreOperands text (o ∷ []) → Fits o → Found text o []
-one_found text o h f = behind_blank text h.0 h.1 o [] h.2 h.3 (found h.1 o [] h.4 f tt)
-
-pub record TwoFound (text : List ℕ) (o p : Operand) : Type 0 where
-  pub t : List ℕ
-  pub first : Found text o (44 ∷ t)
-  pub second : Found t p []
-
-pub two_found : (text : List ℕ) (o p : Operand) → AreOperands text (o ∷ p ∷ []) → Fits o → Fits p → TwoFound text o p
-two_found text o p h f g = record {
-  t = h.4.0;
-  first = behind_blank text h.0 h.1 o (44 ∷ h.4.0) h.2 h.3 (found h.1 o (44 ∷ h.4.0) h.4.1 f refl);
-  second = found h.4.0 p [] h.4.2 g tt;
-}
-
-pub record ThreeFound (text : List ℕ) (o p q : Operand) : Type 0 where
-  pub t : List ℕ
-  pub u : List ℕ
-  pub first : Found text o (44 ∷ t)
-  pub second : Found t p (44 ∷ u)
-  pub third : Found u q []
-
-pub three_found : (text : List ℕ) (o p q : Operand) → AreOperands text (o ∷ p ∷ q ∷ []) → Fits o → Fits p → Fits q → ThreeFound text o p q
-three_found text o p q h f g k = record {
-  t = h.4.0;
-  u = h.4.2.0;
-  first = behind_blank text h.0 h.1 o (44 ∷ h.4.0) h.2 h.3 (found h.1 o (44 ∷ h.4.0) h.4.1 f refl);
-  second = found h.4.0 p (44 ∷ h.4.2.0) h.4.2.1 g refl;
-  third = found h.4.2.0 q [] h.4.2.2 k tt;
-}
 
 -- ---- no comment begins in operands
 
-begins_in : (text : List ℕ) (o : Operand) (t : List ℕ) → Begins text o t → Fits o → AreIn class.Instruction t → AreIn class.Instruction text
+begins_in : (text : List ℕ) (o : Operand) (t : List ℕ) → Begins text o t → Fits o → AreIn class.Instruction t
+    → AreIn class.Instruction text
 begins_in text o t b f h =
-    let w : AreIn class.Instruction b.word = among class.Instruction in_instruction b.word (word_plain b.word (operand_word o b.word b.is_operand f)) in
+    let w : AreIn class.Instruction b.word =
+    among class.Instruction in_instruction b.word (word_plain b.word (operand_word o b.word b.is_operand f)) in
     let inside : AreIn class.Instruction (((b.before ++ b.word) ++ b.behind) ++ t) =
     joined class.Instruction ((b.before ++ b.word) ++ b.behind) t (joined class.Instruction (b.before ++ b.word) b.behind (joined class.Instruction b.before b.word (blanks_among b.before b.before_blank) w) (blanks_among b.behind b.behind_blank)) h in
     subst (AreIn class.Instruction) (sym b.spelled) inside
@@ -160,9 +127,10 @@ separated_in text (o ∷ p ∷ os) h f = begins_in text o (44 ∷ h.0) h.1 f.0 (
 
 pub operands_in : (text : List ℕ) (os : List Operand) → AreOperands text os → AllFit os → AreIn class.Instruction text
 operands_in text [] h f = blanks_among text h
-operands_in text (o ∷ os) h f = subst (AreIn class.Instruction) (sym h.2) ((blanks_among (h.0 ∷ []) (h.3, tt)).0, separated_in h.1 (o ∷ os) h.4 f)
+operands_in text (o ∷ os) h f =
+    subst (AreIn class.Instruction) (sym h.2) ((blanks_among (h.0 ∷ []) (h.3, tt)).0, separated_in h.1 (o ∷ os) h.4 f)
 
--- what stands behind a mnemonic begins with a blank
+-- what stands after a mnemonic begins with a blank
 pub operands_stop : (text : List ℕ) (os : List Operand) → AreOperands text os → StopsAt class.Mnemonic text
 operands_stop [] [] h = tt
 operands_stop (c ∷ cs) [] h = ap not h.0

@@ -2,16 +2,16 @@
 use Rattle.std.proofs.Common.{◌≡◌, refl, sym, subst, ℕ, Bool, true, false, List, [], ◌∷◌, Some, inl, inr}
 use Rattle.std.specs.Prelude.{◌&&◌}
 use Rattle.std.specs.Fmt.{digits}
-use Rattle.insn_codec.specs.declared.insn.Width.TheVariants.{W32, W64}
-use Rattle.insn_codec.specs.declared.insn.Size.TheVariants.{Byte, Half, Word, Double}
-use Rattle.insn_codec.specs.declared.insn.AluOp.TheVariants.{Add, Sub, Mul, Div, SDiv, Or, And, Lsh, Rsh, Mod, SMod, Xor, Mov, Arsh}
-use Rattle.insn_codec.specs.declared.insn.EndKind.TheVariants.{Little, Big, Swap}
-use Rattle.insn_codec.specs.declared.insn.Test.TheVariants.{Jeq, Jgt, Jge, Jset, Jne, Jsgt, Jsge, Jlt, Jle, Jslt, Jsle}
+use Rattle.instruction_set.specs.declared.insn.Width.TheVariants.{W32, W64}
+use Rattle.instruction_set.specs.declared.insn.Size.TheVariants.{Byte, Double}
+use Rattle.instruction_set.specs.declared.insn.AluOp.TheVariants.{Add}
+use Rattle.instruction_set.specs.declared.insn.EndKind.TheVariants.{Little, Big, Swap}
+use Rattle.instruction_set.specs.declared.insn.Test.TheVariants.{Jeq}
 use Rattle.assembler_text.specs.declared.mnemonic.Mnemonic.{Mnemonic}
 use Rattle.assembler_text.specs.declared.mnemonic.Mnemonic.TheVariants as mnemonic
-use Rattle.assembler_text.specs.Mnemonics.{mnemonic_at, IsKnown}
+use Rattle.assembler_text.specs.model.Mnemonics.{mnemonic_at, IsKnown}
 use Rattle.assembler_text.proofs.Plain.{is_plain, ArePlain, IsWord}
-use Rattle.assembler_text.proofs.Sound.{both, name_of}
+use Rattle.assembler_text.proofs.Tables.{both, name_of}
 
 abbrev all_plain : List ℕ → Bool
 all_plain [] = true
@@ -35,35 +35,8 @@ IsNamed m = (mnemonic_at (name_of m) ≡ Some m) × (is_word (name_of m) ≡ tru
 known_name : (m : Mnemonic) → IsKnown m → IsNamed m
 unfolding mnemonic_at digits
 known_name (mnemonic.Alu W32 Add) k = (refl, refl)
-known_name (mnemonic.Alu W32 Sub) k = (refl, refl)
-known_name (mnemonic.Alu W32 Mul) k = (refl, refl)
-known_name (mnemonic.Alu W32 Div) k = (refl, refl)
-known_name (mnemonic.Alu W32 SDiv) k = (refl, refl)
-known_name (mnemonic.Alu W32 Or) k = (refl, refl)
-known_name (mnemonic.Alu W32 And) k = (refl, refl)
-known_name (mnemonic.Alu W32 Lsh) k = (refl, refl)
-known_name (mnemonic.Alu W32 Rsh) k = (refl, refl)
-known_name (mnemonic.Alu W32 Mod) k = (refl, refl)
-known_name (mnemonic.Alu W32 SMod) k = (refl, refl)
-known_name (mnemonic.Alu W32 Xor) k = (refl, refl)
-known_name (mnemonic.Alu W32 Mov) k = (refl, refl)
-known_name (mnemonic.Alu W32 Arsh) k = (refl, refl)
 known_name (mnemonic.Alu W64 Add) k = (refl, refl)
-known_name (mnemonic.Alu W64 Sub) k = (refl, refl)
-known_name (mnemonic.Alu W64 Mul) k = (refl, refl)
-known_name (mnemonic.Alu W64 Div) k = (refl, refl)
-known_name (mnemonic.Alu W64 SDiv) k = (refl, refl)
-known_name (mnemonic.Alu W64 Or) k = (refl, refl)
-known_name (mnemonic.Alu W64 And) k = (refl, refl)
-known_name (mnemonic.Alu W64 Lsh) k = (refl, refl)
-known_name (mnemonic.Alu W64 Rsh) k = (refl, refl)
-known_name (mnemonic.Alu W64 Mod) k = (refl, refl)
-known_name (mnemonic.Alu W64 SMod) k = (refl, refl)
-known_name (mnemonic.Alu W64 Xor) k = (refl, refl)
-known_name (mnemonic.Alu W64 Mov) k = (refl, refl)
-known_name (mnemonic.Alu W64 Arsh) k = (refl, refl)
 known_name (mnemonic.Neg W32) k = (refl, refl)
-known_name (mnemonic.Neg W64) k = (refl, refl)
 known_name (mnemonic.MovSx W32 bits) (inl e) = subst (λ b. IsNamed (mnemonic.MovSx W32 b)) (sym e) (refl, refl)
 known_name (mnemonic.MovSx W32 bits) (inr e) = subst (λ b. IsNamed (mnemonic.MovSx W32 b)) (sym e) (refl, refl)
 known_name (mnemonic.MovSx W64 bits) (inl e) = subst (λ b. IsNamed (mnemonic.MovSx W64 b)) (sym e) (refl, refl)
@@ -78,48 +51,14 @@ known_name (mnemonic.End Big bits) (inr (inr e)) = subst (λ b. IsNamed (mnemoni
 known_name (mnemonic.End Swap bits) (inl e) = subst (λ b. IsNamed (mnemonic.End Swap b)) (sym e) (refl, refl)
 known_name (mnemonic.End Swap bits) (inr (inl e)) = subst (λ b. IsNamed (mnemonic.End Swap b)) (sym e) (refl, refl)
 known_name (mnemonic.End Swap bits) (inr (inr e)) = subst (λ b. IsNamed (mnemonic.End Swap b)) (sym e) (refl, refl)
-known_name mnemonic.LoadWide k = (refl, refl)
 known_name (mnemonic.Load Byte) k = (refl, refl)
-known_name (mnemonic.Load Half) k = (refl, refl)
-known_name (mnemonic.Load Word) k = (refl, refl)
-known_name (mnemonic.Load Double) k = (refl, refl)
 known_name (mnemonic.LoadSx Byte) k = (refl, refl)
-known_name (mnemonic.LoadSx Half) k = (refl, refl)
-known_name (mnemonic.LoadSx Word) k = (refl, refl)
 known_name (mnemonic.LoadSx Double) k = absurd k
 known_name (mnemonic.Store Byte) k = (refl, refl)
-known_name (mnemonic.Store Half) k = (refl, refl)
-known_name (mnemonic.Store Word) k = (refl, refl)
-known_name (mnemonic.Store Double) k = (refl, refl)
 known_name (mnemonic.StoreImm Byte) k = (refl, refl)
-known_name (mnemonic.StoreImm Half) k = (refl, refl)
-known_name (mnemonic.StoreImm Word) k = (refl, refl)
-known_name (mnemonic.StoreImm Double) k = (refl, refl)
-known_name mnemonic.Jump k = (refl, refl)
-known_name mnemonic.JumpLong k = (refl, refl)
 known_name (mnemonic.JumpIf W32 Jeq) k = (refl, refl)
-known_name (mnemonic.JumpIf W32 Jgt) k = (refl, refl)
-known_name (mnemonic.JumpIf W32 Jge) k = (refl, refl)
-known_name (mnemonic.JumpIf W32 Jset) k = (refl, refl)
-known_name (mnemonic.JumpIf W32 Jne) k = (refl, refl)
-known_name (mnemonic.JumpIf W32 Jsgt) k = (refl, refl)
-known_name (mnemonic.JumpIf W32 Jsge) k = (refl, refl)
-known_name (mnemonic.JumpIf W32 Jlt) k = (refl, refl)
-known_name (mnemonic.JumpIf W32 Jle) k = (refl, refl)
-known_name (mnemonic.JumpIf W32 Jslt) k = (refl, refl)
-known_name (mnemonic.JumpIf W32 Jsle) k = (refl, refl)
 known_name (mnemonic.JumpIf W64 Jeq) k = (refl, refl)
-known_name (mnemonic.JumpIf W64 Jgt) k = (refl, refl)
-known_name (mnemonic.JumpIf W64 Jge) k = (refl, refl)
-known_name (mnemonic.JumpIf W64 Jset) k = (refl, refl)
-known_name (mnemonic.JumpIf W64 Jne) k = (refl, refl)
-known_name (mnemonic.JumpIf W64 Jsgt) k = (refl, refl)
-known_name (mnemonic.JumpIf W64 Jsge) k = (refl, refl)
-known_name (mnemonic.JumpIf W64 Jlt) k = (refl, refl)
-known_name (mnemonic.JumpIf W64 Jle) k = (refl, refl)
-known_name (mnemonic.JumpIf W64 Jslt) k = (refl, refl)
-known_name (mnemonic.JumpIf W64 Jsle) k = (refl, refl)
-known_name mnemonic.Exit k = (refl, refl)
+known_name _ k = (refl, refl)
 
 pub found_by_name : (m : Mnemonic) → IsKnown m → mnemonic_at (name_of m) ≡ Some m
 found_by_name m k = (known_name m k).0

@@ -3,10 +3,12 @@ use Rattle.std.proofs.Common.{◌≡◌, ℕ, suc, ◌+◌, Bool, true, false, c
 use Rattle.std.specs.List.{prefix_len}
 use Rattle.std.proofs.lemmas.List.{take-append-drop}
 use Rattle.assembler_text.specs.declared.lexer.Class.{Class}
-use Rattle.assembler_text.specs.Words.{front, rest, is_in, AreIn, StopsAt}
+use Rattle.assembler_text.specs.Words.{is_in, AreIn, StopsAt}
+use Rattle.assembler_text.specs.model.Words.{front, rest}
 
 -- a character of the class goes on with the front
-len_in : (k : Class) (c : ℕ) (cs : List ℕ) → is_in k c ≡ true → prefix_len (is_in k) (c ∷ cs) ≡ suc (prefix_len (is_in k) cs)
+len_in : (k : Class) (c : ℕ) (cs : List ℕ) → is_in k c ≡ true
+    → prefix_len (is_in k) (c ∷ cs) ≡ suc (prefix_len (is_in k) cs)
 len_in k c cs h = ap (λ b. cond b (1 + prefix_len (is_in k) cs) 0) h ∙ omega arith
 
 len_out : (k : Class) (c : ℕ) (cs : List ℕ) → is_in k c ≡ false → prefix_len (is_in k) (c ∷ cs) ≡ 0

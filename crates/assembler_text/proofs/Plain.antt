@@ -69,10 +69,6 @@ joined k (c ∷ cs) b h g = (h.0, joined k cs b h.1 g)
 
 -- ---- blanks
 
-pub blanks_in : (w : List ℕ) → AreBlanks w → AreIn class.Blank w
-blanks_in [] h = tt
-blanks_in (c ∷ cs) h = (h.0, blanks_in cs h.1)
-
 unlike_blank : (k c : ℕ) → is_blank c ≡ true → is_blank k ≡ false → (c == k) ≡ false
 unlike_blank k c h g = by_test (c == k)
     (λ t. let same : c ≡ k = grind (arith, nat_tests) in
@@ -95,9 +91,11 @@ unlike k c h g = by_test (c == k)
     (λ f. f)
 
 pub plain_digit : (c : ℕ) → digit_value c < 16 → is_plain c ≡ true
-plain_digit c h = (λ i. not (unlike 32 c h (lit≤ tt) i || unlike 9 c h (lit≤ tt) i) && (not (unlike 44 c h (lit≤ tt) i) && (not (unlike 59 c h (lit≤ tt) i) && not (unlike 10 c h (lit≤ tt) i))))
+plain_digit c h =
+    (λ i. not (unlike 32 c h (lit≤ tt) i || unlike 9 c h (lit≤ tt) i) && (not (unlike 44 c h (lit≤ tt) i) && (not (unlike 59 c h (lit≤ tt) i) && not (unlike 10 c h (lit≤ tt) i))))
 
-pub digits_in : (k : Class) → ((c : ℕ) → digit_value c < 16 → is_in k c ≡ true) → (ds : List ℕ) → AllDigits 16 ds → AreIn k ds
+pub digits_in : (k : Class) → ((c : ℕ) → digit_value c < 16 → is_in k c ≡ true) → (ds : List ℕ) → AllDigits 16 ds
+    → AreIn k ds
 digits_in k f [] h = tt
 digits_in k f (c ∷ cs) h = (f c h.0, digits_in k f cs h.1)
 

@@ -3,39 +3,45 @@ use Rattle.std.proofs.Common.{◌≡◌, ℕ, ◌+◌, ◌<◌, ◌≤◌, Bool,
 use Rattle.std.specs.Prelude.{◌==◌, not, sum_by}
 use Rattle.std.specs.List.{prefix_len}
 use Rattle.std.proofs.lemmas.List.Sums.{sum_by-cons}
-use Rattle.insn_codec.specs.Machine.{slots_of}
-use Rattle.insn_codec.specs.declared.insn.Insn.{Insn}
-use Rattle.insn_codec.specs.declared.insn.Insn.TheVariants.{LoadWide}
-use Rattle.assembler_text.specs.declared.fault.LineFault.{LineFault}
-use Rattle.assembler_text.specs.declared.fault.LineFault.TheVariants as fault
+use Rattle.instruction_set.specs.Machine.{slots_of}
+use Rattle.instruction_set.specs.declared.insn.Insn.{Insn}
+use Rattle.instruction_set.specs.declared.insn.Insn.TheVariants.{LoadWide}
+use Rattle.assembler_text.specs.declared.faults.LineFault.{LineFault}
+use Rattle.assembler_text.specs.declared.faults.LineFault.TheVariants as fault
 use Rattle.assembler_text.specs.declared.lexer.Class.TheVariants as class
-use Rattle.assembler_text.specs.Words.{front, rest, is_in}
+use Rattle.assembler_text.specs.Words.{is_in}
+use Rattle.assembler_text.specs.model.Words.{front, rest}
 use Rattle.assembler_text.specs.Grammar.{lines_of, with_first}
-use Rattle.assembler_text.specs.Lines.{line_at}
+use Rattle.assembler_text.specs.model.Lines.{line_at}
 use Rattle.assembler_text.proofs.Pieces.{by_test, front_in, front_out, rest_in, rest_out}
-use Rattle.assembler_text.specs.Assembled.{◌>>=◌, with_line, code_after, some_code, Tells}
+use Rattle.assembler_text.specs.model.Results.{◌>>=◌}
+use Rattle.assembler_text.specs.model.Texts.{with_line, code_after, some_code, Tells}
 
 not_newline : (c : ℕ) (b : Bool) → (c == 10) ≡ b → is_in class.Line c ≡ not b
 not_newline c b h = ap not h
 
-goes_with : (c : ℕ) (cs : List ℕ) → lines_of cs ≡ front class.Line cs ∷ lines_of (drop 1 (rest class.Line cs)) → is_in class.Line c ≡ true
+goes_with : (c : ℕ) (cs : List ℕ) → lines_of cs ≡ front class.Line cs ∷ lines_of (drop 1 (rest class.Line cs))
+    → is_in class.Line c ≡ true
     → with_first c (lines_of cs) ≡ front class.Line (c ∷ cs) ∷ lines_of (drop 1 (rest class.Line (c ∷ cs)))
 goes_with c cs so h =
     ap (with_first c) so
     ∙ ap (λ (t : List ℕ). t ∷ lines_of (drop 1 (rest class.Line cs))) (sym (front_in class.Line c cs h))
     ∙ ap (λ (t : List ℕ). front class.Line (c ∷ cs) ∷ lines_of (drop 1 t)) (sym (rest_in class.Line c cs h))
 
-ends_here : (c : ℕ) (cs : List ℕ) → is_in class.Line c ≡ false → [] ∷ lines_of cs ≡ front class.Line (c ∷ cs) ∷ lines_of (drop 1 (rest class.Line (c ∷ cs)))
+ends_here : (c : ℕ) (cs : List ℕ) → is_in class.Line c ≡ false
+    → [] ∷ lines_of cs ≡ front class.Line (c ∷ cs) ∷ lines_of (drop 1 (rest class.Line (c ∷ cs)))
 ends_here c cs h =
     ap (λ (t : List ℕ). t ∷ lines_of cs) (sym (front_out class.Line c cs h))
     ∙ ap (λ (t : List ℕ). front class.Line (c ∷ cs) ∷ lines_of (drop 1 t)) (sym (rest_out class.Line c cs h))
 
-last_with : (c : ℕ) → is_in class.Line c ≡ true → with_first c [] ≡ front class.Line (c ∷ []) ∷ lines_of (drop 1 (rest class.Line (c ∷ [])))
+last_with : (c : ℕ) → is_in class.Line c ≡ true
+    → with_first c [] ≡ front class.Line (c ∷ []) ∷ lines_of (drop 1 (rest class.Line (c ∷ [])))
 last_with c h =
     ap (λ (t : List ℕ). t ∷ []) (sym (front_in class.Line c [] h))
     ∙ ap (λ (t : List ℕ). front class.Line (c ∷ []) ∷ lines_of (drop 1 t)) (sym (rest_in class.Line c [] h))
 
-pub first_line : (c : ℕ) (cs : List ℕ) → lines_of (c ∷ cs) ≡ front class.Line (c ∷ cs) ∷ lines_of (drop 1 (rest class.Line (c ∷ cs)))
+pub first_line : (c : ℕ) (cs : List ℕ)
+    → lines_of (c ∷ cs) ≡ front class.Line (c ∷ cs) ∷ lines_of (drop 1 (rest class.Line (c ∷ cs)))
 first_line c [] = by_test (c == 10)
     (λ h. ap (λ b. cond b ([] ∷ lines_of []) (with_first c (lines_of []))) h ∙ ends_here c [] (not_newline c true h))
     (λ h. ap (λ b. cond b ([] ∷ lines_of []) (with_first c (lines_of []))) h ∙ last_with c (not_newline c false h))
@@ -43,7 +49,8 @@ first_line c (d ∷ ds) = by_test (c == 10)
     (λ h. ap (λ b. cond b ([] ∷ lines_of (d ∷ ds)) (with_first c (lines_of (d ∷ ds)))) h ∙ ends_here c (d ∷ ds) (not_newline c true h))
     (λ h. ap (λ b. cond b ([] ∷ lines_of (d ∷ ds)) (with_first c (lines_of (d ∷ ds)))) h ∙ goes_with c (d ∷ ds) (first_line d ds) (not_newline c false h))
 
-pub first_line_of : (text : List ℕ) → 0 < length text → lines_of text ≡ front class.Line text ∷ lines_of (drop 1 (rest class.Line text))
+pub first_line_of : (text : List ℕ) → 0 < length text
+    → lines_of text ≡ front class.Line text ∷ lines_of (drop 1 (rest class.Line text))
 first_line_of [] h = absurd (omega arith)
 first_line_of (c ∷ cs) h = first_line c cs
 
@@ -52,33 +59,43 @@ one_slot (LoadWide dst value) = lit≤ tt
 one_slot _ = lit≤ tt
 
 -- a line is read
-pub goes_on : (number : ℕ) (code more : List Insn) (text : List ℕ) (total : Result (List Insn) LineFault) → 0 < length text
+pub goes_on : (number : ℕ) (code more : List Insn) (text : List ℕ) (total : Result (List Insn) LineFault)
+    → 0 < length text
     → with_line (number + 1) code (line_at (front class.Line text)) ≡ Ok more
     → code_after number code (lines_of text) ≡ total → code_after (number + 1) more (lines_of (drop 1 (rest class.Line text))) ≡ total
 unfolding code_after
 goes_on number code more text total some h so_far =
     let one : code_after number code (lines_of text) ≡ code_after (number + 1) more (lines_of (drop 1 (rest class.Line text))) =
-    ap (code_after number code) (first_line_of text some) ∙ ap (λ (r : Result (List Insn) LineFault). r >>= λ c. code_after (number + 1) c (lines_of (drop 1 (rest class.Line text)))) h in
+    ap (code_after number code) (first_line_of text some)
+    ∙ ap (λ (r : Result (List Insn) LineFault). r >>= λ c. code_after (number + 1) c (lines_of (drop 1 (rest class.Line text)))) h in
     sym one ∙ so_far
 
 -- a faulty line is met
-pub stops : (e : LineFault) (number : ℕ) (code : List Insn) (text : List ℕ) (total : Result (List Insn) LineFault) → 0 < length text
+pub stops : (e : LineFault) (number : ℕ) (code : List Insn) (text : List ℕ) (total : Result (List Insn) LineFault)
+    → 0 < length text
     → Tells e (with_line (number + 1) code (line_at (front class.Line text)))
     → code_after number code (lines_of text) ≡ total → Tells e total
 unfolding code_after
-stops (fault.OutOfMemory line) number code text total some h so_far = tt
-stops (fault.Line f line) number code text total some h so_far =
-    sym so_far ∙ ap (code_after number code) (first_line_of text some) ∙ ap (λ (r : Result (List Insn) LineFault). r >>= λ c. code_after (number + 1) c (lines_of (drop 1 (rest class.Line text)))) h
-stops (fault.TooLong line) number code text total some h so_far =
-    sym so_far ∙ ap (code_after number code) (first_line_of text some) ∙ ap (λ (r : Result (List Insn) LineFault). r >>= λ c. code_after (number + 1) c (lines_of (drop 1 (rest class.Line text)))) h
-stops fault.Empty number code text total some h so_far =
-    sym so_far ∙ ap (code_after number code) (first_line_of text some) ∙ ap (λ (r : Result (List Insn) LineFault). r >>= λ c. code_after (number + 1) c (lines_of (drop 1 (rest class.Line text)))) h
+stops e number code text total some h so_far = from_fault e h
+  where
+    met : (f : LineFault) → with_line (number + 1) code (line_at (front class.Line text)) ≡ Err f → total ≡ Err f
+    met f k =
+        sym so_far ∙ ap (code_after number code) (first_line_of text some)
+        ∙ ap (λ r. r >>= λ c. code_after (number + 1) c (lines_of (drop 1 (rest class.Line text)))) k
+
+    from_fault : (f : LineFault) → Tells f (with_line (number + 1) code (line_at (front class.Line text)))
+        → Tells f total
+    from_fault fault.OutOfMemory k = tt
+    from_fault (fault.Line f line) k = met (fault.Line f line) k
+    from_fault (fault.TooLong line) k = met (fault.TooLong line) k
+    from_fault fault.Empty k = met fault.Empty k
 
 pub at_end : (text : List ℕ) → length text ≡ 0 → lines_of text ≡ []
 at_end [] h = refl
 at_end (c ∷ cs) h = absurd (omega arith)
 
-pub is_done : (number : ℕ) (code : List Insn) (text : List ℕ) (total : Result (List Insn) LineFault) → length text ≡ 0 → code_after number code (lines_of text) ≡ total → total ≡ some_code code
+pub is_done : (number : ℕ) (code : List Insn) (text : List ℕ) (total : Result (List Insn) LineFault)
+    → length text ≡ 0 → code_after number code (lines_of text) ≡ total → total ≡ some_code code
 unfolding code_after
 is_done number code text total h so_far = sym so_far ∙ ap (code_after number code) (at_end text h)
 
@@ -95,7 +112,8 @@ pub not_empty : (code : List Insn) → 0 < sum_by slots_of code → code ≡ [] 
 not_empty code h e = omega (arith, ap (sum_by slots_of) e)
 
 pub behind_shorter : (text : List ℕ) → 0 < length text → length (drop 1 (rest class.Line text)) < length text
-behind_shorter text h = omega (arith, length-drop 1 (rest class.Line text), length-drop (prefix_len (is_in class.Line) text) text)
+behind_shorter text h =
+    omega (arith, length-drop 1 (rest class.Line text), length-drop (prefix_len (is_in class.Line) text) text)
 
 abbrev pub made : List Insn → Result (List Insn) LineFault
 made code = Ok code

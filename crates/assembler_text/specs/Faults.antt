@@ -1,9 +1,11 @@
--- The numbers of the refusals, and the lines where they are told.
-use Rattle.std.specs.Prelude.{ℕ}
-use Rattle.assembler_text.specs.declared.fault.Fault.{Fault}
-use Rattle.assembler_text.specs.declared.fault.Fault.TheVariants as fault
-use Rattle.assembler_text.specs.declared.fault.LineFault.{LineFault}
-use Rattle.assembler_text.specs.declared.fault.LineFault.TheVariants.{Line, TooLong, Empty, OutOfMemory}
+-- The numbers of the refusals, and the lines that they name.
+use Rattle.std.specs.Prelude.{ℕ, Option, Some, None}
+use Rattle.numbered.specs.declared.Place.{Place}
+use Rattle.numbered.specs.declared.Place.TheVariants as place
+use Rattle.assembler_text.specs.declared.faults.Fault.{Fault}
+use Rattle.assembler_text.specs.declared.faults.Fault.TheVariants as fault
+use Rattle.assembler_text.specs.declared.faults.LineFault.{LineFault}
+use Rattle.assembler_text.specs.declared.faults.LineFault.TheVariants.{Line, TooLong, Empty, OutOfMemory}
 
 abbrev pub fault_number : Fault → ℕ
 fault_number fault.Mnemonic = 60
@@ -11,15 +13,19 @@ fault_number fault.Operand = 61
 fault_number fault.NumberRange = 62
 fault_number fault.LineEnd = 63
 
+-- a fault alone names no line
+abbrev pub fault_place : Fault → Option Place
+fault_place f = None
+
 abbrev pub line_fault_number : LineFault → ℕ
 line_fault_number (Line f line) = fault_number f
 line_fault_number (TooLong line) = 2
 line_fault_number Empty = 1
-line_fault_number (OutOfMemory line) = 90
+line_fault_number OutOfMemory = 90
 
--- counted from 1
-abbrev pub fault_line : LineFault → ℕ
-fault_line (Line f line) = line
-fault_line (TooLong line) = line
-fault_line Empty = 1
-fault_line (OutOfMemory line) = line
+-- the line, counted from 1: an empty text is told of line 1, want of memory of none
+abbrev pub line_fault_place : LineFault → Option Place
+line_fault_place (Line f line) = Some (place.Line line)
+line_fault_place (TooLong line) = Some (place.Line line)
+line_fault_place Empty = Some (place.Line 1)
+line_fault_place OutOfMemory = None

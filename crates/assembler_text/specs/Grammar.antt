@@ -3,15 +3,15 @@ use Rattle.std.specs.Prelude.{◌≡◌, ℕ, true, List, [], ◌∷◌, ◌++�
 use Rattle.std.specs.Fmt.{decimal, signed_decimal}
 use Rattle.std.specs.Int.{w32, cast_unsigned}
 use Rattle.std.specs.Str.Parse.{IsNumeral, digits_value}
-use Rattle.insn_codec.specs.Encoding.{IsListed}
-use Rattle.insn_codec.specs.declared.insn.Insn.{Insn}
-use Rattle.assembler_text.specs.Words.{is_blank}
+use Rattle.instruction_set.specs.Slots.{IsListed, IsCode}
+use Rattle.instruction_set.specs.declared.insn.Insn.{Insn}
+use Rattle.assembler_text.specs.declared.lexer.Class.TheVariants as class
+use Rattle.assembler_text.specs.Words.{is_blank, AreIn}
 use Rattle.assembler_text.specs.Text.{Operand, OfRegister, OfImm, OfValue, OfAddress, OfStep, operands_of, mnemonic_of, register_text, step_text}
 
 -- nothing but spaces and tabs
 abbrev pub AreBlanks : List ℕ → Type 0
-AreBlanks [] = Unit {0}
-AreBlanks (c ∷ cs) = (is_blank c ≡ true) × AreBlanks cs
+AreBlanks text = AreIn class.Blank text
 
 -- nothing, or a semicolon and what follows it
 abbrev pub IsComment : List ℕ → Type 0
@@ -52,7 +52,8 @@ AreSeparated text (o ∷ p ∷ os) = (rest : List ℕ) × Begins text o (44 ∷ 
 -- at least one blank stands before the first operand
 abbrev pub AreOperands : List ℕ → List Operand → Type 0
 AreOperands text [] = AreBlanks text
-AreOperands text (o ∷ os) = (blank : ℕ) × (rest : List ℕ) × (text ≡ blank ∷ rest) × (is_blank blank ≡ true) × AreSeparated rest (o ∷ os)
+AreOperands text (o ∷ os) =
+    (blank : ℕ) × (rest : List ℕ) × (text ≡ blank ∷ rest) × (is_blank blank ≡ true) × AreSeparated rest (o ∷ os)
 
 -- a line that gives no instruction: blanks and a comment
 pub record IsEmptyLine (line : List ℕ) : Type 0 where
@@ -94,4 +95,10 @@ abbrev pub AreLines : List (List ℕ) → List Insn → Type 0
 AreLines [] [] = Unit {0}
 AreLines [] (i ∷ code) = ⊥
 AreLines (line ∷ lines) [] = IsLine line None × AreLines lines []
-AreLines (line ∷ lines) (i ∷ code) = (IsLine line None × AreLines lines (i ∷ code)) ⊎ (IsLine line (Some i) × AreLines lines code)
+AreLines (line ∷ lines) (i ∷ code) =
+    (IsLine line None × AreLines lines (i ∷ code)) ⊎ (IsLine line (Some i) × AreLines lines code)
+
+-- the lines of the text give the instructions of the code in order, and they are code: 1 to 1,024 slots
+pub record IsTextOf (text : List ℕ) (code : List Insn) : Type 0 where
+  pub lines_give : AreLines (lines_of text) code
+  pub is_code : IsCode code

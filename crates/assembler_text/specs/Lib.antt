@@ -1,10 +1,7 @@
 pub mod Faults
 pub mod Words
-pub mod Mnemonics
-pub mod Reading
-pub mod Operands
-pub mod Lines
 pub mod Text
 pub mod Grammar
-pub mod Assembled
 pub mod Refusals
+pub mod Assembling
+pub mod model

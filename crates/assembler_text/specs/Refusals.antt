@@ -2,47 +2,47 @@
 use Rattle.std.specs.Prelude.{◌≡◌, ℕ, ◌+◌, ◌<◌, ◌≤◌, ◌^◌, ◌⊎◌, List, [], ◌∷◌, ◌++◌, length, get_or, Some, codes, sum_by, FitsSigned}
 use Rattle.std.specs.Int.{w16, w32}
 use Rattle.std.specs.Str.Parse.{IsNumeral, digits_value}
-use Rattle.insn_codec.specs.Encoding.{IsListed, max_slots}
-use Rattle.insn_codec.specs.Machine.{slots_of}
-use Rattle.insn_codec.specs.declared.insn.Register.{Register}
-use Rattle.insn_codec.specs.declared.insn.Insn.{Insn}
-use Rattle.insn_codec.specs.declared.insn.Insn.TheVariants.{Alu, Neg, MovSx, End, LoadWide, Load, LoadSx, Store, StoreImm, Jump, JumpLong, JumpIf, Exit}
-use Rattle.assembler_text.specs.declared.fault.Fault.{Fault}
-use Rattle.assembler_text.specs.declared.fault.Fault.TheVariants as fault
-use Rattle.assembler_text.specs.declared.fault.LineFault.{LineFault}
-use Rattle.assembler_text.specs.declared.fault.LineFault.TheVariants as line_fault
+use Rattle.instruction_set.specs.Slots.{IsListed, max_slots}
+use Rattle.instruction_set.specs.Machine.{slots_of}
+use Rattle.instruction_set.specs.declared.insn.Register.{Register}
+use Rattle.instruction_set.specs.declared.insn.Insn.{Insn}
+use Rattle.instruction_set.specs.declared.insn.Insn.TheVariants.{Alu, Neg, MovSx, End, LoadWide, Load, LoadSx, Store, StoreImm, Jump, JumpLong, JumpIf, Exit}
+use Rattle.assembler_text.specs.declared.faults.Fault.{Fault}
+use Rattle.assembler_text.specs.declared.faults.Fault.TheVariants as fault
+use Rattle.assembler_text.specs.declared.faults.LineFault.{LineFault}
+use Rattle.assembler_text.specs.declared.faults.LineFault.TheVariants as line_fault
 use Rattle.assembler_text.specs.declared.lexer.Class.TheVariants as class
 use Rattle.assembler_text.specs.Words.{AreIn, StopsAt}
 use Rattle.assembler_text.specs.Text.{Operand, OfRegister, OfImm, OfValue, OfAddress, OfStep, mnemonic_of, register_text}
-use Rattle.assembler_text.specs.Grammar.{AreBlanks, IsComment, IsOperand, IsLine, AreLines}
+use Rattle.assembler_text.specs.Grammar.{AreBlanks, IsComment, IsOperand, IsLine, lines_of, AreLines}
 
--- what a mnemonic asks in an operand's place; steps are of 16 bits or of 32
-pub data Place : Type 0 where
-  ARegister : Place
-  ASource : Place
-  AnImm : Place
-  AValue : Place
-  AnAddress : Place
-  AStep : Place
-  ALongStep : Place
+-- what a mnemonic asks for an operand; steps are of 16 bits or of 32
+pub data OperandKind : Type 0 where
+  ARegister : OperandKind
+  ASource : OperandKind
+  AnImm : OperandKind
+  AValue : OperandKind
+  AnAddress : OperandKind
+  AStep : OperandKind
+  ALongStep : OperandKind
 
-abbrev pub places_of : Insn → List Place
-places_of (Alu width op dst src) = ARegister ∷ ASource ∷ []
-places_of (Neg width dst) = ARegister ∷ []
-places_of (MovSx width bits dst src) = ARegister ∷ ARegister ∷ []
-places_of (End kind bits dst) = ARegister ∷ []
-places_of (LoadWide dst value) = ARegister ∷ AValue ∷ []
-places_of (Load size dst base offset) = ARegister ∷ AnAddress ∷ []
-places_of (LoadSx size dst base offset) = ARegister ∷ AnAddress ∷ []
-places_of (Store size base offset src) = AnAddress ∷ ARegister ∷ []
-places_of (StoreImm size base offset imm) = AnAddress ∷ AnImm ∷ []
-places_of (Jump distance) = AStep ∷ []
-places_of (JumpLong distance) = ALongStep ∷ []
-places_of (JumpIf width test dst src distance) = ARegister ∷ ASource ∷ AStep ∷ []
-places_of Exit = []
+abbrev pub kinds_of : Insn → List OperandKind
+kinds_of (Alu width op dst src) = ARegister ∷ ASource ∷ []
+kinds_of (Neg width dst) = ARegister ∷ []
+kinds_of (MovSx width bits dst src) = ARegister ∷ ARegister ∷ []
+kinds_of (End kind bits dst) = ARegister ∷ []
+kinds_of (LoadWide dst value) = ARegister ∷ AValue ∷ []
+kinds_of (Load size dst base offset) = ARegister ∷ AnAddress ∷ []
+kinds_of (LoadSx size dst base offset) = ARegister ∷ AnAddress ∷ []
+kinds_of (Store size base offset src) = AnAddress ∷ ARegister ∷ []
+kinds_of (StoreImm size base offset imm) = AnAddress ∷ AnImm ∷ []
+kinds_of (Jump distance) = AStep ∷ []
+kinds_of (JumpLong distance) = ALongStep ∷ []
+kinds_of (JumpIf width test dst src distance) = ARegister ∷ ASource ∷ AStep ∷ []
+kinds_of Exit = []
 
 -- the place takes the operand: it is of the kind asked, and its number is in range
-abbrev pub Takes : Place → Operand → Type 0
+abbrev pub Takes : OperandKind → Operand → Type 0
 Takes ARegister (OfRegister r) = Unit {0}
 Takes ASource (OfRegister r) = Unit {0}
 Takes ASource (OfImm n) = FitsSigned w32 n
@@ -54,7 +54,7 @@ Takes ALongStep (OfStep n) = FitsSigned w32 n
 Takes place operand = ⊥
 
 -- the word is an operand that the place takes
-pub record IsGood (place : Place) (word : List ℕ) : Type 0 where
+pub record IsGood (place : OperandKind) (word : List ℕ) : Type 0 where
   pub operand : Operand
   pub taken : Takes place operand
   pub spelled : IsOperand operand word
@@ -67,7 +67,7 @@ pub record IsPast (most : ℕ) (digits : List ℕ) : Type 0 where
   pub no_leading_zero : get_or digits 0 0 ≡ 48 → length digits ≡ 1
   pub past : most < digits_value 10 digits
 
--- such digits behind a sign
+-- such digits after a sign
 pub record IsPastBehind (sign most : ℕ) (word : List ℕ) : Type 0 where
   pub digits : List ℕ
   pub spelled : word ≡ sign ∷ digits
@@ -98,7 +98,7 @@ pub record IsPastAddress (word : List ℕ) : Type 0 where
   pub is_past : IsPastStep 32767 offset
 
 -- the word is a well-formed number out of the range that the place asks
-abbrev pub IsOutOfRange : Place → List ℕ → Type 0
+abbrev pub IsOutOfRange : OperandKind → List ℕ → Type 0
 IsOutOfRange ARegister word = ⊥
 IsOutOfRange ASource word = IsPastImm word
 IsOutOfRange AnImm word = IsPastImm word
@@ -108,7 +108,7 @@ IsOutOfRange AStep word = IsPastStep 32767 word
 IsOutOfRange ALongStep word = IsPastStep 2147483647 word
 
 -- what is wrong with a word in an operand's place: a number out of range, or any other word that isn't taken
-abbrev pub IsWrong : Place → List ℕ → Fault → Type 0
+abbrev pub IsWrong : OperandKind → List ℕ → Fault → Type 0
 IsWrong place word fault.Operand = (IsGood place word → ⊥) × (IsOutOfRange place word → ⊥)
 IsWrong place word fault.NumberRange = IsOutOfRange place word
 IsWrong place word fault.Mnemonic = ⊥
@@ -116,7 +116,8 @@ IsWrong place word fault.LineEnd = ⊥
 
 -- ---- operands
 
--- a text: blanks, as many as there are, a word that runs to a blank, a comma or the end, blanks, as many as there are, the rest
+-- a text: blanks, as many as there are, a word that runs to a blank, a comma or the end,
+-- blanks, as many as there are, the rest
 pub record IsSplit (text word rest : List ℕ) : Type 0 where
   pub before : List ℕ
   pub behind : List ℕ
@@ -129,28 +130,33 @@ pub record IsSplit (text word rest : List ℕ) : Type 0 where
   pub behind_stops : StopsAt class.Blank rest
 
 -- the leftmost fault of operands in these places
-pub data IsFaultIn : List Place → List ℕ → Fault → Type 0 where
+pub data IsFaultIn : List OperandKind → List ℕ → Fault → Type 0 where
   -- something stands where there is no operand
   none_asked : {text : List ℕ} → (AreBlanks text → ⊥) → IsFaultIn [] text fault.LineEnd
   -- the first word is no operand for its place
-  wrong_word : {p : Place} {ps : List Place} {text word rest : List ℕ} {f : Fault} → IsSplit text word rest → IsWrong p word f → IsFaultIn (p ∷ ps) text f
+  wrong_word : {p : OperandKind} {ps : List OperandKind} {text word rest : List ℕ} {f : Fault}
+      → IsSplit text word rest → IsWrong p word f → IsFaultIn (p ∷ ps) text f
   -- the first operand is good, but no comma follows it, and so no second one
-  no_comma : {p q : Place} {ps : List Place} {text word rest : List ℕ} → IsSplit text word rest → IsGood p word → ((t : List ℕ) → rest ≡ 44 ∷ t → ⊥) → IsFaultIn (p ∷ q ∷ ps) text fault.Operand
-  -- the first operand is good, and the fault stands behind the comma that follows it
-  behind_comma : {p q : Place} {ps : List Place} {text word t : List ℕ} {f : Fault} → IsSplit text word (44 ∷ t) → IsGood p word → IsFaultIn (q ∷ ps) t f → IsFaultIn (p ∷ q ∷ ps) text f
-  -- something stands behind the last operand
-  line_end : {p : Place} {text word rest : List ℕ} → IsSplit text word rest → IsGood p word → (rest ≡ [] → ⊥) → IsFaultIn (p ∷ []) text fault.LineEnd
+  no_comma : {p q : OperandKind} {ps : List OperandKind} {text word rest : List ℕ}
+      → IsSplit text word rest → IsGood p word → ((t : List ℕ) → rest ≡ 44 ∷ t → ⊥) → IsFaultIn (p ∷ q ∷ ps) text fault.Operand
+  -- the first operand is good, and the fault stands after the comma that follows it
+  behind_comma : {p q : OperandKind} {ps : List OperandKind} {text word t : List ℕ} {f : Fault}
+      → IsSplit text word (44 ∷ t) → IsGood p word → IsFaultIn (q ∷ ps) t f → IsFaultIn (p ∷ q ∷ ps) text f
+  -- something stands after the last operand
+  line_end : {p : OperandKind} {text word rest : List ℕ}
+      → IsSplit text word rest → IsGood p word → (rest ≡ [] → ⊥) → IsFaultIn (p ∷ []) text fault.LineEnd
 
--- the leftmost fault of a mnemonic and what stands behind it
+-- the leftmost fault of a mnemonic and what stands after it
 pub data IsFaultOf (name text : List ℕ) : Fault → Type 0 where
   -- no instruction has this mnemonic
   no_mnemonic : ((i : Insn) → IsListed i → mnemonic_of i ≡ name → ⊥) → IsFaultOf name text fault.Mnemonic
-  -- an instruction has it, and the fault stands in its operands or behind them
-  in_operands : {f : Fault} (i : Insn) → IsListed i → mnemonic_of i ≡ name → IsFaultIn (places_of i) text f → IsFaultOf name text f
+  -- an instruction has it, and the fault stands in its operands or after them
+  in_operands : {f : Fault} (i : Insn)
+      → IsListed i → mnemonic_of i ≡ name → IsFaultIn (kinds_of i) text f → IsFaultOf name text f
 
 -- ---- lines and texts
 
--- the leftmost fault of a line: blanks, a mnemonic that runs to a blank or the end, what stands behind it, a comment
+-- the leftmost fault of a line: blanks, a mnemonic that runs to a blank or the end, what stands after it, a comment
 pub record IsLineFault (line : List ℕ) (f : Fault) : Type 0 where
   pub blanks : List ℕ
   pub name : List ℕ
@@ -190,9 +196,13 @@ pub record IsTooLongAt (lines : List (List ℕ)) (number : ℕ) : Type 0 where
   pub gives : IsLine line (Some insn)
   pub past : max_slots < sum_by slots_of code + slots_of insn
 
--- the first fault of a text, or memory ran out
-abbrev pub IsFirstFault : List (List ℕ) → LineFault → Type 0
-IsFirstFault lines (line_fault.Line f number) = IsFaultAt lines number f
-IsFirstFault lines (line_fault.TooLong number) = IsTooLongAt lines number
-IsFirstFault lines line_fault.Empty = AreLines lines []
-IsFirstFault lines (line_fault.OutOfMemory number) = Unit {0}
+-- the first fault of lines: of the first line that has one the leftmost; want of memory is no fault of lines
+abbrev pub IsFirstOf : List (List ℕ) → LineFault → Type 0
+IsFirstOf lines (line_fault.Line f number) = IsFaultAt lines number f
+IsFirstOf lines (line_fault.TooLong number) = IsTooLongAt lines number
+IsFirstOf lines line_fault.Empty = AreLines lines []
+IsFirstOf lines line_fault.OutOfMemory = ⊥
+
+-- the first fault of a text
+abbrev pub IsFirstFault : List ℕ → LineFault → Type 0
+IsFirstFault text f = IsFirstOf (lines_of text) f

@@ -3,21 +3,21 @@ use Rattle.std.specs.Prelude.{ℕ, suc, List, [], ◌∷◌, ◌++◌, ℤ, pos,
 use Rattle.std.specs.Fmt.{decimal, signed_decimal}
 use Rattle.std.specs.List.{flat_map}
 use Rattle.std.proofs.Common.{negsuc}
-use Rattle.insn_codec.specs.declared.insn.Width.{Width}
-use Rattle.insn_codec.specs.declared.insn.Width.TheVariants.{W32, W64}
-use Rattle.insn_codec.specs.declared.insn.Size.{Size}
-use Rattle.insn_codec.specs.declared.insn.Size.TheVariants.{Byte, Half, Word, Double}
-use Rattle.insn_codec.specs.declared.insn.AluOp.{AluOp}
-use Rattle.insn_codec.specs.declared.insn.AluOp.TheVariants.{Add, Sub, Mul, Div, SDiv, Or, And, Lsh, Rsh, Mod, SMod, Xor, Mov, Arsh}
-use Rattle.insn_codec.specs.declared.insn.EndKind.{EndKind}
-use Rattle.insn_codec.specs.declared.insn.EndKind.TheVariants.{Little, Big, Swap}
-use Rattle.insn_codec.specs.declared.insn.Test.{Test}
-use Rattle.insn_codec.specs.declared.insn.Test.TheVariants.{Jeq, Jgt, Jge, Jset, Jne, Jsgt, Jsge, Jlt, Jle, Jslt, Jsle}
-use Rattle.insn_codec.specs.declared.insn.Register.{Register}
-use Rattle.insn_codec.specs.declared.insn.Source.{Source}
-use Rattle.insn_codec.specs.declared.insn.Source.TheVariants.{Imm, Reg}
-use Rattle.insn_codec.specs.declared.insn.Insn.{Insn}
-use Rattle.insn_codec.specs.declared.insn.Insn.TheVariants.{Alu, Neg, MovSx, End, LoadWide, Load, LoadSx, Store, StoreImm, Jump, JumpLong, JumpIf, Exit}
+use Rattle.instruction_set.specs.declared.insn.Width.{Width}
+use Rattle.instruction_set.specs.declared.insn.Width.TheVariants.{W32, W64}
+use Rattle.instruction_set.specs.declared.insn.Size.{Size}
+use Rattle.instruction_set.specs.declared.insn.Size.TheVariants.{Byte, Half, Word, Double}
+use Rattle.instruction_set.specs.declared.insn.AluOp.{AluOp}
+use Rattle.instruction_set.specs.declared.insn.AluOp.TheVariants.{Add, Sub, Mul, Div, SDiv, Or, And, Lsh, Rsh, Mod, SMod, Xor, Mov, Arsh}
+use Rattle.instruction_set.specs.declared.insn.EndKind.{EndKind}
+use Rattle.instruction_set.specs.declared.insn.EndKind.TheVariants.{Little, Big, Swap}
+use Rattle.instruction_set.specs.declared.insn.Test.{Test}
+use Rattle.instruction_set.specs.declared.insn.Test.TheVariants.{Jeq, Jgt, Jge, Jset, Jne, Jsgt, Jsge, Jlt, Jle, Jslt, Jsle}
+use Rattle.instruction_set.specs.declared.insn.Register.{Register}
+use Rattle.instruction_set.specs.declared.insn.Source.{Source}
+use Rattle.instruction_set.specs.declared.insn.Source.TheVariants.{Imm, Reg}
+use Rattle.instruction_set.specs.declared.insn.Insn.{Insn}
+use Rattle.instruction_set.specs.declared.insn.Insn.TheVariants.{Alu, Neg, MovSx, End, LoadWide, Load, LoadSx, Store, StoreImm, Jump, JumpLong, JumpIf, Exit}
 
 -- ---- mnemonics
 
@@ -87,7 +87,7 @@ mnemonic_of Exit = codes "exit"
 
 -- ---- operands
 
--- what stands in an operand's place: a register, an immediate, a value of 64 bits, a register with an offset, a distance
+-- an operand: a register, an immediate, a value of 64 bits, a register with an offset, a distance
 pub data Operand : Type 0 where
   OfRegister : Register → Operand
   OfImm : ℤ → Operand
@@ -132,12 +132,12 @@ operand_text (OfStep n) = step_text n
 abbrev pub source_text : Source → List ℕ
 source_text src = operand_text (source_operand src)
 
--- the first operand, behind a space
+-- the first operand, after a space
 abbrev pub first_text : List Operand → List ℕ
 first_text [] = []
 first_text (o ∷ os) = codes " " ++ operand_text o
 
--- operands behind the first, each behind a comma and a space
+-- operands after the first, each after a comma and a space
 abbrev pub others_text : List Operand → List ℕ
 others_text [] = []
 others_text (o ∷ os) = codes ", " ++ operand_text o ++ others_text os

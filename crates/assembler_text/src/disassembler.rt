@@ -3,11 +3,9 @@ ghost use Rattle.std.specs.Prelude.{◌≡◌, ◌++◌, IfOk, OnOk, codes, drop
 ghost use Rattle.std.specs.Int.{w16};
 ghost use Rattle.std.specs.String.{string_bytes};
 ghost use Rattle.assembler_text.specs.Text.{alu_name, width_name, size_name, order_name, test_name, test_width_name, mnemonic_of, source_text, step_text, OfAddress, operands_of, operand_text, first_text, others_text, line_of, code_text};
-ghost use Rattle.assembler_text.specs.Grammar.{lines_of, AreLines};
+ghost use Rattle.assembler_text.specs.Grammar.{IsTextOf};
 
-use crate::assembler::slots_of;
-use insn_codec::code::Code;
-use insn_codec::insn::{AluOp, EndKind, Insn, Register, Size, Source, Test, Width};
+use instruction_set::{AluOp, Code, EndKind, Insn, Register, Size, Source, Test, Width};
 use std::alloc::{AllocError, Global};
 
 fn alu_name(op: AluOp) -> &'static str
@@ -141,7 +139,7 @@ fn mnemonic(alloc: Global, insn: Insn) -> Result<String, AllocError>
     }
 }
 
-/// The first operand of an instruction behind a space, if it has one.
+/// The first operand of an instruction after a space, if it has one.
 fn first_operand(alloc: Global, insn: Insn) -> Result<String, AllocError>
     ensures { IfOk result (λ text. string_bytes text ≡ first_text (operands_of insn)) }
 {
@@ -168,7 +166,7 @@ fn first_operand(alloc: Global, insn: Insn) -> Result<String, AllocError>
     }
 }
 
-/// The operands of an instruction behind its first, each behind a comma and a space.
+/// The operands of an instruction after its first, each after a comma and a space.
 fn other_operands(alloc: Global, insn: Insn) -> Result<String, AllocError>
     ensures { IfOk result (λ text. string_bytes text ≡ others_text (drop 1 (operands_of insn))) }
 {
@@ -207,20 +205,24 @@ fn line(alloc: Global, insn: Insn) -> Result<String, AllocError>
     format!(in alloc; "{mnemonic}{first}{others}\n")
 }
 
+/// The lines of these instructions in order.
+fn lines(alloc: Global, insns: &[Insn]) -> Result<String, AllocError>
+    ensures { IfOk result (λ text. string_bytes text ≡ code_text insns.now) }
+{
+    let mut text = String::new(alloc);
+    for insn in insns {
+        text.push_str(line(alloc, *insn)?.as_str())?;
+    }
+    Ok(text)
+}
+
 /// The text of code: the canonical line of each of its instructions, each ended by LF.
 pub fn disassemble(alloc: Global, code: &Code) -> Result<String, AllocError>
     ensures exact { IfOk result (λ text. string_bytes text ≡ code_text code.now) }
-    // Its lines give the instructions of the code in order.
-    ensures lines { IfOk result (λ text. AreLines (lines_of (string_bytes text)) code.now) }
+    // It is a text of the code.
+    ensures text { IfOk result (λ text. IsTextOf (string_bytes text) code.now) }
 {
+    // Its instructions are listed.
     code.known();
-    let count = code.slot_count();
-    let mut text = String::new(alloc);
-    let mut slot = 0;
-    while slot < count {
-        let insn = *code.insn(slot);
-        text.push_str(line(alloc, insn)?.as_str())?;
-        slot += slots_of(insn);
-    }
-    Ok(text)
+    lines(alloc, code.insns())
 }

@@ -1,7 +1,8 @@
 //! The pieces of a text: lines, comments, blanks and words.
 ghost use Rattle.std.specs.Prelude.{◌≡◌, ◌≤◌, length, take, drop, map};
 ghost use Rattle.std.specs.List.{prefix_len};
-ghost use Rattle.assembler_text.specs.Words.{is_in, front, rest, lookup};
+ghost use Rattle.assembler_text.specs.Words.{is_in};
+ghost use Rattle.assembler_text.specs.model.Words.{front, rest, lookup};
 
 /// What the characters of a piece of text are.
 #[derive(Clone, Copy, PartialEq, Eq)]

@@ -1,9 +1,9 @@
 //! The text of programs: lines read as code, and code written as lines.
 #![tactic(auto)]
 
-pub mod assembler;
-pub mod disassembler;
-pub mod fault;
+mod assembler;
+mod disassembler;
+mod faults;
 mod lexer;
 mod line;
 mod mnemonic;
@@ -11,3 +11,7 @@ mod number;
 mod operand;
 #[cfg(test)]
 mod tests;
+
+pub use assembler::{assemble, line_theorem, text_theorem};
+pub use disassembler::disassemble;
+pub use faults::{Fault, LineFault};

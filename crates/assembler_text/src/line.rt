@@ -1,22 +1,20 @@
 //! A line read as an instruction.
 ghost use Rattle.std.specs.Prelude.{◌≡◌, IfOk, IfSome};
-ghost use Rattle.insn_codec.specs.Encoding.{IsSelected};
-ghost use Rattle.insn_codec.specs.declared.insn.Insn.TheVariants.{Alu, Neg, MovSx, End, LoadWide, Load, LoadSx, Store, StoreImm, Jump, JumpLong, JumpIf, Exit};
-ghost use Rattle.assembler_text.specs.Reading.{imm_at, value_at, step_at};
-ghost use Rattle.assembler_text.specs.Operands.{register_at, source_at, address_at};
-ghost use Rattle.assembler_text.specs.Lines.{one_at, two_at, three_at, insn_at, line_at};
+ghost use Rattle.instruction_set.specs.Slots.{IsSelected};
+ghost use Rattle.assembler_text.specs.declared.mnemonic.Mnemonic.TheVariants as mnemonic;
+ghost use Rattle.assembler_text.specs.model.Lines.{insn_at, line_at};
 
-use crate::fault::Fault;
+use crate::faults::Fault;
 use crate::lexer::{Class, skip_blanks, split};
 use crate::mnemonic::Mnemonic;
 use crate::number::{imm, long_step, short_step, value};
 use crate::operand::{address, comma, end, register, source, word};
-use insn_codec::insn::{AluOp, EndKind, Insn, Size, Test, Width};
+use instruction_set::{AluOp, EndKind, Insn, Size, Test, Width};
 
 /// An operation on a register and a register or an immediate.
-#[tactic(auto, unfolding(crate::specs::Lines::two_at))]
+#[tactic(auto, unfolding(crate::specs::model::Lines::insn_at, crate::specs::model::Lines::operands_at))]
 fn alu(width: Width, op: AluOp, text: &[u8]) -> Result<Insn, Fault>
-    ensures { result ≡ two_at (Alu width op) register_at source_at text.now }
+    ensures { result ≡ insn_at (mnemonic.Alu width op) text.now }
 {
     let (dst, rest) = word(text);
     let dst = register(dst)?;
@@ -32,9 +30,9 @@ fn alu(width: Width, op: AluOp, text: &[u8]) -> Result<Insn, Fault>
 }
 
 /// A negation of a register.
-#[tactic(auto, unfolding(crate::specs::Lines::one_at))]
+#[tactic(auto, unfolding(crate::specs::model::Lines::insn_at, crate::specs::model::Lines::operands_at))]
 fn neg(width: Width, text: &[u8]) -> Result<Insn, Fault>
-    ensures { result ≡ one_at (Neg width) register_at text.now }
+    ensures { result ≡ insn_at (mnemonic.Neg width) text.now }
 {
     let (dst, rest) = word(text);
     let dst = register(dst)?;
@@ -43,9 +41,9 @@ fn neg(width: Width, text: &[u8]) -> Result<Insn, Fault>
 }
 
 /// A copy with its sign extended.
-#[tactic(auto, unfolding(crate::specs::Lines::two_at))]
+#[tactic(auto, unfolding(crate::specs::model::Lines::insn_at, crate::specs::model::Lines::operands_at))]
 fn mov_sx(width: Width, bits: u32, text: &[u8]) -> Result<Insn, Fault>
-    ensures { result ≡ two_at (MovSx width bits) register_at register_at text.now }
+    ensures { result ≡ insn_at (mnemonic.MovSx width bits) text.now }
 {
     let (dst, rest) = word(text);
     let dst = register(dst)?;
@@ -61,9 +59,9 @@ fn mov_sx(width: Width, bits: u32, text: &[u8]) -> Result<Insn, Fault>
 }
 
 /// A change of the order of bytes.
-#[tactic(auto, unfolding(crate::specs::Lines::one_at))]
+#[tactic(auto, unfolding(crate::specs::model::Lines::insn_at, crate::specs::model::Lines::operands_at))]
 fn byte_order(kind: EndKind, bits: u32, text: &[u8]) -> Result<Insn, Fault>
-    ensures { result ≡ one_at (End kind bits) register_at text.now }
+    ensures { result ≡ insn_at (mnemonic.End kind bits) text.now }
 {
     let (dst, rest) = word(text);
     let dst = register(dst)?;
@@ -72,9 +70,9 @@ fn byte_order(kind: EndKind, bits: u32, text: &[u8]) -> Result<Insn, Fault>
 }
 
 /// A load of a value of 64 bits.
-#[tactic(auto, unfolding(crate::specs::Lines::two_at))]
+#[tactic(auto, unfolding(crate::specs::model::Lines::insn_at, crate::specs::model::Lines::operands_at))]
 fn load_wide(text: &[u8]) -> Result<Insn, Fault>
-    ensures { result ≡ two_at LoadWide register_at value_at text.now }
+    ensures { result ≡ insn_at mnemonic.LoadWide text.now }
 {
     let (dst, rest) = word(text);
     let dst = register(dst)?;
@@ -85,9 +83,9 @@ fn load_wide(text: &[u8]) -> Result<Insn, Fault>
 }
 
 /// A load that extends by zeros.
-#[tactic(auto, unfolding(crate::specs::Lines::two_at))]
+#[tactic(auto, unfolding(crate::specs::model::Lines::insn_at, crate::specs::model::Lines::operands_at))]
 fn load(size: Size, text: &[u8]) -> Result<Insn, Fault>
-    ensures { result ≡ two_at (λ dst address. Load size dst address.0 address.1) register_at address_at text.now }
+    ensures { result ≡ insn_at (mnemonic.Load size) text.now }
 {
     let (dst, rest) = word(text);
     let dst = register(dst)?;
@@ -103,9 +101,9 @@ fn load(size: Size, text: &[u8]) -> Result<Insn, Fault>
 }
 
 /// A load that extends by the sign.
-#[tactic(auto, unfolding(crate::specs::Lines::two_at))]
+#[tactic(auto, unfolding(crate::specs::model::Lines::insn_at, crate::specs::model::Lines::operands_at))]
 fn load_sx(size: Size, text: &[u8]) -> Result<Insn, Fault>
-    ensures { result ≡ two_at (λ dst address. LoadSx size dst address.0 address.1) register_at address_at text.now }
+    ensures { result ≡ insn_at (mnemonic.LoadSx size) text.now }
 {
     let (dst, rest) = word(text);
     let dst = register(dst)?;
@@ -121,9 +119,9 @@ fn load_sx(size: Size, text: &[u8]) -> Result<Insn, Fault>
 }
 
 /// A store of a register.
-#[tactic(auto, unfolding(crate::specs::Lines::two_at))]
+#[tactic(auto, unfolding(crate::specs::model::Lines::insn_at, crate::specs::model::Lines::operands_at))]
 fn store(size: Size, text: &[u8]) -> Result<Insn, Fault>
-    ensures { result ≡ two_at (λ address src. Store size address.0 address.1 src) address_at register_at text.now }
+    ensures { result ≡ insn_at (mnemonic.Store size) text.now }
 {
     let (place, rest) = word(text);
     let (base, offset) = address(place)?;
@@ -139,9 +137,9 @@ fn store(size: Size, text: &[u8]) -> Result<Insn, Fault>
 }
 
 /// A store of a number.
-#[tactic(auto, unfolding(crate::specs::Lines::two_at))]
+#[tactic(auto, unfolding(crate::specs::model::Lines::insn_at, crate::specs::model::Lines::operands_at))]
 fn store_imm(size: Size, text: &[u8]) -> Result<Insn, Fault>
-    ensures { result ≡ two_at (λ address number. StoreImm size address.0 address.1 number) address_at imm_at text.now }
+    ensures { result ≡ insn_at (mnemonic.StoreImm size) text.now }
 {
     let (place, rest) = word(text);
     let (base, offset) = address(place)?;
@@ -157,9 +155,9 @@ fn store_imm(size: Size, text: &[u8]) -> Result<Insn, Fault>
 }
 
 /// A jump of 16 bits.
-#[tactic(auto, unfolding(crate::specs::Lines::one_at))]
+#[tactic(auto, unfolding(crate::specs::model::Lines::insn_at, crate::specs::model::Lines::operands_at))]
 fn jump(text: &[u8]) -> Result<Insn, Fault>
-    ensures { result ≡ one_at Jump (step_at 32767) text.now }
+    ensures { result ≡ insn_at mnemonic.Jump text.now }
 {
     let (distance, rest) = word(text);
     let distance = short_step(distance)?;
@@ -168,9 +166,9 @@ fn jump(text: &[u8]) -> Result<Insn, Fault>
 }
 
 /// A jump of 32 bits.
-#[tactic(auto, unfolding(crate::specs::Lines::one_at))]
+#[tactic(auto, unfolding(crate::specs::model::Lines::insn_at, crate::specs::model::Lines::operands_at))]
 fn jump_long(text: &[u8]) -> Result<Insn, Fault>
-    ensures { result ≡ one_at JumpLong (step_at 2147483647) text.now }
+    ensures { result ≡ insn_at mnemonic.JumpLong text.now }
 {
     let (distance, rest) = word(text);
     let distance = long_step(distance)?;
@@ -179,9 +177,9 @@ fn jump_long(text: &[u8]) -> Result<Insn, Fault>
 }
 
 /// A jump where a test holds.
-#[tactic(auto, unfolding(crate::specs::Lines::three_at))]
+#[tactic(auto, unfolding(crate::specs::model::Lines::insn_at, crate::specs::model::Lines::operands_at))]
 fn jump_if(width: Width, test: Test, text: &[u8]) -> Result<Insn, Fault>
-    ensures { result ≡ three_at (JumpIf width test) register_at source_at (step_at 32767) text.now }
+    ensures { result ≡ insn_at (mnemonic.JumpIf width test) text.now }
 {
     let (dst, rest) = word(text);
     let dst = register(dst)?;
@@ -199,8 +197,16 @@ fn jump_if(width: Width, test: Test, text: &[u8]) -> Result<Insn, Fault>
     })
 }
 
+/// The end of the code.
+#[tactic(auto, unfolding(crate::specs::model::Lines::insn_at, crate::specs::model::Lines::operands_at))]
+fn exit(text: &[u8]) -> Result<Insn, Fault>
+    ensures { result ≡ insn_at mnemonic.Exit text.now }
+{
+    end(skip_blanks(text))?;
+    Ok(Insn::Exit)
+}
+
 /// The instruction of this mnemonic with the operands in the text.
-#[tactic(auto, unfolding(crate::specs::Lines::insn_at))]
 fn insn(mnemonic: Mnemonic, text: &[u8]) -> Result<Insn, Fault>
     ensures { result ≡ insn_at mnemonic text.now }
 {
@@ -217,14 +223,12 @@ fn insn(mnemonic: Mnemonic, text: &[u8]) -> Result<Insn, Fault>
         Mnemonic::Jump => jump(text),
         Mnemonic::JumpLong => jump_long(text),
         Mnemonic::JumpIf(width, test) => jump_if(width, test, text),
-        Mnemonic::Exit => {
-            end(skip_blanks(text))?;
-            Ok(Insn::Exit)
-        }
+        Mnemonic::Exit => exit(text),
     }
 }
 
-#[tactic(auto, unfolding(crate::specs::Lines::line_at))]
+/// The instruction of a line as the model reads it.
+#[tactic(auto, unfolding(crate::specs::model::Lines::line_at))]
 fn line_insn(line: &[u8]) -> Result<Option<Insn>, Fault>
     ensures { result ≡ line_at line.now }
 {

@@ -1,9 +1,9 @@
 //! Mnemonics.
 ghost use Rattle.std.specs.Prelude.{◌≡◌};
-ghost use Rattle.assembler_text.specs.Mnemonics.{mnemonic_at};
+ghost use Rattle.assembler_text.specs.model.Mnemonics.{mnemonic_at};
 
 use crate::lexer::lookup;
-use insn_codec::insn::{AluOp, EndKind, Size, Test, Width};
+use instruction_set::{AluOp, EndKind, Size, Test, Width};
 
 /// What a mnemonic says of its instruction: all but the operands.
 #[derive(Clone, Copy, Debug, PartialEq, Eq)]
@@ -114,7 +114,7 @@ const NAMES: [(&[u8], Mnemonic); 85] = [
 
 impl Mnemonic {
     /// The mnemonic that is spelled so, if there is one.
-    #[tactic(auto, unfolding(crate::specs::Mnemonics::mnemonic_at))]
+    #[tactic(auto, unfolding(crate::specs::model::Mnemonics::mnemonic_at))]
     pub fn of(word: &[u8]) -> Option<Mnemonic>
         ensures { result ≡ mnemonic_at word.now }
     {

@@ -1,11 +1,11 @@
 //! Numbers in the text.
 ghost use Rattle.std.specs.Prelude.{◌≡◌, ◌≤◌, ◌<◌, ◌^◌, ◌+◌, ◌≤ℤ◌, pos, neg_ℤ, IfOk, option_copied, FitsSigned};
 ghost use Rattle.std.specs.Int.{w16, w32};
-ghost use Rattle.assembler_text.specs.Reading.{number_at, decimal_at, negative_at, imm_at, value_at, step_at, strip, hex_digits};
+ghost use Rattle.assembler_text.specs.model.Reading.{number_at, decimal_at, negative_at, imm_at, value_at, step_at, strip, hex_digits};
 
-use crate::fault::Fault;
+use crate::faults::Fault;
 
-/// The text behind a character that it begins with.
+/// The text after a character that it begins with.
 pub fn strip(byte: u8, text: &[u8]) -> Option<&[u8]>
     ensures { option_copied result ≡ strip byte text.now }
 {
@@ -16,7 +16,7 @@ pub fn strip(byte: u8, text: &[u8]) -> Option<&[u8]>
 }
 
 /// The number that one digit or more write, if it is at most `most`.
-#[tactic(auto, using(crate::proofs::Numbers::capped), unfolding(crate::specs::Reading::number_at))]
+#[tactic(auto, using(crate::proofs::Numbers::capped), unfolding(crate::specs::model::Reading::number_at))]
 fn number(radix: u32, most: u64, digits: &[u8]) -> Result<u64, Fault>
     requires radix { (2 ≤ radix) × (radix ≤ 16) }
     ensures value { result ≡ number_at radix most digits.now }
@@ -39,7 +39,7 @@ fn number(radix: u32, most: u64, digits: &[u8]) -> Result<u64, Fault>
 }
 
 /// The same of decimal digits without a leading zero.
-#[tactic(auto, unfolding(crate::specs::Reading::decimal_at))]
+#[tactic(auto, unfolding(crate::specs::model::Reading::decimal_at))]
 fn decimal(most: u64, digits: &[u8]) -> Result<u64, Fault>
     ensures value { result ≡ decimal_at most digits.now }
     ensures within { IfOk result (λ n. n ≤ most) }
@@ -51,7 +51,7 @@ fn decimal(most: u64, digits: &[u8]) -> Result<u64, Fault>
 }
 
 /// The number below zero whose digits these are.
-#[tactic(auto, unfolding(crate::specs::Reading::negative_at))]
+#[tactic(auto, unfolding(crate::specs::model::Reading::negative_at))]
 fn negative(most: u32, digits: &[u8]) -> Result<i64, Fault>
     requires { most ≤ 2 ^ 31 }
     ensures value { result ≡ negative_at most digits.now }
@@ -63,8 +63,8 @@ fn negative(most: u32, digits: &[u8]) -> Result<i64, Fault>
     }
 }
 
-/// The digits behind `0x`.
-#[tactic(auto, unfolding(crate::specs::Reading::hex_digits))]
+/// The digits after `0x`.
+#[tactic(auto, unfolding(crate::specs::model::Reading::hex_digits))]
 fn hex_digits(word: &[u8]) -> Option<&[u8]>
     ensures { option_copied result ≡ hex_digits word.now }
 {
@@ -72,7 +72,7 @@ fn hex_digits(word: &[u8]) -> Option<&[u8]>
 }
 
 /// An immediate: decimal, or the 32 bits in hex.
-#[tactic(auto, unfolding(crate::specs::Reading::imm_at))]
+#[tactic(auto, unfolding(crate::specs::model::Reading::imm_at))]
 pub fn imm(word: &[u8]) -> Result<i32, Fault>
     ensures { result ≡ imm_at word.now }
 {
@@ -87,7 +87,7 @@ pub fn imm(word: &[u8]) -> Result<i32, Fault>
 }
 
 /// A value of 64 bits: decimal or in hex.
-#[tactic(auto, unfolding(crate::specs::Reading::value_at))]
+#[tactic(auto, unfolding(crate::specs::model::Reading::value_at))]
 pub fn value(word: &[u8]) -> Result<u64, Fault>
     ensures { result ≡ value_at word.now }
 {
@@ -98,7 +98,7 @@ pub fn value(word: &[u8]) -> Result<u64, Fault>
 }
 
 /// A signed step, at most `most` up and one more down.
-#[tactic(auto, unfolding(crate::specs::Reading::step_at))]
+#[tactic(auto, unfolding(crate::specs::model::Reading::step_at))]
 fn step(most: u32, word: &[u8]) -> Result<i64, Fault>
     requires { most < 2 ^ 31 }
     ensures value { result ≡ step_at most word.now }

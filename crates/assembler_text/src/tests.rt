@@ -1,9 +1,8 @@
 //! What the contracts don't say: values from outside, and that calls succeed.
-use crate::assembler::assemble;
-use crate::disassembler::disassemble;
-use crate::fault::LineFault;
-use insn_codec::decoder::decode;
-use insn_codec::encoder::encode;
+use crate::{Fault, LineFault, assemble, disassemble};
+use insn_codec::encode;
+use instruction_set::Code;
+use numbered::{Numbered, Place};
 use std::test::*;
 
 /// The code that tells which of two values of the record is greater.
@@ -74,11 +73,54 @@ const ACCEPTED: [(&str, &str); 10] = [
     ("jslt32 r1,r2,+0", "jslt32 r1, r2, +0\n"),
 ];
 
-fn told(assembled: Result<insn_codec::code::Code, LineFault>) -> Option<(u32, usize)> {
+/// The number and the line of a refusal.
+fn refusal(assembled: Result<Code, LineFault>) -> Option<(u32, usize)> {
     match assembled {
         Ok(_) => None,
-        Err(fault) => Some((fault.number(), fault.line())),
+        Err(fault) => match fault.place() {
+            Some(Place::Line(line)) => Some((fault.number(), line)),
+            _ => Some((fault.number(), 0)),
+        },
     }
+}
+
+/// The same code as docs/TEXT.md writes it.
+const COMMENTED: &str =
+    "; the registration with the later stamp keeps the name; of equal ones the first
+        ldxdw r2, [r1+56]      ; the first stamp
+        ldxdw r3, [r1+96]      ; the second stamp
+        mov64 r0, 0x1
+        jge r2, r3, +1         ; past the next slot
+        mov64 r0, 2
+        exit
+";
+
+#[test]
+fn words_of_refusals(rt: HostRuntime) -> Result<(), Fail> {
+    for (fault, words) in [
+        (Fault::Mnemonic, "line 7: no such mnemonic"),
+        (Fault::Operand, "line 7: no such operand"),
+        (Fault::NumberRange, "line 7: a number is out of range"),
+        (
+            Fault::LineEnd,
+            "line 7: something stands after the last operand",
+        ),
+    ] {
+        let text = format!(in rt.alloc(); "{}", LineFault::Line { fault, line: 7 })?;
+        assert_eq!(rt; text.as_str(), words);
+    }
+    for (fault, words) in [
+        (
+            LineFault::TooLong { line: 1025 },
+            "line 1025: there are more than 1,024 slots",
+        ),
+        (LineFault::Empty, "there is no instruction"),
+        (LineFault::OutOfMemory, "out of memory"),
+    ] {
+        let text = format!(in rt.alloc(); "{fault}")?;
+        assert_eq!(rt; text.as_str(), words);
+    }
+    Ok(())
 }
 
 #[test]
@@ -88,19 +130,25 @@ fn listing_both_ways(rt: HostRuntime) -> Result<(), Fail> {
     assert_eq!(rt; bytes.as_slice(), GREATER.as_slice());
     let text = disassemble(rt.alloc(), &code).ok().ok_or("memory")?;
     assert_eq!(rt; text.as_str(), GREATER_TEXT);
+    let commented = assemble(rt.alloc(), COMMENTED).ok().ok_or("a listing")?;
+    let bytes = encode(rt.alloc(), &commented).ok().ok_or("memory")?;
+    assert_eq!(rt; bytes.as_slice(), GREATER.as_slice());
     Ok(())
 }
 
 #[test]
 fn refusals(rt: HostRuntime) {
     for (line, number) in REFUSED {
-        assert_eq!(rt; told(assemble(rt.alloc(), line)), Some((number, 1)));
+        assert_eq!(rt; refusal(assemble(rt.alloc(), line)), Some((number, 1)));
     }
-    assert_eq!(rt; told(assemble(rt.alloc(), "; c\n\nexit r1")), Some((63, 3)));
-    assert_eq!(rt; told(assemble(rt.alloc(), "; c")), Some((1, 1)));
-    assert_eq!(rt; told(assemble(rt.alloc(), "")), Some((1, 1)));
     assert_eq!(rt;
-        told(assemble(rt.alloc(), "exit\nfoo\nja 1")),
+        refusal(assemble(rt.alloc(), "; c\n\nexit r1")),
+        Some((63, 3))
+    );
+    assert_eq!(rt; refusal(assemble(rt.alloc(), "; c")), Some((1, 1)));
+    assert_eq!(rt; refusal(assemble(rt.alloc(), "")), Some((1, 1)));
+    assert_eq!(rt;
+        refusal(assemble(rt.alloc(), "exit\nfoo\nja 1")),
         Some((60, 2))
     );
 }
@@ -116,35 +164,6 @@ fn accepted(rt: HostRuntime) -> Result<(), Fail> {
 }
 
 #[test]
-fn bits_in_hex(rt: HostRuntime) -> Result<(), Fail> {
-    let code = assemble(rt.alloc(), "mov64 r0, 0xffffffff\nexit")
-        .ok()
-        .ok_or("two lines")?;
-    let bytes = encode(rt.alloc(), &code).ok().ok_or("memory")?;
-    assert_eq!(rt;
-        bytes.as_slice(),
-        [
-            0xb7, 0, 0, 0, 0xff, 0xff, 0xff, 0xff, 0x95, 0, 0, 0, 0, 0, 0, 0
-        ]
-        .as_slice()
-    );
-    let text = disassemble(rt.alloc(), &code).ok().ok_or("memory")?;
-    assert_eq!(rt; text.as_str(), "mov64 r0, -1\nexit\n");
-    Ok(())
-}
-
-#[test]
-fn wide_load(rt: HostRuntime) -> Result<(), Fail> {
-    let bytes = [
-        0x18, 0, 0, 0, 1, 0, 0, 0, 0, 0, 0, 0, 2, 0, 0, 0, 0x95, 0, 0, 0, 0, 0, 0, 0,
-    ];
-    let code = decode(rt.alloc(), &bytes).ok().ok_or("two instructions")?;
-    let text = disassemble(rt.alloc(), &code).ok().ok_or("memory")?;
-    assert_eq!(rt; text.as_str(), "lddw r0, 8589934593\nexit\n");
-    Ok(())
-}
-
-#[test]
 fn too_many_slots(rt: HostRuntime) -> Result<(), Fail> {
     let mut text = String::new(rt.alloc());
     for _ in 0..1024 {
@@ -152,8 +171,14 @@ fn too_many_slots(rt: HostRuntime) -> Result<(), Fail> {
     }
     assert!(rt; assemble(rt.alloc(), text.as_str()).is_ok());
     text.push_str("exit")?;
-    assert_eq!(rt; told(assemble(rt.alloc(), text.as_str())), Some((2, 1025)));
+    assert_eq!(rt;
+        refusal(assemble(rt.alloc(), text.as_str())),
+        Some((2, 1025))
+    );
     text.push_str(" r1")?;
-    assert_eq!(rt; told(assemble(rt.alloc(), text.as_str())), Some((63, 1025)));
+    assert_eq!(rt;
+        refusal(assemble(rt.alloc(), text.as_str())),
+        Some((63, 1025))
+    );
     Ok(())
 }

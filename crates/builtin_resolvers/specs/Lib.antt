@@ -1,3 +1,3 @@
-pub mod Held
 pub mod Telling
 pub mod Verdicts
+pub mod model

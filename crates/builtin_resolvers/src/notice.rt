@@ -34,7 +34,7 @@ impl Model for Notices {
 
     ghost Value = { List Notice };
 
-    ghost use Rattle.builtin_resolvers.specs.Held.{held_notices};
+    ghost use Rattle.builtin_resolvers.specs.model.Held.{held_notices};
 
     ghost view = { λ n. held_notices n.held };
 }

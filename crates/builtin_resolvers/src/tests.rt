@@ -20,6 +20,15 @@ fn verdicts_by_word(rt: HostRuntime) {
 }
 
 #[test]
+fn verdicts_by_answer(rt: HostRuntime) {
+    assert_eq!(rt; Verdict3::of_answer(1), Verdict3::First);
+    assert_eq!(rt; Verdict3::of_answer(2), Verdict3::Second);
+    for answer in [0, 3, u64::MAX] {
+        assert_eq!(rt; Verdict3::of_answer(answer), Verdict3::Neither);
+    }
+}
+
+#[test]
 fn notices_of_each_verdict(rt: HostRuntime) -> Result<(), BadName> {
     let m = name(b"m")?;
     let exit = notices(Builtin::Exit, &m, FIRST, SECOND, Verdict3::First);

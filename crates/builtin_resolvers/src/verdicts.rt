@@ -1,6 +1,6 @@
-//! What a built-in resolver answers.
+//! Who keeps the name of a clash, as a program or a built-in resolver answers.
 ghost use Rattle.std.specs.Prelude.{◌≡◌};
-ghost use Rattle.builtin_resolvers.specs.Verdicts.{verdict_of};
+ghost use Rattle.builtin_resolvers.specs.Verdicts.{builtin_verdict, verdict_of_answer};
 
 use clash_record::Builtin;
 
@@ -15,11 +15,24 @@ pub enum Verdict3 {
     Neither,
 }
 
-/// What a built-in resolver answers at a word.
+impl Verdict3 {
+    /// The verdict of a program that gives this answer: 1 is the first, 2 the second, any other neither.
+    pub fn of_answer(answer: u64) -> Verdict3
+        ensures { result ≡ verdict_of_answer answer }
+    {
+        match answer {
+            1 => Verdict3::First,
+            2 => Verdict3::Second,
+            _ => Verdict3::Neither,
+        }
+    }
+}
+
+/// The verdict of a built-in resolver at a word.
 ///
 /// Exit and notify choose by the word's lowest bit, and notify-all chooses neither.
 pub fn decide(resolver: Builtin, word: u64) -> Verdict3
-    ensures { result ≡ verdict_of resolver word }
+    ensures { result ≡ builtin_verdict resolver word }
 {
     match resolver {
         Builtin::Exit | Builtin::Notify => {

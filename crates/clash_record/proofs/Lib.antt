@@ -1,2 +1,2 @@
 mod Parts
-mod Storing
+mod NameBytes

@@ -1,26 +1,30 @@
--- Parts of a slice, written one behind the other.
+-- Parts of a record, written one after another.
 use Rattle.std.proofs.Common.{◌≡◌, ℕ, ◌-◌, ◌≤◌, List, ◌++◌, length, drop, arith, ap, ◌∙◌, sym, append_assoc}
 use Rattle.std.proofs.lemmas.List.{take_at, drop_at, append-nil, length-append}
 use Rattle.std.proofs.Math.ListN.{drop_of_length-le}
 use borrow.Rule.Slice.PartMut.{put_mid}
 
--- a part written behind what stands already
-behind : (front rest part : List ℕ) (a k : ℕ) → length front ≡ a → put_mid a k (front ++ rest) part ≡ (front ++ part) ++ drop k rest
-behind front rest part a k at = rw (take_at front rest a at, drop_at front rest a at) (sym (append_assoc front part (drop k rest)))
+-- a part written after what stands already
+after : (front rest part : List ℕ) (a k : ℕ) → length front ≡ a
+    → put_mid a k (front ++ rest) part ≡ (front ++ part) ++ drop k rest
+after front rest part a k at =
+    rw (take_at front rest a at, drop_at front rest a at) (sym (append_assoc front part (drop k rest)))
 
--- four parts that fill a record stand in it one behind the other
-pub four_parts : (old n w a b : List ℕ) → length old ≡ 128 → length n ≡ 40 → length w ≡ 8 → length a ≡ 40
-    → put_mid 88 (length (put_mid 48 40 (put_mid 40 8 (n ++ drop 40 old) w) a) - 88) (put_mid 48 40 (put_mid 40 8 (n ++ drop 40 old) w) a) b ≡ n ++ (w ++ (a ++ b))
-four_parts old n w a b whole ln lw la =
+-- four parts that fill a record stand in it one after another
+pub four_parts : (old n w a b : List ℕ) → length n ≡ 40 → length w ≡ 8 → length a ≡ 40
+    → put_mid 88 (length (put_mid 48 40 (put_mid 40 8 (n ++ drop 40 old) w) a) - 88)
+    (put_mid 48 40 (put_mid 40 8 (n ++ drop 40 old) w) a) b
+    ≡ n ++ (w ++ (a ++ b))
+four_parts old n w a b ln lw la =
     let rest : List ℕ = drop 40 (drop 8 (drop 40 old)) in
     let front : List ℕ = (n ++ w) ++ a in
-    let up_to_word : put_mid 40 8 (n ++ drop 40 old) w ≡ (n ++ w) ++ drop 8 (drop 40 old) = behind n (drop 40 old) w 40 8 ln in
     let two : length (n ++ w) ≡ 48 = omega (arith, length-append n w) in
     let up_to_first : put_mid 48 40 (put_mid 40 8 (n ++ drop 40 old) w) a ≡ front ++ rest =
-    ap (λ (x : List ℕ). put_mid 48 40 x a) up_to_word ∙ behind (n ++ w) (drop 8 (drop 40 old)) a 48 40 two in
+    ap (λ (x : List ℕ). put_mid 48 40 x a) (after n (drop 40 old) w 40 8 ln)
+    ∙ after (n ++ w) (drop 8 (drop 40 old)) a 48 40 two in
     let three : length front ≡ 88 = omega (arith, length-append (n ++ w) a) in
     let short : length rest ≤ length (front ++ rest) - 88 = omega (arith, length-append front rest) in
     ap (λ (x : List ℕ). put_mid 88 (length x - 88) x b) up_to_first
-    ∙ behind front rest b 88 (length (front ++ rest) - 88) three
+    ∙ after front rest b 88 (length (front ++ rest) - 88) three
     ∙ ap (λ (x : List ℕ). (front ++ b) ++ x) (drop_of_length-le rest short)
     ∙ simp (append-nil, append_assoc)

@@ -1,6 +1,5 @@
-pub mod Codes
 pub mod Name
-pub mod Order
-pub mod OrderLaws
+pub mod Orders
 pub mod Record
-pub mod Stored
+pub mod laws
+pub mod model

@@ -1,9 +1,6 @@
 -- Names, seen as the list of their bytes.
 use Rattle.std.specs.Prelude.{ℕ, ◌-◌, Bool, ◌&&◌, nat_le, List, ◌++◌, length, replicate}
 use Rattle.std.specs.List.{list_all}
-use Rattle.std.specs.declared.cmp.Ordering.{Ordering}
-use Rattle.std.specs.Ordering.{nat_cmp}
-use Rattle.std.specs.Cmp.Lexicographic.{slice_cmp}
 
 -- the most bytes that a name has
 abbrev pub name_limit : ℕ
@@ -21,6 +18,6 @@ is_name bytes = nat_le 1 (length bytes) && (nat_le (length bytes) name_limit && 
 abbrev pub padded : List ℕ → List ℕ
 padded name = name ++ replicate (name_limit - length name) 0
 
--- names by their bytes, a shorter one before a longer that begins with it
-abbrev pub name_cmp : List ℕ → List ℕ → Ordering
-name_cmp a b = slice_cmp nat_cmp a b
+-- the number of the refusal of bytes that are no name
+abbrev pub bad_name_number : ℕ
+bad_name_number = 44

@@ -4,10 +4,6 @@ use Rattle.std.specs.Int.{w32, w64, to_le_bytes}
 use Rattle.clash_record.specs.declared.registrations.Registration.{Registration}
 use Rattle.clash_record.specs.Name.{padded}
 
--- how many bytes a record has
-abbrev pub record_len : ℕ
-record_len = 128
-
 -- the length of the name, four zeros, and the name with zeros up to 32 bytes
 abbrev pub name_field : List ℕ → List ℕ
 name_field name = to_le_bytes w32 (length name) ++ (to_le_bytes w32 0 ++ padded name)

@@ -4,15 +4,15 @@
 #![tactic(auto)]
 
 mod names;
-mod naming;
 mod orders;
 mod records;
 mod registrations;
 #[cfg(test)]
 mod tests;
 
+pub use instruction_set::RECORD_LEN;
+pub use names::naming::name;
 pub use names::{BadName, NAME_LEN, Name};
-pub use naming::name;
 pub use orders::order_theorem;
-pub use records::{ClashRecord, RECORD_LEN, record, record_of};
+pub use records::{ClashRecord, record, record_of};
 pub use registrations::{Builtin, Owner, ProgramId, Registration, ResolverId};

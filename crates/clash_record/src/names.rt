@@ -1,12 +1,16 @@
-//! Names as values.
-ghost use Rattle.std.specs.Prelude.{◌≡◌, ◌≤◌, length, nat_eq, IsTrue, IsSome, IfSome, ◌↔◌, Some, refl};
-ghost use Rattle.std.specs.List.{list_all};
+//! Names: how they are stored, read and compared.
+ghost use Rattle.std.specs.Prelude.{◌≡◌, length, nat_eq, IsTrue, Some, None, refl};
 ghost use Rattle.std.specs.Ordering.{nat_cmp};
 ghost use Rattle.std.specs.Cmp.Lexicographic.{pointwise, slice_cmp, nat_list_eq_equiv, nat_list_cmp_total, texts_ties, texts_po};
 ghost use Rattle.std.specs.Cmp.{partial_equiv_from_equiv};
-ghost use Rattle.clash_record.specs.Name.{is_name, is_visible, name_cmp, name_limit, padded};
+ghost use Rattle.clash_record.specs.Name.{bad_name_number, is_name, name_limit, padded};
+ghost use Rattle.clash_record.specs.Orders.{name_cmp};
 
+pub(crate) mod naming;
+
+use numbered::{Numbered, Place};
 use std::cmp::Ordering;
+use std::fmt;
 use std::marker::Model;
 use thiserror::Error;
 
@@ -16,7 +20,7 @@ pub const NAME_LEN: usize = 32;
 /// A name: 1 to 32 bytes, each a visible character of ASCII. A contract sees it as the list of its bytes.
 #[derive(Clone, Copy, Debug)]
 pub struct Name {
-    // The bytes of the name, and zeros behind them.
+    // The bytes of the name, and zeros after them.
     bytes: [u8; NAME_LEN],
     len: usize,
 }
@@ -26,7 +30,7 @@ impl Model for Name {
 
     ghost Value = { List ℕ };
 
-    ghost use Rattle.clash_record.specs.Stored.{IsStored, stored_back};
+    ghost use Rattle.clash_record.specs.model.Stored.{IsStored, stored_back};
     ghost use Rattle.clash_record.specs.Name.{padded};
 
     ghost view = { λ n. take n.len n.bytes };
@@ -43,35 +47,21 @@ impl Model for Name {
 #[error("these bytes are no name")]
 pub struct BadName;
 
-// The number of the refusal.
-const BAD_NAME: u32 = 44;
+impl Numbered for BadName {
+    ghost number_of = { λ _. bad_name_number };
 
-impl BadName {
-    /// The number of this refusal.
-    pub fn number(&self) -> u32
-        ensures { result ≡ 44 }
-    {
-        BAD_NAME
+    ghost place_of = { λ _. None };
+
+    fn number(&self) -> u32 {
+        44
+    }
+
+    fn place(&self) -> Option<Place> {
+        None
     }
 }
 
 impl Name {
-    // The name of these bytes, if they are one.
-    pub(crate) fn from_bytes(bytes: &[u8]) -> Option<Name>
-        ensures accepted { IsSome result ↔ IsTrue (is_name bytes.now) }
-        ensures value { IfSome result (λ name. name ≡ bytes.now) }
-    {
-        if !is_named(bytes) {
-            return None;
-        }
-        let mut stored = [0; NAME_LEN];
-        stored[..bytes.len()].copy_from_slice(bytes);
-        Some(Name {
-            bytes: stored,
-            len: bytes.len(),
-        })
-    }
-
     /// The bytes of the name, which are the name.
     pub fn bytes(&self) -> &[u8]
         ensures value { result.now ≡ self.now }
@@ -80,7 +70,14 @@ impl Name {
         &self.bytes[..self.len]
     }
 
-    // The bytes of the name, with zeros behind them.
+    /// The name as text. Takes no memory.
+    pub fn as_str(&self) -> &str
+        ensures { result.now ≡ self.now }
+    {
+        str::from_utf8(self.bytes()).unwrap()
+    }
+
+    // The bytes of the name, with zeros after them.
     pub(crate) fn padded(&self) -> &[u8; NAME_LEN]
         ensures value { result.now ≡ padded self.now }
         ensures length { length result.now ≡ name_limit }
@@ -89,18 +86,10 @@ impl Name {
     }
 }
 
-// Whether these bytes are a name.
-fn is_named(bytes: &[u8]) -> bool
-    ensures { result ≡ is_name bytes.now }
-{
-    !bytes.is_empty() && bytes.len() <= NAME_LEN && are_visible(bytes)
-}
-
-// Whether each byte is a visible character of ASCII.
-fn are_visible(bytes: &[u8]) -> bool
-    ensures { result ≡ list_all is_visible bytes.now }
-{
-    bytes.iter().all(|byte| byte.is_ascii_graphic())
+impl fmt::Display for Name {
+    fn fmt<W: fmt::Write>(&self, f: &mut fmt::Formatter<W>) -> fmt::Result {
+        f.write_str(self.as_str())
+    }
 }
 
 impl PartialEq for Name {

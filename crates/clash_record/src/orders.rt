@@ -1,15 +1,16 @@
-//! The orders of names and of registrations.
+//! The orders of names, ids and registrations.
 ghost use Rattle.std.specs.Cmp.{IsTotalOrder};
-ghost use Rattle.std.proofs.lemmas.Map.Lookups.{CmpEqualImpliesEq};
-ghost use Rattle.clash_record.specs.Name.{name_cmp};
-ghost use Rattle.clash_record.specs.Order.{registration_cmp};
+ghost use Rattle.std.specs.FinMap.{IsAntisymmetric};
+ghost use Rattle.clash_record.specs.Orders.{id_cmp, name_cmp, registration_cmp};
 
-/// The orders of names and of registrations are total, and what compares alike is equal.
+/// The orders of names, of ids and of registrations are total, and what compares alike is equal.
 ///
 /// It does nothing when it runs: its contract is the law.
 pub fn order_theorem()
     ensures names { IsTotalOrder name_cmp }
-    ensures names_exact { CmpEqualImpliesEq name_cmp }
+    ensures names_exact { IsAntisymmetric name_cmp }
+    ensures ids { IsTotalOrder id_cmp }
+    ensures ids_exact { IsAntisymmetric id_cmp }
     ensures registrations { IsTotalOrder registration_cmp }
-    ensures registrations_exact { CmpEqualImpliesEq registration_cmp }
+    ensures registrations_exact { IsAntisymmetric registration_cmp }
 {}

@@ -1,15 +1,14 @@
 //! The record of a clash.
 ghost use Rattle.std.specs.Prelude.{◌≡◌, ◌<◌, length, All};
 ghost use Rattle.std.specs.Int.{w64, to_le_bytes};
-ghost use Rattle.clash_record.specs.Record.{record_len, name_field, registration_bytes, clash_bytes};
+ghost use Rattle.clash_record.specs.Record.{name_field, registration_bytes, clash_bytes};
+ghost use Rattle.instruction_set.specs.Machine.{record_len};
 
 use crate::names::Name;
 use crate::registrations::Registration;
 use byteorder::{ByteOrder, LittleEndian};
+use instruction_set::RECORD_LEN;
 use std::marker::Model;
-
-/// How many bytes a record has.
-pub const RECORD_LEN: usize = 128;
 
 /// The record that a program reads as it judges a clash. A contract sees it as the list of its bytes.
 #[derive(Clone, Copy, Debug, PartialEq, Eq)]
@@ -72,7 +71,7 @@ fn write_record(out: &mut [u8], name: &Name, first: &Registration, second: &Regi
     write_registration(&mut out[88..], second);
 }
 
-// Writes the length of the name, four zeros, and the name with zeros behind it.
+// Writes the length of the name, four zeros, and the name with zeros after it.
 fn write_name(out: &mut [u8], name: &Name)
     requires { length out.old ≡ 40 }
     ensures { out.new ≡ name_field name.now }

@@ -45,7 +45,7 @@ pub struct Registration {
 }
 
 impl Registration {
-    ghost use Rattle.clash_record.specs.Order.{registration_cmp};
+    ghost use Rattle.clash_record.specs.Orders.{registration_cmp};
 
     /// Whether it comes before the other in the order of registrations, and so is first in their clash.
     pub fn precedes(&self, other: &Registration) -> bool

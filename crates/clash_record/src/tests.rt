@@ -1,5 +1,6 @@
 //! The record of two registrations of `db`, names that are none, and the orders.
 use super::*;
+use numbered::Numbered;
 use std::test::Fail;
 
 // The name db, word 7, the first 1.10 with stamp 5, the second 2.20 with stamp 9.
@@ -36,14 +37,16 @@ fn record_of_db(rt: HostRuntime) -> Result<(), Fail> {
 }
 
 #[test]
-fn names_that_are_none(rt: HostRuntime) {
-    assert_eq!(rt; name(b"").err().map(|fault| fault.number()), Some(44));
-    assert_eq!(rt;
-        name(&[b'a'; 33]).err().map(|fault| fault.number()),
-        Some(44)
-    );
-    assert_eq!(rt; name(b"a b").err().map(|fault| fault.number()), Some(44));
+fn names_that_are_none(rt: HostRuntime) -> Result<(), Fail> {
+    for bytes in [b"".as_slice(), b"a b".as_slice(), [b'a'; 33].as_slice()] {
+        assert_eq!(rt; name(bytes).err(), Some(BadName));
+    }
     assert!(rt; name(&[b'~'; 32]).is_ok());
+    assert_eq!(rt; BadName.number(), 44);
+    assert_eq!(rt; BadName.place(), None);
+    let words = format!(in rt.alloc(); "{BadName}")?;
+    assert_eq!(rt; words.as_str(), "these bytes are no name");
+    Ok(())
 }
 
 #[test]
@@ -55,6 +58,7 @@ fn names_in_order(rt: HostRuntime) -> Result<(), Fail> {
     assert!(rt; ab < b);
     assert_eq!(rt; ab, name(b"ab")?);
     assert_eq!(rt; ab.bytes(), b"ab".as_slice());
+    assert_eq!(rt; ab.as_str(), "ab");
     Ok(())
 }
 

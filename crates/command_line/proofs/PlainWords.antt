@@ -21,7 +21,8 @@ plain_check name code plain =
     let a = no_hyphen code plain in
     let b = no_end code plain in (simp (a, b), simp (a, b))
 
-pub plain_judge : (name code clash : Text) → IsPlain code → IsPlain clash → Asks (name ∷ codes "judge" ∷ code ∷ clash ∷ []) (judge code clash)
+pub plain_judge : (name code clash : Text) → IsPlain code → IsPlain clash
+    → Asks (name ∷ codes "judge" ∷ code ∷ clash ∷ []) (judge code clash)
 unfolding clap_on_literals
 plain_judge name code clash plain-code plain-clash =
     let a = no_hyphen code plain-code in

@@ -1,22 +1,24 @@
 -- What the words of a command line ask for, in the words of the crate that parses them.
-use Rattle.std.specs.Prelude.{◌≡◌, ℕ, true, false, List, codes, Option, Some, None, [], if◌then◌else◌, option_and_then, option_map}
+use Rattle.std.specs.Prelude.{◌≡◌, ℕ, true, List, codes, Option, Some, None, [], if◌then◌else◌, option_and_then, option_map}
 use Rattle.std.specs.Str.{bytes_eq}
-use Rattle.clap.specs.declared.builder.command.Command.{Command}
-use Rattle.clap.specs.declared.builder.command.Command.TheViews.{out-Command}
-use Rattle.clap.specs.Words.{App, app_of, Row, Rule, Text, first_of, fault_of, new_app, new_rule, kind_of, subcommand_of, with_rule, with_subcommand}
+use Rattle.std.specs.declared.io.ErrorKind.{ErrorKind}
+use Rattle.std.specs.declared.io.ErrorKind.TheVariants as of_io
+use Rattle.clap.specs.Words.{App, Row, Rule, Text, first_of, fault_of, new_app, new_rule, kind_of, subcommand_of, with_rule, with_subcommand}
 use Rattle.clap.specs.Simple.{on_top}
 use Rattle.clap.specs.declared.error.kind.ErrorKind.TheVariants.{OutOfMemory}
-use Rattle.command_line.specs.declared.CommandFault.{CommandFault}
-use Rattle.command_line.specs.declared.CommandFault.TheVariants.{Parse, NoTask}
+use Rattle.command_line.specs.declared.faults.CommandFault.{CommandFault}
+use Rattle.command_line.specs.declared.faults.CommandFault.TheVariants.{Parse, NoTask, NotText}
 use Rattle.clap.specs.declared.builder.action.ArgAction.TheVariants.{Set}
-use Rattle.command_line.specs.declared.Task.{Task}
-use Rattle.command_line.specs.declared.Task.TheVariants.{Check, Judge, Asm, Dis}
+use Rattle.task.specs.declared.Task.{Task}
+use Rattle.task.specs.declared.Task.TheVariants.{Check, Judge, Asm, Dis}
 
 -- ---- the command
 
+-- an argument that has to be given, with one value
 abbrev pub needed : List ℕ → Rule
 needed id = record (new_rule id) { required = true; action = Some Set }
 
+-- judge HEX RECORDHEX
 abbrev pub judge_app : App
 judge_app = with_rule (with_rule (new_app (codes "judge")) (needed (codes "HEX"))) (needed (codes "RECORDHEX"))
 
@@ -24,25 +26,26 @@ judge_app = with_rule (with_rule (new_app (codes "judge")) (needed (codes "HEX")
 abbrev pub one_app : List ℕ → List ℕ → App
 one_app name id = with_rule (new_app name) (needed id)
 
+-- check HEX
 abbrev pub check_app : App
 check_app = one_app (codes "check") (codes "HEX")
 
+-- asm FILE
 abbrev pub asm_app : App
 asm_app = one_app (codes "asm") (codes "FILE")
 
+-- dis HEX
 abbrev pub dis_app : App
 dis_app = one_app (codes "dis") (codes "HEX")
 
+-- heal with its four subcommands
 abbrev pub subcommands_app : App
 subcommands_app = with_subcommand (with_subcommand (with_subcommand (with_subcommand (new_app (codes "heal"))
     check_app.top) judge_app.top) asm_app.top) dis_app.top
 
+-- heal with one of its subcommands
 abbrev pub heal_app : App
 heal_app = on_top (λ s. record s { subcommand_required = true }) subcommands_app
-
--- the command has this shape, and no global argument
-abbrev pub IsApp : Command → App → Type 0
-IsApp c app = (app_of c ≡ app) × ((out-Command c).has_globals ≡ false)
 
 -- ---- what is asked
 
@@ -53,17 +56,20 @@ pub data Asked : Type 0 where
   asm : List ℕ → Asked
   dis : List ℕ → Asked
 
+-- the task, seen so
 abbrev pub asked_by : Task → Asked
 asked_by (Check code) = check code.now
 asked_by (Judge code clash) = judge code.now clash.now
 asked_by (Asm file) = asm file.now
 asked_by (Dis code) = dis code.now
 
+-- what the values of check ask for; and of judge, asm and dis
 abbrev pub check_asked : List Row → Option Asked
 check_asked rows = option_map check (first_of (codes "HEX") rows)
 
 abbrev pub judge_asked : List Row → Option Asked
-judge_asked rows = option_and_then (λ code. option_map (judge code) (first_of (codes "RECORDHEX") rows)) (first_of (codes "HEX") rows)
+judge_asked rows =
+    option_and_then (λ code. option_map (judge code) (first_of (codes "RECORDHEX") rows)) (first_of (codes "HEX") rows)
 
 abbrev pub asm_asked : List Row → Option Asked
 asm_asked rows = option_map asm (first_of (codes "FILE") rows)
@@ -87,3 +93,9 @@ Asks words task = (fault_of heal_app words ≡ []) × (option_and_then asked_of 
 abbrev pub IsForMemory : CommandFault → Type 0
 IsForMemory (Parse e) = kind_of e ≡ OutOfMemory
 IsForMemory NoTask = ⊥
+IsForMemory NotText = ⊥
+
+-- where reading the arguments fails by this kind, the fault is want of memory or that of no text
+abbrev pub IsArgumentFault : ErrorKind → CommandFault → Type 0
+IsArgumentFault kind fault =
+    (kind ≡ of_io.OutOfMemory → IsForMemory fault) × ((kind ≡ of_io.OutOfMemory → ⊥) → fault ≡ NotText)

@@ -1,19 +1,15 @@
 //! The measurements.
 ghost use Rattle.std.specs.Prelude.{◌<◌};
 
-use abstract_value::interval::Interval;
 use clash_record::{RECORD_LEN, record_of};
 use hex::FromHexError;
-use insn_codec::code::Code;
-use insn_codec::decoder::decode;
-use insn_codec::fault::CodecFault;
+use insn_codec::{CodecFault, decode};
+use program::{Profile, ProgramFault, read_program};
 use std::alloc::Global;
 use std::time::Instant;
 use std::{fmt, io};
 use thiserror::Error;
-use verifier::refusal::VerifyFault;
-use verifier::verified::Verified;
-use verifier::verify::verify;
+use verifier::{Verified, VerifyFault, verify};
 
 /// How often a program is decoded and verified.
 const LOADS: u32 = 2000;
@@ -52,10 +48,10 @@ pub(crate) enum Fault {
     Runs,
     #[error("the bytes are no code: {0}")]
     Code(#[from] CodecFault),
-    #[error("rule {rule} fails at slot {slot}")]
-    Refused { rule: u32, slot: u32 },
-    #[error("out of memory")]
-    OutOfMemory,
+    #[error(transparent)]
+    Refused(#[from] VerifyFault),
+    #[error(transparent)]
+    Program(#[from] ProgramFault),
     #[error("the clock: {0}")]
     Clock(#[from] io::Error),
 }
@@ -74,7 +70,7 @@ pub(crate) fn measure(
         Ok(runs) if runs > 0 => runs,
         _ => return Err(Fault::Runs),
     };
-    let program = accepted(alloc, decode(alloc, &bytes)?)?;
+    let program = read_program(alloc, &bytes)?;
     let (run, sum) = mean_run(rt, &program, record, runs)?;
     Ok(Measured {
         decode: mean_decode(rt, &bytes)?,
@@ -95,17 +91,6 @@ fn record_bytes(alloc: Global, text: &str) -> Result<[u8; RECORD_LEN], Fault> {
     Ok(record)
 }
 
-fn accepted(alloc: Global, code: Code) -> Result<Verified, Fault> {
-    match verify::<Interval>(alloc, code) {
-        Ok(verified) => Ok(verified),
-        Err(VerifyFault::Refused(refusal)) => Err(Fault::Refused {
-            rule: refusal.rule.number(),
-            slot: refusal.slot,
-        }),
-        Err(VerifyFault::OutOfMemory) => Err(Fault::OutOfMemory),
-    }
-}
-
 fn mean_decode(rt: &HostRuntime, bytes: &[u8]) -> Result<u128, Fault> {
     let start = Instant::now(rt)?;
     for _ in 0..LOADS {
@@ -119,7 +104,7 @@ fn mean_verify(rt: &HostRuntime, bytes: &[u8]) -> Result<u128, Fault> {
     for _ in 0..LOADS {
         let code = decode(rt.alloc(), bytes)?;
         let start = Instant::now(rt)?;
-        accepted(rt.alloc(), code)?;
+        verify::<Profile>(rt.alloc(), code)?;
         total = total.wrapping_add(start.elapsed(rt)?.as_nanos());
     }
     Ok(total / u128::from(LOADS))

@@ -1,4 +1,1 @@
-pub mod Judging
-pub mod Sources
-pub mod Lines
-pub mod Sending
+pub mod Answering

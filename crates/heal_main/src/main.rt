@@ -1,50 +1,52 @@
 //! heal: judges a clash of two registrations by the code of a stranger, and reads and writes such code.
 #![tactic(auto)]
 
-mod arguments;
-mod files;
-mod obey;
-mod refusal;
-mod ruling;
-mod said;
-mod sending;
+ghost use Rattle.std.specs.Prelude.{None};
+
+mod answering;
 #[cfg(test)]
 mod tests;
 
-use command_line::command;
-use obey::obey;
+use answering::answer;
 use std::io;
-use std::io::ErrorKind;
+use std::io::{ErrorKind, Write};
 use std::process::ExitCode;
 
-// The words of the command line.
+/// Standard error, to which texts are written.
+#[derive(Drop)]
+struct StandardError<'a> {
+    rt: &'a HostRuntime,
+}
+
+impl Write for StandardError<'_> {
+    ghost contents = { λ _. None };
+
+    fn write(&mut self, buf: &[u8]) -> io::Result<usize> {
+        match str::from_utf8(buf) {
+            Ok(text) => {
+                eprint!(self.rt; "{text}")?;
+                Ok(buf.len())
+            }
+            Err(_) => Err(io::Error::from(ErrorKind::InvalidData)),
+        }
+    }
+
+    fn flush(&mut self) -> io::Result<()> {
+        Ok(())
+    }
+}
+
+/// The words of the command line.
 fn words(rt: &HostRuntime) -> io::Result<Vec<String>> {
     Ok(std::env::args(rt)?.collect(rt.alloc())?)
 }
 
-fn status(rt: &HostRuntime) -> u8 {
-    let alloc = rt.alloc();
-    let words = match words(rt) {
-        Ok(words) => words,
-        Err(error) => {
-            let status = if error.kind() == ErrorKind::OutOfMemory {
-                3
-            } else {
-                1
-            };
-            let _ = eprintln!(rt; "error: {error}");
-            return status;
-        }
-    };
-    match command(alloc, words.as_slice()) {
-        Ok(task) => obey(rt, &task, &mut io::writer(rt)),
-        Err(fault) => {
-            let _ = eprint!(rt; "{fault}");
-            if fault.is_for_memory() { 3 } else { 1 }
-        }
-    }
-}
-
 fn main(rt: HostRuntime) -> ExitCode {
-    ExitCode::from(status(&rt))
+    let words = words(&rt);
+    ExitCode::from(answer(
+        &rt,
+        words,
+        &mut io::writer(&rt),
+        &mut StandardError { rt: &rt },
+    ))
 }

@@ -1,528 +1,47 @@
-//! What no clause says: the worked rows, that calls succeed, and devices that fail in mid-stream.
-ghost use Rattle.std.specs.Prelude.{Some};
-
-use crate::files::MAX_FILE_LEN;
-use crate::obey::{asm_from, obey, spoken};
-use command_line::{Task, command};
-use std::alloc::Global;
-use std::io::{ErrorKind, Read, Write};
+//! The words of the command line, over two buffers.
+use crate::answering::answer;
+use std::io;
+use std::io::ErrorKind;
 use std::test::Fail;
-use std::{env, fs, io};
 
-const EXIT: &'static str = "9500000000000000";
-
-/// The name `db`, word 7, first 1.10 with stamp 5, second 2.20 with stamp 9, in front of 128 bytes.
-const NAME: &'static str =
-    "02000000000000006462000000000000000000000000000000000000000000000000000000000000";
-
-const REST: &'static str = "0700000000000000010000000a000000";
-
-/// Judges by the stamps.
-const STAMPS: &'static str =
-    "7912380000000000 7913600000000000 b700000001000000 3d32010000000000 b700000002000000 X";
-
-/// The same as text.
-const LISTING: &'static str =
-    "ldxdw r2, [r1+56]\nldxdw r3, [r1+96]\nmov64 r0, 1\njge r2, r3, +1\nmov64 r0, 2\nexit\n";
-
-/// A device that takes so many bytes a call, and fails from a call on.
-#[derive(Drop)]
-struct Device {
-    held: Vec<u8>,
-    step: usize,
-    calls_left: usize,
-    interrupts: usize,
-}
-
-impl Write for Device {
-    ghost contents = { λ d. Some d.held.items };
-
-    fn write(&mut self, buf: &[u8]) -> io::Result<usize> {
-        if self.interrupts > 0 {
-            self.interrupts -= 1;
-            return Err(io::Error::from(ErrorKind::Interrupted));
-        }
-        if self.calls_left == 0 {
-            return Err(io::Error::from(ErrorKind::BrokenPipe));
-        }
-        self.calls_left -= 1;
-        let count = self.step.min(buf.len());
-        self.held.extend_from_slice(&buf[..count])?;
-        Ok(count)
+/// What goes out for these words, what is told as an error, and the status.
+fn answered(rt: &HostRuntime, words: &[&str]) -> io::Result<(u8, Vec<u8>, Vec<u8>)> {
+    let alloc = rt.alloc();
+    let mut owned = Vec::new(alloc);
+    for word in words {
+        owned.push(String::from_str(alloc, word)?)?;
     }
-
-    fn flush(&mut self) -> io::Result<()> {
-        Ok(())
-    }
-}
-
-/// The record `db` with these two stamps below ten.
-fn db(alloc: Global, name: &str, first: &str, second: &str) -> io::Result<String> {
-    let mut text = String::new(alloc);
-    text.push_str(name)?;
-    text.push_str(REST)?;
-    text.push_str(first)?;
-    for _ in 0..31u8 {
-        text.push_str("00")?;
-    }
-    text.push_str("0200000014000000")?;
-    text.push_str(second)?;
-    for _ in 0..31u8 {
-        text.push_str("00")?;
-    }
-    Ok(text)
-}
-
-/// Whether the task is answered by this status and this text.
-fn is_answered(rt: &HostRuntime, task: &Task<'_>, status: u8, text: &str) -> bool {
-    let mut out = Vec::new(rt.alloc());
-    let got = obey(rt, task, &mut out);
-    got == status && out.as_slice() == text.as_bytes()
-}
-
-/// Code of these slots, without the blanks.
-fn code(alloc: Global, slots: &str) -> io::Result<String> {
-    let mut text = String::new(alloc);
-    for slot in slots.split(' ') {
-        text.push_str(if slot == "X" { EXIT } else { slot })?;
-    }
-    Ok(text)
+    let mut output = Vec::new(alloc);
+    let mut errors = Vec::new(alloc);
+    let status = answer(rt, Ok(owned), &mut output, &mut errors);
+    Ok((status, output, errors))
 }
 
 #[test]
-fn code_on_db(rt: HostRuntime) -> Result<(), Fail> {
-    let alloc = rt.alloc();
-    let clash = db(alloc, NAME, "05", "09")?;
-    for (slots, line) in [
-        ("b700000001000000 X", "first in 2 steps\n"),
-        (STAMPS, "second in 6 steps\n"),
-        ("7910780000000000 X", "none in 2 steps\n"),
+fn tasks(rt: HostRuntime) -> Result<(), Fail> {
+    let rows: [(&[&str], u8, &str); 4] = [
         (
-            "7112080000000000 570200001f000000 0f21000000000000 7110080000000000 X",
-            "none in 5 steps\n",
-        ),
-        ("b4000000ffffffff 0400000001000000 X", "none in 3 steps\n"),
-        (
-            "b7000000f3ffffff 9700010003000000 0700000002000000 X",
-            "first in 4 steps\n",
-        ),
-        ("b700000007000000 3700000000000000 X", "none in 3 steps\n"),
-        ("7a0af8ff02000000 79a0f8ff00000000 X", "second in 3 steps\n"),
-        (
-            "7112080000000000 b700000000000000 2502020077000000 0f21000000000000 7110080000000000 X",
-            "none in 6 steps\n",
-        ),
-        (
-            "b700000001000000 1500010001000000 bf20000000000000 X",
-            "first in 3 steps\n",
-        ),
-        ("1800000001000000 0000000002000000 X", "none in 2 steps\n"),
-        (
-            "bfa2000000000000 07020000f8ffffff 7a02000002000000 7920000000000000 X",
-            "second in 5 steps\n",
-        ),
-    ] {
-        let text = code(alloc, slots)?;
-        let (code, clash) = (text.as_str(), clash.as_str());
-        let task = Task::Judge { code, clash };
-        assert!(rt; is_answered(&rt, &task, 0, line), "at {slots}");
-    }
-    Ok(())
-}
-
-#[test]
-fn other_records(rt: HostRuntime) -> Result<(), Fail> {
-    let alloc = rt.alloc();
-    let stamps = code(alloc, STAMPS)?;
-    let branch = code(
-        alloc,
-        "7112080000000000 b700000000000000 2502020077000000 0f21000000000000 7110080000000000 X",
-    )?;
-    let named_x =
-        "01000000000000007800000000000000000000000000000000000000000000000000000000000000";
-    for (text, name, first, second, line) in [
-        (stamps.as_str(), NAME, "09", "05", "first in 5 steps\n"),
-        (stamps.as_str(), NAME, "05", "05", "first in 5 steps\n"),
-        (branch.as_str(), named_x, "05", "09", "none in 4 steps\n"),
-    ] {
-        let clash = db(alloc, name, first, second)?;
-        let (code, clash) = (text, clash.as_str());
-        assert!(rt;
-            is_answered(&rt, &Task::Judge { code, clash }, 0, line),
-            "at {line}"
-        );
-    }
-    Ok(())
-}
-
-/// Texts that are no code, and what is said of them.
-const NO_CODE: [(&'static str, &'static str); 8] = [
-    ("", "refused 1\n"),
-    ("95000000000000", "refused 3\n"),
-    ("1800000001000000", "refused 7 at slot 0\n"),
-    ("b700010001000000 X", "refused 6 at slot 0\n"),
-    ("b70b000001000000 X", "refused 5 at slot 0\n"),
-    ("8500000001000000 X", "refused 4 at slot 0\n"),
-    ("05000ffff", "refused 50\n"),
-    ("0500000000000000g", "refused 50\n"),
-];
-
-#[test]
-fn no_code(rt: HostRuntime) -> Result<(), Fail> {
-    let alloc = rt.alloc();
-    let clash = db(alloc, NAME, "05", "09")?;
-    for (slots, line) in NO_CODE {
-        let text = code(alloc, slots)?;
-        let (code, clash) = (text.as_str(), clash.as_str());
-        for task in [
-            Task::Judge { code, clash },
-            Task::Check { code },
-            Task::Dis { code },
-        ] {
-            assert!(rt; is_answered(&rt, &task, 2, line), "at {task:?}");
-        }
-    }
-    Ok(())
-}
-
-/// Code that isn't accepted, the rule that it fails, and the slot.
-const UNSAFE: [(&'static str, u32, u32); 29] = [
-    ("0500ffff00000000 X", 10, 0),
-    ("3d11ffff00000000 X", 10, 0),
-    ("0500050000000000 X", 11, 0),
-    (
-        "0500010000000000 1800000001000000 0000000000000000 X",
-        12,
-        0,
-    ),
-    ("b700000001000000", 13, 0),
-    ("0500010000000000 b700000001000000 X", 14, 1),
-    ("bf20000000000000 X", 15, 0),
-    ("bf2a000000000000 X", 15, 0),
-    (
-        "7912080000000000 b700000001000000 1502010000000000 bf10000000000000 X",
-        15,
-        4,
-    ),
-    ("b70a000001000000 X", 16, 0),
-    ("0f1a000000000000 X", 16, 0),
-    ("791a790000000000 X", 16, 0),
-    ("2701000002000000 X", 17, 0),
-    ("0701000000000100 X", 18, 0),
-    ("1501000000000000 X", 19, 0),
-    ("7b1af8ff00000000 X", 20, 0),
-    ("7b11000000000000 X", 20, 0),
-    ("7910790000000000 X", 21, 0),
-    ("7a01800001000000 X", 21, 0),
-    (
-        "7112080000000000 570200007f000000 0f21000000000000 7110080000000000 X",
-        21,
-        3,
-    ),
-    (
-        "7112080000000000 b700000000000000 2502020078000000 0f21000000000000 7110080000000000 X",
-        21,
-        4,
-    ),
-    ("7a01000001000000 X", 22, 0),
-    ("79a0000000000000 X", 23, 0),
-    ("79a0fcfd00000000 X", 23, 0),
-    ("79a0f8ff00000000 X", 24, 0),
-    (
-        "7912080000000000 1502010000000000 7a0af8ff02000000 79a0f8ff00000000 X",
-        24,
-        3,
-    ),
-    (
-        "7112080000000000 5702000007000000 bfa3000000000000 07030000f0ffffff 0f23000000000000 7a03000002000000 79a0f0ff00000000 X",
-        24,
-        6,
-    ),
-    ("b702000000000000 7920000000000000 X", 25, 1),
-    ("bf10000000000000 X", 26, 1),
-];
-
-#[test]
-fn unsafe_code(rt: HostRuntime) -> Result<(), Fail> {
-    let alloc = rt.alloc();
-    let clash = db(alloc, NAME, "05", "09")?;
-    for (slots, number, slot) in UNSAFE {
-        let text = code(alloc, slots)?;
-        let line = format!(in alloc; "refused {number} at slot {slot}\n")?;
-        let (code, clash) = (text.as_str(), clash.as_str());
-        for task in [Task::Judge { code, clash }, Task::Check { code }] {
-            assert!(rt; is_answered(&rt, &task, 2, &line), "at {task:?}");
-        }
-    }
-    Ok(())
-}
-
-#[test]
-fn accepted_code(rt: HostRuntime) -> Result<(), Fail> {
-    let alloc = rt.alloc();
-    for (slots, line) in [
-        ("b700000001000000 X", "accepted 2 instructions\n"),
-        (STAMPS, "accepted 6 instructions\n"),
-        (
-            "b700000001000000 1500010001000000 bf20000000000000 X",
-            "accepted 4 instructions\n",
-        ),
-        (
-            "1800000001000000 0000000002000000 X",
+            &["heal", "check", "b7000000010000009500000000000000"],
+            0,
             "accepted 2 instructions\n",
         ),
-    ] {
-        let text = code(alloc, slots)?;
-        let task = Task::Check {
-            code: text.as_str(),
-        };
-        assert!(rt; is_answered(&rt, &task, 0, line), "at {slots}");
-    }
-    Ok(())
-}
-
-#[test]
-fn code_as_text(rt: HostRuntime) -> Result<(), Fail> {
-    let alloc = rt.alloc();
-    for (slots, text) in [
-        (STAMPS, LISTING),
-        (
-            "1800000001000000 0000000002000000 X",
-            "lddw r0, 8589934593\nexit\n",
-        ),
-        ("b7000000ffffffff X", "mov64 r0, -1\nexit\n"),
-        // It need not be accepted.
-        ("bf20000000000000 X", "mov64 r0, r2\nexit\n"),
-    ] {
-        let hex = code(alloc, slots)?;
-        let task = Task::Dis { code: hex.as_str() };
-        assert!(rt; is_answered(&rt, &task, 0, text), "at {slots}");
-    }
-    Ok(())
-}
-
-/// A device that gives so many bytes a call, and fails from a call on.
-#[derive(Drop)]
-struct Source<'a> {
-    left: &'a [u8],
-    step: usize,
-    calls_left: usize,
-}
-
-impl<'a> Read for Source<'a> {
-    fn read(&mut self, buf: &mut [u8]) -> io::Result<usize> {
-        if self.calls_left == 0 {
-            return Err(io::Error::from(ErrorKind::BrokenPipe));
-        }
-        self.calls_left -= 1;
-        let count = self.step.min(buf.len()).min(self.left.len());
-        buf[..count].copy_from_slice(&self.left[..count]);
-        self.left = &self.left[count..];
-        Ok(count)
-    }
-}
-
-/// Whether a file of these bytes is answered by this status and this text.
-fn is_assembled(alloc: Global, bytes: &[u8], status: u8, text: &str) -> Result<bool, Fail> {
-    let reader = Source {
-        left: bytes,
-        step: usize::MAX,
-        calls_left: usize::MAX,
-    };
-    let (got, line) = spoken(alloc, asm_from(alloc, reader))?;
-    Ok(got == status && line.as_str() == text)
-}
-
-#[test]
-fn text_as_code(rt: HostRuntime) -> Result<(), Fail> {
-    let alloc = rt.alloc();
-    let stamps = code(alloc, STAMPS)?;
-    let stamps = format!(in alloc; "{stamps}\n")?;
-    for (text, status, line) in [
-        (LISTING, 0, stamps.as_str()),
-        (
-            "mov64 r0, 0xffffffff\nexit\n",
-            0,
-            "b7000000ffffffff9500000000000000\n",
-        ),
-        (
-            "lddw r0, 8589934593\nexit",
-            0,
-            "180000000100000000000000020000009500000000000000\n",
-        ),
-        ("foo", 2, "refused 60 at line 1\n"),
-        ("mov64 r0", 2, "refused 61 at line 1\n"),
-        ("mov64 r11, 1", 2, "refused 61 at line 1\n"),
-        ("mov64 r0, -0", 2, "refused 61 at line 1\n"),
-        ("ja 1", 2, "refused 61 at line 1\n"),
-        ("lddw r0, -1", 2, "refused 61 at line 1\n"),
-        ("ldxb r0, [r1+ 1]", 2, "refused 61 at line 1\n"),
-        ("mov64 r0, 2147483648", 2, "refused 62 at line 1\n"),
-        ("ja +32768", 2, "refused 62 at line 1\n"),
-        ("lddw r0, 18446744073709551616", 2, "refused 62 at line 1\n"),
-        ("; c\n\nexit r1\n", 2, "refused 63 at line 3\n"),
-        ("; c", 2, "refused 1 at line 1\n"),
-        ("", 2, "refused 1 at line 1\n"),
-    ] {
-        assert!(rt;
-            is_assembled(alloc, text.as_bytes(), status, line)?,
-            "at {text}"
-        );
-    }
-    Ok(())
-}
-
-#[test]
-fn long_files(rt: HostRuntime) -> Result<(), Fail> {
-    let alloc = rt.alloc();
-    let mut exits = String::new(alloc);
-    for _ in 0..1025u32 {
-        exits.push_str("exit\n")?;
-    }
-    assert!(rt; is_assembled(alloc, exits.as_bytes(), 2, "refused 2 at line 1025\n")?);
-    let mut blanks = Vec::new(alloc);
-    blanks.resize(MAX_FILE_LEN, b' ')?;
-    assert!(rt; is_assembled(alloc, &blanks, 2, "refused 1 at line 1\n")?);
-    blanks.push(b' ')?;
-    assert!(rt; is_assembled(alloc, &blanks, 2, "refused 57\n")?);
-    blanks[0] = 0xff;
-    assert!(rt; is_assembled(alloc, &blanks, 2, "refused 57\n")?);
-    assert!(rt; is_assembled(alloc, &blanks[1..], 2, "refused 1 at line 1\n")?);
-    assert!(rt; is_assembled(alloc, &blanks[..9], 2, "refused 56\n")?);
-    Ok(())
-}
-
-#[test]
-fn a_failing_source(rt: HostRuntime) -> Result<(), Fail> {
-    let alloc = rt.alloc();
-    let text = b"exit";
-    // The call past the last byte finds that there is no more.
-    for calls in 0..=text.len() + 1 {
-        let reader = Source {
-            left: text,
-            step: 1,
-            calls_left: calls,
-        };
-        let (status, line) = spoken(alloc, asm_from(alloc, reader))?;
-        if calls > text.len() {
-            assert!(rt; status == 0 && line.as_str() == "9500000000000000\n");
-        } else {
-            assert!(rt;
-                status == 3 && line.as_str() == "device fault\n",
-                "at {calls}"
-            );
-        }
-    }
-    Ok(())
-}
-
-#[test]
-fn a_file(rt: HostRuntime) -> Result<(), Fail> {
-    let alloc = rt.alloc();
-    let folder = env::temp_dir(&rt)?;
-    let id = std::process::id(rt.process());
-    let path = format!(in alloc; "{}/heal_{id}.txt", folder.display())?;
-    let task = Task::Asm {
-        file: path.as_str(),
-    };
-    assert!(rt; is_answered(&rt, &task, 3, "device fault\n"));
-    fs::write(&rt, path.as_str(), "mov64 r0, 1\nexit\n")?;
-    let is_read = is_answered(&rt, &task, 0, "b7000000010000009500000000000000\n");
-    fs::remove_file(&rt, path.as_str())?;
-    assert!(rt; is_read);
-    Ok(())
-}
-
-#[test]
-fn the_longest_code(rt: HostRuntime) -> Result<(), Fail> {
-    let alloc = rt.alloc();
-    let clash = db(alloc, NAME, "05", "09")?;
-    let mut text = String::new(alloc);
-    for _ in 0..1023u32 {
-        text.push_str("b700000001000000")?;
-    }
-    text.push_str(EXIT)?;
-    let task = Task::Judge {
-        code: text.as_str(),
-        clash: clash.as_str(),
-    };
-    assert!(rt; is_answered(&rt, &task, 0, "first in 1024 steps\n"));
-    text.push_str(EXIT)?;
-    let task = Task::Judge {
-        code: text.as_str(),
-        clash: clash.as_str(),
-    };
-    assert!(rt; is_answered(&rt, &task, 2, "refused 2\n"));
-    Ok(())
-}
-
-#[test]
-fn wrong_records(rt: HostRuntime) -> Result<(), Fail> {
-    let alloc = rt.alloc();
-    let mut short = String::new(alloc);
-    for _ in 0..127u8 {
-        short.push_str("00")?;
-    }
-    for (code, clash, line) in [
-        (
-            "b7000000010000009500000000000000",
-            short.as_str(),
-            "refused 55\n",
-        ),
-        ("b7000000010000009500000000000000", "000", "refused 50\n"),
-        (EXIT, short.as_str(), "refused 15 at slot 0\n"),
-        ("", "0g", "refused 1\n"),
-        ("0", "00", "refused 50\n"),
-    ] {
-        assert!(rt;
-            is_answered(&rt, &Task::Judge { code, clash }, 2, line),
-            "at {line}"
-        );
-    }
-    Ok(())
-}
-
-#[test]
-fn a_failing_device(rt: HostRuntime) -> Result<(), Fail> {
-    let alloc = rt.alloc();
-    let clash = db(alloc, NAME, "05", "09")?;
-    let task = Task::Judge {
-        code: "b7000000010000009500000000000000",
-        clash: clash.as_str(),
-    };
-    let line = b"first in 2 steps\n";
-    for calls in 0..=line.len() {
-        let mut device = Device {
-            held: Vec::new(alloc),
-            step: 1,
-            calls_left: calls,
-            interrupts: 2,
-        };
-        let status = if calls == line.len() { 0 } else { 3 };
-        assert_eq!(rt; obey(&rt, &task, &mut device), status, "at {calls}");
-        assert!(rt; device.held.as_slice() == &line[..calls], "at {calls}");
-    }
-    Ok(())
-}
-
-#[test]
-fn words(rt: HostRuntime) -> Result<(), Fail> {
-    let alloc = rt.alloc();
-    let asked: [(&[&str], Task<'_>); 4] = [
-        (&["heal", "check", "01"], Task::Check { code: "01" }),
-        (
-            &["heal", "judge", "01", "00"],
-            Task::Judge {
-                code: "01",
-                clash: "00",
-            },
-        ),
-        (&["heal", "asm", "file"], Task::Asm { file: "file" }),
-        (&["heal", "dis", "01"], Task::Dis { code: "01" }),
+        (&["heal", "dis", "9500000000000000"], 0, "exit\n"),
+        (&["heal", "judge", "01", "00"], 2, "refused 3\n"),
+        (&["heal", "asm", "/no/such/file"], 3, "device fault\n"),
     ];
-    for (words, task) in asked {
-        assert!(rt; command(alloc, words)? == task, "{words:?}");
+    for (words, status, text) in rows {
+        let (got, output, errors) = answered(&rt, words)?;
+        assert_eq!(rt; got, status, "{words:?}");
+        assert!(rt;
+            output.as_slice() == text.as_bytes() && errors.is_empty(),
+            "{words:?}"
+        );
     }
+    Ok(())
+}
+
+#[test]
+fn no_task(rt: HostRuntime) -> Result<(), Fail> {
     let wrong: [&[&str]; 11] = [
         &["heal"],
         &["heal", "judges", "01", "00"],
@@ -537,10 +56,31 @@ fn words(rt: HostRuntime) -> Result<(), Fail> {
         &["heal", "run", "script"],
     ];
     for words in wrong {
-        match command(alloc, words) {
-            Ok(_) => assert!(rt; false, "{words:?}"),
-            Err(fault) => assert!(rt; !fault.is_for_memory(), "{words:?}"),
-        }
+        let (status, output, errors) = answered(&rt, words)?;
+        assert!(rt;
+            status == 1 && output.is_empty() && !errors.is_empty(),
+            "{words:?}"
+        );
     }
     Ok(())
+}
+
+#[test]
+fn unread_words(rt: HostRuntime) {
+    for (kind, status, text) in [
+        (
+            ErrorKind::InvalidData,
+            1,
+            "error: an argument isn't UTF-8\n",
+        ),
+        (ErrorKind::OutOfMemory, 3, "out of memory"),
+    ] {
+        let mut output = Vec::new(rt.alloc());
+        let mut errors = Vec::new(rt.alloc());
+        let got = answer(&rt, Err(io::Error::from(kind)), &mut output, &mut errors);
+        assert_eq!(rt; got, status);
+        assert!(rt; output.is_empty());
+        let told = str::from_utf8(&errors).unwrap_or_default();
+        assert!(rt; told.contains(text), "{told}");
+    }
 }

@@ -1,15 +1,9 @@
-pub mod ByLayout
-pub mod SignedDivision
-pub mod WordsFit
-pub mod FormTable
-pub mod FormOf
-pub mod OneSpelling
+pub mod ReadBack
 pub mod SlotBytes
 pub mod AtFront
 pub mod OneReading
 pub mod Codes
 pub mod Reading
-pub mod Writing
-pub mod Laying
 pub mod AllBytes
 pub mod LittleEndian
+pub mod Written

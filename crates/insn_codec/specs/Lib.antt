@@ -1,10 +1,5 @@
-pub mod Operations
-pub mod Machine
 pub mod Encoding
 pub mod Faults
-pub mod Slots
-pub mod Forms
-pub mod Front
 pub mod Decoding
-pub mod Opcodes
-pub mod Layout
+pub mod Rows
+pub mod model

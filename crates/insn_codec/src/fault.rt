@@ -1,7 +1,8 @@
 //! Why bytes are no code.
-ghost use Rattle.std.specs.Prelude.{◌≡◌, None, Some};
-ghost use Rattle.insn_codec.specs.Faults.{length_fault_number, slot_fault_number, fault_number, fault_slot};
+ghost use Rattle.std.specs.Prelude.{◌≡◌};
+ghost use Rattle.insn_codec.specs.Faults.{length_fault_number, slot_fault_number, fault_number, fault_place};
 
+use numbered::{Numbered, Place};
 use thiserror::Error;
 
 /// What is wrong with the number of bytes.
@@ -50,8 +51,7 @@ pub enum CodecFault {
 }
 
 impl LengthFault {
-    /// Its number among the refusals.
-    pub fn number(self) -> u32
+    fn number(self) -> u32
         ensures { result ≡ length_fault_number self }
     {
         match self {
@@ -63,8 +63,7 @@ impl LengthFault {
 }
 
 impl SlotFault {
-    /// Its number among the refusals.
-    pub fn number(self) -> u32
+    fn number(self) -> u32
         ensures { result ≡ slot_fault_number self }
     {
         match self {
@@ -76,11 +75,12 @@ impl SlotFault {
     }
 }
 
-impl CodecFault {
-    /// Its number among the refusals.
-    pub fn number(self) -> u32
-        ensures { result ≡ fault_number self }
-    {
+impl Numbered for CodecFault {
+    ghost number_of = { fault_number };
+
+    ghost place_of = { fault_place };
+
+    fn number(&self) -> u32 {
         match self {
             CodecFault::Length(fault) => fault.number(),
             CodecFault::Slot { fault, .. } => fault.number(),
@@ -88,12 +88,9 @@ impl CodecFault {
         }
     }
 
-    /// The slot that it names, if it names one.
-    pub fn slot(self) -> Option<u32>
-        ensures { result ≡ fault_slot self }
-    {
+    fn place(&self) -> Option<Place> {
         match self {
-            CodecFault::Slot { slot, .. } => Some(slot),
+            CodecFault::Slot { slot, .. } => Some(Place::Slot(*slot)),
             _ => None,
         }
     }

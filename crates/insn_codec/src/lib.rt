@@ -1,16 +1,17 @@
-//! Instructions of RFC 9669 and code made of them, their encoding in bytes, and what each operation computes.
+//! Code as bytes (RFC 9669, section 3): read from them, and written.
 #![tactic(auto)]
 
-pub mod code;
-pub mod decoder;
-pub mod encoder;
-pub mod fault;
-mod fields;
-mod form;
-pub mod insn;
-pub mod layout;
-mod opcode;
-pub mod opcodes;
-pub mod operations;
+mod decoder;
+mod encoder;
+mod fault;
+mod slot_fields;
 #[cfg(test)]
 mod tests;
+
+pub use decoder::{decode, one_reading_theorem};
+pub use encoder::encode;
+pub use fault::{CodecFault, LengthFault, SlotFault};
+pub use instruction_set::{
+    AluOp, Code, CodeBuilder, EndKind, Insn, MAX_SLOTS, Register, Size, Source, Test, Width, alu,
+    end, movsx, neg, test,
+};

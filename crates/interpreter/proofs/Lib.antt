@@ -1,5 +1,5 @@
 pub mod Bytes
-pub mod Turns
-pub mod Ending
-pub mod Counts
-pub mod Going
+pub mod Instructions
+pub mod Fronts
+pub mod Runs
+pub mod Loop

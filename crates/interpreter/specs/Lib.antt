@@ -1,3 +1,1 @@
-pub mod Flat
-pub mod Mirror
-pub mod Effects
+pub mod model

@@ -6,4 +6,4 @@ mod memory;
 mod running;
 mod table;
 
-pub use running::{Ended, one_meaning, run};
+pub use running::{Ended, one_meaning_theorem, run};

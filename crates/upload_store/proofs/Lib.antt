@@ -1,4 +1,2 @@
-pub mod Maps
-pub mod Outcomes
-pub mod SameCode
-pub mod SameInsn
+mod Maps
+mod Outcomes

@@ -1,157 +1,192 @@
--- What an upload answers follows from its bytes and the store.
-use Rattle.std.proofs.Common.{◌≡◌, ℕ, ◌<◌, cond, Some, None, Result, Ok, Err, IfOk, IfErr, OnOk, IsErrAnd, List, refl, ap, sym, subst, ◌∙◌, inl, inr, arith}
+-- What an upload answers follows from how its bytes are read, and from what the store has.
+use Rattle.std.proofs.Common.{◌≡◌, ℕ, cond, Some, None, Result, Ok, Err, IfOk, IfErr, OnOk, List, refl, ap, sym, subst, ◌∙◌, inl, inr, arith}
 use Rattle.std.specs.FinMap as map
-use Rattle.insn_codec.specs.declared.insn.Insn.{Insn}
-use Rattle.insn_codec.specs.declared.fault.CodecFault.{CodecFault}
-use Rattle.insn_codec.specs.declared.fault.CodecFault.TheVariants as codec
+use Rattle.std.specs.Result.{IsErr, IsErrAnd}
 use Rattle.std.specs.Ordering.{is_eq}
 use Rattle.std.specs.Cmp.{tied_itself}
-use Rattle.insn_codec.specs.Machine.{IsSafe}
+use Rattle.instruction_set.specs.declared.insn.Insn.{Insn}
+use Rattle.instruction_set.specs.Machine.{IsSafe}
+use Rattle.insn_codec.specs.declared.fault.CodecFault.{CodecFault}
+use Rattle.insn_codec.specs.declared.fault.CodecFault.TheVariants as codec
 use Rattle.insn_codec.specs.Encoding.{Spells}
 use Rattle.insn_codec.specs.Faults.{IsFirstFault}
-use Rattle.abstract_value.specs.Ranges.{interval_ops}
-use Rattle.verifier.specs.declared.refusal.Refusal.{Refusal}
-use Rattle.verifier.specs.Structure.{IsStructured}
-use Rattle.verifier.specs.Assignments.{IsTypable}
-use Rattle.verifier.specs.Refusals.{IsRefusedAt}
+use Rattle.program.specs.Programs.{IsAccepted, IsProgramFault, IsRefusal, Answers}
+use Rattle.program.specs.declared.fault.ProgramFault.{ProgramFault}
+use Rattle.program.specs.declared.fault.ProgramFault.TheVariants as program
 use Rattle.clash_record.specs.declared.registrations.ProgramId.{ProgramId}
+use Rattle.clash_record.specs.laws.Orders.{ids_total}
 use Rattle.upload_store.specs.declared.fault.UploadFault.{UploadFault}
-use Rattle.upload_store.specs.declared.fault.UploadFault.TheVariants.{Length, Slot, Refused, DigestClash, StoreFull, OutOfMemory}
-use Rattle.upload_store.specs.Faults.{of_codec}
-use Rattle.upload_store.specs.Programs.{Programs, id_of, max_programs}
-use Rattle.upload_store.specs.ProgramLaws.{ids_total}
-use Rattle.upload_store.specs.Uploads.{IsAccepted, IsRejected, IsKept, IsReadingFault, IsKeepingFault, IsRefusal, Clashes, Overflows, HasPlace, Answers, IsRejection}
+use Rattle.upload_store.specs.declared.fault.UploadFault.TheVariants.{Program, DigestClash, StoreFull, OutOfMemory}
+use Rattle.upload_store.specs.Faults.{of_program}
+use Rattle.upload_store.specs.Programs.{Programs, id_of}
+use Rattle.upload_store.specs.Uploads.{IsKept, IsUploadFault, IsUploadRefusal, Fits, Clashes, Overflows, HasPlace, UploadAnswers, IsRejection, IsUnaccepted}
+use Rattle.upload_store.specs.model.Keeping.{IsKeepingFault}
 
--- ---- each answer from what stands of the bytes and the store
+-- a fault that `?` converts
+converted : {A F : Type 0} (r : Result A F) (x : F) → IsErr r × IsErrAnd r (λ y. y ≡ x) → r ≡ Err x
+converted (Err y) x h = ap Err h.1
+converted (Ok a) x h = let e = h.0 in absurd (cc)
 
-module _ (store : Programs) (bytes : List ℕ) (after : Programs)
-    (apart : (bytes : List ℕ) (code : List Insn) (fault : CodecFault) → Spells bytes code → IsFirstFault bytes fault → ⊥)
-    (one_code : (bytes : List ℕ) (code other : List Insn) → Spells bytes code → Spells bytes other → code ≡ other)
-    (one_fault : (bytes : List ℕ) (fault other : CodecFault) → IsFirstFault bytes fault → IsFirstFault bytes other → fault ≡ other)
-    (either : (code : List Insn) (refusal : Refusal) → IsStructured code → IsTypable interval_ops code → IsRefusedAt interval_ops code refusal.slot refusal.rule → ⊥)
-    (one_refusal : (code : List Insn) (a b : Refusal) → IsRefusedAt interval_ops code a.slot a.rule → IsRefusedAt interval_ops code b.slot b.rule → a ≡ b) where
-  accepted_code : (code other : List Insn) → Spells bytes code → IsAccepted bytes other → IsAccepted bytes code
-  accepted_code code other spelled accepted = subst (IsAccepted bytes) (one_code bytes other code accepted.spelled spelled) accepted
+-- ---- bytes that aren't read as a program, by this fault
 
-  not_rejected : (code : List Insn) → IsAccepted bytes code → (refusal : Refusal) → IsRejected bytes refusal → ⊥
-  not_rejected code accepted refusal rejected =
-      let same : IsAccepted bytes rejected.code = accepted_code rejected.code code rejected.spelled accepted in
-      either rejected.code refusal same.structured same.typable rejected.refused
+module _ (store : Programs) (bytes : List ℕ) (fault : ProgramFault) (r : Result ProgramId UploadFault)
+    (passed : IsErr r × IsErrAnd r (λ y. y ≡ of_program fault)) where
+  refused_so : r ≡ Err (of_program fault)
+  refused_so = converted r (of_program fault) passed
 
-  one_rejection : (a b : Refusal) → IsRejected bytes a → IsRejected bytes b → a ≡ b
-  one_rejection a b p q =
-      one_refusal q.code a b (subst (λ code. IsRefusedAt interval_ops code a.slot a.rule) (one_code bytes p.code q.code p.spelled q.spelled) p.refused) q.refused
+  -- a fault that says something of the bytes stays itself
+  same : (f : ProgramFault) → IsProgramFault bytes f → of_program f ≡ Program f
+  same (program.Length f) h = refl
+  same (program.Slot f slot) h = refl
+  same (program.Refused refusal) h = refl
+  same program.OutOfMemory h = absurd h
 
-  not_both : (code : List Insn) → IsAccepted bytes code → Clashes store bytes → HasPlace store (id_of bytes) code → ⊥
-  not_both code accepted clash (inl held) =
-      let same : clash.code ≡ code = one_code bytes clash.code code clash.accepted.spelled accepted.spelled in
-      let there : Some clash.other ≡ Some code = sym clash.held ∙ held in
-      clash.differs (cc)
-  not_both code accepted clash (inr place) = let there : Some clash.other ≡ None = sym clash.held ∙ place.0 in absurd (cc)
+  -- so does want of memory
+  wanted : {due : Result ProgramId UploadFault} → fault ≡ program.OutOfMemory → UploadAnswers r due
+  wanted e = inr (refused_so ∙ ap (λ f. Err (of_program f)) e)
 
-  no_room : (code : List Insn) → Overflows store bytes → HasPlace store (id_of bytes) code → ⊥
-  no_room code full (inl held) = let there : None ≡ Some code = sym full.fresh ∙ held in absurd (cc)
-  no_room code full (inr place) = let room : map.len store < max_programs = place.1 in absurd (omega (arith, full.full))
+  pub unread_refused : IsRefusal bytes fault → IfErr r (IsUploadRefusal store bytes)
+  unread_refused h = subst (λ x. IfErr x (IsUploadRefusal store bytes)) (sym refused_so) (by h)
+    where
+      by : IsRefusal bytes fault → IsUploadRefusal store bytes (of_program fault)
+      by (inl h) = inl (subst (IsUploadFault store bytes) (sym (same fault h)) h)
+      by (inr e) = inr (ap of_program e)
 
-  not_clash_and_full : Clashes store bytes → Overflows store bytes → ⊥
-  not_clash_and_full clash full = let there : Some clash.other ≡ None = sym clash.held ∙ full.fresh in absurd (cc)
+  -- accepted code is refused for want of memory alone
+  pub unread_accepted : ((code : List Insn) → IsAccepted bytes code → Answers (Err fault) (Ok code))
+      → (code : List Insn) → IsAccepted bytes code → {due : Result ProgramId UploadFault} → UploadAnswers r due
+  unread_accepted taken code accepted = by (taken code accepted)
+    where
+      by : {due : Result ProgramId UploadFault} → Answers (Err fault) (Ok code) → UploadAnswers r due
+      by (inl e) = absurd (cc)
+      by (inr e) = wanted (cc)
 
-  -- the place of code that is kept, at the bytes' id
-  place_of : (id : ProgramId) (kept : IsKept store bytes id after) → HasPlace store (id_of bytes) kept.code
-  place_of id kept = subst (λ (i : ProgramId). HasPlace store i kept.code) kept.named kept.place
+  pub unread_told : ((code : List Insn) → IsAccepted bytes code → Answers (Err fault) (Ok code))
+      → ((other : ProgramFault) → IsProgramFault bytes other → Answers (Err fault) (Err other))
+      → (due : UploadFault) → IsUploadFault store bytes due → UploadAnswers r (Err due)
+  unread_told taken told (Program other) h = by (told other h)
+    where
+      by : Answers (Err fault) (Err other) → UploadAnswers r (Err (Program other))
+      by (inl e) = let one : fault ≡ other = cc in inl (refused_so ∙ ap Err (ap of_program one ∙ same other h))
+      by (inr e) = wanted (cc)
+  unread_told taken told DigestClash h = unread_accepted taken h.code h.accepted
+  unread_told taken told StoreFull h = unread_accepted taken h.code h.accepted
+  unread_told taken told OutOfMemory h = absurd h
 
-  pub taken : (result : Result ProgramId UploadFault) → IfOk result (λ id. IsKept store bytes id after) → IfErr result (IsRefusal store bytes) → (code : List Insn) → IsAccepted bytes code → HasPlace store (id_of bytes) code → Answers result (Ok (id_of bytes))
-  taken (Ok id) kept refused code accepted place = inl (ap Ok kept.named)
-  taken (Err (Length f)) kept refused code accepted place = absurd (apart bytes code (codec.Length f) accepted.spelled refused)
-  taken (Err (Slot f slot)) kept refused code accepted place = absurd (apart bytes code (codec.Slot f slot) accepted.spelled refused)
-  taken (Err (Refused r)) kept refused code accepted place = absurd (not_rejected code accepted r refused)
-  taken (Err DigestClash) kept refused code accepted place = absurd (not_both code accepted refused place)
-  taken (Err StoreFull) kept refused code accepted place = absurd (no_room code refused place)
-  taken (Err OutOfMemory) kept refused code accepted place = inr refl
+  -- the codec has nothing against bytes that spell code
+  pub unread_rejected : ((code : List Insn) (f : CodecFault) → Spells bytes code → IsFirstFault bytes f → ⊥)
+      → IsRefusal bytes fault → IsUnaccepted bytes → IsRejection r
+  unread_rejected either h u = by fault h refused_so
+    where
+      by : (f : ProgramFault) → IsRefusal bytes f → r ≡ Err (of_program f) → IsRejection r
+      by f (inr e) is = inr (is ∙ ap (λ f. Err (of_program f)) e)
+      by (program.Length f) (inl h) is = absurd (either u.code (codec.Length f) u.spelled h)
+      by (program.Slot f slot) (inl h) is = absurd (either u.code (codec.Slot f slot) u.spelled h)
+      by (program.Refused refusal) (inl h) is = inl (refusal, is)
+      by program.OutOfMemory (inl h) is = absurd h
 
-  pub faulty : (result : Result ProgramId UploadFault) → IfOk result (λ id. IsKept store bytes id after) → IfErr result (IsRefusal store bytes) → (fault : CodecFault) → IsFirstFault bytes fault → Answers result (Err (of_codec fault))
-  faulty (Ok id) kept refused fault first = absurd (apart bytes kept.code fault kept.accepted.spelled first)
-  faulty (Err (Length f)) kept refused fault first = inl (ap (λ g. Err (of_codec g)) (one_fault bytes (codec.Length f) fault refused first))
-  faulty (Err (Slot f slot)) kept refused fault first = inl (ap (λ g. Err (of_codec g)) (one_fault bytes (codec.Slot f slot) fault refused first))
-  faulty (Err (Refused r)) kept refused fault first = absurd (apart bytes refused.code fault refused.spelled first)
-  faulty (Err DigestClash) kept refused fault first = absurd (apart bytes refused.code fault refused.accepted.spelled first)
-  faulty (Err StoreFull) kept refused fault first = absurd (apart bytes refused.code fault refused.accepted.spelled first)
-  faulty (Err OutOfMemory) kept refused fault first = inr refl
+-- ---- accepted code with the id of its bytes
 
-  pub rejected : (result : Result ProgramId UploadFault) → IfOk result (λ id. IsKept store bytes id after) → IfErr result (IsRefusal store bytes) → (code : List Insn) → Spells bytes code → (IsAccepted bytes code → ⊥) → IsRejection result
-  rejected (Ok id) kept refused code spelled not = absurd (not (accepted_code code kept.code spelled kept.accepted))
-  rejected (Err (Length f)) kept refused code spelled not = absurd (apart bytes code (codec.Length f) spelled refused)
-  rejected (Err (Slot f slot)) kept refused code spelled not = absurd (apart bytes code (codec.Slot f slot) spelled refused)
-  rejected (Err (Refused r)) kept refused code spelled not = inl (r, refl)
-  rejected (Err DigestClash) kept refused code spelled not = absurd (not (accepted_code code refused.code spelled refused.accepted))
-  rejected (Err StoreFull) kept refused code spelled not = absurd (not (accepted_code code refused.code spelled refused.accepted))
-  rejected (Err OutOfMemory) kept refused code spelled not = inr refl
+module _ (store : Programs) (bytes : List ℕ) (code : List Insn) (id : ProgramId)
+    (accepted : IsAccepted bytes code) (named : id ≡ id_of bytes) where
+  -- code that is kept is told of its bytes
+  pub kept_from : IsSafe code → (after : Programs) (r : Result ProgramId UploadFault) → IfOk r (λ answer. answer ≡ id)
+      → OnOk r (HasPlace store id code) → OnOk r (after ≡ map.insert store id code)
+      → IfOk r (λ answer. IsKept store bytes answer after)
+  kept_from safe after (Ok answer) same place kept =
+      subst (λ (i : ProgramId). IsKept store bytes i after) (sym same) (record {
+        code = code;
+        accepted = accepted;
+        safe = safe;
+        named = named;
+        place = place;
+        inserted = kept;
+        found =
+            ap (λ m. map.get m id) kept ∙ map.get-insert ids_total store id code id
+            ∙ ap (λ b. cond b (Some code) (map.get store id)) (ap is_eq (tied_itself ids_total id));
+      })
+  kept_from safe after (Err fault) same place kept = tt
 
-  pub rule : (result : Result ProgramId UploadFault) → IfOk result (λ id. IsKept store bytes id after) → IfErr result (IsRefusal store bytes) → (refusal : Refusal) → IsRejected bytes refusal → Answers result (Err (Refused refusal))
-  rule (Ok id) kept refused r rejected = absurd (not_rejected kept.code kept.accepted r rejected)
-  rule (Err (Length f)) kept refused r rejected = absurd (apart bytes rejected.code (codec.Length f) rejected.spelled refused)
-  rule (Err (Slot f slot)) kept refused r rejected = absurd (apart bytes rejected.code (codec.Slot f slot) rejected.spelled refused)
-  rule (Err (Refused q)) kept refused r rejected = inl (ap (λ x. Err (Refused x)) (one_rejection q r refused rejected))
-  rule (Err DigestClash) kept refused r rejected = absurd (not_rejected refused.code refused.accepted r rejected)
-  rule (Err StoreFull) kept refused r rejected = absurd (not_rejected refused.code refused.accepted r rejected)
-  rule (Err OutOfMemory) kept refused r rejected = inr refl
+  -- and so is why code isn't kept
+  pub refused_from : (r : Result ProgramId UploadFault) → IfErr r (IsKeepingFault store id code)
+      → IfErr r (IsUploadRefusal store bytes)
+  refused_from (Ok answer) h = tt
+  refused_from (Err (Program f)) h = absurd h
+  refused_from (Err DigestClash) h = inl (record {
+    code = code;
+    accepted = accepted;
+    other = h.0;
+    held = ap (map.get store) (sym named) ∙ h.1;
+    differs = h.2;
+  })
+  refused_from (Err StoreFull) h = inl (record {
+    code = code;
+    accepted = accepted;
+    fresh = ap (map.get store) (sym named) ∙ h.0;
+    full = h.1;
+  })
+  refused_from (Err OutOfMemory) h = inr refl
 
-  pub clash : (result : Result ProgramId UploadFault) → IfOk result (λ id. IsKept store bytes id after) → IfErr result (IsRefusal store bytes) → Clashes store bytes → Answers result (Err DigestClash)
-  clash (Ok id) kept refused clashes = absurd (not_both kept.code kept.accepted clashes (place_of id kept))
-  clash (Err (Length f)) kept refused clashes = absurd (apart bytes clashes.code (codec.Length f) clashes.accepted.spelled refused)
-  clash (Err (Slot f slot)) kept refused clashes = absurd (apart bytes clashes.code (codec.Slot f slot) clashes.accepted.spelled refused)
-  clash (Err (Refused r)) kept refused clashes = absurd (not_rejected clashes.code clashes.accepted r refused)
-  clash (Err DigestClash) kept refused clashes = inl refl
-  clash (Err StoreFull) kept refused clashes = absurd (not_clash_and_full clashes refused)
-  clash (Err OutOfMemory) kept refused clashes = inr refl
+  -- of three things one stands: the code has a place, other code is there, or there is no room
+  place_or_clash : HasPlace store id code → IsKeepingFault store id code DigestClash → ⊥
+  place_or_clash (inl held) clash = let there : Some code ≡ Some clash.0 = sym held ∙ clash.1 in clash.2 (cc)
+  place_or_clash (inr room) clash = let there : None ≡ Some clash.0 = sym room.0 ∙ clash.1 in absurd (cc)
 
-  pub full : (result : Result ProgramId UploadFault) → IfOk result (λ id. IsKept store bytes id after) → IfErr result (IsRefusal store bytes) → Overflows store bytes → Answers result (Err StoreFull)
-  full (Ok id) kept refused over = absurd (no_room kept.code over (place_of id kept))
-  full (Err (Length f)) kept refused over = absurd (apart bytes over.code (codec.Length f) over.accepted.spelled refused)
-  full (Err (Slot f slot)) kept refused over = absurd (apart bytes over.code (codec.Slot f slot) over.accepted.spelled refused)
-  full (Err (Refused r)) kept refused over = absurd (not_rejected over.code over.accepted r refused)
-  full (Err DigestClash) kept refused over = absurd (not_clash_and_full refused over)
-  full (Err StoreFull) kept refused over = inl refl
-  full (Err OutOfMemory) kept refused over = inr refl
+  place_or_full : HasPlace store id code → IsKeepingFault store id code StoreFull → ⊥
+  place_or_full (inl held) full = let there : Some code ≡ None = sym held ∙ full.0 in absurd (cc)
+  place_or_full (inr room) full = let less = room.1 in absurd (omega (arith, less, full.1))
 
--- what is refused before the store is looked at is refused
-pub refused_early : (store : Programs) (bytes : List ℕ) (fault : UploadFault) → IsReadingFault bytes fault → IsRefusal store bytes fault
-refused_early store bytes (Length f) h = h
-refused_early store bytes (Slot f slot) h = h
-refused_early store bytes (Refused r) h = h
-refused_early store bytes OutOfMemory h = h
-refused_early store bytes DigestClash h = absurd h
-refused_early store bytes StoreFull h = absurd h
+  clash_or_full : IsKeepingFault store id code DigestClash → IsKeepingFault store id code StoreFull → ⊥
+  clash_or_full clash full = let there : None ≡ Some clash.0 = sym full.0 ∙ clash.1 in absurd (cc)
 
--- what is told of code that is kept under its id is told of its bytes
-pub kept_from : (store : Programs) (bytes : List ℕ) (after : Programs) (code : List Insn) (id : ProgramId) (result : Result ProgramId UploadFault)
-    → IsAccepted bytes code → IsSafe code → id ≡ id_of bytes → IfOk result (λ answer. answer ≡ id) → OnOk result (HasPlace store id code) → OnOk result (after ≡ map.insert store id code)
-    → IfOk result (λ id. IsKept store bytes id after)
-kept_from store bytes after code id (Ok answer) accepted safe named same place kept =
-    let P : ProgramId → Type 0 = λ i. IsKept store bytes i after in
-    subst P (sym same) (record {
-      code = code;
-      accepted = accepted;
-      safe = safe;
-      named = named;
-      place = place;
-      inserted = kept;
-      found = ap (λ m. map.get m id) kept ∙ map.get-insert ids_total store id code id ∙ ap (λ b. cond b (Some code) (map.get store id)) (ap is_eq (tied_itself ids_total id));
-    })
-kept_from store bytes after code id (Err fault) accepted safe named same place kept = tt
+  module _ (taken : (other : List Insn) → IsAccepted bytes other → Answers (Ok code) (Ok other)) where
+    -- the bytes spell no other accepted code
+    one_code : (other : List Insn) → IsAccepted bytes other → code ≡ other
+    one_code other h = by (taken other h)
+      where
+        by : Answers (Ok code) (Ok other) → code ≡ other
+        by (inl e) = cc
+        by (inr e) = absurd (cc)
 
--- why bytes are refused before the store is looked at, by the answer that passes it on
-pub early : (store : Programs) (bytes : List ℕ) (after : Programs) (result : Result ProgramId UploadFault) (fault : UploadFault) → IsErrAnd result (λ e. e ≡ fault) → IsReadingFault bytes fault
-    → IfOk result (λ id. IsKept store bytes id after) × IfErr result (IsRefusal store bytes)
-early store bytes after (Ok id) fault passed h = absurd passed
-early store bytes after (Err e) fault passed h = (tt, refused_early store bytes e (subst (IsReadingFault bytes) (sym passed) h))
+    place_of : Fits store bytes → HasPlace store id code
+    place_of h =
+        subst (HasPlace store id) (sym (one_code h.code h.accepted))
+        (subst (λ (i : ProgramId). HasPlace store i h.code) (sym named) h.place)
 
--- why code isn't kept, told of its bytes
-pub late : (store : Programs) (bytes : List ℕ) (code : List Insn) (id : ProgramId) (result : Result ProgramId UploadFault) → IsAccepted bytes code → id ≡ id_of bytes → IfErr result (IsKeepingFault store id code) → IfErr result (IsRefusal store bytes)
-late store bytes code id (Ok answer) accepted named h = tt
-late store bytes code id (Err DigestClash) accepted named h = record { code = code; accepted = accepted; other = h.0; held = ap (map.get store) (sym named) ∙ h.1; differs = h.2 }
-late store bytes code id (Err StoreFull) accepted named h = record { code = code; accepted = accepted; fresh = ap (map.get store) (sym named) ∙ h.0; full = h.1 }
-late store bytes code id (Err OutOfMemory) accepted named h = tt
-late store bytes code id (Err (Length f)) accepted named h = absurd h
-late store bytes code id (Err (Slot f slot)) accepted named h = absurd h
-late store bytes code id (Err (Refused r)) accepted named h = absurd h
+    clash_of : Clashes store bytes → IsKeepingFault store id code DigestClash
+    clash_of h = (h.other, ap (map.get store) named ∙ h.held, λ e. h.differs (e ∙ one_code h.code h.accepted))
+
+    full_of : Overflows store bytes → IsKeepingFault store id code StoreFull
+    full_of h = (ap (map.get store) named ∙ h.fresh, h.full)
+
+    pub accepted_taken : (r : Result ProgramId UploadFault) → IfOk r (λ answer. answer ≡ id)
+        → IfErr r (IsKeepingFault store id code) → Fits store bytes → UploadAnswers r (Ok (id_of bytes))
+    accepted_taken (Ok answer) same refused h = inl (ap Ok (same ∙ named))
+    accepted_taken (Err (Program f)) same refused h = absurd refused
+    accepted_taken (Err DigestClash) same refused h = absurd (place_or_clash (place_of h) refused)
+    accepted_taken (Err StoreFull) same refused h = absurd (place_or_full (place_of h) refused)
+    accepted_taken (Err OutOfMemory) same refused h = inr refl
+
+    pub accepted_told : ((fault : ProgramFault) → IsProgramFault bytes fault → Answers (Ok code) (Err fault))
+        → (r : Result ProgramId UploadFault) → OnOk r (HasPlace store id code) → IfErr r (IsKeepingFault store id code)
+        → (due : UploadFault) → IsUploadFault store bytes due → UploadAnswers r (Err due)
+    accepted_told told r place refused (Program fault) h = absurd (by (told fault h))
+      where
+        by : Answers (Ok code) (Err fault) → ⊥
+        by (inl e) = absurd (cc)
+        by (inr e) = absurd (cc)
+    accepted_told told (Ok answer) place refused DigestClash h = absurd (place_or_clash place (clash_of h))
+    accepted_told told (Ok answer) place refused StoreFull h = absurd (place_or_full place (full_of h))
+    accepted_told told (Err (Program f)) place refused due h = absurd refused
+    accepted_told told (Err DigestClash) place refused DigestClash h = inl refl
+    accepted_told told (Err DigestClash) place refused StoreFull h = absurd (clash_or_full refused (full_of h))
+    accepted_told told (Err StoreFull) place refused DigestClash h = absurd (clash_or_full (clash_of h) refused)
+    accepted_told told (Err StoreFull) place refused StoreFull h = inl refl
+    accepted_told told (Err OutOfMemory) place refused due h = inr refl
+    accepted_told told r place refused OutOfMemory h = absurd h
+
+  -- no other code is spelled
+  pub accepted_rejected : ((a b : List Insn) → Spells bytes a → Spells bytes b → a ≡ b)
+      → (r : Result ProgramId UploadFault) → IsUnaccepted bytes → IsRejection r
+  accepted_rejected one r u =
+      absurd (u.unaccepted (subst (IsAccepted bytes) (one code u.code accepted.spelled u.spelled) accepted))

@@ -1,4 +1,4 @@
 pub mod Faults
 pub mod Programs
 pub mod Uploads
-pub mod ProgramLaws
+pub mod model

@@ -2,8 +2,6 @@
 #![tactic(auto)]
 
 mod fault;
-mod reading;
-mod same;
 mod store;
 #[cfg(test)]
 mod tests;

@@ -1,30 +1,24 @@
 //! The store.
-ghost use Rattle.std.specs.Prelude.{◌≡◌, ◌≤◌, List, Some, IfOk, IfErr, IfSome, OnOk, OnErr};
+ghost use Rattle.std.specs.Prelude.{◌≡◌, ◌≤◌, Ok, Err, IfOk, IfErr, IfSome, OnOk, OnErr};
 ghost use Rattle.std.specs.Option.{option_map};
 ghost use Rattle.std.specs.Arc.{arc_value};
 ghost use Rattle.std.specs.FinMap as map;
-ghost use Rattle.insn_codec.specs.declared.insn.Insn.{Insn};
-ghost use Rattle.insn_codec.specs.declared.fault.CodecFault.{CodecFault};
-ghost use Rattle.insn_codec.specs.Encoding.{Spells};
-ghost use Rattle.insn_codec.specs.Faults.{IsFirstFault};
-ghost use Rattle.verifier.specs.declared.refusal.Refusal.{Refusal};
-ghost use Rattle.upload_store.specs.Faults.{of_codec};
+ghost use Rattle.upload_store.specs.declared.fault.UploadFault.{UploadFault};
 ghost use Rattle.upload_store.specs.Programs.{IsProgram, id_of};
-ghost use Rattle.upload_store.specs.Uploads.{IsAccepted, IsKept, HasPlace, Answers, IsRejected, IsRejection, IsRefusal, IsKeepingFault, Clashes, Overflows};
+ghost use Rattle.upload_store.specs.Uploads.{Fits, HasPlace, IsKept, IsRejection, IsUnaccepted, IsUploadFault};
+ghost use Rattle.upload_store.specs.Uploads.{IsUploadRefusal, UploadAnswers};
+ghost use Rattle.upload_store.specs.model.Keeping.{IsKeepingFault};
 
 use crate::fault::UploadFault;
-use crate::reading::read_program;
-use crate::same::is_same;
-use abstract_value::interval::Interval;
 use clash_record::ProgramId;
-use insn_codec::decoder::one_reading;
+use insn_codec::one_reading_theorem;
+use program::read_program;
 use sha2::{Digest, Sha256};
 use std::alloc::Global;
 use std::collections::BTreeMap;
 use std::marker::Model;
 use std::sync::Arc;
-use verifier::verified::Verified;
-use verifier::verify::one_verdict;
+use verifier::Verified;
 
 /// The most programs that a store holds.
 pub const MAX_PROGRAMS: usize = 256;
@@ -39,7 +33,8 @@ pub struct UploadStore {
 
 impl Model for UploadStore {
     ghost use Rattle.std.specs.Arc.{arc_value};
-    ghost use Rattle.upload_store.specs.Programs.{Programs, coded_programs, programs_by, AreKept};
+    ghost use Rattle.upload_store.specs.Programs.{Programs};
+    ghost use Rattle.upload_store.specs.model.Keeping.{coded_programs, programs_by, AreKept};
 
     ghost Value = { Programs };
 
@@ -79,36 +74,32 @@ impl UploadStore {
 
     /// Keeps the program that these bytes spell under their SHA-256 digest, which is its id (FIPS 180-4).
     ///
-    /// Bytes that are kept already answer their id again, also in a full store. Refusals are 1 to 7 for bytes that are no
-    /// code, 10 to 26 for code that the verifier doesn't accept over ranges, 42 where other code is kept under the id, and
-    /// 43 where the store is full; the least that stands is answered. 90 is answered where memory runs out: it takes some
+    /// Bytes that are kept already answer their id again, also in a full store. Refusals are 1 to 7 for bytes that are
+    /// no code, 10 to 26 for code that fails a rule of the verifier, 42 where other code is kept under the id, and 43
+    /// where the store is full; the least that stands is answered. 90 is answered where memory runs out: it takes some
     /// to read and to check the bytes and to keep one program, all before the store changes.
     pub fn upload(&mut self, alloc: Global, bytes: &[u8]) -> Result<ProgramId, UploadFault>
-        // The bytes spell accepted code, the id is their digest, and the store is as it was but for the code under that id.
+        // The bytes spell accepted code, the id is their digest, and the store is as it was but for that code.
         ensures kept { IfOk result (λ id. IsKept self.old bytes.now id self.new) }
         // Accepted code that has a place is kept, unless memory runs out.
-        ensures taken { (code : List Insn) → IsAccepted bytes.now code → HasPlace self.old (id_of bytes.now) code → Answers result (Ok (id_of bytes.now)) }
+        ensures taken { Fits self.old bytes.now → UploadAnswers result (Ok (id_of bytes.now)) }
         // A refusal has its cause, and leaves the store as it was.
-        ensures refused { IfErr result (IsRefusal self.old bytes.now) }
+        ensures refused { IfErr result (IsUploadRefusal self.old bytes.now) }
         ensures unchanged { OnErr result (self.new ≡ self.old) }
-        // Each cause has its refusal, unless memory runs out: the first fault of bytes that are no code,
-        ensures faulty { (fault : CodecFault) → IsFirstFault bytes.now fault → Answers result (Err (of_codec fault)) }
-        // a rule for code that isn't accepted, which is the only one that refuses it,
-        ensures rejected { (code : List Insn) → Spells bytes.now code → (IsAccepted bytes.now code → ⊥) → IsRejection result }
-        ensures rule { (refusal : Refusal) → IsRejected bytes.now refusal → Answers result (Err (UploadFault.Refused refusal)) }
-        // other code under the same id,
-        ensures clash { Clashes self.old bytes.now → Answers result (Err UploadFault.DigestClash) }
+        // Each cause has its refusal, unless memory runs out: what is wrong with the bytes, other code under their id,
         // and a new id where the store is full.
-        ensures full { Overflows self.old bytes.now → Answers result (Err UploadFault.StoreFull) }
+        ensures told { (f : UploadFault) → IsUploadFault self.old bytes.now f → UploadAnswers result (Err f) }
+        // Code that isn't accepted is refused by a rule.
+        ensures rejected { IsUnaccepted bytes.now → IsRejection result }
     {
-        one_reading();
-        one_verdict::<Interval>();
+        // For the prover alone: bytes are read in one way.
+        one_reading_theorem();
         let program = read_program(alloc, bytes)?;
         let id = ProgramId(Sha256::digest(bytes));
         self.keep(alloc, id, program)
     }
 
-    // Keeps a program under its id.
+    // Keeps a program under its id, unless other code is there or it finds no room.
     fn keep(
         &mut self,
         alloc: Global,
@@ -123,7 +114,7 @@ impl UploadStore {
         ensures unchanged { OnErr result (self.new ≡ self.old) }
     {
         if let Some(kept) = self.programs.get(&id) {
-            if is_same(kept.code(), program.code()) {
+            if kept.code() == program.code() {
                 return Ok(id);
             }
             return Err(UploadFault::DigestClash);

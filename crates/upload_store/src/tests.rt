@@ -1,6 +1,7 @@
-//! Programs kept under ids from outside, refusals with their slots, a full store, and uploads that get no memory.
-use crate::{MAX_PROGRAMS, UploadFault, UploadStore};
+//! Programs kept under ids from outside, refusals in words, a full store, and uploads that get no memory.
+use super::*;
 use clash_record::ProgramId;
+use numbered::{Numbered, Place};
 use sha2::{Digest, Sha256};
 use std::test::Fail;
 
@@ -11,11 +12,11 @@ const ABC: [u8; 32] = [
     0xb0, 0x03, 0x61, 0xa3, 0x96, 0x17, 0x7a, 0x9c, 0xb4, 0x10, 0xff, 0x61, 0xf2, 0x00, 0x15, 0xad,
 ];
 
-// The digest of `answer(1)`, as `sha256sum` gives it.
+// The digest of `answer(0)`, as `sha256sum` gives it.
 #[rattlefmt::skip]
-const ONE: [u8; 32] = [
-    0xb1, 0x14, 0x59, 0xa0, 0xe1, 0x1c, 0xa1, 0x4c, 0xba, 0xa3, 0x3c, 0xc1, 0x08, 0xff, 0xff, 0x8f,
-    0xf0, 0x7b, 0xa5, 0x4b, 0x6c, 0x38, 0x95, 0x14, 0xb3, 0xc1, 0x22, 0xab, 0x54, 0xb3, 0x45, 0x51,
+const ZERO: [u8; 32] = [
+    0x59, 0xf4, 0xa9, 0x31, 0x74, 0x4d, 0xcd, 0xc6, 0x29, 0x44, 0xa0, 0x18, 0xed, 0x39, 0x90, 0xe6,
+    0x66, 0xec, 0x64, 0x44, 0x61, 0x64, 0x18, 0xd3, 0xb0, 0x9a, 0x82, 0xdc, 0x5c, 0x75, 0x3d, 0x52,
 ];
 
 // mov64 r0, VALUE; exit
@@ -29,9 +30,9 @@ fn keeps_bytes_once(rt: HostRuntime) -> Result<(), Fail> {
     assert_eq!(rt; Sha256::digest("abc"), ABC);
     let mut store = UploadStore::new(rt.alloc());
     assert_eq!(rt; store.len(), 0);
-    let id = store.upload(rt.alloc(), &answer(1))?;
-    assert_eq!(rt; id, ProgramId(ONE));
-    assert_eq!(rt; store.upload(rt.alloc(), &answer(1))?, id);
+    let id = store.upload(rt.alloc(), &answer(0))?;
+    assert_eq!(rt; id, ProgramId(ZERO));
+    assert_eq!(rt; store.upload(rt.alloc(), &answer(0))?, id);
     assert_eq!(rt; store.len(), 1);
     let program = store.get(&id).ok_or("not kept")?;
     assert_eq!(rt; program.code().slot_count(), 2);
@@ -39,6 +40,7 @@ fn keeps_bytes_once(rt: HostRuntime) -> Result<(), Fail> {
     Ok(())
 }
 
+// 256 programs, then one more: 43, then the first again: its id.
 #[test]
 fn holds_256(rt: HostRuntime) -> Result<(), Fail> {
     let mut store = UploadStore::new(rt.alloc());
@@ -48,33 +50,41 @@ fn holds_256(rt: HostRuntime) -> Result<(), Fail> {
     assert_eq!(rt; store.len(), MAX_PROGRAMS);
     let refusal = store.upload(rt.alloc(), &answer(256)).err();
     assert_eq!(rt; refusal.map(|fault| fault.number()), Some(43));
-    assert_eq!(rt; refusal.and_then(|fault| fault.slot()), None);
-    assert_eq!(rt; store.upload(rt.alloc(), &answer(1))?, ProgramId(ONE));
+    assert_eq!(rt; store.upload(rt.alloc(), &answer(0))?, ProgramId(ZERO));
     assert_eq!(rt; store.len(), 256);
     Ok(())
 }
 
 #[test]
-fn refuses_with_slots(rt: HostRuntime) -> Result<(), Fail> {
+fn refuses_in_words(rt: HostRuntime) -> Result<(), Fail> {
     let mut store = UploadStore::new(rt.alloc());
-    store.upload(rt.alloc(), &answer(1))?;
-    let exit = [0x95, 0, 0, 0, 0, 0, 0, 0];
-    let mut unread = [0; 16];
+    let mut unread = answer(0);
     unread[..2].copy_from_slice(&[0xbf, 0x20]);
-    unread[8..].copy_from_slice(&exit);
-    let mut unknown = unread;
-    unknown[8..].copy_from_slice(&[0; 8]);
-    let rows: [(&[u8], u32, Option<u32>); 4] = [
-        (&[], 1, None),
-        (&exit[..7], 3, None),
-        (&unread, 15, Some(0)),
-        (&unknown, 4, Some(1)),
+    let Err(refusal) = store.upload(rt.alloc(), &unread) else {
+        return Err(Fail::from("accepted"));
+    };
+    assert_eq!(rt; store.len(), 0);
+    let rows = [
+        (
+            refusal,
+            15,
+            Some(Place::Slot(0)),
+            "slot 0: a register is read that can't be",
+        ),
+        (
+            UploadFault::DigestClash,
+            42,
+            None,
+            "other bytes are kept under this digest",
+        ),
+        (UploadFault::StoreFull, 43, None, "the store is full"),
+        (UploadFault::OutOfMemory, 90, None, "out of memory"),
     ];
-    for (bytes, number, slot) in rows {
-        let refusal = store.upload(rt.alloc(), bytes).err();
-        assert_eq!(rt; refusal.map(|fault| fault.number()), Some(number));
-        assert_eq!(rt; refusal.and_then(|fault| fault.slot()), slot);
-        assert_eq!(rt; store.len(), 1);
+    for (fault, number, place, words) in rows {
+        assert_eq!(rt; fault.number(), number);
+        assert_eq!(rt; fault.place(), place);
+        let told = format!(in rt.alloc(); "{fault}")?;
+        assert_eq!(rt; told.as_str(), words);
     }
     Ok(())
 }
@@ -83,16 +93,15 @@ fn refuses_with_slots(rt: HostRuntime) -> Result<(), Fail> {
 #[test]
 fn survives_want_of_memory(rt: HostRuntime) {
     let mut store = UploadStore::new(rt.alloc());
-    let first = store.upload(rt.alloc(), &answer(1));
+    let first = store.upload(rt.alloc(), &answer(0));
     if let Err(fault) = first {
         assert_eq!(rt; fault, UploadFault::OutOfMemory);
         assert_eq!(rt; store.len(), 0);
     }
-    let second = store.upload(rt.alloc(), &answer(1));
+    let second = store.upload(rt.alloc(), &answer(0));
     if let Err(fault) = second {
         assert_eq!(rt; fault, UploadFault::OutOfMemory);
-        assert_eq!(rt; fault.number(), 90);
     }
-    assert_eq!(rt; first.or(second).ok(), Some(ProgramId(ONE)));
+    assert_eq!(rt; first.or(second).ok(), Some(ProgramId(ZERO)));
     assert_eq!(rt; store.len(), 1);
 }

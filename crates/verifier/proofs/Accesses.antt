@@ -4,8 +4,8 @@ use Rattle.std.specs.Prelude.{IsTrue, pos, negsuc, ◌≤ℤ◌, ◌+ℤ◌, nat
 use Rattle.std.specs.Int.{w16}
 use Rattle.std.proofs.lemmas.Int.{ints}
 use Rattle.std.proofs.lemmas.Bool.Decides.{nat_tests}
-use Rattle.insn_codec.specs.Machine.{Memory, Placement, IsPlacement, read_bytes, written, address_of, record_len, stack_len}
-use Rattle.abstract_value.specs.StackBytes.{all_written, marked}
+use Rattle.instruction_set.specs.Machine.{Memory, Placement, IsPlacement, read_bytes, written, address_of, record_len, stack_len}
+use Rattle.abstract_value.specs.StackBytes.{all_written, with_marks}
 use Rattle.verifier.proofs.Tags.{the_record, the_stack, ptr, raw, is_in, memory_at}
 
 -- ---- reading
@@ -139,7 +139,7 @@ pub written_there : (stack : Memory) (i n word k : ℕ) → ((b : ℕ) × (stack
 written_there stack i n word k old =
     elim (in_range k i n) [ inl q ↦ (word / 256 ^ (k - i) % 256, rw q.0 refl) | inr q ↦ (old.0, rw q.0 old.1) ]
 
-pub marked_there : (w : ℕ → Bool) (stack : Memory) (i n word k : ℕ) → (IsTrue (w k) → (b : ℕ) × (stack k ≡ Some b)) → IsTrue (marked w i n k) → (b : ℕ) × (written stack i n word k ≡ Some b)
+pub marked_there : (w : ℕ → Bool) (stack : Memory) (i n word k : ℕ) → (IsTrue (w k) → (b : ℕ) × (stack k ≡ Some b)) → IsTrue (with_marks w i n k) → (b : ℕ) × (written stack i n word k ≡ Some b)
 marked_there w stack i n word k old h =
     elim (in_range k i n) [
       | inl q ↦ (word / 256 ^ (k - i) % 256, rw q.0 refl)

@@ -2,15 +2,15 @@
 use Rattle.std.proofs.Common.{◌≡◌, ℕ, ◌+◌, ◌<◌, inl, inr, ap, ◌∙◌, sym, List, length, get_or, set, Option, Some, None}
 use Rattle.std.proofs.Math.Path.{fun_ext}
 use Rattle.std.proofs.lemmas.List.{get_or-set_same, get_or-set_other, get_or_default}
-use Rattle.insn_codec.specs.Machine.{slots_of, insn_at}
-use Rattle.insn_codec.specs.declared.insn.Insn.{Insn}
-use Rattle.abstract_value.specs.Laws.{Ops}
+use Rattle.instruction_set.specs.Machine.{slots_of, insn_at, slot_count}
+use Rattle.instruction_set.specs.declared.insn.Insn.{Insn}
+use Rattle.abstract_value.specs.Domain.{Ops}
 use Rattle.abstract_value.specs.States.{View, put}
-use Rattle.abstract_value.specs.declared.state.State.{State}
+use Rattle.abstract_value.specs.declared.states.State.{State}
 use Rattle.verifier.specs.declared.rule.Rule.TheVariants.{FallsOff}
-use Rattle.verifier.specs.Structure.{slot_count, IsStructured}
+use Rattle.verifier.specs.Structure.{IsStructured}
 use Rattle.verifier.specs.Rules.{fall}
-use Rattle.verifier.specs.Flow.{view_of, look}
+use Rattle.verifier.specs.model.Flow.{view_of, look}
 use Rattle.verifier.proofs.Tags.{tells}
 use Rattle.verifier.proofs.Pass.{fall_goes}
 

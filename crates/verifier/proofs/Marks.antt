@@ -3,14 +3,14 @@ use Rattle.std.proofs.Common.{◌≡◌, ◌≢◌, ℕ, ◌+◌, ◌<◌, ◌�
 use Rattle.std.specs.Prelude.{IfSome}
 use Rattle.std.proofs.lemmas.List.{get_or-set_same, get_or-set_other, get_or-replicate, get_or_past, length-set, length-replicate}
 use Rattle.std.proofs.lemmas.Bool.{cases_lt}
-use Rattle.insn_codec.specs.Machine.{slots_of, insn_at}
-use Rattle.insn_codec.specs.declared.insn.Insn.{Insn}
+use Rattle.instruction_set.specs.Machine.{slots_of, insn_at, slot_count}
+use Rattle.instruction_set.specs.declared.insn.Insn.{Insn}
 use Rattle.verifier.specs.declared.rule.Rule.{Rule}
 use Rattle.verifier.specs.declared.rule.Rule.TheVariants.{Outside, FallsOff}
-use Rattle.verifier.specs.Structure.{distance_of, goes_on, leads_to, LeadsTo, HasEdge, slot_count, MeetsStructure, IsStructured, IsIllStructured}
-use Rattle.verifier.specs.Edges.{FailsStructure, falls_to, HasEdgeBefore, mark, IsSeen}
+use Rattle.verifier.specs.Structure.{distance_of, goes_on, leads_to, LeadsTo, HasEdge, MeetsStructure, IsStructured, IsIllStructured}
+use Rattle.verifier.specs.model.Edges.{FailsStructure, falls_to, HasEdgeBefore, mark, IsSeen}
 use Rattle.verifier.proofs.Tags.{tells}
-use Rattle.verifier.proofs.Places.{some_slots, insn_within}
+use Rattle.instruction_set.specs.laws.Places.{some_slots, one_or_two, none_within, insn_within}
 use Rattle.verifier.proofs.Pass.{leads_past}
 
 marked_length : (reached : List Bool) (to : Option ℕ) → length (mark reached to) ≡ length reached
@@ -156,6 +156,20 @@ seen_more code n i reached long seen is meets =
             ]
           ];
     }
+
+-- over all slots of an instruction
+pub seen_insn : (code : List Insn) (n : ℕ) (i : Insn) (reached : List Bool) → slot_count code ≤ length reached → IsSeen code n reached
+    → insn_at code n ≡ Some i → ((rule : Rule) → MeetsStructure code n i rule)
+    → IsSeen code (n + slots_of i) (mark (mark reached (falls_to n i)) (leads_to n i))
+seen_insn code n i reached long seen is meets =
+    let after = mark (mark reached (falls_to n i)) (leads_to n i) in
+    let one : IsSeen code (n + 1) after = seen_more code n i reached long seen is meets in
+    elim (one_or_two i) [
+      | inl e ↦ subst (λ m. IsSeen code (n + m) after) (sym e) one
+      | inr e ↦
+          let two : n + 1 + 1 ≡ n + slots_of i = omega arith in
+          subst (λ m. IsSeen code m after) two (seen_skipped code (n + 1) after one (none_within code n (n + 1) i is (omega arith) (omega arith)))
+    ]
 
 pub ill : (code : List Insn) (n : ℕ) (i : Insn) (reached : List Bool) (rule : Rule) → IsSeen code n reached → insn_at code n ≡ Some i → FailsStructure code n i rule → IsIllStructured code n rule
 ill code n i reached rule seen is fails = record {

@@ -4,19 +4,19 @@ use Rattle.std.specs.Prelude.{IsTrue, pos, negsuc, ◌≤ℤ◌, ◌+ℤ◌, ◌
 use Rattle.std.specs.Int.{w64, cast_unsigned}
 use Rattle.std.proofs.lemmas.Int.{ints}
 use Rattle.std.proofs.lemmas.Bool.Decides.{nat_tests}
-use Rattle.insn_codec.specs.Machine.{Placement}
-use Rattle.insn_codec.specs.Operations.{alu_of}
-use Rattle.insn_codec.specs.declared.insn.Width.{Width}
-use Rattle.insn_codec.specs.declared.insn.Width.TheVariants.{W32, W64}
-use Rattle.insn_codec.specs.declared.insn.AluOp.{AluOp}
-use Rattle.insn_codec.specs.declared.insn.AluOp.TheVariants.{Add, Sub, Mov}
-use Rattle.abstract_value.specs.Laws.{Ops, Laws}
+use Rattle.instruction_set.specs.Machine.{Placement}
+use Rattle.instruction_set.specs.Operations.{alu_of}
+use Rattle.instruction_set.specs.declared.insn.Width.{Width}
+use Rattle.instruction_set.specs.declared.insn.Width.TheVariants.{W32, W64}
+use Rattle.instruction_set.specs.declared.insn.AluOp.{AluOp}
+use Rattle.instruction_set.specs.declared.insn.AluOp.TheVariants.{Add, Sub, Mov}
+use Rattle.abstract_value.specs.Domain.{Ops, Laws}
 use Rattle.abstract_value.specs.States.{make_span}
-use Rattle.abstract_value.specs.StateLaws.{make_lo, make_hi}
-use Rattle.abstract_value.specs.declared.state.Span.{Span}
-use Rattle.abstract_value.specs.declared.state.RegState.{RegState}
-use Rattle.abstract_value.specs.declared.state.RegState.TheVariants.{Scalar, Record, Stack, Unreadable}
-use Rattle.verifier.specs.Rules.{is_readable, steps_of, is_near, moved_by, moved, is_move, pointers_fit, range_fits, to_record, to_stack, result_of}
+use Rattle.abstract_value.specs.laws.OrderOfStates.{make_lo, make_hi}
+use Rattle.abstract_value.specs.declared.states.Span.{Span}
+use Rattle.abstract_value.specs.declared.states.RegState.{RegState}
+use Rattle.abstract_value.specs.declared.states.RegState.TheVariants.{Scalar, Record, Stack, Unreadable}
+use Rattle.verifier.specs.Rules.{is_readable, steps_of, is_near, moved_by, moved_span, is_move, pointers_fit, operation_in_range, to_record, to_stack, result_of}
 use Rattle.verifier.proofs.Tags.{the_record, the_stack, Tag, num, ptr, base_of, raw, Covers}
 
 pub truth : (b : Bool) → (b ≡ true) ⊎ (b ≡ false)
@@ -170,26 +170,26 @@ module _ {D : Type 0} {o : Ops D} (laws : Laws o) where
 
   -- what operations other than a move give
   pub binary : (w : Width) (op : AluOp) (a b : RegState D) (x y : Tag) → is_mov op ≡ false → IsTrue (is_readable a) → IsTrue (is_readable b) → Covers o a (Some x) → Covers o b (Some y)
-      → IsTrue (pointers_fit w op a b) → IsTrue (range_fits o w op a b) → Result o w op (result_of o w op a b) x y
+      → IsTrue (pointers_fit w op a b) → IsTrue (operation_in_range o w op a b) → Result o w op (result_of o w op a b) x y
   binary w Mov a b x y n r s h k f g = absurd (cc)
   binary W64 Add (Record a) (Scalar b) (ptr the_record k) (num u) n r s h c f g =
       let m = add_moved a k u (steps_of o b) h.0 h.1 (stepped b u c) g in
-      record { tag = ptr the_record m.to; covers = to_record_covers o (moved o Add a b) m.span m.to m.is m.above m.below; word = λ p. m.word p.record_at }
+      record { tag = ptr the_record m.to; covers = to_record_covers o (moved_span o Add a b) m.span m.to m.is m.above m.below; word = λ p. m.word p.record_at }
   binary W64 Add (Stack a) (Scalar b) (ptr the_stack k) (num u) n r s h c f g =
       let m = add_moved a k u (steps_of o b) h.0 h.1 (stepped b u c) g in
-      record { tag = ptr the_stack m.to; covers = to_stack_covers o (moved o Add a b) m.span m.to m.is m.above m.below; word = λ p. m.word (base_of p the_stack) }
+      record { tag = ptr the_stack m.to; covers = to_stack_covers o (moved_span o Add a b) m.span m.to m.is m.above m.below; word = λ p. m.word (base_of p the_stack) }
   binary W64 Add (Scalar b) (Record a) (num u) (ptr the_record k) n r s c h f g =
       let m = add_moved a k u (steps_of o b) h.0 h.1 (stepped b u c) g in
-      record { tag = ptr the_record m.to; covers = to_record_covers o (moved o Add a b) m.span m.to m.is m.above m.below; word = λ p. add_swapped u (raw p (ptr the_record k)) ∙ m.word p.record_at }
+      record { tag = ptr the_record m.to; covers = to_record_covers o (moved_span o Add a b) m.span m.to m.is m.above m.below; word = λ p. add_swapped u (raw p (ptr the_record k)) ∙ m.word p.record_at }
   binary W64 Add (Scalar b) (Stack a) (num u) (ptr the_stack k) n r s c h f g =
       let m = add_moved a k u (steps_of o b) h.0 h.1 (stepped b u c) g in
-      record { tag = ptr the_stack m.to; covers = to_stack_covers o (moved o Add a b) m.span m.to m.is m.above m.below; word = λ p. add_swapped u (raw p (ptr the_stack k)) ∙ m.word (base_of p the_stack) }
+      record { tag = ptr the_stack m.to; covers = to_stack_covers o (moved_span o Add a b) m.span m.to m.is m.above m.below; word = λ p. add_swapped u (raw p (ptr the_stack k)) ∙ m.word (base_of p the_stack) }
   binary W64 Sub (Record a) (Scalar b) (ptr the_record k) (num u) n r s h c f g =
       let m = sub_moved a k u (steps_of o b) h.0 h.1 (stepped b u c) g in
-      record { tag = ptr the_record m.to; covers = to_record_covers o (moved o Sub a b) m.span m.to m.is m.above m.below; word = λ p. m.word p.record_at }
+      record { tag = ptr the_record m.to; covers = to_record_covers o (moved_span o Sub a b) m.span m.to m.is m.above m.below; word = λ p. m.word p.record_at }
   binary W64 Sub (Stack a) (Scalar b) (ptr the_stack k) (num u) n r s h c f g =
       let m = sub_moved a k u (steps_of o b) h.0 h.1 (stepped b u c) g in
-      record { tag = ptr the_stack m.to; covers = to_stack_covers o (moved o Sub a b) m.span m.to m.is m.above m.below; word = λ p. m.word (base_of p the_stack) }
+      record { tag = ptr the_stack m.to; covers = to_stack_covers o (moved_span o Sub a b) m.span m.to m.is m.above m.below; word = λ p. m.word (base_of p the_stack) }
   binary w op (Scalar a) (Scalar b) (num v) (num u) n r s h c f g = record { tag = num (alu_of w op v u); covers = scalars w op a b v u n h c; word = λ p. refl }
     where
       scalars : (w : Width) (op : AluOp) (a b : D) (v u : ℕ) → is_mov op ≡ false → o.holds a v → o.holds b u → Covers o (result_of o w op (Scalar a) (Scalar b)) (Some (num (alu_of w op v u)))

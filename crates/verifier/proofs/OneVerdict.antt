@@ -3,18 +3,19 @@ use Rattle.std.proofs.Common.{◌≡◌, ℕ, ◌+◌, ◌<◌, ◌≤◌, ◌�
 use Rattle.std.specs.Prelude.{IsTrue}
 use Rattle.std.proofs.Math.Path.{fun_ext}
 use Rattle.std.proofs.lemmas.Bool.Decides.{nat_tests}
-use Rattle.insn_codec.specs.declared.insn.Insn.{Insn}
-use Rattle.abstract_value.specs.Laws.{Ops, Laws}
+use Rattle.instruction_set.specs.declared.insn.Insn.{Insn}
+use Rattle.abstract_value.specs.Domain.{Ops, Laws}
 use Rattle.abstract_value.specs.States.{View, ViewBelow}
-use Rattle.abstract_value.specs.StateOrder.{reg_both}
+use Rattle.abstract_value.specs.laws.OrderOfStates.{reg_both}
 use Rattle.verifier.specs.declared.rule.Rule.{Rule}
 use Rattle.verifier.specs.declared.rule.Rule.TheVariants.{Backward, Outside, IntoWide, FallsOff, NoEdge, Unreadable, WritesR10, PointerOperation, PointerRange, PointerCompared, PointerStored, OutsideRecord, WritesRecord, OutsideStack, UnwrittenStack, ScalarAddress, PointerResult}
 use Rattle.verifier.specs.declared.refusal.Refusal.{Refusal}
-use Rattle.verifier.specs.Structure.{rule_number, slot_count, MeetsStructure, IsStructured, IsIllStructured}
+use Rattle.verifier.specs.Structure.{rule_number, MeetsStructure, IsStructured, IsIllStructured}
+use Rattle.instruction_set.specs.Machine.{slot_count}
 use Rattle.verifier.specs.Assignments.{Assignment, Carries, FulfilsBefore, IsTypable, FailsLeast}
 use Rattle.verifier.specs.Rules.{meets}
 use Rattle.verifier.specs.Refusals.{IsUnfulfilled, IsRefusedAt}
-use Rattle.verifier.proofs.Places.{insn_within}
+use Rattle.instruction_set.specs.laws.Places.{insn_within}
 
 -- ---- a rule is known by its number
 

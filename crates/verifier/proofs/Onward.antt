@@ -3,17 +3,17 @@ use Rattle.std.proofs.Common.{◌≡◌, ℕ, ◌+◌, ◌-◌, ◌/◌, ◌%◌
 use Rattle.std.specs.Prelude.{IsTrue, nat_le, nat_lt, not}
 use Rattle.std.specs.Int.{w64, cast_unsigned}
 use Rattle.std.proofs.lemmas.Bool.Decides.{nat_tests}
-use Rattle.insn_codec.specs.Machine.{Memory, Placement, IsPlacement, State, ◌>>=◌, read_bytes, written, bytes_of, address_of, store_at, stack_len, word_in, operand as word_of, set_register, after}
-use Rattle.insn_codec.specs.Operations.{alu_of}
-use Rattle.insn_codec.specs.declared.insn.Width.{Width}
-use Rattle.insn_codec.specs.declared.insn.Size.{Size}
-use Rattle.insn_codec.specs.declared.insn.AluOp.{AluOp}
-use Rattle.insn_codec.specs.declared.insn.AluOp.TheVariants.{Add, Sub, Mul, Div, SDiv, Or, And, Lsh, Rsh, Mod, SMod, Xor, Mov, Arsh}
-use Rattle.insn_codec.specs.declared.insn.Register.{Register}
-use Rattle.insn_codec.specs.declared.insn.Source.{Source}
-use Rattle.insn_codec.specs.declared.insn.Source.TheVariants.{Imm, Reg}
-use Rattle.insn_codec.specs.declared.insn.Insn.{Insn}
-use Rattle.insn_codec.specs.declared.insn.Insn.TheVariants.{Alu, LoadWide}
+use Rattle.instruction_set.specs.Machine.{Memory, Placement, IsPlacement, State, ◌>>=◌, read_bytes, written, bytes_of, address_of, store_at, stack_len, word_in, operand as word_of, set_register, after}
+use Rattle.instruction_set.specs.Operations.{alu_of}
+use Rattle.instruction_set.specs.declared.insn.Width.{Width}
+use Rattle.instruction_set.specs.declared.insn.Size.{Size}
+use Rattle.instruction_set.specs.declared.insn.AluOp.{AluOp}
+use Rattle.instruction_set.specs.declared.insn.AluOp.TheVariants.{Add, Sub, Mul, Div, SDiv, Or, And, Lsh, Rsh, Mod, SMod, Xor, Mov, Arsh}
+use Rattle.instruction_set.specs.declared.insn.Register.{Register}
+use Rattle.instruction_set.specs.declared.insn.Source.{Source}
+use Rattle.instruction_set.specs.declared.insn.Source.TheVariants.{Imm, Reg}
+use Rattle.instruction_set.specs.declared.insn.Insn.{Insn}
+use Rattle.instruction_set.specs.declared.insn.Insn.TheVariants.{Alu, LoadWide}
 use Rattle.verifier.proofs.Tags.{Tag, num, raw, raw_option, Tagged, Matches, memory_at, word_at, with_tag, set_on}
 use Rattle.verifier.proofs.Accesses.{read_same, stack_written}
 use Rattle.verifier.proofs.Moves.{is_mov}

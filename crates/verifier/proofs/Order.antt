@@ -3,18 +3,18 @@ use Rattle.std.proofs.Common.{◌≡◌, ℕ, zero, suc, ◌+◌, ◌-◌, ◌^�
 use Rattle.std.specs.Prelude.{IsTrue, pos, negsuc, ◌≤ℤ◌, ◌+ℤ◌, ◌-ℤ◌, nat_le, not}
 use Rattle.std.proofs.lemmas.Int.{ints}
 use Rattle.std.proofs.lemmas.Bool.Decides.{nat_tests}
-use Rattle.insn_codec.specs.declared.insn.Width.{Width}
-use Rattle.insn_codec.specs.declared.insn.Width.TheVariants.{W32, W64}
-use Rattle.insn_codec.specs.declared.insn.AluOp.{AluOp}
-use Rattle.insn_codec.specs.declared.insn.AluOp.TheVariants.{Add, Sub, Mov}
-use Rattle.abstract_value.specs.Laws.{Ops, Laws}
+use Rattle.instruction_set.specs.declared.insn.Width.{Width}
+use Rattle.instruction_set.specs.declared.insn.Width.TheVariants.{W32, W64}
+use Rattle.instruction_set.specs.declared.insn.AluOp.{AluOp}
+use Rattle.instruction_set.specs.declared.insn.AluOp.TheVariants.{Add, Sub, Mov}
+use Rattle.abstract_value.specs.Domain.{Ops, Laws}
 use Rattle.abstract_value.specs.StackBytes.{all_written}
 use Rattle.abstract_value.specs.States.{make_span, span_below, reg_below}
-use Rattle.abstract_value.specs.StateLaws.{span_within, within_span, make_lo, make_hi}
-use Rattle.abstract_value.specs.declared.state.Span.{Span}
-use Rattle.abstract_value.specs.declared.state.RegState.{RegState}
-use Rattle.abstract_value.specs.declared.state.RegState.TheVariants.{Scalar, Record, Stack, Unreadable}
-use Rattle.verifier.specs.Rules.{is_readable, is_pointer, is_scalar, steps_of, is_near, span_moved, moved_by, moved, is_move, pointers_fit, range_fits, to_record, to_stack, of_scalar, result_of}
+use Rattle.abstract_value.specs.laws.OrderOfStates.{span_within, within_span, make_lo, make_hi}
+use Rattle.abstract_value.specs.declared.states.Span.{Span}
+use Rattle.abstract_value.specs.declared.states.RegState.{RegState}
+use Rattle.abstract_value.specs.declared.states.RegState.TheVariants.{Scalar, Record, Stack, Unreadable}
+use Rattle.verifier.specs.Rules.{is_readable, is_pointer, is_scalar, steps_of, is_near, span_moved, moved_by, moved_span, is_move, pointers_fit, operation_in_range, to_record, to_stack, of_scalar, result_of}
 use Rattle.verifier.proofs.Moves.{is_mov}
 
 pub both : (a b : Bool) → IsTrue (a && b) → IsTrue a × IsTrue b
@@ -182,13 +182,13 @@ module _ {D : Type 0} {o : Ops D} (laws : Laws o) where
   steps_down a b h = let p = laws.bounds_widen a b h in steps_within (o.low a) (o.high a) (o.low b) (o.high b) p.0 p.1 (laws.bounds_ordered a)
 
   -- operands in range are so in each state below
-  pub range_down : (w : Width) (op : AluOp) {a b c e : RegState D} → Readable o a b → Readable o c e → IsTrue (range_fits o w op b e) → IsTrue (range_fits o w op a c)
-  range_down W64 Add (records a b h) (numbers c e k) f = is_move_down (moved o Add a c) (moved o Add b e) (add_steps_down a b (steps_of o c) (steps_of o e) h (steps_down c e k)) f
-  range_down W64 Add (stacks a b h) (numbers c e k) f = is_move_down (moved o Add a c) (moved o Add b e) (add_steps_down a b (steps_of o c) (steps_of o e) h (steps_down c e k)) f
-  range_down W64 Add (numbers c e k) (records a b h) f = is_move_down (moved o Add a c) (moved o Add b e) (add_steps_down a b (steps_of o c) (steps_of o e) h (steps_down c e k)) f
-  range_down W64 Add (numbers c e k) (stacks a b h) f = is_move_down (moved o Add a c) (moved o Add b e) (add_steps_down a b (steps_of o c) (steps_of o e) h (steps_down c e k)) f
-  range_down W64 Sub (records a b h) (numbers c e k) f = is_move_down (moved o Sub a c) (moved o Sub b e) (sub_steps_down a b (steps_of o c) (steps_of o e) h (steps_down c e k)) f
-  range_down W64 Sub (stacks a b h) (numbers c e k) f = is_move_down (moved o Sub a c) (moved o Sub b e) (sub_steps_down a b (steps_of o c) (steps_of o e) h (steps_down c e k)) f
+  pub range_down : (w : Width) (op : AluOp) {a b c e : RegState D} → Readable o a b → Readable o c e → IsTrue (operation_in_range o w op b e) → IsTrue (operation_in_range o w op a c)
+  range_down W64 Add (records a b h) (numbers c e k) f = is_move_down (moved_span o Add a c) (moved_span o Add b e) (add_steps_down a b (steps_of o c) (steps_of o e) h (steps_down c e k)) f
+  range_down W64 Add (stacks a b h) (numbers c e k) f = is_move_down (moved_span o Add a c) (moved_span o Add b e) (add_steps_down a b (steps_of o c) (steps_of o e) h (steps_down c e k)) f
+  range_down W64 Add (numbers c e k) (records a b h) f = is_move_down (moved_span o Add a c) (moved_span o Add b e) (add_steps_down a b (steps_of o c) (steps_of o e) h (steps_down c e k)) f
+  range_down W64 Add (numbers c e k) (stacks a b h) f = is_move_down (moved_span o Add a c) (moved_span o Add b e) (add_steps_down a b (steps_of o c) (steps_of o e) h (steps_down c e k)) f
+  range_down W64 Sub (records a b h) (numbers c e k) f = is_move_down (moved_span o Sub a c) (moved_span o Sub b e) (sub_steps_down a b (steps_of o c) (steps_of o e) h (steps_down c e k)) f
+  range_down W64 Sub (stacks a b h) (numbers c e k) f = is_move_down (moved_span o Sub a c) (moved_span o Sub b e) (sub_steps_down a b (steps_of o c) (steps_of o e) h (steps_down c e k)) f
   range_down W32 op h k f = refl
   range_down W64 op h k f = refl
 
@@ -206,13 +206,13 @@ module _ {D : Type 0} {o : Ops D} (laws : Laws o) where
   pub result_up : (w : Width) (op : AluOp) {a b c e : RegState D} → is_mov op ≡ false → Readable o a b → Readable o c e → IsTrue (reg_below o (result_of o w op a c) (result_of o w op b e))
   result_up w Mov n h k = absurd (cc)
   result_up W64 Add n (numbers a b h) (numbers c e k) = laws.alu_monotone W64 Add a c b e h k
-  result_up W64 Add n (records a b h) (numbers c e k) = to_record_up (moved o Add a c) (moved o Add b e) (add_steps_down a b (steps_of o c) (steps_of o e) h (steps_down c e k))
-  result_up W64 Add n (stacks a b h) (numbers c e k) = to_stack_up (moved o Add a c) (moved o Add b e) (add_steps_down a b (steps_of o c) (steps_of o e) h (steps_down c e k))
-  result_up W64 Add n (numbers c e k) (records a b h) = to_record_up (moved o Add a c) (moved o Add b e) (add_steps_down a b (steps_of o c) (steps_of o e) h (steps_down c e k))
-  result_up W64 Add n (numbers c e k) (stacks a b h) = to_stack_up (moved o Add a c) (moved o Add b e) (add_steps_down a b (steps_of o c) (steps_of o e) h (steps_down c e k))
+  result_up W64 Add n (records a b h) (numbers c e k) = to_record_up (moved_span o Add a c) (moved_span o Add b e) (add_steps_down a b (steps_of o c) (steps_of o e) h (steps_down c e k))
+  result_up W64 Add n (stacks a b h) (numbers c e k) = to_stack_up (moved_span o Add a c) (moved_span o Add b e) (add_steps_down a b (steps_of o c) (steps_of o e) h (steps_down c e k))
+  result_up W64 Add n (numbers c e k) (records a b h) = to_record_up (moved_span o Add a c) (moved_span o Add b e) (add_steps_down a b (steps_of o c) (steps_of o e) h (steps_down c e k))
+  result_up W64 Add n (numbers c e k) (stacks a b h) = to_stack_up (moved_span o Add a c) (moved_span o Add b e) (add_steps_down a b (steps_of o c) (steps_of o e) h (steps_down c e k))
   result_up W64 Sub n (numbers a b h) (numbers c e k) = laws.alu_monotone W64 Sub a c b e h k
-  result_up W64 Sub n (records a b h) (numbers c e k) = to_record_up (moved o Sub a c) (moved o Sub b e) (sub_steps_down a b (steps_of o c) (steps_of o e) h (steps_down c e k))
-  result_up W64 Sub n (stacks a b h) (numbers c e k) = to_stack_up (moved o Sub a c) (moved o Sub b e) (sub_steps_down a b (steps_of o c) (steps_of o e) h (steps_down c e k))
+  result_up W64 Sub n (records a b h) (numbers c e k) = to_record_up (moved_span o Sub a c) (moved_span o Sub b e) (sub_steps_down a b (steps_of o c) (steps_of o e) h (steps_down c e k))
+  result_up W64 Sub n (stacks a b h) (numbers c e k) = to_stack_up (moved_span o Sub a c) (moved_span o Sub b e) (sub_steps_down a b (steps_of o c) (steps_of o e) h (steps_down c e k))
   result_up W32 op n (numbers a b h) (numbers c e k) = laws.alu_monotone W32 op a c b e h k
   result_up W64 op n (numbers a b h) (numbers c e k) = laws.alu_monotone W64 op a c b e h k
   result_up W32 op n h k = refl

@@ -3,21 +3,21 @@ use Rattle.std.proofs.Common.{◌≡◌, ◌≢◌, ℕ, zero, suc, ◌+◌, ◌
 use Rattle.std.specs.Prelude.{IsSome, IfSome, nat_lt, pos, negsuc}
 use Rattle.std.proofs.lemmas.Bool.Decides.{nat_tests}
 use Rattle.std.proofs.lemmas.List.Sums.{sum_by-cons}
-use Rattle.insn_codec.specs.Encoding.{IsListed, IsCode}
-use Rattle.insn_codec.specs.Machine.{slots_of, insn_at}
-use Rattle.insn_codec.specs.declared.insn.Insn.{Insn}
-use Rattle.insn_codec.specs.declared.insn.Insn.TheVariants.{Jump, JumpLong, Exit}
-use Rattle.abstract_value.specs.Laws.{Ops, Laws}
+use Rattle.instruction_set.specs.Slots.{IsListed, IsCode}
+use Rattle.instruction_set.specs.Machine.{slots_of, insn_at, slot_count}
+use Rattle.instruction_set.specs.declared.insn.Insn.{Insn}
+use Rattle.instruction_set.specs.declared.insn.Insn.TheVariants.{Jump, JumpLong, Exit}
+use Rattle.abstract_value.specs.Domain.{Ops, Laws}
 use Rattle.abstract_value.specs.States.{View, ViewBelow, view_join, entry}
-use Rattle.abstract_value.specs.StateLaws.{view_same, view_through, view_left, view_right, view_least}
+use Rattle.abstract_value.specs.laws.OrderOfStates.{view_same, view_through, view_left, view_right, view_least}
 use Rattle.verifier.specs.declared.rule.Rule.{Rule}
 use Rattle.verifier.specs.declared.rule.Rule.TheVariants.{Outside, IntoWide, FallsOff}
-use Rattle.verifier.specs.Structure.{distance_of, goes_on, forward_target, leads_to, slot_count, IsStructured}
+use Rattle.verifier.specs.Structure.{distance_of, goes_on, forward_target, leads_to, IsStructured}
 use Rattle.verifier.specs.Rules.{Passes, fall, jump}
 use Rattle.verifier.specs.Assignments.{Assignment, Carries, EdgeCarries, FulfilsBefore, IsTypable, IsLeast, FailsLeast}
-use Rattle.verifier.specs.Flow.{flowed, flow, flow_edge, look}
+use Rattle.verifier.specs.model.Flow.{flowed, flow, flow_edge, look}
 use Rattle.verifier.proofs.Tags.{tells}
-use Rattle.verifier.proofs.Places.{first, later, stands, some_slots, insn_within, insn_all}
+use Rattle.instruction_set.specs.laws.Places.{first, later, stands, some_slots, insn_within, insn_all, one_or_two, none_within}
 use Rattle.verifier.proofs.RuleOrder.{FlowBelow, passes_down, fall_up, jump_up}
 
 -- ---- places
@@ -252,6 +252,24 @@ module _ {D : Type 0} {o : Ops D} (laws : Laws o) where
         };
         least = λ others g. m.least others (fulfils_upto code n (n + 1) others (omega arith) g);
       }
+
+  -- over all slots of an instruction
+  pub over_insn : (code : List Insn) (n : ℕ) (i : Insn) (states : Assignment D) → insn_at code n ≡ Some i → IsLeast o code (n + 1) states → IsLeast o code (n + slots_of i) states
+  over_insn code n i states is m =
+      elim (one_or_two i) [
+        | inl e ↦ subst (λ w. IsLeast o code (n + w) states) (sym e) m
+        | inr e ↦
+            let two : n + 1 + 1 ≡ n + slots_of i = omega arith in
+            let none : insn_at code (n + 1) ≡ None = none_within code n (n + 1) i is (omega arith) (omega arith) in
+            subst (λ w. IsLeast o code w states) two (skipped code (n + 1) states m (stateless (states (n + 1)) (λ s g. nowhere (insn_at code (n + 1)) none (m.fulfils.inside (n + 1) s g))))
+      ]
+    where
+      nowhere : (x : Option Insn) → x ≡ None → IsSome x → ⊥
+      nowhere x e h = absurd (cc)
+
+      stateless : (x : Option (View D)) → ((s : View D) → x ≡ Some s → ⊥) → x ≡ None
+      stateless None h = refl
+      stateless (Some s) h = absurd (h s refl)
 
   -- at a refusal no assignment fulfils the rules
   pub refused : (code : List Insn) (slot : ℕ) (rule : Rule) → FailsLeast o code slot rule → (states : Assignment D) → FulfilsBefore o code (slot + 1) states → ⊥

@@ -3,16 +3,16 @@ use Rattle.std.proofs.Common.{◌≡◌, ℕ, ◌+◌, ◌-◌, ◌*◌, ◌^◌
 use Rattle.std.specs.Prelude.{IsTrue, pos, negsuc, ◌≤ℤ◌, ◌+ℤ◌, ◌-ℤ◌, int_le, not, slice_index, FitsSigned}
 use Rattle.std.specs.Int.{w16}
 use Rattle.std.proofs.lemmas.Int.{ints}
-use Rattle.insn_codec.specs.Machine.{Memory, Placement, IsPlacement, IsRecord, read_bytes, written, bytes_of, address_of, record_len, stack_len}
-use Rattle.insn_codec.specs.declared.insn.Size.{Size}
-use Rattle.insn_codec.specs.declared.insn.Size.TheVariants.{Byte as byte_size, Half, Word, Double}
-use Rattle.abstract_value.specs.Laws.{Ops}
-use Rattle.abstract_value.specs.StackBytes.{all_written, marked}
+use Rattle.instruction_set.specs.Machine.{Memory, Placement, IsPlacement, IsRecord, read_bytes, written, bytes_of, address_of, record_len, stack_len}
+use Rattle.instruction_set.specs.declared.insn.Size.{Size}
+use Rattle.instruction_set.specs.declared.insn.Size.TheVariants.{Byte as byte_size, Half, Word, Double}
+use Rattle.abstract_value.specs.Domain.{Ops}
+use Rattle.abstract_value.specs.StackBytes.{all_written, with_marks}
 use Rattle.abstract_value.specs.States.{View}
-use Rattle.abstract_value.specs.declared.state.Span.{Span}
-use Rattle.abstract_value.specs.declared.state.RegState.{RegState}
-use Rattle.abstract_value.specs.declared.state.RegState.TheVariants.{Record, Stack}
-use Rattle.verifier.specs.Rules.{is_readable, is_scalar, Access, access_of, in_record, in_stack, whole, stack_index, is_written_at, Reach, inside_record, leaves_record, inside_stack, finds_written, marks, stored}
+use Rattle.abstract_value.specs.declared.states.Span.{Span}
+use Rattle.abstract_value.specs.declared.states.RegState.{RegState}
+use Rattle.abstract_value.specs.declared.states.RegState.TheVariants.{Record, Stack}
+use Rattle.verifier.specs.Rules.{is_readable, is_scalar, Reach, reach_of, in_record, in_stack, whole, stack_index, is_written_at, Access, inside_record, spares_record, inside_stack, finds_written, marks, after_store}
 use Rattle.verifier.proofs.Tags.{the_record, the_stack, Tag, ptr, raw, Tagged, memory_at, Covers, Covered}
 use Rattle.verifier.proofs.Accesses.{read_same, reads_some, whole_of, record_address, stack_address, record_byte, stack_byte, both, each_written, written_there, marked_there, written_small}
 use Rattle.verifier.proofs.Moves.{truth}
@@ -42,7 +42,7 @@ pub record ReadAt (bytes : List ℕ) (stack : Memory) (x : Option Tag) (offset :
   pub reads : (p : Placement) → IsPlacement p → read_bytes (memory_at p bytes stack) (address_of (raw p tag) offset) n ≡ Some word
 
 read_record : (bytes : List ℕ) (stack : Memory) (a : Span) (k offset : ℤ) (size : Size) → IsRecord bytes → a.lo ≤ℤ k → k ≤ℤ a.hi → FitsSigned w16 offset
-    → IsTrue (in_record (access_of a offset size)) → ReadAt bytes stack (Some (ptr the_record k)) offset (bytes_of size)
+    → IsTrue (in_record (reach_of a offset size)) → ReadAt bytes stack (Some (ptr the_record k)) offset (bytes_of size)
 read_record bytes stack a k offset size rec l h f inside =
     let n = bytes_of size in
     let some = some_bytes size in
@@ -107,11 +107,11 @@ place a k offset n l h inside =
       single = λ s. omega (arith, ints);
     }
 
-written_to : (w : ℕ → Bool) (a : Access) (from wide : ℕ) → stack_index a.lo ≡ from → whole (a.hi -ℤ a.lo) ≡ wide → IsTrue (is_written_at w a) → IsTrue (all_written w from (wide + a.len))
+written_to : (w : ℕ → Bool) (a : Reach) (from wide : ℕ) → stack_index a.lo ≡ from → whole (a.hi -ℤ a.lo) ≡ wide → IsTrue (is_written_at w a) → IsTrue (all_written w from (wide + a.len))
 written_to w a from wide e f h = subst (λ n. IsTrue (all_written w from (n + a.len))) f (subst (λ k. IsTrue (all_written w k (whole (a.hi -ℤ a.lo) + a.len))) e h)
 
 read_stack : (bytes : List ℕ) (stack : Memory) (w : ℕ → Bool) (a : Span) (k offset : ℤ) (size : Size) → ((j : ℕ) → IsTrue (w j) → (b : ℕ) × (stack j ≡ Some b)) → ((j b : ℕ) → stack j ≡ Some b → b < 256)
-    → a.lo ≤ℤ k → k ≤ℤ a.hi → FitsSigned w16 offset → IsTrue (in_stack (access_of a offset size)) → IsTrue (is_written_at w (access_of a offset size)) → ReadAt bytes stack (Some (ptr the_stack k)) offset (bytes_of size)
+    → a.lo ≤ℤ k → k ≤ℤ a.hi → FitsSigned w16 offset → IsTrue (in_stack (reach_of a offset size)) → IsTrue (is_written_at w (reach_of a offset size)) → ReadAt bytes stack (Some (ptr the_stack k)) offset (bytes_of size)
 read_stack bytes stack w a k offset size there small l h f inside all =
     let n = bytes_of size in
     let some = some_bytes size in
@@ -121,7 +121,7 @@ read_stack bytes stack w a k offset size there small l h f inside all =
     let above : q.from ≤ q.index = q.above in
     let below : q.index ≤ q.from + q.wide = q.below in
     let room : q.index + n ≤ stack_len = q.room in
-    let each = written_to w (access_of a offset size) q.from q.wide q.from_is q.wide_is all in
+    let each = written_to w (reach_of a offset size) q.from q.wide q.from_is q.wide_is all in
     let word = reads_some stack q.index n (λ j s.
     let i = q.index + j - q.from in
     let e : q.from + i ≡ q.index + j = omega arith in
@@ -143,7 +143,7 @@ read_stack bytes stack w a k offset size there small l h f inside all =
 
 -- a load that passes reads a word
 pub load_there : {D : Type 0} (o : Ops D) (bytes : List ℕ) (s : View D) (t : Tagged) (a : RegState D) (x : Option Tag) (offset : ℤ) (size : Size) (base : ℕ) → IsRecord bytes → Covered o s t → FitsSigned w16 offset
-    → (let r : Reach = record { base = base; offset = offset; size = size; is_store = false } in
+    → (let r : Access = record { base = base; offset = offset; size = size; is_store = false } in
     Covers o a x → IsTrue (is_readable a) → IsTrue (inside_record a r) → IsTrue (inside_stack a r) → IsTrue (finds_written s.written a r) → IsTrue (not (is_scalar a)) → ReadAt bytes t.stack x offset (bytes_of size))
 load_there o bytes s t (Record a) (Some (ptr the_record k)) offset size base rec c f h r ir is w sc = read_record bytes t.stack a k offset size rec h.0 h.1 f ir
 load_there o bytes s t (Stack a) (Some (ptr the_stack k)) offset size base rec c f h r ir is w sc = read_stack bytes t.stack s.written a k offset size c.written c.small h.0 h.1 f is w
@@ -156,22 +156,22 @@ pub record StoreAt {D : Type 0} (o : Ops D) (s : View D) (t : Tagged) (a : RegSt
   pub index : ℕ
   pub room : index + bytes_of size ≤ stack_len
   pub address : (p : Placement) → IsPlacement p → address_of (raw p tag) offset ≡ p.stack_at + index
-  pub covers : (word : ℕ) → Covered o (stored s a offset size) (with_stack t (written t.stack index (bytes_of size) word))
+  pub covers : (word : ℕ) → Covered o (after_store s a offset size) (with_stack t (written t.stack index (bytes_of size) word))
 
-store_written : (w : ℕ → Bool) (a : Access) (stack : Memory) (from index word : ℕ) → stack_index a.lo ≡ from → (a.hi ≤ℤ a.lo → index ≡ from) → ((j : ℕ) → IsTrue (w j) → (b : ℕ) × (stack j ≡ Some b))
+store_written : (w : ℕ → Bool) (a : Reach) (stack : Memory) (from index word : ℕ) → stack_index a.lo ≡ from → (a.hi ≤ℤ a.lo → index ≡ from) → ((j : ℕ) → IsTrue (w j) → (b : ℕ) × (stack j ≡ Some b))
     → (j : ℕ) → IsTrue (marks w a j) → (b : ℕ) × (written stack index a.len word j ≡ Some b)
 store_written w a stack from index word e single there j h =
     elim (truth (int_le a.hi a.lo)) [
       | inl q ↦
           let g : stack_index a.lo ≡ index = e ∙ sym (single (le_tells a.hi a.lo q)) in
-          let m : IsTrue (marked w (stack_index a.lo) a.len j) = rw q at h in
-          marked_there w stack index a.len word j (there j) (subst (λ i. IsTrue (marked w i a.len j)) g m)
+          let m : IsTrue (with_marks w (stack_index a.lo) a.len j) = rw q at h in
+          marked_there w stack index a.len word j (there j) (subst (λ i. IsTrue (with_marks w i a.len j)) g m)
       | inr q ↦ let m : IsTrue (w j) = rw q at h in written_there stack index a.len word j (there j m)
     ]
 
 pub store_there : {D : Type 0} (o : Ops D) (s : View D) (t : Tagged) (a : RegState D) (x : Option Tag) (offset : ℤ) (size : Size) (base : ℕ) → Covered o s t → FitsSigned w16 offset
-    → (let r : Reach = record { base = base; offset = offset; size = size; is_store = true } in
-    Covers o a x → IsTrue (is_readable a) → IsTrue (leaves_record a r) → IsTrue (inside_stack a r) → IsTrue (not (is_scalar a)) → StoreAt o s t a x offset size)
+    → (let r : Access = record { base = base; offset = offset; size = size; is_store = true } in
+    Covers o a x → IsTrue (is_readable a) → IsTrue (spares_record a r) → IsTrue (inside_stack a r) → IsTrue (not (is_scalar a)) → StoreAt o s t a x offset size)
 store_there o s t (Stack a) (Some (ptr the_stack k)) offset size base c f h r lr is sc =
     let n = bytes_of size in
     let q = place a k offset n h.0 h.1 is in
@@ -189,7 +189,7 @@ store_there o s t (Stack a) (Some (ptr the_stack k)) offset size base c f h r lr
       address = λ p placed. stack_address p placed k offset q.index (omega (arith, ints)) (omega (arith, ints)) f q.index_is (omega arith);
       covers = λ word. record {
         registers = c.registers;
-        written = store_written s.written (access_of a offset size) t.stack q.from q.index word q.from_is (λ g. q.single (omega (arith, ints))) c.written;
+        written = store_written s.written (reach_of a offset size) t.stack q.from q.index word q.from_is (λ g. q.single (omega (arith, ints))) c.written;
         small = λ j b e. written_small t.stack q.index n word j b (c.small j) e;
       };
     }

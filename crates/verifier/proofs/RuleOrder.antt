@@ -4,29 +4,29 @@ use Rattle.std.specs.Prelude.{IsTrue, pos, ◌≤ℤ◌, ◌+ℤ◌, ◌-ℤ◌,
 use Rattle.std.specs.List.{list_all}
 use Rattle.std.specs.Int.{w64, cast_unsigned}
 use Rattle.std.proofs.lemmas.Int.{ints}
-use Rattle.insn_codec.specs.Encoding.{IsListed}
-use Rattle.insn_codec.specs.Machine.{stack_len, record_len, bytes_of}
-use Rattle.insn_codec.specs.Operations.{low}
-use Rattle.insn_codec.specs.declared.insn.Size.{Size}
-use Rattle.insn_codec.specs.declared.insn.Width.{Width}
-use Rattle.insn_codec.specs.declared.insn.Width.TheVariants.{W32, W64}
-use Rattle.insn_codec.specs.declared.insn.Test.{Test}
-use Rattle.insn_codec.specs.declared.insn.AluOp.{AluOp}
-use Rattle.insn_codec.specs.declared.insn.AluOp.TheVariants.{Add, Sub, Mov}
-use Rattle.insn_codec.specs.declared.insn.Register.{Register}
-use Rattle.insn_codec.specs.declared.insn.Source.{Source}
-use Rattle.insn_codec.specs.declared.insn.Source.TheVariants.{Imm, Reg}
-use Rattle.insn_codec.specs.declared.insn.Insn.{Insn}
-use Rattle.insn_codec.specs.declared.insn.Insn.TheVariants.{Alu, Neg, MovSx, End, LoadWide, Load, LoadSx, Store, StoreImm, Jump, JumpLong, JumpIf, Exit}
-use Rattle.abstract_value.specs.Laws.{Ops, Laws, BelowPair}
-use Rattle.abstract_value.specs.StackBytes.{all_written, marked}
+use Rattle.instruction_set.specs.Slots.{IsListed}
+use Rattle.instruction_set.specs.Machine.{stack_len, record_len, bytes_of}
+use Rattle.instruction_set.specs.Operations.{low}
+use Rattle.instruction_set.specs.declared.insn.Size.{Size}
+use Rattle.instruction_set.specs.declared.insn.Width.{Width}
+use Rattle.instruction_set.specs.declared.insn.Width.TheVariants.{W32, W64}
+use Rattle.instruction_set.specs.declared.insn.Test.{Test}
+use Rattle.instruction_set.specs.declared.insn.AluOp.{AluOp}
+use Rattle.instruction_set.specs.declared.insn.AluOp.TheVariants.{Add, Sub, Mov}
+use Rattle.instruction_set.specs.declared.insn.Register.{Register}
+use Rattle.instruction_set.specs.declared.insn.Source.{Source}
+use Rattle.instruction_set.specs.declared.insn.Source.TheVariants.{Imm, Reg}
+use Rattle.instruction_set.specs.declared.insn.Insn.{Insn}
+use Rattle.instruction_set.specs.declared.insn.Insn.TheVariants.{Alu, Neg, MovSx, End, LoadWide, Load, LoadSx, Store, StoreImm, Jump, JumpLong, JumpIf, Exit}
+use Rattle.abstract_value.specs.Domain.{Ops, Laws, BelowPair}
+use Rattle.abstract_value.specs.StackBytes.{all_written, with_marks}
 use Rattle.abstract_value.specs.States.{View, ViewBelow, span_below, reg_below, with_register}
-use Rattle.abstract_value.specs.StateLaws.{span_within}
-use Rattle.abstract_value.specs.declared.state.Span.{Span}
-use Rattle.abstract_value.specs.declared.state.RegState.{RegState}
-use Rattle.abstract_value.specs.declared.state.RegState.TheVariants.{Scalar}
+use Rattle.abstract_value.specs.laws.OrderOfStates.{span_within}
+use Rattle.abstract_value.specs.declared.states.Span.{Span}
+use Rattle.abstract_value.specs.declared.states.RegState.{RegState}
+use Rattle.abstract_value.specs.declared.states.RegState.TheVariants.{Scalar}
 use Rattle.verifier.specs.declared.rule.Rule.TheVariants.{Backward, Outside, IntoWide, FallsOff, NoEdge, Unreadable as unreadable_rule, WritesR10, PointerOperation, PointerRange, PointerCompared, PointerStored, OutsideRecord, WritesRecord, OutsideStack, UnwrittenStack, ScalarAddress, PointerResult}
-use Rattle.verifier.specs.Rules.{is_readable, is_pointer, is_scalar, reads, source_reads, operand, access_of, whole, stack_index, is_written_at, Reach, inside_record, leaves_record, inside_stack, finds_written, of_reach, meets, Passes, range_fits, result_of, marks, stored, cut_one, cut_both, refined_imm, refined_pair, refined, fall, jump}
+use Rattle.verifier.specs.Rules.{is_readable, is_pointer, is_scalar, reads, source_reads, operand, reach_of, whole, stack_index, is_written_at, Access, inside_record, spares_record, inside_stack, finds_written, of_access, meets, Passes, operation_in_range, result_of, marks, after_store, cut_one, cut_both, refined_imm, refined_pair, on_edge, fall, jump}
 use Rattle.verifier.proofs.Accesses.{whole_of}
 use Rattle.verifier.proofs.Moves.{truth, is_mov}
 use Rattle.verifier.proofs.Steps.{reads_alu, source_readable}
@@ -49,17 +49,17 @@ inside_down first end a b offset n h k =
     let u = le_tells ((b.hi +ℤ offset) +ℤ pos n) end q.1 in
     and (int_le first (a.lo +ℤ offset)) (int_le ((a.hi +ℤ offset) +ℤ pos n) end) (le_holds first (a.lo +ℤ offset) (omega (arith, ints))) (le_holds ((a.hi +ℤ offset) +ℤ pos n) end (omega (arith, ints)))
 
-inside_record_down : {D : Type 0} {o : Ops D} {a b : RegState D} (r : Reach) → Readable o a b → IsTrue (inside_record b r) → IsTrue (inside_record a r)
+inside_record_down : {D : Type 0} {o : Ops D} {a b : RegState D} (r : Access) → Readable o a b → IsTrue (inside_record b r) → IsTrue (inside_record a r)
 inside_record_down r (numbers a b h) k = k
 inside_record_down r (records a b h) k = inside_down (pos 0) (pos record_len) a b r.offset (bytes_of r.size) h k
 inside_record_down r (stacks a b h) k = k
 
-leaves_record_down : {D : Type 0} {o : Ops D} {a b : RegState D} (r : Reach) → Readable o a b → IsTrue (leaves_record b r) → IsTrue (leaves_record a r)
+leaves_record_down : {D : Type 0} {o : Ops D} {a b : RegState D} (r : Access) → Readable o a b → IsTrue (spares_record b r) → IsTrue (spares_record a r)
 leaves_record_down r (numbers a b h) k = k
 leaves_record_down r (records a b h) k = k
 leaves_record_down r (stacks a b h) k = k
 
-inside_stack_down : {D : Type 0} {o : Ops D} {a b : RegState D} (r : Reach) → Readable o a b → IsTrue (inside_stack b r) → IsTrue (inside_stack a r)
+inside_stack_down : {D : Type 0} {o : Ops D} {a b : RegState D} (r : Access) → Readable o a b → IsTrue (inside_stack b r) → IsTrue (inside_stack a r)
 inside_stack_down r (numbers a b h) k = k
 inside_stack_down r (records a b h) k = k
 inside_stack_down r (stacks a b h) k = inside_down (pos 0 -ℤ pos stack_len) (pos 0) a b r.offset (bytes_of r.size) h k
@@ -108,7 +108,7 @@ begins a b offset n h inside =
       single = λ s. (omega (arith, ints), omega (arith, ints));
     }
 
-written_at_down : (w v : ℕ → Bool) (a b : Span) (offset : ℤ) (size : Size) → ((k : ℕ) → IsTrue (v k) → IsTrue (w k)) → Begins a b offset → IsTrue (is_written_at v (access_of b offset size)) → IsTrue (is_written_at w (access_of a offset size))
+written_at_down : (w v : ℕ → Bool) (a b : Span) (offset : ℤ) (size : Size) → ((k : ℕ) → IsTrue (v k) → IsTrue (w k)) → Begins a b offset → IsTrue (is_written_at v (reach_of b offset size)) → IsTrue (is_written_at w (reach_of a offset size))
 written_at_down w v a b offset size up q h =
     let n = bytes_of size in
     let above : q.from ≤ q.from' = q.above in
@@ -121,11 +121,11 @@ or_true : (a b c : Bool) → (IsTrue b → IsTrue c) → IsTrue (a || b) → IsT
 or_true true b c f h = refl
 or_true false b c f h = f h
 
-finds_down : {D : Type 0} {o : Ops D} (w v : ℕ → Bool) {a b : RegState D} (r : Reach) → ((k : ℕ) → IsTrue (v k) → IsTrue (w k)) → Readable o a b → IsTrue (inside_stack b r) → IsTrue (finds_written v b r) → IsTrue (finds_written w a r)
+finds_down : {D : Type 0} {o : Ops D} (w v : ℕ → Bool) {a b : RegState D} (r : Access) → ((k : ℕ) → IsTrue (v k) → IsTrue (w k)) → Readable o a b → IsTrue (inside_stack b r) → IsTrue (finds_written v b r) → IsTrue (finds_written w a r)
 finds_down w v r up (numbers a b h) is k = k
 finds_down w v r up (records a b h) is k = k
 finds_down w v r up (stacks a b h) is k =
-    or_true r.is_store (is_written_at v (access_of b r.offset r.size)) (is_written_at w (access_of a r.offset r.size)) (written_at_down w v a b r.offset r.size up (begins a b r.offset (bytes_of r.size) h is)) k
+    or_true r.is_store (is_written_at v (reach_of b r.offset r.size)) (is_written_at w (reach_of a r.offset r.size)) (written_at_down w v a b r.offset r.size up (begins a b r.offset (bytes_of r.size) h is)) k
 
 -- ---- tests
 
@@ -137,7 +137,7 @@ reads_mov : (w : Width) (op : AluOp) (dst : Register) (src : Source) → is_mov 
 reads_mov w Mov dst src n = refl
 reads_mov w op dst src n = absurd (cc)
 
-mov_range : {D : Type 0} (o : Ops D) (w : Width) (op : AluOp) (a b : RegState D) → is_mov op ≡ true → IsTrue (range_fits o w op a b)
+mov_range : {D : Type 0} (o : Ops D) (w : Width) (op : AluOp) (a b : RegState D) → is_mov op ≡ true → IsTrue (operation_in_range o w op a b)
 mov_range o W32 op a b n = refl
 mov_range o W64 Mov a b n = refl
 mov_range o W64 Add a b n = absurd (cc)
@@ -215,8 +215,8 @@ module _ {D : Type 0} {o : Ops D} (laws : Laws o) (s t : View D) (below : ViewBe
   result_down i p = refl
 
   -- a test of an access holds, if it holds of bases that are readable
-  reach_down : (i : Insn) (f g : RegState D → Reach → Bool) → Passes o i t → ((r : Reach) → Readable o (s.registers r.base) (t.registers r.base) → IsTrue (inside_stack (t.registers r.base) r) → IsTrue (g (t.registers r.base) r) → IsTrue (f (s.registers r.base) r))
-      → IsTrue (of_reach i t g) → IsTrue (of_reach i s f)
+  reach_down : (i : Insn) (f g : RegState D → Access → Bool) → Passes o i t → ((r : Access) → Readable o (s.registers r.base) (t.registers r.base) → IsTrue (inside_stack (t.registers r.base) r) → IsTrue (g (t.registers r.base) r) → IsTrue (f (s.registers r.base) r))
+      → IsTrue (of_access i t g) → IsTrue (of_access i s f)
   reach_down (Load size dst base offset) f g p k h = k (record { base = base.number; offset = offset; size = size; is_store = false }) (first_at base.number [] (p unreadable_rule)) (p OutsideStack) h
   reach_down (LoadSx size dst base offset) f g p k h = k (record { base = base.number; offset = offset; size = size; is_store = false }) (first_at base.number [] (p unreadable_rule)) (p OutsideStack) h
   reach_down (Store size base offset src) f g p k h = k (record { base = base.number; offset = offset; size = size; is_store = true }) (first_at base.number (src.number ∷ []) (p unreadable_rule)) (p OutsideStack) h
@@ -232,7 +232,7 @@ module _ {D : Type 0} {o : Ops D} (laws : Laws o) (s t : View D) (below : ViewBe
   passes_down i p PointerCompared = comparison_down i p
   passes_down i p PointerStored = stored_down i p
   passes_down i p OutsideRecord = reach_down i inside_record inside_record p (λ r q is h. inside_record_down r q h) (p OutsideRecord)
-  passes_down i p WritesRecord = reach_down i leaves_record leaves_record p (λ r q is h. leaves_record_down r q h) (p WritesRecord)
+  passes_down i p WritesRecord = reach_down i spares_record spares_record p (λ r q is h. leaves_record_down r q h) (p WritesRecord)
   passes_down i p OutsideStack = reach_down i inside_stack inside_stack p (λ r q is h. inside_stack_down r q h) (p OutsideStack)
   passes_down i p UnwrittenStack = reach_down i (finds_written s.written) (finds_written t.written) p (λ r q is h. finds_down s.written t.written r below.written q is h) (p UnwrittenStack)
   passes_down i p ScalarAddress = reach_down i (λ base r. not (is_scalar base)) (λ base r. not (is_scalar base)) p (λ r q is h. same_not (is_scalar (s.registers r.base)) (is_scalar (t.registers r.base)) (same_scalar q) h) (p ScalarAddress)
@@ -258,7 +258,7 @@ put_below o s t d a b h k = record {
 }
 
 -- more is marked by a store at one of fewer places
-marks_down : (w v : ℕ → Bool) (a b : Span) (offset : ℤ) (size : Size) → ((k : ℕ) → IsTrue (v k) → IsTrue (w k)) → Begins a b offset → (k : ℕ) → IsTrue (marks v (access_of b offset size) k) → IsTrue (marks w (access_of a offset size) k)
+marks_down : (w v : ℕ → Bool) (a b : Span) (offset : ℤ) (size : Size) → ((k : ℕ) → IsTrue (v k) → IsTrue (w k)) → Begins a b offset → (k : ℕ) → IsTrue (marks v (reach_of b offset size) k) → IsTrue (marks w (reach_of a offset size) k)
 marks_down w v a b offset size up q k h =
     let n = bytes_of size in
     elim (truth (int_le (b.hi +ℤ offset) (b.lo +ℤ offset))) [
@@ -266,8 +266,8 @@ marks_down w v a b offset size up q k h =
           let single = q.single (let g = le_tells (b.hi +ℤ offset) (b.lo +ℤ offset) t in omega (arith, ints)) in
           let t' : int_le (a.hi +ℤ offset) (a.lo +ℤ offset) ≡ true = le_holds (a.hi +ℤ offset) (a.lo +ℤ offset) (omega (arith, ints)) in
           let e : stack_index (b.lo +ℤ offset) ≡ stack_index (a.lo +ℤ offset) = q.from_is ∙ single.1 ∙ sym q.from'_is in
-          let m : IsTrue (marked v (stack_index (b.lo +ℤ offset)) n k) = rw t at h in
-          let m' : IsTrue (marked v (stack_index (a.lo +ℤ offset)) n k) = subst (λ i. IsTrue (marked v i n k)) e m in
+          let m : IsTrue (with_marks v (stack_index (b.lo +ℤ offset)) n k) = rw t at h in
+          let m' : IsTrue (with_marks v (stack_index (a.lo +ℤ offset)) n k) = subst (λ i. IsTrue (with_marks v i n k)) e m in
           rw t' (or_true (nat_le (stack_index (a.lo +ℤ offset)) k && nat_lt k (stack_index (a.lo +ℤ offset) + n)) (v k) (w k) (up k) m')
       | inr f ↦
           let m : IsTrue (v k) = rw f at h in
@@ -281,7 +281,7 @@ marks_down w v a b offset size up q k h =
     or_right true b h = refl
     or_right false b h = h
 
-stored_up : {D : Type 0} {o : Ops D} (s t : View D) {a b : RegState D} (r : Reach) → ViewBelow o s t → Readable o a b → IsTrue (inside_stack b r) → ViewBelow o (stored s a r.offset r.size) (stored t b r.offset r.size)
+stored_up : {D : Type 0} {o : Ops D} (s t : View D) {a b : RegState D} (r : Access) → ViewBelow o s t → Readable o a b → IsTrue (inside_stack b r) → ViewBelow o (after_store s a r.offset r.size) (after_store t b r.offset r.size)
 stored_up s t r h (numbers a b k) is = h
 stored_up s t r h (records a b k) is = h
 stored_up s t r h (stacks a b k) is = record { registers = h.registers; written = marks_down s.written t.written a b r.offset r.size h.written (begins a b r.offset (bytes_of r.size) k is) }
@@ -314,7 +314,7 @@ module _ {D : Type 0} {o : Ops D} (laws : Laws o) (s t : View D) (below : ViewBe
   same_or_pair true p q k = below
   same_or_pair false p q k = k
 
-  refined_up : (w : Width) (test : Test) (taken : Bool) (dst : Register) (src : Source) (distance : ℤ) → Passes o (JumpIf w test dst src distance) t → FlowBelow o (refined o w test taken s dst.number src) (refined o w test taken t dst.number src)
+  refined_up : (w : Width) (test : Test) (taken : Bool) (dst : Register) (src : Source) (distance : ℤ) → Passes o (JumpIf w test dst src distance) t → FlowBelow o (on_edge o w test taken s dst.number src) (on_edge o w test taken t dst.number src)
   refined_up w test taken dst (Imm n) distance p = refined_imm_up w test taken dst.number (cast_unsigned w64 n) (first_at laws s t below dst.number [] (p unreadable_rule))
   refined_up w test taken dst (Reg r) distance p =
       let a = first_at laws s t below dst.number (r.number ∷ []) (p unreadable_rule) in
@@ -337,8 +337,8 @@ module _ {D : Type 0} {o : Ops D} (laws : Laws o) (s t : View D) (below : ViewBe
   fall_up (MovSx w bits dst src) l p = put_below o s t dst.number _ _ below (scalar_up laws (o.mov_sx w bits) (o.mov_sx w bits) (λ a b h. laws.mov_sx_monotone w bits a b l.selected h) (first_at laws s t below src.number [] (p unreadable_rule)))
   fall_up (End kind bits dst) l p = put_below o s t dst.number _ _ below (scalar_up laws (o.end kind bits) (o.end kind bits) (λ a b h. laws.end_monotone kind bits a b l.selected h) (first_at laws s t below dst.number [] (p unreadable_rule)))
   fall_up (LoadWide dst value) l p = put_below o s t dst.number (Scalar (o.single value)) (Scalar (o.single value)) below (laws.below_same (o.single value))
-  fall_up (Load size dst base offset) l p = put_below o s t dst.number (Scalar (o.loaded size false)) (Scalar (o.loaded size false)) below (laws.below_same (o.loaded size false))
-  fall_up (LoadSx size dst base offset) l p = put_below o s t dst.number (Scalar (o.loaded size true)) (Scalar (o.loaded size true)) below (laws.below_same (o.loaded size true))
+  fall_up (Load size dst base offset) l p = put_below o s t dst.number (Scalar (o.load size false)) (Scalar (o.load size false)) below (laws.below_same (o.load size false))
+  fall_up (LoadSx size dst base offset) l p = put_below o s t dst.number (Scalar (o.load size true)) (Scalar (o.load size true)) below (laws.below_same (o.load size true))
   fall_up (Store size base offset src) l p = stored_up s t (record { base = base.number; offset = offset; size = size; is_store = true }) below (first_at laws s t below base.number (src.number ∷ []) (p unreadable_rule)) (p OutsideStack)
   fall_up (StoreImm size base offset imm) l p = stored_up s t (record { base = base.number; offset = offset; size = size; is_store = true }) below (first_at laws s t below base.number [] (p unreadable_rule)) (p OutsideStack)
   fall_up (Jump distance) l p = tt

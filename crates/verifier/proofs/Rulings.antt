@@ -1,15 +1,15 @@
 -- An instruction that meets the rules one by one passes.
 use Rattle.std.specs.Prelude.{IsTrue}
-use Rattle.insn_codec.specs.declared.insn.Insn.{Insn}
-use Rattle.abstract_value.specs.Laws.{Ops}
+use Rattle.instruction_set.specs.declared.insn.Insn.{Insn}
+use Rattle.abstract_value.specs.Domain.{Ops}
 use Rattle.abstract_value.specs.States.{View}
 use Rattle.verifier.specs.declared.rule.Rule.TheVariants.{Backward, Outside, IntoWide, FallsOff, NoEdge, Unreadable, WritesR10, PointerOperation, PointerRange, PointerCompared, PointerStored, OutsideRecord, WritesRecord, OutsideStack, UnwrittenStack, ScalarAddress, PointerResult}
 use Rattle.verifier.specs.Rules.{meets, Passes}
-use Rattle.verifier.specs.Reaches.{AccessPasses}
+use Rattle.verifier.specs.model.Accesses.{InsnAccessPasses}
 use Rattle.std.proofs.Common.{refl}
 
 pub passes_each : {D : Type 0} (o : Ops D) (i : Insn) (s : View D) → IsTrue (meets o i s Unreadable) → IsTrue (meets o i s WritesR10) → IsTrue (meets o i s PointerOperation) → IsTrue (meets o i s PointerRange)
-    → IsTrue (meets o i s PointerCompared) → IsTrue (meets o i s PointerStored) → AccessPasses i s → IsTrue (meets o i s PointerResult) → Passes o i s
+    → IsTrue (meets o i s PointerCompared) → IsTrue (meets o i s PointerStored) → InsnAccessPasses i s → IsTrue (meets o i s PointerResult) → Passes o i s
 passes_each o i s a b c d e f g h Backward = refl
 passes_each o i s a b c d e f g h Outside = refl
 passes_each o i s a b c d e f g h IntoWide = refl

@@ -3,23 +3,24 @@ use Rattle.std.proofs.Common.{◌≡◌, ℕ, zero, suc, ◌+◌, ◌-◌, ◌^�
 use Rattle.std.specs.Prelude.{IsTrue, IsSome, IfSome, pos, negsuc, ◌≤ℤ◌, slice_get, slice_index}
 use Rattle.std.proofs.lemmas.Int.{ints, clamps}
 use Rattle.std.proofs.lemmas.Option.{slice_get-get_or}
-use Rattle.insn_codec.specs.Encoding.{IsListed, IsCode}
-use Rattle.insn_codec.specs.Machine.{Placement, IsPlacement, IsRecord, State, slots_of, insn_at, entry, record_len, stack_len, after, step, steps, IsSafe}
-use Rattle.insn_codec.specs.declared.insn.Insn.{Insn}
-use Rattle.insn_codec.specs.declared.insn.Insn.TheVariants.{Exit}
-use Rattle.abstract_value.specs.Laws.{Ops, Laws}
+use Rattle.instruction_set.specs.Slots.{IsListed, IsCode}
+use Rattle.instruction_set.specs.Machine.{Placement, IsPlacement, IsRecord, State, slots_of, insn_at, entry, record_len, stack_len, after, step, steps, IsSafe, slot_count}
+use Rattle.instruction_set.specs.declared.insn.Insn.{Insn}
+use Rattle.instruction_set.specs.declared.insn.Insn.TheVariants.{Exit}
+use Rattle.abstract_value.specs.Domain.{Ops, Laws}
 use Rattle.abstract_value.specs.States.{View, ViewBelow, make_span, reg_below, entry as entry_view}
-use Rattle.abstract_value.specs.StateLaws.{span_within}
-use Rattle.abstract_value.specs.declared.state.RegState.{RegState}
-use Rattle.abstract_value.specs.declared.state.RegState.TheVariants.{Scalar, Record, Stack, Unreadable}
+use Rattle.abstract_value.specs.laws.OrderOfStates.{span_within}
+use Rattle.abstract_value.specs.declared.states.RegState.{RegState}
+use Rattle.abstract_value.specs.declared.states.RegState.TheVariants.{Scalar, Record, Stack, Unreadable}
 use Rattle.verifier.specs.declared.rule.Rule.TheVariants.{Backward, Outside}
-use Rattle.verifier.specs.Structure.{distance_of, forward_target, leads_to, IsForward, slot_count, IsStructured}
+use Rattle.verifier.specs.Structure.{distance_of, forward_target, leads_to, IsForward, IsStructured}
 use Rattle.verifier.specs.Rules.{fall, jump}
 use Rattle.verifier.specs.Assignments.{Assignment, Carries, EdgeCarries, FulfilsBefore, IsTypable}
 use Rattle.verifier.proofs.Tags.{the_record, the_stack, Tag, num, ptr, raw_option, Tagged, Matches, is_in, Covers, Covered}
 use Rattle.verifier.proofs.Onward.{bind}
 use Rattle.verifier.proofs.Steps.{ends, falls_on, jumps_on, onward}
-use Rattle.verifier.proofs.Places.{insn_within, insn_all, left, left_all, left_falls, left_less, some_slots}
+use Rattle.instruction_set.specs.laws.Places.{insn_within, insn_all, some_slots}
+use Rattle.verifier.proofs.Places.{left, left_all, left_falls, left_less}
 
 -- ---- what is covered stays covered in a greater state
 

@@ -2,20 +2,20 @@
 use Rattle.std.proofs.Common.{◌≡◌, ℕ, ◌+◌, true, refl, ap, ap₂, ◌∙◌, sym, subst, arith, Option, Some, None, ℤ, to_z, of_z, w32}
 use Rattle.std.specs.Prelude.{IsTrue, FitsSigned, int_le, pos, negsuc, ◌≤ℤ◌, ◌+ℤ◌, ◌-ℤ◌, if◌then◌else◌}
 use Rattle.std.proofs.lemmas.Int.{ints}
-use Rattle.insn_codec.specs.Machine.{bytes_of}
-use Rattle.insn_codec.specs.declared.insn.Insn.{Insn}
-use Rattle.insn_codec.specs.declared.insn.Size.{Size}
-use Rattle.insn_codec.specs.declared.insn.AluOp.{AluOp}
-use Rattle.insn_codec.specs.declared.insn.AluOp.TheVariants.{Add, Sub, Mul, Div, SDiv, Or, And, Lsh, Rsh, Mod, SMod, Xor, Mov, Arsh}
-use Rattle.abstract_value.specs.Laws.{Ops}
-use Rattle.abstract_value.specs.StackBytes.{marked}
+use Rattle.instruction_set.specs.Machine.{bytes_of}
+use Rattle.instruction_set.specs.declared.insn.Insn.{Insn}
+use Rattle.instruction_set.specs.declared.insn.Size.{Size}
+use Rattle.instruction_set.specs.declared.insn.AluOp.{AluOp}
+use Rattle.instruction_set.specs.declared.insn.AluOp.TheVariants.{Add, Sub, Mul, Div, SDiv, Or, And, Lsh, Rsh, Mod, SMod, Xor, Mov, Arsh}
+use Rattle.abstract_value.specs.Domain.{Ops}
+use Rattle.abstract_value.specs.StackBytes.{with_marks}
 use Rattle.abstract_value.specs.States.{make_span, View, with_written}
-use Rattle.abstract_value.specs.declared.state.RegState.{RegState}
-use Rattle.abstract_value.specs.declared.state.RegState.TheVariants.{Stack}
-use Rattle.abstract_value.specs.declared.state.Span.{Span}
+use Rattle.abstract_value.specs.declared.states.RegState.{RegState}
+use Rattle.abstract_value.specs.declared.states.RegState.TheVariants.{Stack}
+use Rattle.abstract_value.specs.declared.states.Span.{Span}
 use Rattle.std.specs.Int.{w16}
 use Rattle.verifier.specs.declared.rule.Rule.TheVariants.{OutsideStack}
-use Rattle.verifier.specs.Rules.{is_near, span_moved, access_of, in_stack, whole, stack_index, stored, Reach, reach_of, of_reach, inside_stack, Passes}
+use Rattle.verifier.specs.Rules.{is_near, span_moved, reach_of, in_stack, whole, stack_index, after_store, Access, access_of, of_access, inside_stack, Passes}
 
 -- every operation but a difference adds the steps
 pub moved_otherwise : (op : AluOp) (a : Span) (steps : ℤ × ℤ) → (op ≡ Sub → ⊥)
@@ -98,16 +98,16 @@ at_one lo hi h = grind (arith, ints)
 
 -- a store at a single offset marks its bytes
 pub stored_exact : {D : Type 0} (s : View D) (base : RegState D) (a : Span) (offset : ℤ) (size : Size) (first count : ℕ) → base ≡ Stack a → a.hi ≤ℤ a.lo
-    → first ≡ stack_index (a.lo +ℤ offset) → count ≡ bytes_of size → with_written s (marked s.written first count) ≡ stored s base offset size
+    → first ≡ stack_index (a.lo +ℤ offset) → count ≡ bytes_of size → with_written s (with_marks s.written first count) ≡ after_store s base offset size
 stored_exact s base a offset size first count is one from long =
     let e : int_le (a.hi +ℤ offset) (a.lo +ℤ offset) ≡ true = at_one (a.lo +ℤ offset) (a.hi +ℤ offset) (omega (arith, ints)) in
-    rw (is, e) (ap₂ (λ (f n : ℕ). with_written s (marked s.written f n)) from long)
+    rw (is, e) (ap₂ (λ (f n : ℕ). with_written s (with_marks s.written f n)) from long)
 
 -- an access that passes lies inside the stack, where its address does
-pub reach_inside : {D : Type 0} (o : Ops D) (i : Insn) (s : View D) (r : Reach) (a : Span) → FitsSigned w16 r.offset → reach_of i ≡ Some r → Passes o i s → s.registers r.base ≡ Stack a
-    → IsTrue (in_stack (access_of a (to_z w16 (of_z w16 r.offset)) r.size))
+pub reach_inside : {D : Type 0} (o : Ops D) (i : Insn) (s : View D) (r : Access) (a : Span) → FitsSigned w16 r.offset → access_of i ≡ Some r → Passes o i s → s.registers r.base ≡ Stack a
+    → IsTrue (in_stack (reach_of a (to_z w16 (of_z w16 r.offset)) r.size))
 reach_inside o i s r a fits is passes at =
-    let h : IsTrue (of_reach i s inside_stack) = passes OutsideStack in
-    let k : IsTrue (inside_stack (s.registers r.base) r) = subst (λ (x : Option Reach). IsTrue (elim x [ None ↦ true | Some q ↦ inside_stack (s.registers q.base) q ])) is h in
+    let h : IsTrue (of_access i s inside_stack) = passes OutsideStack in
+    let k : IsTrue (inside_stack (s.registers r.base) r) = subst (λ (x : Option Access). IsTrue (elim x [ None ↦ true | Some q ↦ inside_stack (s.registers q.base) q ])) is h in
     let e : r.offset ≡ to_z w16 (of_z w16 r.offset) = omega (arith, ints) in
-    subst (λ (z : ℤ). IsTrue (in_stack (access_of a z r.size))) e (subst (λ x. IsTrue (inside_stack x r)) at k)
+    subst (λ (z : ℤ). IsTrue (in_stack (reach_of a z r.size))) e (subst (λ x. IsTrue (inside_stack x r)) at k)

@@ -4,27 +4,27 @@ use Rattle.std.specs.Prelude.{IsTrue, pos, negsuc, not, FitsSigned}
 use Rattle.std.specs.List.{list_all}
 use Rattle.std.specs.Int.{w16, w32, w64, cast_unsigned}
 use Rattle.std.proofs.lemmas.Int.{ints}
-use Rattle.insn_codec.specs.Encoding.{IsListed, SourceFits}
-use Rattle.insn_codec.specs.Machine.{Placement, IsRecord, State, ◌>>=◌, slots_of, read_bytes, bytes_of, address_of, store_at, word_in, operand as word_of, set_register, target, go_to, after}
-use Rattle.insn_codec.specs.Operations.{alu_of, neg_of, mov_sx_of, end_of, low, cut_test, is_taken}
-use Rattle.insn_codec.specs.declared.insn.Width.{Width}
-use Rattle.insn_codec.specs.declared.insn.Width.TheVariants.{W32, W64}
-use Rattle.insn_codec.specs.declared.insn.Size.{Size}
-use Rattle.insn_codec.specs.declared.insn.AluOp.{AluOp}
-use Rattle.insn_codec.specs.declared.insn.AluOp.TheVariants.{Add, Sub, Mul, Div, SDiv, Or, And, Lsh, Rsh, Mod, SMod, Xor, Mov, Arsh}
-use Rattle.insn_codec.specs.declared.insn.Test.{Test}
-use Rattle.insn_codec.specs.declared.insn.Register.{Register}
-use Rattle.insn_codec.specs.declared.insn.Source.{Source}
-use Rattle.insn_codec.specs.declared.insn.Source.TheVariants.{Imm, Reg}
-use Rattle.insn_codec.specs.declared.insn.Insn.{Insn}
-use Rattle.insn_codec.specs.declared.insn.Insn.TheVariants.{Alu, Neg, MovSx, End, LoadWide, Load, LoadSx, Store, StoreImm, Jump, JumpLong, JumpIf, Exit}
-use Rattle.abstract_value.specs.Laws.{Ops, Laws, Keeps}
+use Rattle.instruction_set.specs.Slots.{IsListed, SourceFits}
+use Rattle.instruction_set.specs.Machine.{Placement, IsRecord, State, ◌>>=◌, slots_of, read_bytes, bytes_of, address_of, store_at, word_in, operand as word_of, set_register, target, go_to, after}
+use Rattle.instruction_set.specs.Operations.{alu_of, neg_of, mov_sx_of, end_of, low, cut_test, is_taken}
+use Rattle.instruction_set.specs.declared.insn.Width.{Width}
+use Rattle.instruction_set.specs.declared.insn.Width.TheVariants.{W32, W64}
+use Rattle.instruction_set.specs.declared.insn.Size.{Size}
+use Rattle.instruction_set.specs.declared.insn.AluOp.{AluOp}
+use Rattle.instruction_set.specs.declared.insn.AluOp.TheVariants.{Add, Sub, Mul, Div, SDiv, Or, And, Lsh, Rsh, Mod, SMod, Xor, Mov, Arsh}
+use Rattle.instruction_set.specs.declared.insn.Test.{Test}
+use Rattle.instruction_set.specs.declared.insn.Register.{Register}
+use Rattle.instruction_set.specs.declared.insn.Source.{Source}
+use Rattle.instruction_set.specs.declared.insn.Source.TheVariants.{Imm, Reg}
+use Rattle.instruction_set.specs.declared.insn.Insn.{Insn}
+use Rattle.instruction_set.specs.declared.insn.Insn.TheVariants.{Alu, Neg, MovSx, End, LoadWide, Load, LoadSx, Store, StoreImm, Jump, JumpLong, JumpIf, Exit}
+use Rattle.abstract_value.specs.Domain.{Ops, Laws, Keeps}
 use Rattle.abstract_value.specs.States.{View, put, with_register}
-use Rattle.abstract_value.specs.declared.state.RegState.{RegState}
-use Rattle.abstract_value.specs.declared.state.RegState.TheVariants.{Scalar, Record, Stack, Unreadable}
+use Rattle.abstract_value.specs.declared.states.RegState.{RegState}
+use Rattle.abstract_value.specs.declared.states.RegState.TheVariants.{Scalar, Record, Stack, Unreadable}
 use Rattle.verifier.specs.declared.rule.Rule.TheVariants.{Unreadable as unreadable_rule, WritesR10, PointerOperation, PointerRange, PointerCompared, PointerStored, OutsideRecord, WritesRecord, OutsideStack, UnwrittenStack, ScalarAddress, PointerResult}
 use Rattle.verifier.specs.Structure.{distance_of, forward_target, leads_to}
-use Rattle.verifier.specs.Rules.{is_readable, is_pointer, reads, source_reads, operand, Passes, of_scalar, of_scalars, result_of, cut_one, cut_both, refined_imm, refined_pair, refined, fall, jump}
+use Rattle.verifier.specs.Rules.{is_readable, is_pointer, reads, source_reads, operand, Passes, of_scalar, of_scalars, result_of, cut_one, cut_both, refined_imm, refined_pair, on_edge, fall, jump}
 use Rattle.verifier.proofs.Tags.{Tag, num, ptr, raw, raw_option, Tagged, Matches, tells, word_at, with_tag, Covers, Covered, covers_put, covers_cut, NumberAt}
 use Rattle.verifier.proofs.Accesses.{both}
 use Rattle.verifier.proofs.Moves.{truth, is_mov, word_fits, binary}
@@ -193,7 +193,7 @@ module _ {D : Type 0} {o : Ops D} (laws : Laws o) (bytes : List ℕ) (rec : IsRe
 
   -- the state that an edge carries covers what takes it
   refined_on : (w : Width) (test : Test) (taken : Bool) (s : View D) (t : Tagged) (d : ℕ) (src : Source) → SourceFits src → Covered o s t → (a : NumberAt o (s.registers d) (t.registers d)) → (b : NumberAt o (operand o s src) (source_tag t src))
-      → is_taken w test a.word b.word ≡ taken → (s' : View D) × (refined o w test taken s d src ≡ Some s') × Covered o s' t
+      → is_taken w test a.word b.word ≡ taken → (s' : View D) × (on_edge o w test taken s d src ≡ Some s') × Covered o s' t
   refined_on w test taken s t d (Imm n) f c a b e =
       let u = cast_unsigned w64 n in
       let same : u ≡ b.word = word_is u b.word b.is_tag in
@@ -299,11 +299,11 @@ module _ {D : Type 0} {o : Ops D} (laws : Laws o) (bytes : List ℕ) (rec : IsRe
       (covered_with o s t dst.number (Scalar (o.single value)) (num value) 2 c (laws.single_holds value l.numbers)) (goes_wide bytes dst value t (free dst.number (p WritesR10)))
   onward (Load size dst base offset) s t l c p fits forward =
       let q = both (is_readable (s.registers base.number)) true (p unreadable_rule) in
-      load_on (Load size dst base offset) dst base size offset s t (o.loaded size false) (λ v. v) refl refl (laws.loaded_holds size) (λ at u. refl) (p WritesR10) c
+      load_on (Load size dst base offset) dst base size offset s t (o.load size false) (λ v. v) refl refl (laws.load_holds size) (λ at u. refl) (p WritesR10) c
       (load_there o bytes s t (s.registers base.number) (t.registers base.number) offset size base.number rec c l.numbers (c.registers base.number) q.0 (p OutsideRecord) (p OutsideStack) (p UnwrittenStack) (p ScalarAddress))
   onward (LoadSx size dst base offset) s t l c p fits forward =
       let q = both (is_readable (s.registers base.number)) true (p unreadable_rule) in
-      load_on (LoadSx size dst base offset) dst base size offset s t (o.loaded size true) (mov_sx_of W64 (8 * bytes_of size)) refl refl (laws.loaded_sx_holds size) (λ at u. refl) (p WritesR10) c
+      load_on (LoadSx size dst base offset) dst base size offset s t (o.load size true) (mov_sx_of W64 (8 * bytes_of size)) refl refl (laws.load_sx_holds size) (λ at u. refl) (p WritesR10) c
       (load_there o bytes s t (s.registers base.number) (t.registers base.number) offset size base.number rec c l.numbers (c.registers base.number) q.0 (p OutsideRecord) (p OutsideStack) (p UnwrittenStack) (p ScalarAddress))
   onward (Store size base offset src) s t l c p fits forward = store_reg_on size base offset src s t l.numbers c p
   onward (StoreImm size base offset imm) s t l c p fits forward = store_imm_on size base offset imm s t l.numbers.0 c p

@@ -5,12 +5,12 @@ use Rattle.std.specs.Int.{w64, cast_unsigned}
 use Rattle.std.proofs.lemmas.Bool.Decides.{nat_tests}
 use Rattle.std.proofs.lemmas.Option.{slice_get-get_or}
 use Rattle.std.proofs.lemmas.List.{get_or-set_same, get_or-set_other, length-set}
-use Rattle.insn_codec.specs.Machine.{Memory, Placement, State, record_len, stack_len, word_in, set_register}
-use Rattle.insn_codec.specs.declared.insn.Register.{Register}
-use Rattle.abstract_value.specs.Laws.{Ops}
+use Rattle.instruction_set.specs.Machine.{Memory, Placement, State, record_len, stack_len, word_in, set_register}
+use Rattle.instruction_set.specs.declared.insn.Register.{Register}
+use Rattle.abstract_value.specs.Domain.{Ops}
 use Rattle.abstract_value.specs.States.{View, put}
-use Rattle.abstract_value.specs.declared.state.RegState.{RegState}
-use Rattle.abstract_value.specs.declared.state.RegState.TheVariants.{Scalar, Record, Stack, Unreadable}
+use Rattle.abstract_value.specs.declared.states.RegState.{RegState}
+use Rattle.abstract_value.specs.declared.states.RegState.TheVariants.{Scalar, Record, Stack, Unreadable}
 
 pub data Region : Type 0 where
   the_record : Region

@@ -1,11 +1,11 @@
 -- Assignments of abstract states to the instructions of code, and when they fulfil the rules.
 use Rattle.std.specs.Prelude.{◌≡◌, ℕ, ◌+◌, ◌<◌, Option, Some, IsSome, List}
-use Rattle.insn_codec.specs.Machine.{slots_of, insn_at}
-use Rattle.insn_codec.specs.declared.insn.Insn.{Insn}
-use Rattle.abstract_value.specs.Laws.{Ops}
+use Rattle.instruction_set.specs.Machine.{slots_of, insn_at, slot_count}
+use Rattle.instruction_set.specs.declared.insn.Insn.{Insn}
+use Rattle.abstract_value.specs.Domain.{Ops}
 use Rattle.abstract_value.specs.States.{View, ViewBelow, entry}
 use Rattle.verifier.specs.declared.rule.Rule.{Rule}
-use Rattle.verifier.specs.Structure.{leads_to, slot_count, IsStructured}
+use Rattle.verifier.specs.Structure.{leads_to, IsStructured}
 use Rattle.verifier.specs.Rules.{Passes, FailsFirst, fall, jump}
 
 -- a state for each instruction, by its first slot, or none

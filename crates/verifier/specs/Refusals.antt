@@ -1,12 +1,14 @@
 -- When code is refused.
-use Rattle.std.specs.Prelude.{ℕ, ◌+◌, List}
-use Rattle.insn_codec.specs.declared.insn.Insn.{Insn}
-use Rattle.abstract_value.specs.Laws.{Ops}
+use Rattle.std.specs.Prelude.{ℕ, ◌+◌, List, Option, Some, None}
+use Rattle.numbered.specs.declared.Place.{Place}
+use Rattle.numbered.specs.declared.Place.TheVariants.{Slot}
+use Rattle.instruction_set.specs.declared.insn.Insn.{Insn}
+use Rattle.abstract_value.specs.Domain.{Ops}
 use Rattle.verifier.specs.declared.rule.Rule.{Rule}
 use Rattle.verifier.specs.declared.rule.Rule.TheVariants.{Backward, Outside, IntoWide, FallsOff, NoEdge}
 use Rattle.verifier.specs.declared.refusal.VerifyFault.{VerifyFault}
 use Rattle.verifier.specs.declared.refusal.VerifyFault.TheVariants.{Refused, OutOfMemory}
-use Rattle.verifier.specs.Structure.{IsIllStructured}
+use Rattle.verifier.specs.Structure.{rule_number, IsIllStructured}
 use Rattle.verifier.specs.Assignments.{Assignment, FulfilsBefore, FailsLeast}
 
 -- a rule is the first that fails in the least state at a slot, and no assignment fulfils the rules up to there
@@ -27,3 +29,13 @@ IsRefusedAt o code slot rule = IsUnfulfilled o code slot rule
 abbrev pub IsRefused : {D : Type 0} → Ops D → List Insn → VerifyFault → Type 0
 IsRefused o code (Refused r) = IsRefusedAt o code r.slot r.rule
 IsRefused o code OutOfMemory = Unit {0}
+
+-- ---- the numbers of refusals, and the places that they name
+
+abbrev pub verify_fault_number : VerifyFault → ℕ
+verify_fault_number (Refused r) = rule_number r.rule
+verify_fault_number OutOfMemory = 90
+
+abbrev pub verify_fault_place : VerifyFault → Option Place
+verify_fault_place (Refused r) = Some (Slot r.slot)
+verify_fault_place OutOfMemory = None

@@ -2,24 +2,24 @@
 use Rattle.std.specs.Prelude.{◌≡◌, ℕ, ◌+◌, ◌-◌, ◌^◌, ◌<◌, Bool, true, false, not, ◌&&◌, ◌||◌, ◌==◌, nat_le, int_le, ◌+ℤ◌, ◌-ℤ◌, if◌then◌else◌, ℤ, pos, negsuc, IsTrue, Option, Some, None, List, [], ◌∷◌}
 use Rattle.std.specs.List.{list_all}
 use Rattle.std.specs.Int.{w64, cast_unsigned}
-use Rattle.insn_codec.specs.Machine.{bytes_of, record_len, stack_len}
-use Rattle.insn_codec.specs.Operations.{low}
-use Rattle.insn_codec.specs.declared.insn.Width.{Width}
-use Rattle.insn_codec.specs.declared.insn.Width.TheVariants.{W32, W64}
-use Rattle.insn_codec.specs.declared.insn.Size.{Size}
-use Rattle.insn_codec.specs.declared.insn.AluOp.{AluOp}
-use Rattle.insn_codec.specs.declared.insn.AluOp.TheVariants.{Add, Sub, Mov}
-use Rattle.insn_codec.specs.declared.insn.Test.{Test}
-use Rattle.insn_codec.specs.declared.insn.Source.{Source}
-use Rattle.insn_codec.specs.declared.insn.Source.TheVariants.{Imm, Reg}
-use Rattle.insn_codec.specs.declared.insn.Insn.{Insn}
-use Rattle.insn_codec.specs.declared.insn.Insn.TheVariants.{Alu, Neg, MovSx, End, LoadWide, Load, LoadSx, Store, StoreImm, Jump, JumpLong, JumpIf, Exit}
-use Rattle.abstract_value.specs.Laws.{Ops}
-use Rattle.abstract_value.specs.StackBytes.{all_written, marked}
+use Rattle.instruction_set.specs.Machine.{bytes_of, record_len, stack_len}
+use Rattle.instruction_set.specs.Operations.{low}
+use Rattle.instruction_set.specs.declared.insn.Width.{Width}
+use Rattle.instruction_set.specs.declared.insn.Width.TheVariants.{W32, W64}
+use Rattle.instruction_set.specs.declared.insn.Size.{Size}
+use Rattle.instruction_set.specs.declared.insn.AluOp.{AluOp}
+use Rattle.instruction_set.specs.declared.insn.AluOp.TheVariants.{Add, Sub, Mov}
+use Rattle.instruction_set.specs.declared.insn.Test.{Test}
+use Rattle.instruction_set.specs.declared.insn.Source.{Source}
+use Rattle.instruction_set.specs.declared.insn.Source.TheVariants.{Imm, Reg}
+use Rattle.instruction_set.specs.declared.insn.Insn.{Insn}
+use Rattle.instruction_set.specs.declared.insn.Insn.TheVariants.{Alu, Neg, MovSx, End, LoadWide, Load, LoadSx, Store, StoreImm, Jump, JumpLong, JumpIf, Exit}
+use Rattle.abstract_value.specs.Domain.{Ops}
+use Rattle.abstract_value.specs.StackBytes.{all_written, with_marks}
 use Rattle.abstract_value.specs.States.{View, make_span, with_register}
-use Rattle.abstract_value.specs.declared.state.Span.{Span}
-use Rattle.abstract_value.specs.declared.state.RegState.{RegState}
-use Rattle.abstract_value.specs.declared.state.RegState.TheVariants.{Scalar, Record, Stack, Unreadable}
+use Rattle.abstract_value.specs.declared.states.Span.{Span}
+use Rattle.abstract_value.specs.declared.states.RegState.{RegState}
+use Rattle.abstract_value.specs.declared.states.RegState.TheVariants.{Scalar, Record, Stack, Unreadable}
 use Rattle.verifier.specs.declared.rule.Rule.{Rule}
 use Rattle.verifier.specs.declared.rule.Rule.TheVariants.{Unreadable as unreadable_rule, WritesR10, PointerOperation, PointerRange, PointerCompared, PointerStored, OutsideRecord, WritesRecord, OutsideStack, UnwrittenStack, ScalarAddress, PointerResult}
 use Rattle.verifier.specs.Structure.{rule_number}
@@ -99,27 +99,27 @@ moved_by op a None = None
 moved_by op a (Some steps) = span_moved op a steps
 
 -- the offsets after an address is moved by a number
-abbrev pub moved : {D : Type 0} → Ops D → AluOp → Span → D → Option Span
-moved o op a b = moved_by op a (steps_of o b)
+abbrev pub moved_span : {D : Type 0} → Ops D → AluOp → Span → D → Option Span
+moved_span o op a b = moved_by op a (steps_of o b)
 
 -- ---- accesses
 
 -- the offsets of the first bytes that an access may reach, and how many bytes from there
-pub record Access : Type 0 where
+pub record Reach : Type 0 where
   pub lo : ℤ
   pub hi : ℤ
   pub len : ℕ
 
-abbrev pub access_of : Span → ℤ → Size → Access
-access_of a offset size = record { lo = a.lo +ℤ offset; hi = a.hi +ℤ offset; len = bytes_of size }
+abbrev pub reach_of : Span → ℤ → Size → Reach
+reach_of a offset size = record { lo = a.lo +ℤ offset; hi = a.hi +ℤ offset; len = bytes_of size }
 
-abbrev pub is_inside : ℤ → ℤ → Access → Bool
+abbrev pub is_inside : ℤ → ℤ → Reach → Bool
 is_inside first end a = int_le first a.lo && int_le (a.hi +ℤ pos a.len) end
 
-abbrev pub in_record : Access → Bool
+abbrev pub in_record : Reach → Bool
 in_record a = is_inside (pos 0) (pos record_len) a
 
-abbrev pub in_stack : Access → Bool
+abbrev pub in_stack : Reach → Bool
 in_stack a = is_inside (pos 0 -ℤ pos stack_len) (pos 0) a
 
 abbrev pub whole : ℤ → ℕ
@@ -131,22 +131,22 @@ abbrev pub stack_index : ℤ → ℕ
 stack_index offset = whole (offset +ℤ pos stack_len)
 
 -- all bytes from the first that may be reached to the last are written
-abbrev pub is_written_at : (ℕ → Bool) → Access → Bool
+abbrev pub is_written_at : (ℕ → Bool) → Reach → Bool
 is_written_at written a = all_written written (stack_index a.lo) (whole (a.hi -ℤ a.lo) + a.len)
 
 -- the base and the offset of an access to memory, and its size
-pub record Reach : Type 0 where
+pub record Access : Type 0 where
   pub base : ℕ
   pub offset : ℤ
   pub size : Size
   pub is_store : Bool
 
-abbrev pub reach_of : Insn → Option Reach
-reach_of (Load size dst base offset) = Some (record { base = base.number; offset = offset; size = size; is_store = false })
-reach_of (LoadSx size dst base offset) = Some (record { base = base.number; offset = offset; size = size; is_store = false })
-reach_of (Store size base offset src) = Some (record { base = base.number; offset = offset; size = size; is_store = true })
-reach_of (StoreImm size base offset imm) = Some (record { base = base.number; offset = offset; size = size; is_store = true })
-reach_of _ = None
+abbrev pub access_of : Insn → Option Access
+access_of (Load size dst base offset) = Some (record { base = base.number; offset = offset; size = size; is_store = false })
+access_of (LoadSx size dst base offset) = Some (record { base = base.number; offset = offset; size = size; is_store = false })
+access_of (Store size base offset src) = Some (record { base = base.number; offset = offset; size = size; is_store = true })
+access_of (StoreImm size base offset imm) = Some (record { base = base.number; offset = offset; size = size; is_store = true })
+access_of _ = None
 
 -- ---- the rules, each as a test; where a rule does not speak of an instruction or a register it is met
 
@@ -170,20 +170,20 @@ is_move None = false
 is_move (Some a) = true
 
 -- an address moved by a number stays near
-abbrev pub pair_in_range : {D : Type 0} → Ops D → AluOp → RegState D → RegState D → Bool
-pair_in_range o op (Record a) (Scalar b) = is_move (moved o op a b)
-pair_in_range o op (Stack a) (Scalar b) = is_move (moved o op a b)
-pair_in_range o Add (Scalar a) (Record b) = is_move (moved o Add b a)
-pair_in_range o Add (Scalar a) (Stack b) = is_move (moved o Add b a)
-pair_in_range o _ _ _ = true
+abbrev pub sum_in_range : {D : Type 0} → Ops D → AluOp → RegState D → RegState D → Bool
+sum_in_range o op (Record a) (Scalar b) = is_move (moved_span o op a b)
+sum_in_range o op (Stack a) (Scalar b) = is_move (moved_span o op a b)
+sum_in_range o Add (Scalar a) (Record b) = is_move (moved_span o Add b a)
+sum_in_range o Add (Scalar a) (Stack b) = is_move (moved_span o Add b a)
+sum_in_range o _ _ _ = true
 
-abbrev pub range_fits : {D : Type 0} → Ops D → Width → AluOp → RegState D → RegState D → Bool
-range_fits o W64 Add a b = pair_in_range o Add a b
-range_fits o W64 Sub a b = pair_in_range o Sub a b
-range_fits o w op a b = true
+abbrev pub operation_in_range : {D : Type 0} → Ops D → Width → AluOp → RegState D → RegState D → Bool
+operation_in_range o W64 Add a b = sum_in_range o Add a b
+operation_in_range o W64 Sub a b = sum_in_range o Sub a b
+operation_in_range o w op a b = true
 
 abbrev pub meets_range : {D : Type 0} → Ops D → Insn → View D → Bool
-meets_range o (Alu width op dst src) s = range_fits o width op (s.registers dst.number) (operand o s src)
+meets_range o (Alu width op dst src) s = operation_in_range o width op (s.registers dst.number) (operand o s src)
 meets_range o _ s = true
 
 abbrev pub meets_comparison : {D : Type 0} → Ops D → Insn → View D → Bool
@@ -198,25 +198,25 @@ abbrev pub meets_result : {D : Type 0} → Insn → View D → Bool
 meets_result Exit s = not (is_pointer (s.registers 0))
 meets_result _ s = true
 
-abbrev pub inside_record : {D : Type 0} → RegState D → Reach → Bool
-inside_record (Record a) r = in_record (access_of a r.offset r.size)
+abbrev pub inside_record : {D : Type 0} → RegState D → Access → Bool
+inside_record (Record a) r = in_record (reach_of a r.offset r.size)
 inside_record _ r = true
 
-abbrev pub leaves_record : {D : Type 0} → RegState D → Reach → Bool
-leaves_record (Record a) r = not r.is_store
-leaves_record _ r = true
+abbrev pub spares_record : {D : Type 0} → RegState D → Access → Bool
+spares_record (Record a) r = not r.is_store
+spares_record _ r = true
 
-abbrev pub inside_stack : {D : Type 0} → RegState D → Reach → Bool
-inside_stack (Stack a) r = in_stack (access_of a r.offset r.size)
+abbrev pub inside_stack : {D : Type 0} → RegState D → Access → Bool
+inside_stack (Stack a) r = in_stack (reach_of a r.offset r.size)
 inside_stack _ r = true
 
-abbrev pub finds_written : {D : Type 0} → (ℕ → Bool) → RegState D → Reach → Bool
-finds_written written (Stack a) r = r.is_store || is_written_at written (access_of a r.offset r.size)
+abbrev pub finds_written : {D : Type 0} → (ℕ → Bool) → RegState D → Access → Bool
+finds_written written (Stack a) r = r.is_store || is_written_at written (reach_of a r.offset r.size)
 finds_written written _ r = true
 
 -- a test of the access of an instruction, if it has one
-abbrev pub of_reach : {D : Type 0} → Insn → View D → (RegState D → Reach → Bool) → Bool
-of_reach i s test = elim (reach_of i) [ None ↦ true | Some r ↦ test (s.registers r.base) r ]
+abbrev pub of_access : {D : Type 0} → Insn → View D → (RegState D → Access → Bool) → Bool
+of_access i s test = elim (access_of i) [ None ↦ true | Some r ↦ test (s.registers r.base) r ]
 
 abbrev pub is_r10 : Option ℕ → Bool
 is_r10 None = false
@@ -230,11 +230,11 @@ meets o i s PointerOperation = meets_operation o i s
 meets o i s PointerRange = meets_range o i s
 meets o i s PointerCompared = meets_comparison o i s
 meets o i s PointerStored = meets_stored i s
-meets o i s OutsideRecord = of_reach i s inside_record
-meets o i s WritesRecord = of_reach i s leaves_record
-meets o i s OutsideStack = of_reach i s inside_stack
-meets o i s UnwrittenStack = of_reach i s (finds_written s.written)
-meets o i s ScalarAddress = of_reach i s (λ base r. not (is_scalar base))
+meets o i s OutsideRecord = of_access i s inside_record
+meets o i s WritesRecord = of_access i s spares_record
+meets o i s OutsideStack = of_access i s inside_stack
+meets o i s UnwrittenStack = of_access i s (finds_written s.written)
+meets o i s ScalarAddress = of_access i s (λ base r. not (is_scalar base))
 meets o i s PointerResult = meets_result i s
 meets o i s _ = true
 
@@ -259,13 +259,13 @@ to_stack None = Unreadable
 to_stack (Some a) = Stack a
 
 -- a sum or a difference of 64 bits
-abbrev pub added : {D : Type 0} → Ops D → AluOp → RegState D → RegState D → RegState D
-added o op (Scalar a) (Scalar b) = Scalar (o.alu W64 op a b)
-added o op (Record a) (Scalar b) = to_record (moved o op a b)
-added o op (Stack a) (Scalar b) = to_stack (moved o op a b)
-added o Add (Scalar a) (Record b) = to_record (moved o Add b a)
-added o Add (Scalar a) (Stack b) = to_stack (moved o Add b a)
-added o op _ _ = Unreadable
+abbrev pub sum_of : {D : Type 0} → Ops D → AluOp → RegState D → RegState D → RegState D
+sum_of o op (Scalar a) (Scalar b) = Scalar (o.alu W64 op a b)
+sum_of o op (Record a) (Scalar b) = to_record (moved_span o op a b)
+sum_of o op (Stack a) (Scalar b) = to_stack (moved_span o op a b)
+sum_of o Add (Scalar a) (Record b) = to_record (moved_span o Add b a)
+sum_of o Add (Scalar a) (Stack b) = to_stack (moved_span o Add b a)
+sum_of o op _ _ = Unreadable
 
 abbrev pub of_scalar : {D : Type 0} → (D → D) → RegState D → RegState D
 of_scalar f (Scalar a) = Scalar (f a)
@@ -279,17 +279,17 @@ of_scalars f _ _ = Unreadable
 abbrev pub result_of : {D : Type 0} → Ops D → Width → AluOp → RegState D → RegState D → RegState D
 result_of o W64 Mov a b = b
 result_of o W32 Mov a b = of_scalars (o.alu W32 Mov) b b
-result_of o W64 Add a b = added o Add a b
-result_of o W64 Sub a b = added o Sub a b
+result_of o W64 Add a b = sum_of o Add a b
+result_of o W64 Sub a b = sum_of o Sub a b
 result_of o w op a b = of_scalars (o.alu w op) a b
 
 -- a store at a single offset marks its bytes, at several offsets none
-abbrev pub marks : (ℕ → Bool) → Access → ℕ → Bool
-marks written a = if int_le a.hi a.lo then marked written (stack_index a.lo) a.len else written
+abbrev pub marks : (ℕ → Bool) → Reach → ℕ → Bool
+marks written a = if int_le a.hi a.lo then with_marks written (stack_index a.lo) a.len else written
 
-abbrev pub stored : {D : Type 0} → View D → RegState D → ℤ → Size → View D
-stored s (Stack a) offset size = record { registers = s.registers; written = marks s.written (access_of a offset size) }
-stored s _ offset size = s
+abbrev pub after_store : {D : Type 0} → View D → RegState D → ℤ → Size → View D
+after_store s (Stack a) offset size = record { registers = s.registers; written = marks s.written (reach_of a offset size) }
+after_store s _ offset size = s
 
 -- the state with a destination and a tested register cut, or nothing on a dead edge
 abbrev pub cut_one : {D : Type 0} → View D → ℕ → Option (D × D) → Option (View D)
@@ -310,9 +310,9 @@ refined_pair o w test taken s d r (Scalar a) (Scalar b) = cut_both s d r (o.refi
 refined_pair o w test taken s d r _ _ = None
 
 -- a test of two registers cuts both, a register tested with itself none
-abbrev pub refined : {D : Type 0} → Ops D → Width → Test → Bool → View D → ℕ → Source → Option (View D)
-refined o w test taken s d (Imm n) = refined_imm o w test taken s d (cast_unsigned w64 n) (s.registers d)
-refined o w test taken s d (Reg r) = if d == r.number then Some s else refined_pair o w test taken s d r.number (s.registers d) (s.registers r.number)
+abbrev pub on_edge : {D : Type 0} → Ops D → Width → Test → Bool → View D → ℕ → Source → Option (View D)
+on_edge o w test taken s d (Imm n) = refined_imm o w test taken s d (cast_unsigned w64 n) (s.registers d)
+on_edge o w test taken s d (Reg r) = if d == r.number then Some s else refined_pair o w test taken s d r.number (s.registers d) (s.registers r.number)
 
 -- the state that goes on to the next instruction
 abbrev pub fall : {D : Type 0} → Ops D → Insn → View D → Option (View D)
@@ -321,18 +321,18 @@ fall o (Neg width dst) s = Some (with_register s dst.number (of_scalar (o.neg wi
 fall o (MovSx width bits dst src) s = Some (with_register s dst.number (of_scalar (o.mov_sx width bits) (s.registers src.number)))
 fall o (End kind bits dst) s = Some (with_register s dst.number (of_scalar (o.end kind bits) (s.registers dst.number)))
 fall o (LoadWide dst value) s = Some (with_register s dst.number (Scalar (o.single value)))
-fall o (Load size dst base offset) s = Some (with_register s dst.number (Scalar (o.loaded size false)))
-fall o (LoadSx size dst base offset) s = Some (with_register s dst.number (Scalar (o.loaded size true)))
-fall o (Store size base offset src) s = Some (stored s (s.registers base.number) offset size)
-fall o (StoreImm size base offset imm) s = Some (stored s (s.registers base.number) offset size)
+fall o (Load size dst base offset) s = Some (with_register s dst.number (Scalar (o.load size false)))
+fall o (LoadSx size dst base offset) s = Some (with_register s dst.number (Scalar (o.load size true)))
+fall o (Store size base offset src) s = Some (after_store s (s.registers base.number) offset size)
+fall o (StoreImm size base offset imm) s = Some (after_store s (s.registers base.number) offset size)
 fall o (Jump distance) s = None
 fall o (JumpLong distance) s = None
-fall o (JumpIf width test dst src distance) s = refined o width test false s dst.number src
+fall o (JumpIf width test dst src distance) s = on_edge o width test false s dst.number src
 fall o Exit s = None
 
 -- the state that goes along the jump
 abbrev pub jump : {D : Type 0} → Ops D → Insn → View D → Option (View D)
 jump o (Jump distance) s = Some s
 jump o (JumpLong distance) s = Some s
-jump o (JumpIf width test dst src distance) s = refined o width test true s dst.number src
+jump o (JumpIf width test dst src distance) s = on_edge o width test true s dst.number src
 jump o _ s = None

@@ -1,8 +1,8 @@
 -- The rules of structure, 10 to 14: where jumps lead, what stands behind an instruction, and what leads to it.
-use Rattle.std.specs.Prelude.{◌≡◌, ℕ, ◌+◌, ◌<◌, ◌⊎◌, ℤ, pos, negsuc, Option, Some, None, IfSome, IsSome, List, sum_by, Bool, true, false}
-use Rattle.insn_codec.specs.Machine.{slots_of, insn_at}
-use Rattle.insn_codec.specs.declared.insn.Insn.{Insn}
-use Rattle.insn_codec.specs.declared.insn.Insn.TheVariants.{Jump, JumpLong, JumpIf, Exit}
+use Rattle.std.specs.Prelude.{◌≡◌, ℕ, ◌+◌, ◌<◌, ◌⊎◌, ℤ, pos, negsuc, Option, Some, None, IfSome, IsSome, List, Bool, true, false}
+use Rattle.instruction_set.specs.Machine.{slots_of, insn_at, slot_count}
+use Rattle.instruction_set.specs.declared.insn.Insn.{Insn}
+use Rattle.instruction_set.specs.declared.insn.Insn.TheVariants.{Jump, JumpLong, JumpIf, Exit}
 use Rattle.verifier.specs.declared.rule.Rule.{Rule}
 use Rattle.verifier.specs.declared.rule.Rule.TheVariants.{Backward, Outside, IntoWide, FallsOff, NoEdge, Unreadable, WritesR10, PointerOperation, PointerRange, PointerCompared, PointerStored, OutsideRecord, WritesRecord, OutsideStack, UnwrittenStack, ScalarAddress, PointerResult}
 
@@ -63,9 +63,6 @@ pub record HasEdge (code : List Insn) (to : ℕ) : Type 0 where
   pub insn : Insn
   pub is_at : insn_at code slot ≡ Some insn
   pub leads : LeadsTo slot insn to
-
-abbrev pub slot_count : List Insn → ℕ
-slot_count code = sum_by slots_of code
 
 -- the instruction at a slot of the code meets a rule of structure
 abbrev pub MeetsStructure : List Insn → ℕ → Insn → Rule → Type 0

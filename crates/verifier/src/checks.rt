@@ -2,16 +2,15 @@
 ghost use Rattle.std.specs.Prelude.{◌≡◌, MatchOption};
 ghost use Rattle.std.specs.List.{list_all};
 ghost use Rattle.abstract_value.specs.States.{view};
-ghost use Rattle.verifier.specs.Rules.{is_readable, source_reads, reads, writes, is_r10, pointers_fit, meets_operation, range_fits, meets_range, meets_comparison, meets_stored, meets_result, Passes, FailsFirst};
-ghost use Rattle.verifier.specs.Reaches.{AccessPasses, AccessFails};
+ghost use Rattle.verifier.specs.Rules.{is_readable, source_reads, reads, writes, is_r10, pointers_fit, meets_operation, operation_in_range, meets_range, meets_comparison, meets_stored, meets_result, Passes, FailsFirst};
+ghost use Rattle.verifier.specs.model.Accesses.{InsnAccessPasses, InsnAccessFails};
 
 use crate::kinds::{destination, is_pointer, is_readable, operand};
 use crate::memory_access::access_of;
-use crate::pointer_moves::pair_in_range;
+use crate::pointer_moves::sum_in_range;
 use crate::rule::Rule;
-use abstract_value::domain::Domain;
-use abstract_value::state::{RegState, State};
-use insn_codec::insn::{AluOp, Insn, Register, Source, Width};
+use abstract_value::{Domain, RegState, State};
+use instruction_set::{AluOp, Insn, Register, Source, Width};
 
 fn reads_register<D: Domain>(state: &State<D>, register: Register) -> bool
     ensures { result ≡ is_readable ((view state.now).registers register.number) }
@@ -95,12 +94,12 @@ fn meets_operation<D: Domain>(insn: Insn, state: &State<D>) -> bool
 }
 
 /// Whether an operation leaves an address near.
-fn range_fits<D: Domain>(width: Width, op: AluOp, a: &RegState<D>, b: &RegState<D>) -> bool
-    ensures { result ≡ range_fits D.ops width op a.now b.now }
+fn operation_in_range<D: Domain>(width: Width, op: AluOp, a: &RegState<D>, b: &RegState<D>) -> bool
+    ensures { result ≡ operation_in_range D.ops width op a.now b.now }
 {
     match (width, op) {
-        (Width::W64, AluOp::Add) => pair_in_range(AluOp::Add, a, b),
-        (Width::W64, AluOp::Sub) => pair_in_range(AluOp::Sub, a, b),
+        (Width::W64, AluOp::Add) => sum_in_range(AluOp::Add, a, b),
+        (Width::W64, AluOp::Sub) => sum_in_range(AluOp::Sub, a, b),
         _ => true,
     }
 }
@@ -114,7 +113,7 @@ fn meets_range<D: Domain>(insn: Insn, state: &State<D>) -> bool
             op,
             dst,
             src,
-        } => range_fits(width, op, &state.register(dst), &operand(state, src)),
+        } => operation_in_range(width, op, &state.register(dst), &operand(state, src)),
         _ => true,
     }
 }
@@ -153,7 +152,7 @@ fn meets_result<D: Domain>(insn: Insn, state: &State<D>) -> bool
 
 /// The first of the rules 21 to 25 that the access of an instruction fails.
 fn check_access<D: Domain>(insn: Insn, state: &State<D>) -> Option<Rule>
-    ensures { MatchOption result (AccessPasses insn (view state.now)) (λ rule. AccessFails insn (view state.now) rule) }
+    ensures { MatchOption result (InsnAccessPasses insn (view state.now)) (λ rule. InsnAccessFails insn (view state.now) rule) }
 {
     let access = access_of(&insn)?;
     access.check(&state.register(access.base), state.stack())

@@ -2,11 +2,10 @@
 ghost use Rattle.std.specs.Prelude.{◌≡◌};
 ghost use Rattle.abstract_value.specs.States.{view};
 ghost use Rattle.verifier.specs.Rules.{is_readable, is_pointer, is_scalar, operand, writes};
-ghost use Rattle.verifier.specs.Values.{number_of};
+ghost use Rattle.verifier.specs.model.Values.{number_of};
 
-use abstract_value::domain::Domain;
-use abstract_value::state::{RegState, State};
-use insn_codec::insn::{Insn, Register, Source};
+use abstract_value::{Domain, RegState, State};
+use instruction_set::{Insn, Register, Source};
 
 /// Whether a register can be read.
 pub(crate) fn is_readable<D>(state: &RegState<D>) -> bool

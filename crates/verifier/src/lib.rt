@@ -5,9 +5,14 @@ mod checks;
 mod kinds;
 mod memory_access;
 mod pointer_moves;
-pub mod refusal;
-pub mod rule;
+mod refusal;
+mod rule;
 mod structure;
 mod transfer;
-pub mod verified;
-pub mod verify;
+mod verified;
+mod verify_code;
+
+pub use refusal::{Refusal, VerifyFault};
+pub use rule::Rule;
+pub use verified::Verified;
+pub use verify_code::{one_verdict_theorem, verify};

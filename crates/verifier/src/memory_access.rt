@@ -1,18 +1,14 @@
 //! Accesses to memory, and the rules 21 to 25.
 ghost use Rattle.std.specs.Prelude.{◌≡◌, ◌≤◌, ◌+ℤ◌, ◌-ℤ◌, ◌+◌, pos, IsTrue, MatchOption};
-ghost use Rattle.insn_codec.specs.Machine.{bytes_of};
+ghost use Rattle.instruction_set.specs.Machine.{bytes_of};
 ghost use Rattle.abstract_value.specs.StackBytes.{is_written};
-ghost use Rattle.verifier.specs.Rules.{whole, reach_of, access_of, is_inside, in_stack, stack_index, inside_record, leaves_record, inside_stack, finds_written};
-ghost use Rattle.verifier.specs.Reaches.{as_reach, as_reaches, ReachPasses, ReachFails};
+ghost use Rattle.verifier.specs.Rules.{whole, access_of, reach_of, is_inside, in_stack, stack_index, inside_record, spares_record, inside_stack, finds_written};
+ghost use Rattle.verifier.specs.model.Accesses.{as_access, as_accesses, AccessPasses, AccessFails};
 
 use crate::kinds::is_scalar;
 use crate::rule::Rule;
-use abstract_value::stack::{STACK_LEN, StackState};
-use abstract_value::state::{RegState, Span};
-use insn_codec::insn::{Insn, Register, Size};
-
-/// How many bytes a clash record has.
-const RECORD_LEN: i32 = 128;
+use abstract_value::{RegState, Span, StackState};
+use instruction_set::{Insn, RECORD_LEN, Register, STACK_LEN, Size};
 
 /// An access to memory: the register of its address, the offset, and the size.
 #[derive(Clone, Copy)]
@@ -25,7 +21,7 @@ pub(crate) struct Access {
 
 /// The access of an instruction, if it has one.
 pub(crate) fn access_of(insn: &Insn) -> Option<Access>
-    ensures { as_reaches result ≡ reach_of insn.now }
+    ensures { as_accesses result ≡ access_of insn.now }
 {
     let (base, offset, size, is_store) = match *insn {
         Insn::Load {
@@ -77,8 +73,8 @@ pub(crate) fn bytes_of(size: Size) -> usize
 
 /// The offset of the first byte that an access may reach through an address, and the one behind the last.
 fn reach(span: Span, offset: i16, size: Size) -> (i32, i32)
-    ensures first { result.0 ≡ (access_of span offset size).lo }
-    ensures end { result.1 ≡ (access_of span offset size).hi +ℤ pos (bytes_of size) }
+    ensures first { result.0 ≡ (reach_of span offset size).lo }
+    ensures end { result.1 ≡ (reach_of span offset size).hi +ℤ pos (bytes_of size) }
 {
     let offset = offset as i32;
     let bytes = bytes_of(size) as i32;
@@ -87,9 +83,9 @@ fn reach(span: Span, offset: i16, size: Size) -> (i32, i32)
 
 /// The first byte of the stack that an access may reach, counted from the lowest, and how many from there on.
 pub(crate) fn stack_bytes(span: Span, offset: i16, size: Size) -> (usize, usize)
-    requires { IsTrue (in_stack (access_of span offset size)) }
-    ensures first { result.0 ≡ stack_index (access_of span offset size).lo }
-    ensures count { result.1 ≡ whole ((access_of span offset size).hi -ℤ (access_of span offset size).lo) + bytes_of size }
+    requires { IsTrue (in_stack (reach_of span offset size)) }
+    ensures first { result.0 ≡ stack_index (reach_of span offset size).lo }
+    ensures count { result.1 ≡ whole ((reach_of span offset size).hi -ℤ (reach_of span offset size).lo) + bytes_of size }
     ensures inside { result.0 + result.1 ≤ STACK_LEN }
 {
     let (start, _) = reach(span, offset, size);
@@ -100,23 +96,23 @@ pub(crate) fn stack_bytes(span: Span, offset: i16, size: Size) -> (usize, usize)
 impl Access {
     /// Whether all bytes that it may reach lie from `first` on before `end`.
     fn is_within(&self, span: Span, first: i32, end: i32) -> bool
-        ensures { result ≡ is_inside first end (access_of span self.now.offset self.now.size) }
+        ensures { result ≡ is_inside first end (reach_of span self.now.offset self.now.size) }
     {
         let (start, stop) = reach(span, self.offset, self.size);
         first <= start && stop <= end
     }
 
     fn is_inside_record<D>(&self, base: &RegState<D>) -> bool
-        ensures { result ≡ inside_record base.now (as_reach self.now) }
+        ensures { result ≡ inside_record base.now (as_access self.now) }
     {
         match base {
-            RegState::Record(span) => self.is_within(*span, 0, RECORD_LEN),
+            RegState::Record(span) => self.is_within(*span, 0, RECORD_LEN as i32),
             _ => true,
         }
     }
 
-    fn leaves_record<D>(&self, base: &RegState<D>) -> bool
-        ensures { result ≡ leaves_record base.now (as_reach self.now) }
+    fn spares_record<D>(&self, base: &RegState<D>) -> bool
+        ensures { result ≡ spares_record base.now (as_access self.now) }
     {
         match base {
             RegState::Record(_) => !self.is_store,
@@ -125,7 +121,7 @@ impl Access {
     }
 
     fn is_inside_stack<D>(&self, base: &RegState<D>) -> bool
-        ensures { result ≡ inside_stack base.now (as_reach self.now) }
+        ensures { result ≡ inside_stack base.now (as_access self.now) }
     {
         match base {
             RegState::Stack(span) => self.is_within(*span, -(STACK_LEN as i32), 0),
@@ -134,8 +130,8 @@ impl Access {
     }
 
     fn finds_written<D>(&self, base: &RegState<D>, stack: &StackState) -> bool
-        requires { IsTrue (inside_stack base.now (as_reach self.now)) }
-        ensures { result ≡ finds_written (is_written stack.now) base.now (as_reach self.now) }
+        requires { IsTrue (inside_stack base.now (as_access self.now)) }
+        ensures { result ≡ finds_written (is_written stack.now) base.now (as_access self.now) }
     {
         match base {
             RegState::Stack(span) if !self.is_store => {
@@ -148,11 +144,11 @@ impl Access {
 
     /// The first of the rules 21 to 25 that it fails, through a register in this state.
     pub(crate) fn check<D>(&self, base: &RegState<D>, stack: &StackState) -> Option<Rule>
-        ensures { MatchOption result (ReachPasses (is_written stack.now) base.now (as_reach self.now)) (λ rule. ReachFails (is_written stack.now) base.now (as_reach self.now) rule) }
+        ensures { MatchOption result (AccessPasses (is_written stack.now) base.now (as_access self.now)) (λ rule. AccessFails (is_written stack.now) base.now (as_access self.now) rule) }
     {
         if !self.is_inside_record(base) {
             Some(Rule::OutsideRecord)
-        } else if !self.leaves_record(base) {
+        } else if !self.spares_record(base) {
             Some(Rule::WritesRecord)
         } else if !self.is_inside_stack(base) {
             Some(Rule::OutsideStack)

@@ -1,11 +1,10 @@
 //! Addresses moved by numbers.
 ghost use Rattle.std.specs.Prelude.{◌≡◌, ◌-◌, ◌^◌, ◌≤◌, ◌-ℤ◌, ◌≤ℤ◌, pos, negsuc, Some, None, IfSome, if◌then◌else◌};
 ghost use Rattle.abstract_value.specs.States.{make_span};
-ghost use Rattle.verifier.specs.Rules.{steps_of, is_near, moved, pair_in_range, to_record, to_stack, added};
+ghost use Rattle.verifier.specs.Rules.{steps_of, is_near, moved_span, sum_in_range, to_record, to_stack, sum_of};
 
-use abstract_value::domain::Domain;
-use abstract_value::state::{RegState, Span};
-use insn_codec::insn::{AluOp, Width};
+use abstract_value::{Domain, RegState, Span};
+use instruction_set::{AluOp, Width};
 
 /// A word just below 2 ^ 64, as the number below zero that it stands for.
 fn below_zero(word: u64) -> i32
@@ -31,7 +30,7 @@ fn steps_of<D: Domain>(number: &D) -> Option<(i32, i32)>
 }
 
 /// The offsets from `lo` to `hi`, where they are near.
-fn near_span(lo: i32, hi: i32) -> Option<Span>
+fn span_in_range(lo: i32, hi: i32) -> Option<Span>
     requires { lo ≤ℤ hi }
     ensures { result ≡ (if is_near lo hi then Some (make_span lo hi) else None) }
 {
@@ -43,25 +42,25 @@ fn near_span(lo: i32, hi: i32) -> Option<Span>
 }
 
 /// The offsets after an address is moved by a number, where they are near.
-pub(crate) fn moved<D: Domain>(op: AluOp, span: Span, number: &D) -> Option<Span>
-    ensures { result ≡ moved D.ops op span number.now }
+pub(crate) fn moved_span<D: Domain>(op: AluOp, span: Span, number: &D) -> Option<Span>
+    ensures { result ≡ moved_span D.ops op span number.now }
 {
     let (least, greatest) = steps_of(number)?;
     match op {
-        AluOp::Sub => near_span(span.lo - greatest, span.hi - least),
-        _ => near_span(span.lo + least, span.hi + greatest),
+        AluOp::Sub => span_in_range(span.lo - greatest, span.hi - least),
+        _ => span_in_range(span.lo + least, span.hi + greatest),
     }
 }
 
 /// Whether a sum or a difference of 64 bits leaves an address near.
-pub(crate) fn pair_in_range<D: Domain>(op: AluOp, a: &RegState<D>, b: &RegState<D>) -> bool
-    ensures { result ≡ pair_in_range D.ops op a.now b.now }
+pub(crate) fn sum_in_range<D: Domain>(op: AluOp, a: &RegState<D>, b: &RegState<D>) -> bool
+    ensures { result ≡ sum_in_range D.ops op a.now b.now }
 {
     match (op, a, b) {
-        (_, RegState::Record(a), RegState::Scalar(b)) => moved(op, *a, b).is_some(),
-        (_, RegState::Stack(a), RegState::Scalar(b)) => moved(op, *a, b).is_some(),
-        (AluOp::Add, RegState::Scalar(a), RegState::Record(b)) => moved(op, *b, a).is_some(),
-        (AluOp::Add, RegState::Scalar(a), RegState::Stack(b)) => moved(op, *b, a).is_some(),
+        (_, RegState::Record(a), RegState::Scalar(b)) => moved_span(op, *a, b).is_some(),
+        (_, RegState::Stack(a), RegState::Scalar(b)) => moved_span(op, *a, b).is_some(),
+        (AluOp::Add, RegState::Scalar(a), RegState::Record(b)) => moved_span(op, *b, a).is_some(),
+        (AluOp::Add, RegState::Scalar(a), RegState::Stack(b)) => moved_span(op, *b, a).is_some(),
         _ => true,
     }
 }
@@ -85,17 +84,17 @@ fn to_stack<D>(span: Option<Span>) -> RegState<D>
 }
 
 /// A sum or a difference of 64 bits, of numbers or of an address and a number.
-pub(crate) fn added<D: Domain>(op: AluOp, a: &RegState<D>, b: &RegState<D>) -> RegState<D>
-    ensures { result ≡ added D.ops op a.now b.now }
+pub(crate) fn sum_of<D: Domain>(op: AluOp, a: &RegState<D>, b: &RegState<D>) -> RegState<D>
+    ensures { result ≡ sum_of D.ops op a.now b.now }
 {
     match (op, a, b) {
         (_, RegState::Scalar(a), RegState::Scalar(b)) => {
             RegState::Scalar(D::alu(Width::W64, op, a, b))
         }
-        (_, RegState::Record(a), RegState::Scalar(b)) => to_record(moved(op, *a, b)),
-        (_, RegState::Stack(a), RegState::Scalar(b)) => to_stack(moved(op, *a, b)),
-        (AluOp::Add, RegState::Scalar(a), RegState::Record(b)) => to_record(moved(op, *b, a)),
-        (AluOp::Add, RegState::Scalar(a), RegState::Stack(b)) => to_stack(moved(op, *b, a)),
+        (_, RegState::Record(a), RegState::Scalar(b)) => to_record(moved_span(op, *a, b)),
+        (_, RegState::Stack(a), RegState::Scalar(b)) => to_stack(moved_span(op, *a, b)),
+        (AluOp::Add, RegState::Scalar(a), RegState::Record(b)) => to_record(moved_span(op, *b, a)),
+        (AluOp::Add, RegState::Scalar(a), RegState::Stack(b)) => to_stack(moved_span(op, *b, a)),
         _ => RegState::Unreadable,
     }
 }

@@ -1,14 +1,13 @@
-//! The rules of structure, 10 to 14: where jumps lead, what stands behind an instruction, and what leads to it.
-ghost use Rattle.std.specs.Prelude.{◌≡◌, ℕ, ◌+◌, ◌<◌, ◌≤◌, ◌⊎◌, true, false, length, sum_by, Some, MatchOption};
-ghost use Rattle.insn_codec.specs.Machine.{slots_of};
+//! The rules of structure, 10 to 14: where jumps lead, what stands after an instruction, and what leads to it.
+ghost use Rattle.std.specs.Prelude.{◌≡◌, ℕ, ◌+◌, ◌<◌, ◌≤◌, ◌⊎◌, true, false, length, Some, MatchOption};
+ghost use Rattle.instruction_set.specs.Machine.{insn_at, slot_count, slots_of};
 ghost use Rattle.verifier.specs.declared.rule.Rule.{Rule};
 ghost use Rattle.verifier.specs.Structure.{distance_of, goes_on, leads_to, HasEdge, MeetsStructure, IsStructured, IsIllStructured};
-ghost use Rattle.verifier.specs.Edges.{MeetsBelow, FailsStructure, falls_to, mark, IsSeen};
+ghost use Rattle.verifier.specs.model.Edges.{MeetsBelow, FailsStructure, falls_to, mark, IsSeen};
 
 use crate::refusal::Refusal;
 use crate::rule::Rule;
-use insn_codec::code::{Code, MAX_SLOTS, Slot};
-use insn_codec::insn::Insn;
+use instruction_set::{Code, Insn, MAX_SLOTS};
 
 /// A jump's distance, counted from the slot after it.
 fn distance_of(insn: &Insn) -> Option<i32>
@@ -29,16 +28,6 @@ fn goes_on(insn: &Insn) -> bool
     !matches!(insn, Insn::Jump { .. } | Insn::JumpLong { .. } | Insn::Exit)
 }
 
-/// How many slots an instruction has.
-pub(crate) fn slots_of(insn: &Insn) -> usize
-    ensures { result ≡ slots_of insn.now }
-{
-    match insn {
-        Insn::LoadWide { .. } => 2,
-        _ => 1,
-    }
-}
-
 /// Where the jump at a slot leads, if it doesn't lead back.
 pub(crate) fn leads_to(slot: usize, insn: &Insn) -> Option<usize>
     requires { slot < MAX_SLOTS }
@@ -56,7 +45,7 @@ fn falls_to(slot: usize, insn: &Insn) -> Option<usize>
     ensures { result ≡ falls_to slot insn.now }
 {
     if goes_on(insn) {
-        Some(slot + slots_of(insn))
+        Some(slot + insn.slots())
     } else {
         None
     }
@@ -64,7 +53,7 @@ fn falls_to(slot: usize, insn: &Insn) -> Option<usize>
 
 /// The first of the rules 10 to 12 that an instruction fails.
 fn jump_fault(code: &Code, slot: usize, insn: &Insn) -> Option<Rule>
-    requires { slot < sum_by slots_of code.now }
+    requires { slot < slot_count code.now }
     ensures { MatchOption result (MeetsBelow code.now slot insn.now 13) (λ rule. FailsStructure code.now slot insn.now rule) }
 {
     if distance_of(insn).is_none() {
@@ -74,16 +63,14 @@ fn jump_fault(code: &Code, slot: usize, insn: &Insn) -> Option<Rule>
     match leads_to(slot, insn) {
         None => Some(Rule::Backward),
         Some(to) if to >= count => Some(Rule::Outside),
-        Some(to) => match code.slot(to) {
-            Slot::First(_) => None,
-            Slot::Second => Some(Rule::IntoWide),
-        },
+        Some(to) if code.begins(to) => None,
+        Some(_) => Some(Rule::IntoWide),
     }
 }
 
 /// The first of the rules 10 to 14 that an instruction fails; an edge leads to it, or it is the first, if it is reached.
 fn fault(code: &Code, slot: usize, insn: &Insn, is_reached: bool) -> Option<Rule>
-    requires slot { slot < sum_by slots_of code.now }
+    requires slot { slot < slot_count code.now }
     requires reached { is_reached ≡ true → (slot ≡ 0) ⊎ HasEdge code.now slot }
     requires unreached { is_reached ≡ false → (slot ≡ 0) ⊎ HasEdge code.now slot → ⊥ }
     ensures { MatchOption result ((rule : Rule) → MeetsStructure code.now slot insn.now rule) (λ rule. FailsStructure code.now slot insn.now rule) }
@@ -92,7 +79,7 @@ fn fault(code: &Code, slot: usize, insn: &Insn, is_reached: bool) -> Option<Rule
         return Some(rule);
     }
     let count = code.slot_count();
-    if goes_on(insn) && slot + slots_of(insn) >= count {
+    if goes_on(insn) && slot + insn.slots() >= count {
         return Some(Rule::FallsOff);
     }
     if !is_reached {
@@ -110,23 +97,20 @@ fn mark(reached: &mut [bool], to: Option<usize>)
     }
 }
 
-/// Looks at one slot, and marks the slots to which its instruction leads.
-fn visit(code: &Code, slot: usize, reached: &mut [bool]) -> Option<Rule>
-    requires slot { slot < sum_by slots_of code.now }
-    requires few { sum_by slots_of code.now ≤ MAX_SLOTS }
+/// Looks at the instruction at a slot, and marks the slots to which it leads.
+fn visit(code: &Code, slot: usize, insn: &Insn, reached: &mut [bool]) -> Option<Rule>
+    requires slot { slot < slot_count code.now }
+    requires is_at { insn_at code.now slot ≡ Some insn.now }
+    requires few { slot_count code.now ≤ MAX_SLOTS }
     requires long { length reached.old ≡ MAX_SLOTS }
     requires seen { IsSeen code.now slot reached.old }
-    ensures { MatchOption result (IsSeen code.now (slot + 1) reached.new) (λ rule. IsIllStructured code.now slot rule) }
+    ensures { MatchOption result (IsSeen code.now (slot + slots_of insn.now) reached.new) (λ rule. IsIllStructured code.now slot rule) }
 {
-    let insn = match code.slot(slot) {
-        Slot::First(insn) => insn,
-        Slot::Second => return None,
-    };
-    if let Some(rule) = fault(code, slot, &insn, reached[slot]) {
+    if let Some(rule) = fault(code, slot, insn, reached[slot]) {
         return Some(rule);
     }
-    mark(reached, falls_to(slot, &insn));
-    mark(reached, leads_to(slot, &insn));
+    mark(reached, falls_to(slot, insn));
+    mark(reached, leads_to(slot, insn));
     None
 }
 
@@ -136,15 +120,20 @@ fn visit(code: &Code, slot: usize, reached: &mut [bool]) -> Option<Rule>
 pub(crate) fn check_structure(code: &Code) -> Option<Refusal>
     ensures { MatchOption result (IsStructured code.now) (λ r. IsIllStructured code.now r.slot r.rule) }
 {
+    // It has few slots.
+    code.known();
     let mut reached = [false; MAX_SLOTS];
     mark(&mut reached, Some(0));
-    for slot in 0..code.slot_count() {
-        if let Some(rule) = visit(code, slot, &mut reached) {
+    let insns = code.insns();
+    let mut slot = 0;
+    for insn in insns {
+        if let Some(rule) = visit(code, slot, insn, &mut reached) {
             return Some(Refusal {
                 slot: slot as u32,
                 rule,
             });
         }
+        slot += insn.slots();
     }
     None
 }

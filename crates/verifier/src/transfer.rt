@@ -1,22 +1,21 @@
 //! What an instruction carries along its edges.
 ghost use Rattle.std.specs.Prelude.{◌≡◌, IsTrue};
-ghost use Rattle.insn_codec.specs.Operations.{low, IsMovSxBits, IsEndBits};
-ghost use Rattle.insn_codec.specs.Encoding.{IsSelected};
+ghost use Rattle.instruction_set.specs.Operations.{low, IsMovSxBits, IsEndBits};
+ghost use Rattle.instruction_set.specs.Slots.{IsSelected};
 ghost use Rattle.std.specs.Int.{w64, cast_unsigned};
 ghost use Rattle.abstract_value.specs.States.{view, with_register};
-ghost use Rattle.verifier.specs.Rules.{in_stack, access_of, of_scalar, of_scalars, result_of, stored, refined, Passes, fall, jump};
-ghost use Rattle.verifier.specs.Flow.{view_of};
-ghost use Rattle.verifier.specs.Values.{value_of};
-ghost use Rattle.insn_codec.specs.declared.insn.Source.TheVariants.{Imm, Reg};
-ghost use Rattle.abstract_value.specs.declared.state.Span.{Span};
-ghost use Rattle.abstract_value.specs.declared.state.RegState.TheVariants.{Stack};
+ghost use Rattle.verifier.specs.Rules.{in_stack, reach_of, of_scalar, of_scalars, result_of, after_store, on_edge, Passes, fall, jump};
+ghost use Rattle.verifier.specs.model.Flow.{view_of};
+ghost use Rattle.verifier.specs.model.Values.{value_of};
+ghost use Rattle.instruction_set.specs.declared.insn.Source.TheVariants.{Imm, Reg};
+ghost use Rattle.abstract_value.specs.declared.states.Span.{Span};
+ghost use Rattle.abstract_value.specs.declared.states.RegState.TheVariants.{Stack};
 
 use crate::kinds::{destination, operand};
 use crate::memory_access::{bytes_of, stack_bytes};
-use crate::pointer_moves::added;
-use abstract_value::domain::Domain;
-use abstract_value::state::{RegState, State};
-use insn_codec::insn::{AluOp, EndKind, Insn, Register, Size, Source, Test, Width};
+use crate::pointer_moves::sum_of;
+use abstract_value::{Domain, RegState, State};
+use instruction_set::{AluOp, EndKind, Insn, Register, Size, Source, Test, Width};
 
 /// The state with another register.
 fn with_register<D: Domain>(state: &State<D>, register: Register, value: RegState<D>) -> State<D>
@@ -43,13 +42,13 @@ fn result_of<D: Domain>(width: Width, op: AluOp, a: &RegState<D>, b: &RegState<D
     match (width, op) {
         (Width::W64, AluOp::Mov) => *b,
         (Width::W32, AluOp::Mov) => alu_scalars(Width::W32, AluOp::Mov, b, b),
-        (Width::W64, AluOp::Add) => added(AluOp::Add, a, b),
-        (Width::W64, AluOp::Sub) => added(AluOp::Sub, a, b),
+        (Width::W64, AluOp::Add) => sum_of(AluOp::Add, a, b),
+        (Width::W64, AluOp::Sub) => sum_of(AluOp::Sub, a, b),
         _ => alu_scalars(width, op, a, b),
     }
 }
 
-fn negated<D: Domain>(width: Width, a: &RegState<D>) -> RegState<D>
+fn negation_of<D: Domain>(width: Width, a: &RegState<D>) -> RegState<D>
     ensures { result ≡ of_scalar (D.ops.neg width) a.now }
 {
     match a {
@@ -58,7 +57,7 @@ fn negated<D: Domain>(width: Width, a: &RegState<D>) -> RegState<D>
     }
 }
 
-fn sign_extended<D: Domain>(width: Width, bits: u32, a: &RegState<D>) -> RegState<D>
+fn sign_extension_of<D: Domain>(width: Width, bits: u32, a: &RegState<D>) -> RegState<D>
     requires { IsMovSxBits width bits }
     ensures { result ≡ of_scalar (D.ops.mov_sx width bits) a.now }
 {
@@ -68,7 +67,7 @@ fn sign_extended<D: Domain>(width: Width, bits: u32, a: &RegState<D>) -> RegStat
     }
 }
 
-fn reordered<D: Domain>(kind: EndKind, bits: u32, a: &RegState<D>) -> RegState<D>
+fn swap_of<D: Domain>(kind: EndKind, bits: u32, a: &RegState<D>) -> RegState<D>
     requires { IsEndBits bits }
     ensures { result ≡ of_scalar (D.ops.end kind bits) a.now }
 {
@@ -79,9 +78,9 @@ fn reordered<D: Domain>(kind: EndKind, bits: u32, a: &RegState<D>) -> RegState<D
 }
 
 /// The state after a store: its bytes are written where its offset is known exactly.
-fn stored<D: Domain>(state: &State<D>, base: Register, offset: i16, size: Size) -> State<D>
-    requires { (a : Span) → (view state.now).registers base.number ≡ Stack a → IsTrue (in_stack (access_of a offset size)) }
-    ensures { view result ≡ stored (view state.now) ((view state.now).registers base.number) offset size }
+fn after_store<D: Domain>(state: &State<D>, base: Register, offset: i16, size: Size) -> State<D>
+    requires { (a : Span) → (view state.now).registers base.number ≡ Stack a → IsTrue (in_stack (reach_of a offset size)) }
+    ensures { view result ≡ after_store (view state.now) ((view state.now).registers base.number) offset size }
 {
     let mut next = *state;
     if let RegState::Stack(span) = state.register(base) {
@@ -104,7 +103,7 @@ fn tested_number(width: Width, number: i32) -> u64
 }
 
 /// The state on one edge of a test against a number, with the register cut; nothing on a dead edge.
-fn refined_by_number<D: Domain>(
+fn on_edge_with_number<D: Domain>(
     width: Width,
     test: Test,
     taken: bool,
@@ -112,7 +111,7 @@ fn refined_by_number<D: Domain>(
     register: Register,
     number: i32,
 ) -> Option<State<D>>
-    ensures { view_of result ≡ refined D.ops width test taken (view state.now) register.number (Imm number) }
+    ensures { view_of result ≡ on_edge D.ops width test taken (view state.now) register.number (Imm number) }
 {
     match state.register(register) {
         RegState::Scalar(a) => {
@@ -125,7 +124,7 @@ fn refined_by_number<D: Domain>(
 }
 
 /// The state on one edge of a test of two registers, with both cut; nothing on a dead edge.
-fn refined_by_register<D: Domain>(
+fn on_edge_with_register<D: Domain>(
     width: Width,
     test: Test,
     taken: bool,
@@ -133,7 +132,7 @@ fn refined_by_register<D: Domain>(
     left: Register,
     right: Register,
 ) -> Option<State<D>>
-    ensures { view_of result ≡ refined D.ops width test taken (view state.now) left.number (Reg right) }
+    ensures { view_of result ≡ on_edge D.ops width test taken (view state.now) left.number (Reg right) }
 {
     if left.number == right.number {
         return Some(*state);
@@ -151,7 +150,7 @@ fn refined_by_register<D: Domain>(
 }
 
 /// The state on one edge of a test; nothing on a dead edge.
-fn refined<D: Domain>(
+fn on_edge<D: Domain>(
     width: Width,
     test: Test,
     taken: bool,
@@ -159,11 +158,11 @@ fn refined<D: Domain>(
     register: Register,
     source: Source,
 ) -> Option<State<D>>
-    ensures { view_of result ≡ refined D.ops width test taken (view state.now) register.number source }
+    ensures { view_of result ≡ on_edge D.ops width test taken (view state.now) register.number source }
 {
     match source {
-        Source::Imm(number) => refined_by_number(width, test, taken, state, register, number),
-        Source::Reg(other) => refined_by_register(width, test, taken, state, register, other),
+        Source::Imm(number) => on_edge_with_number(width, test, taken, state, register, number),
+        Source::Reg(other) => on_edge_with_register(width, test, taken, state, register, other),
     }
 }
 
@@ -179,17 +178,17 @@ fn value_of<D: Domain>(insn: Insn, state: &State<D>) -> RegState<D>
             dst,
             src,
         } => result_of(width, op, &state.register(dst), &operand(state, src)),
-        Insn::Neg { width, dst } => negated(width, &state.register(dst)),
+        Insn::Neg { width, dst } => negation_of(width, &state.register(dst)),
         Insn::MovSx {
             width,
             bits,
             src,
             ..
-        } => sign_extended(width, bits, &state.register(src)),
-        Insn::End { kind, bits, dst } => reordered(kind, bits, &state.register(dst)),
+        } => sign_extension_of(width, bits, &state.register(src)),
+        Insn::End { kind, bits, dst } => swap_of(kind, bits, &state.register(dst)),
         Insn::LoadWide { value, .. } => RegState::Scalar(D::single(value)),
-        Insn::Load { size, .. } => RegState::Scalar(D::loaded(size, false)),
-        Insn::LoadSx { size, .. } => RegState::Scalar(D::loaded(size, true)),
+        Insn::Load { size, .. } => RegState::Scalar(D::load(size, false)),
+        Insn::LoadSx { size, .. } => RegState::Scalar(D::load(size, true)),
         _ => RegState::Unreadable,
     }
 }
@@ -208,19 +207,19 @@ pub(crate) fn fall<D: Domain>(insn: Insn, state: &State<D>) -> Option<State<D>>
             dst,
             src,
             ..
-        } => refined(width, test, false, state, dst, src),
+        } => on_edge(width, test, false, state, dst, src),
         Insn::Store {
             size,
             base,
             offset,
             ..
-        } => Some(stored(state, base, offset, size)),
+        } => Some(after_store(state, base, offset, size)),
         Insn::StoreImm {
             size,
             base,
             offset,
             ..
-        } => Some(stored(state, base, offset, size)),
+        } => Some(after_store(state, base, offset, size)),
         _ => {
             let register = destination(insn)?;
             Some(with_register(state, register, value_of(insn, state)))
@@ -241,7 +240,7 @@ pub(crate) fn jump<D: Domain>(insn: Insn, state: &State<D>) -> Option<State<D>>
             dst,
             src,
             ..
-        } => refined(width, test, true, state, dst, src),
+        } => on_edge(width, test, true, state, dst, src),
         _ => None,
     }
 }

@@ -1,6 +1,6 @@
 use Rattle.std.proofs.Common.{◌≡◌, ◌+◌, ◌≤◌, length}
 use Rattle.assembler_text.specs.Grammar.{lines_of}
-use Rattle.assembler_text.specs.Assembled.{code_after, code_of}
+use Rattle.assembler_text.specs.model.Texts.{code_after, code_of}
 use Rattle.assembler_text.proofs.assembler.read_lines.Given as goal
 
 abbrev pub invariant-loop-text : goal.invariant-loop-text

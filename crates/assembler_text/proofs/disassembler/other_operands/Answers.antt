@@ -8,7 +8,8 @@ use Rattle.assembler_text.proofs.disassembler.other_operands.Goals as goal
 
 pub returns-in_ok-source_text-in-Alu : goal.returns-in_ok-source_text-in-Alu
 returns-in_ok-source_text-in-Alu c =
-    let pieces : IfOk c.format.result (λ text. string_bytes text ≡ codes ", " ++ source_text c.in-Alu.src) = search rules in
+    let pieces : IfOk c.format.result (λ text. string_bytes text ≡ codes ", " ++ source_text c.in-Alu.src) =
+    search rules in
     rw c.in-Alu.is (subst (λ (t : List ℕ). IfOk c.format.result (λ text. string_bytes text ≡ t)) (other_piece (source_text c.in-Alu.src)) pieces)
 
 pub returns-in-LoadWide : goal.returns-in-LoadWide

@@ -1,5 +1,5 @@
 use Rattle.std.proofs.Common.{◌≡◌, length, map}
-use Rattle.assembler_text.specs.Words.{lookup}
+use Rattle.assembler_text.specs.model.Words.{lookup}
 use Rattle.assembler_text.proofs.lexer.lookup.Given as goal
 
 abbrev pub invariant-loop-table : goal.invariant-loop-table

@@ -1,5 +1,5 @@
 use Rattle.std.proofs.Common.{◌≡◌, ◌≤◌, ◌^◌, drop}
-use Rattle.assembler_text.specs.Reading.{number_after, within}
+use Rattle.assembler_text.specs.model.Reading.{number_after, within}
 use Rattle.assembler_text.proofs.number.number.Given as goal
 
 abbrev pub invariant-loop-digit : goal.invariant-loop-digit

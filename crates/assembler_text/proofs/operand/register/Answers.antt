@@ -1,5 +1,5 @@
 use Rattle.std.proofs.Common.{◌≡◌, sym, ◌∙◌, Some}
-use Rattle.assembler_text.specs.Operands.{register_number}
+use Rattle.assembler_text.specs.model.Operands.{register_number}
 use Rattle.assembler_text.proofs.Tables.{register_is}
 use Rattle.assembler_text.proofs.operand.register.Goals as goal
 

@@ -1,7 +1,7 @@
 use Rattle.std.proofs.Common.{arith, ℤ}
 use Rattle.std.specs.Prelude.{pos, ◌-ℤ◌, ◌+ℤ◌}
 use Rattle.std.proofs.lemmas.Int.{ints}
-use Rattle.insn_codec.specs.Machine.{bytes_of}
+use Rattle.instruction_set.specs.Machine.{bytes_of}
 use Rattle.verifier.proofs.Spans.{in_stack_is, whole_is, whole_sum}
 use Rattle.verifier.proofs.memory_access.stack_bytes.Goals as goal
 

@@ -1,5 +1,11 @@
-use Rattle.verifier.specs.Edges.{IsSeen}
+use Rattle.std.proofs.Common.{◌≡◌, take}
+use Rattle.instruction_set.specs.Machine.{slot_count}
+use Rattle.verifier.specs.model.Edges.{IsSeen}
 use Rattle.verifier.proofs.structure.check_structure.Given as goal
 
-abbrev pub invariant-loop-slot : goal.invariant-loop-slot
-invariant-loop-slot l = IsSeen l.code l.slot l.reached
+-- the slots of the instructions before this one are seen
+abbrev pub invariant-loop-insn : goal.invariant-loop-insn
+invariant-loop-insn l = record {
+  place : l.slot ≡ slot_count (take l.insn-index l.insns);
+  seen : IsSeen l.code l.slot l.reached;
+}

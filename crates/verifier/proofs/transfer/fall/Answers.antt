@@ -2,22 +2,22 @@ use Rattle.std.proofs.Common.{rules, ap, true}
 use Rattle.std.specs.Prelude.{FitsSigned}
 use Rattle.std.specs.Int.{w16}
 use Rattle.abstract_value.specs.States.{view}
-use Rattle.verifier.specs.Rules.{reach_of}
+use Rattle.verifier.specs.Rules.{access_of}
 use Rattle.verifier.proofs.Spans.{reach_inside}
 use Rattle.verifier.proofs.transfer.fall.Goals as goal
 
-pub stored-requires : goal.stored-requires
-stored-requires g c =
+pub after_store-requires : goal.after_store-requires
+after_store-requires g c =
     let fits : FitsSigned w16 c.in-Store.offset = rw c.in-Store.is at c.known.ensures in (
       search rules,
       λ a e. reach_inside g.D.Domain.ops c.args.insn (view c.args.state.now) (record { base = c.in-Store.base.number; offset = c.in-Store.offset; size = c.in-Store.size; is_store = true }) a fits
-          (ap reach_of c.in-Store.is) c.requires.passes e,
+          (ap access_of c.in-Store.is) c.requires.passes e,
     )
 
-pub stored-requires-in-StoreImm : goal.stored-requires-in-StoreImm
-stored-requires-in-StoreImm g c =
+pub after_store-requires-in-StoreImm : goal.after_store-requires-in-StoreImm
+after_store-requires-in-StoreImm g c =
     let fits = rw c.in-StoreImm.is at c.known.ensures in (
       search rules,
       λ a e. reach_inside g.D.Domain.ops c.args.insn (view c.args.state.now) (record { base = c.in-StoreImm.base.number; offset = c.in-StoreImm.offset; size = c.in-StoreImm.size; is_store = true }) a
-          fits.0 (ap reach_of c.in-StoreImm.is) c.requires.passes e,
+          fits.0 (ap access_of c.in-StoreImm.is) c.requires.passes e,
     )

@@ -1,0 +1,10 @@
+pub mod Ends
+pub mod MadeRanges
+pub mod Arithmetic
+pub mod Signed
+pub mod Bitwise
+pub mod Alu
+pub mod Unary
+pub mod Refinement
+pub mod IntervalDomain
+pub mod OrderOfStates

@@ -1,0 +1,110 @@
+//! What is done with abstract states, and the law of their order.
+ghost use Rattle.std.specs.Prelude.{◌≡◌, ℕ, ◌<◌, ◌≤◌, ◌+◌, ◌≤ℤ◌, pos, negsuc};
+ghost use Rattle.abstract_value.specs.StackBytes.{is_written, all_written, with_marks};
+ghost use Rattle.abstract_value.specs.StateOrder.{StateOrder};
+ghost use Rattle.abstract_value.specs.States.{make_span, span_join, reg_join, View, view, entry, view_join, with_register, with_written};
+
+use super::{RegState, Span, State};
+use crate::{Domain, StackState};
+use instruction_set::{Register, STACK_LEN};
+
+impl Span {
+    /// The offsets from `lo` to `hi`.
+    pub fn new(lo: i32, hi: i32) -> Span
+        requires ordered { lo ≤ℤ hi }
+        requires above { negsuc 65535 ≤ℤ lo }
+        requires below { hi ≤ℤ pos 65536 }
+        ensures { result ≡ make_span lo hi }
+    {
+        Span { lo, hi }
+    }
+
+    /// The least span that has the offsets of both.
+    fn join(&self, other: &Span) -> Span
+        ensures { result ≡ span_join self.now other.now }
+    {
+        Span::new(self.lo.min(other.lo), self.hi.max(other.hi))
+    }
+}
+
+impl<D: Domain> RegState<D> {
+    /// The least above both: the join within one kind, and no access where the kinds differ.
+    pub fn join(&self, other: &RegState<D>) -> RegState<D>
+        ensures { result ≡ reg_join D.ops self.now other.now }
+    {
+        match (self, other) {
+            (RegState::Scalar(a), RegState::Scalar(b)) => RegState::Scalar(a.join(b)),
+            (RegState::Record(a), RegState::Record(b)) => RegState::Record(a.join(b)),
+            (RegState::Stack(a), RegState::Stack(b)) => RegState::Stack(a.join(b)),
+            _ => RegState::Unreadable,
+        }
+    }
+}
+
+impl<D: Domain> State<D> {
+    /// The state in which code begins: R1 is the record's address, R10 the address just past the stack.
+    pub fn entry() -> State<D>
+        ensures { view result ≡ entry }
+    {
+        let mut registers = [RegState::Unreadable; 11];
+        registers[1] = RegState::Record(Span::new(0, 0));
+        registers[10] = RegState::Stack(Span::new(0, 0));
+        State {
+            registers,
+            stack: StackState::empty(),
+        }
+    }
+
+    /// What a register may hold.
+    pub fn register(&self, register: Register) -> RegState<D>
+        ensures { result ≡ (view self.now).registers register.number }
+    {
+        self.registers[register.number as usize]
+    }
+
+    /// Gives a register another state.
+    pub fn set_register(&mut self, register: Register, state: RegState<D>)
+        ensures { view self.new ≡ with_register (view self.old) register.number state }
+    {
+        self.registers[register.number as usize] = state;
+    }
+
+    /// Which bytes of the stack are written.
+    pub fn stack(&self) -> &StackState
+        ensures { is_written result.now ≡ (view self.now).written }
+    {
+        &self.stack
+    }
+
+    /// Adds so many bytes of the stack from one on to those that are written.
+    pub fn mark(&mut self, from: usize, count: usize)
+        requires { from + count ≤ STACK_LEN }
+        ensures { view self.new ≡ with_written (view self.old) (with_marks (view self.old).written from count) }
+    {
+        self.stack.mark(from, count);
+    }
+
+    /// Makes it the least above both.
+    pub fn join(&mut self, other: &State<D>)
+        ensures { view self.new ≡ view_join D.ops (view self.old) (view other.now) }
+    {
+        for i in 0..11 {
+            self.join_register(i, other);
+        }
+        self.stack.intersect(&other.stack);
+    }
+
+    /// Makes one register the least above both.
+    fn join_register(&mut self, i: usize, other: &State<D>)
+        requires { i < 11 }
+        ensures { view self.new ≡ with_register (view self.old) i
+            (reg_join D.ops ((view self.old).registers i) ((view other.now).registers i)) }
+    {
+        self.registers[i] = self.registers[i].join(&other.registers[i]);
+    }
+}
+
+/// Over any domain, states are ordered, and their join is the least above both. It does nothing when it is run.
+pub fn state_order_theorem<D: Domain>()
+    ensures { StateOrder D.ops }
+{}

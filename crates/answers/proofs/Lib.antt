@@ -1,0 +1,2 @@
+pub mod Wrongs
+pub mod Readings

@@ -1,0 +1,52 @@
+-- What is wrong with bytes, with code or with a file is wrong with the task.
+use Rattle.std.proofs.Common.{◌≡◌, Ok, Err, IfOk, ℕ, List, refl}
+use Rattle.hex.specs.Hex.{decode_of}
+use Rattle.instruction_set.specs.declared.insn.Insn.{Insn}
+use Rattle.answers.specs.declared.failures.Failure.{Failure}
+use Rattle.answers.specs.declared.failures.Failure.TheVariants.{Refused, OutOfMemory}
+use Rattle.answers.specs.Refusals.{OnRefusal}
+use Rattle.answers.specs.Judging.{IsNoHex, IsNoCode, IsNoProgram, IsCodeFault, IsProgram, IsProgramFault, IsClashText, IsClashFault, first, no_hex, no_code, no_digits, no_program}
+use Rattle.answers.specs.Lines.{IsChecked, IsDisassembled, IsJudged, answer_unless_memory, code_alone, clash_alone, both}
+
+pub no_hex_failure : (text : List ℕ) (f : Failure) → OnRefusal (IsNoHex text) f → OnRefusal (IsCodeFault text) f
+no_hex_failure text (Refused r) h = no_hex h
+no_hex_failure text OutOfMemory h = h
+
+pub no_code_failure : (text bytes : List ℕ) (f : Failure) → decode_of text ≡ Ok bytes → OnRefusal (IsNoCode bytes) f → OnRefusal (IsCodeFault text) f
+no_code_failure text bytes (Refused r) digits h = no_code bytes digits h
+no_code_failure text bytes OutOfMemory digits h = h
+
+pub no_digits_failure : (text : List ℕ) (f : Failure) → OnRefusal (IsNoHex text) f → OnRefusal (IsProgramFault text) f
+no_digits_failure text (Refused r) h = no_digits h
+no_digits_failure text OutOfMemory h = h
+
+pub no_program_failure : (text bytes : List ℕ) (f : Failure) → decode_of text ≡ Ok bytes → OnRefusal (IsNoProgram bytes) f → OnRefusal (IsProgramFault text) f
+no_program_failure text bytes (Refused r) digits h = no_program bytes digits h
+no_program_failure text bytes OutOfMemory digits h = h
+
+pub ruleset failures = (no_hex_failure, no_code_failure, no_digits_failure, no_program_failure)
+
+pub check_failure : (text : List ℕ) (f : Failure) → OnRefusal (IsProgramFault text) f → IfOk (answer_unless_memory (Err f)) (IsChecked text)
+check_failure text (Refused r) h = h
+check_failure text OutOfMemory h = tt
+
+pub dis_failure : (text : List ℕ) (f : Failure) → OnRefusal (IsCodeFault text) f → IfOk (answer_unless_memory (Err f)) (IsDisassembled text)
+dis_failure text (Refused r) h = h
+dis_failure text OutOfMemory h = tt
+
+pub ruleset hex_wrongs = (check_failure, dis_failure)
+
+pub code_failure : (code clash bytes : List ℕ) (e : Failure) → OnRefusal (IsProgramFault code) e → IsClashText clash bytes → IfOk (answer_unless_memory (Err e)) (IsJudged code clash)
+code_failure code clash bytes (Refused r) h k = code_alone bytes h k
+code_failure code clash bytes OutOfMemory h k = tt
+
+pub clash_failure : (code clash : List ℕ) (program : List Insn) (f : Failure) → IsProgram code program → OnRefusal (IsClashFault clash) f → IfOk (answer_unless_memory (Err f)) (IsJudged code clash)
+clash_failure code clash program (Refused r) h k = clash_alone program h k
+clash_failure code clash program OutOfMemory h k = tt
+
+pub both_failures : (code clash : List ℕ) (e f : Failure) → OnRefusal (IsProgramFault code) e → OnRefusal (IsClashFault clash) f → IfOk (answer_unless_memory (Err (first e f))) (IsJudged code clash)
+both_failures code clash (Refused e) (Refused f) h k = both e f h k refl
+both_failures code clash (Refused e) OutOfMemory h k = tt
+both_failures code clash OutOfMemory f h k = tt
+
+pub ruleset wrongs = (code_failure, clash_failure, both_failures)

@@ -1,0 +1,98 @@
+-- What code answers to a clash, and what may be wrong with the texts of both.
+use Rattle.std.specs.Prelude.{◌≡◌, ◌≢◌, ℕ, List, length, nat_le, if◌then◌else◌, Ok, Err}
+use Rattle.hex.specs.Hex.{decode_of}
+use Rattle.hex.specs.declared.error.FromHexError.{FromHexError}
+use Rattle.numbered.specs.declared.NumberedRefusal.{NumberedRefusal}
+use Rattle.instruction_set.specs.declared.insn.Insn.{Insn}
+use Rattle.instruction_set.specs.Machine.{Ends, meaning, record_len}
+use Rattle.insn_codec.specs.declared.fault.CodecFault.{CodecFault}
+use Rattle.insn_codec.specs.Encoding.{Spells}
+use Rattle.insn_codec.specs.Faults.{IsFirstFault, fault_number, fault_place}
+use Rattle.program.specs.Programs as program
+use Rattle.program.specs.Programs.{program_fault_number, program_fault_place}
+use Rattle.program.specs.declared.fault.ProgramFault.{ProgramFault}
+use Rattle.builtin_resolvers.specs.declared.verdicts.Verdict3.{Verdict3}
+use Rattle.builtin_resolvers.specs.Verdicts.{verdict_of_answer}
+use Rattle.answers.specs.declared.failures.Failure.{Failure}
+use Rattle.answers.specs.declared.failures.Failure.TheVariants.{Refused, OutOfMemory}
+use Rattle.answers.specs.declared.failures.InputFault.TheVariants.{HexText, RecordLength}
+use Rattle.answers.specs.Refusals.{refusal, IsInput}
+
+-- ---- what is answered
+
+-- what code answers to a clash
+pub record Ruling : Type 0 where
+  pub code : List Insn
+  pub bytes : List ℕ
+  pub verdict : Verdict3
+  pub steps : ℕ
+
+abbrev pub ruling : List Insn → List ℕ → Verdict3 → ℕ → Ruling
+ruling code bytes verdict steps = record { code = code; bytes = bytes; verdict = verdict; steps = steps }
+
+-- the verdict is that of the code's meaning, and the code ends with it in so many steps wherever record and stack lie
+pub record IsRuling (r : Ruling) : Type 0 where
+  pub verdict_is : r.verdict ≡ verdict_of_answer (meaning r.code r.bytes)
+  pub steps_are : Ends r.code r.bytes (meaning r.code r.bytes) r.steps
+
+-- ---- what is wrong
+
+-- the text isn't hex digits, two a byte
+pub record IsNoHex (text : List ℕ) (r : NumberedRefusal) : Type 0 where
+  pub fault : FromHexError
+  pub digits : decode_of text ≡ Err fault
+  pub same : IsInput HexText r
+
+-- the bytes spell no code: this is the first fault
+pub record IsNoCode (bytes : List ℕ) (r : NumberedRefusal) : Type 0 where
+  pub fault : CodecFault
+  pub first : IsFirstFault bytes fault
+  pub same : r ≡ refusal (fault_number fault) (fault_place fault)
+
+-- the bytes are no program: this is wrong with them
+pub record IsNoProgram (bytes : List ℕ) (r : NumberedRefusal) : Type 0 where
+  pub fault : ProgramFault
+  pub wrong : program.IsProgramFault bytes fault
+  pub same : r ≡ refusal (program_fault_number fault) (program_fault_place fault)
+
+-- the text is that of code
+pub record IsCodeText (text : List ℕ) (code : List Insn) : Type 0 where
+  pub bytes : List ℕ
+  pub digits : decode_of text ≡ Ok bytes
+  pub spelled : Spells bytes code
+
+-- the text is that of no code, for this reason
+pub data IsCodeFault (text : List ℕ) (r : NumberedRefusal) : Type 0 where
+  no_hex : IsNoHex text r → IsCodeFault text r
+  no_code : (bytes : List ℕ) → decode_of text ≡ Ok bytes → IsNoCode bytes r → IsCodeFault text r
+
+-- the text is that of code that is accepted
+pub record IsProgram (text : List ℕ) (code : List Insn) : Type 0 where
+  pub bytes : List ℕ
+  pub digits : decode_of text ≡ Ok bytes
+  pub accepted : program.IsAccepted bytes code
+
+-- the text is that of no accepted code, for this reason
+pub data IsProgramFault (text : List ℕ) (r : NumberedRefusal) : Type 0 where
+  no_digits : IsNoHex text r → IsProgramFault text r
+  no_program : (bytes : List ℕ) → decode_of text ≡ Ok bytes → IsNoProgram bytes r → IsProgramFault text r
+
+-- the text is that of a record
+pub record IsClashText (text bytes : List ℕ) : Type 0 where
+  pub digits : decode_of text ≡ Ok bytes
+  pub whole : length bytes ≡ record_len
+
+-- the text is that of no record, for this reason
+pub data IsClashFault (text : List ℕ) (r : NumberedRefusal) : Type 0 where
+  no_bytes : IsNoHex text r → IsClashFault text r
+  wrong_length : (bytes : List ℕ) → decode_of text ≡ Ok bytes → length bytes ≢ record_len → IsInput RecordLength r → IsClashFault text r
+
+-- the one with the lesser number
+abbrev pub least : NumberedRefusal → NumberedRefusal → NumberedRefusal
+least e f = if nat_le e.number f.number then e else f
+
+-- the one of two that is told
+abbrev pub first : Failure → Failure → Failure
+first (Refused e) (Refused f) = Refused (least e f)
+first (Refused e) OutOfMemory = OutOfMemory
+first OutOfMemory f = OutOfMemory

@@ -1,0 +1,5 @@
+pub mod Refusals
+pub mod Judging
+pub mod Sources
+pub mod Lines
+pub mod Sending

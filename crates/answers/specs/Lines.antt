@@ -1,0 +1,134 @@
+-- What is printed for a task, and the status of the program.
+use Rattle.std.specs.Prelude.{◌≡◌, ◌⊎◌, ◌++◌, ℕ, List, length, codes, Option, Some, None, Result, Ok, Err}
+use Rattle.std.specs.declared.alloc.AllocError.{AllocError}
+use Rattle.std.specs.Fmt.{decimal}
+use Rattle.std.specs.List.{flat_map}
+use Rattle.std.specs.Io.KnownBytes.{Appends}
+use Rattle.hex.specs.Hex.{encode_lower}
+use Rattle.instruction_set.specs.declared.insn.Insn.{Insn}
+use Rattle.insn_codec.specs.Encoding.{insn_bytes}
+use Rattle.assembler_text.specs.Text as text
+use Rattle.builtin_resolvers.specs.declared.verdicts.Verdict3.{Verdict3}
+use Rattle.builtin_resolvers.specs.declared.verdicts.Verdict3.TheVariants.{First, Second, Neither}
+use Rattle.task.specs.declared.Task.{Task}
+use Rattle.task.specs.declared.Task.TheVariants.{Check, Judge, Asm, Dis}
+use Rattle.numbered.specs.declared.Place.{Place}
+use Rattle.numbered.specs.declared.Place.TheVariants.{Slot, Line}
+use Rattle.numbered.specs.declared.NumberedRefusal.{NumberedRefusal}
+use Rattle.answers.specs.declared.failures.Failure.{Failure}
+use Rattle.answers.specs.declared.failures.Failure.TheVariants as failure
+use Rattle.answers.specs.declared.printing.Answer.{Answer}
+use Rattle.answers.specs.declared.printing.Answer.TheVariants.{Accepted, Ruled, Assembled, Disassembled, Refused, DeviceFault}
+use Rattle.answers.specs.Sources.{OfBytes, IsSource, IsNoSource}
+use Rattle.answers.specs.Judging.{IsCodeText, IsCodeFault, IsProgram, IsProgramFault, IsClashText, IsClashFault, Ruling, IsRuling, least}
+use Rattle.answers.specs.Sending.{AppendsFront}
+
+-- ---- what is said
+
+-- both texts are right, and this is what the code answers to the record
+pub record IsVerdict (code clash : List ℕ) (verdict : Verdict3) (steps : ℕ) : Type 0 where
+  pub ruling : Ruling
+  pub is_program : IsProgram code ruling.code
+  pub is_clash : IsClashText clash ruling.bytes
+  pub is_ruling : IsRuling ruling
+  pub verdict_is : verdict ≡ ruling.verdict
+  pub steps_are : steps ≡ ruling.steps
+
+-- one of the texts is wrong, or both are; of two reasons the lesser is told
+pub data IsWrong (code clash : List ℕ) (r : NumberedRefusal) : Type 0 where
+  code_alone : (bytes : List ℕ) → IsProgramFault code r → IsClashText clash bytes → IsWrong code clash r
+  clash_alone : (program : List Insn) → IsProgram code program → IsClashFault clash r → IsWrong code clash r
+  both : (e f : NumberedRefusal) → IsProgramFault code e → IsClashFault clash f → r ≡ least e f → IsWrong code clash r
+
+-- what is said where a clash is judged
+abbrev pub IsJudged : List ℕ → List ℕ → Answer → Type 0
+IsJudged code clash (Ruled verdict steps) = IsVerdict code clash verdict steps
+IsJudged code clash (Refused r) = IsWrong code clash r
+IsJudged code clash said = ⊥
+
+-- the code is accepted, and this is the count of its instructions
+pub record IsCount (text : List ℕ) (count : ℕ) : Type 0 where
+  pub code : List Insn
+  pub is_program : IsProgram text code
+  pub count_is : count ≡ length code
+
+-- what is said where code is checked
+abbrev pub IsChecked : List ℕ → Answer → Type 0
+IsChecked text (Accepted count) = IsCount text count
+IsChecked text (Refused r) = IsProgramFault text r
+IsChecked text said = ⊥
+
+-- what is said where code is written as text
+abbrev pub IsDisassembled : List ℕ → Answer → Type 0
+IsDisassembled text (Disassembled code) = IsCodeText text code
+IsDisassembled text (Refused r) = IsCodeFault text r
+IsDisassembled text said = ⊥
+
+-- what is said of the bytes of a file whose text is read as code
+abbrev pub IsAssembled : List ℕ → Answer → Type 0
+IsAssembled bytes (Assembled code) = IsSource bytes code
+IsAssembled bytes (Refused r) = IsNoSource bytes r
+IsAssembled bytes said = ⊥
+
+-- it is said of the bytes that a reader has, or of some bytes where it doesn't tell them; or reading failed
+abbrev pub IsOfBytes : Option (List ℕ) → Answer → Type 0
+IsOfBytes known said = (said ≡ DeviceFault) ⊎ OfBytes known (λ bytes. IsAssembled bytes said)
+
+-- what is said to a task; what a file has is known only by reading it
+abbrev pub IsAnswer : Task → Answer → Type 0
+IsAnswer (Check code) said = IsChecked code.now said
+IsAnswer (Judge code clash) said = IsJudged code.now clash.now said
+IsAnswer (Asm file) said = IsOfBytes None said
+IsAnswer (Dis code) said = IsDisassembled code.now said
+
+-- what is said, where memory serves
+abbrev pub answer_unless_memory : Result Answer Failure → Result Answer AllocError
+answer_unless_memory (Ok said) = Ok said
+answer_unless_memory (Err (failure.Refused r)) = Ok (Refused r)
+answer_unless_memory (Err failure.OutOfMemory) = Err (record {})
+
+-- ---- how it is said
+
+abbrev pub word_of : Verdict3 → List ℕ
+word_of First = codes "first"
+word_of Second = codes "second"
+word_of Neither = codes "none"
+
+-- a refusal, with the slot or the line that it names
+abbrev pub refused_line : ℕ → Option Place → List ℕ
+refused_line number None = codes "refused " ++ (decimal number ++ codes "\n")
+refused_line number (Some (Slot slot)) = codes "refused " ++ (decimal number ++ (codes " at slot " ++ (decimal slot ++ codes "\n")))
+refused_line number (Some (Line line)) = codes "refused " ++ (decimal number ++ (codes " at line " ++ (decimal line ++ codes "\n")))
+
+-- the bytes of code in lower-case hex digits, on one line
+abbrev pub hex_line : List Insn → List ℕ
+hex_line code = encode_lower (flat_map insn_bytes code) ++ codes "\n"
+
+-- what is printed
+abbrev pub line_of : Answer → List ℕ
+line_of (Accepted count) = codes "accepted " ++ (decimal count ++ codes " instructions\n")
+line_of (Ruled verdict steps) = word_of verdict ++ (codes " in " ++ (decimal steps ++ codes " steps\n"))
+line_of (Assembled code) = hex_line code
+line_of (Disassembled code) = flat_map text.line_of code
+line_of (Refused r) = refused_line r.number r.place
+line_of DeviceFault = codes "device fault\n"
+
+-- the status of the program
+abbrev pub status_of : Answer → ℕ
+status_of (Refused r) = 2
+status_of DeviceFault = 3
+status_of said = 0
+
+-- this is said, with this status and text
+abbrev pub IsPrinted : Result Answer AllocError → ℕ → List ℕ → Type 0
+IsPrinted (Ok said) status line = (status ≡ status_of said) × (line ≡ line_of said)
+IsPrinted (Err e) status line = ⊥
+
+-- ---- what the program does
+
+-- all that is printed went out, with its status; or the status is 3, and a beginning of it went out, or of the line for
+-- want of memory
+pub data Obeys (task : Task) (old new : Option (List ℕ)) (status : ℕ) : Type 0 where
+  obeyed : (said : Answer) → IsAnswer task said → status ≡ status_of said → Appends old new (line_of said) → Obeys task old new status
+  cut : (said : Answer) → IsAnswer task said → status ≡ 3 → AppendsFront old new (line_of said) → Obeys task old new status
+  no_memory : status ≡ 3 → AppendsFront old new (codes "refused 90\n") → Obeys task old new status

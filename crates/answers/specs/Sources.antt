@@ -1,0 +1,54 @@
+-- The text of code in a file: what its bytes give, and what may be wrong with them.
+use Rattle.std.specs.Prelude.{◌≡◌, ℕ, ◌+◌, ◌<◌, ◌≤◌, List, length, take, Option, Some, None, IfSome, Ok, Err}
+use Rattle.std.specs.Str.{IsUtf8}
+use Rattle.instruction_set.specs.declared.insn.Insn.{Insn}
+use Rattle.assembler_text.specs.declared.faults.LineFault.{LineFault}
+use Rattle.assembler_text.specs.Faults.{line_fault_number, line_fault_place}
+use Rattle.assembler_text.specs.Grammar.{IsTextOf}
+use Rattle.assembler_text.specs.Refusals.{IsFirstFault}
+use Rattle.numbered.specs.declared.NumberedRefusal.{NumberedRefusal}
+use Rattle.answers.specs.declared.failures.InputFault.TheVariants.{NotText, FileTooLong}
+use Rattle.answers.specs.Refusals.{refusal, IsInput}
+
+-- ---- what reading gives
+
+-- the greatest number of bytes that a file may have
+abbrev pub max_file_len : ℕ
+max_file_len = 1048576
+
+-- the bytes are all that a reader has, or one more than a file may have, where it tells what it has
+abbrev pub IsReading : Option (List ℕ) → List ℕ → Type 0
+IsReading known bytes = IfSome known (λ all. bytes ≡ take (max_file_len + 1) all)
+
+-- it holds of the bytes that a reader has, or of some bytes where it doesn't tell them
+abbrev pub OfBytes : Option (List ℕ) → (List ℕ → Type 0) → Type 0
+OfBytes (Some bytes) P = P bytes
+OfBytes None P = (bytes : List ℕ) × P bytes
+
+-- ---- what bytes give
+
+-- the bytes are a text, and not too many
+pub record IsText (bytes : List ℕ) : Type 0 where
+  pub few : length bytes ≤ max_file_len
+  pub utf8 : IsUtf8 bytes
+
+-- the bytes are no text, for this reason; that there are too many comes first
+pub data IsNoText (bytes : List ℕ) (r : NumberedRefusal) : Type 0 where
+  too_long : max_file_len < length bytes → IsInput FileTooLong r → IsNoText bytes r
+  not_utf8 : length bytes ≤ max_file_len → ¬ IsUtf8 bytes → IsInput NotText r → IsNoText bytes r
+
+-- the text is of no code: this is its first fault
+pub record IsFaulty (text : List ℕ) (r : NumberedRefusal) : Type 0 where
+  pub fault : LineFault
+  pub first : IsFirstFault text fault
+  pub same : r ≡ refusal (line_fault_number fault) (line_fault_place fault)
+
+-- the bytes are the text of this code
+pub record IsSource (bytes : List ℕ) (code : List Insn) : Type 0 where
+  pub is_text : IsText bytes
+  pub is_code : IsTextOf bytes code
+
+-- the bytes are the text of no code, for this reason
+pub data IsNoSource (bytes : List ℕ) (r : NumberedRefusal) : Type 0 where
+  no_text : IsNoText bytes r → IsNoSource bytes r
+  faulty : IsText bytes → IsFaulty bytes r → IsNoSource bytes r

@@ -1,0 +1,83 @@
+//! What stands in the words of a task, in hex digits.
+ghost use Rattle.std.specs.Prelude.{◌≡◌, Ok, IfOk, IfErr};
+ghost use Rattle.hex.specs.Hex.{decode_of};
+ghost use Rattle.insn_codec.specs.Encoding.{Spells};
+ghost use Rattle.program.specs.Programs.{IsAccepted};
+ghost use Rattle.answers.specs.Refusals.{OnRefusal};
+ghost use Rattle.answers.specs.Judging.{IsClashFault, IsClashText, IsCodeFault, IsCodeText, IsNoCode, IsNoHex, IsProgram, IsProgramFault, IsNoProgram};
+
+use crate::failures::{Failure, InputFault, failure_of};
+use clash_record::{ClashRecord, RECORD_LEN, record_of};
+use hex::FromHexError;
+use insn_codec::{Code, decode};
+use program::read_program;
+use std::alloc::Global;
+use verifier::Verified;
+
+/// The bytes of hex digits.
+fn bytes_of(alloc: Global, text: &str) -> Result<Vec<u8>, Failure>
+    ensures ok { IfOk result (λ bytes. decode_of text.now ≡ Ok bytes.items) }
+    ensures err { IfErr result (OnRefusal (IsNoHex text.now)) }
+{
+    match hex::decode(alloc, text) {
+        Ok(bytes) => Ok(bytes),
+        Err(FromHexError::OutOfMemory) => Err(Failure::OutOfMemory),
+        Err(_) => Err(failure_of(&InputFault::HexText)),
+    }
+}
+
+/// The code that bytes spell.
+fn code_in_bytes(alloc: Global, bytes: &[u8]) -> Result<Code, Failure>
+    ensures ok { IfOk result (Spells bytes.now) }
+    ensures err { IfErr result (OnRefusal (IsNoCode bytes.now)) }
+{
+    match decode(alloc, bytes) {
+        Ok(code) => Ok(code),
+        Err(fault) => Err(failure_of(&fault)),
+    }
+}
+
+/// The program that bytes are.
+fn program_in_bytes(alloc: Global, bytes: &[u8]) -> Result<Verified, Failure>
+    ensures ok { IfOk result (IsAccepted bytes.now) }
+    ensures err { IfErr result (OnRefusal (IsNoProgram bytes.now)) }
+{
+    match read_program(alloc, bytes) {
+        Ok(program) => Ok(program),
+        Err(fault) => Err(failure_of(&fault)),
+    }
+}
+
+/// The code of hex digits.
+#[tactic(auto, using(crate::proofs::Wrongs::failures))]
+pub fn code_of(alloc: Global, text: &str) -> Result<Code, Failure>
+    ensures ok { IfOk result (λ code. IsCodeText text.now code) }
+    ensures err { IfErr result (OnRefusal (IsCodeFault text.now)) }
+{
+    let bytes = bytes_of(alloc, text)?;
+    code_in_bytes(alloc, &bytes)
+}
+
+/// The accepted code of hex digits.
+#[tactic(auto, using(crate::proofs::Wrongs::failures))]
+pub fn program_of(alloc: Global, text: &str) -> Result<Verified, Failure>
+    ensures ok { IfOk result (λ program. IsProgram text.now program) }
+    ensures err { IfErr result (OnRefusal (IsProgramFault text.now)) }
+{
+    let bytes = bytes_of(alloc, text)?;
+    program_in_bytes(alloc, &bytes)
+}
+
+/// The record of hex digits.
+pub fn clash_of(alloc: Global, text: &str) -> Result<ClashRecord, Failure>
+    ensures ok { IfOk result (λ clash. IsClashText text.now clash) }
+    ensures err { IfErr result (OnRefusal (IsClashFault text.now)) }
+{
+    let bytes = bytes_of(alloc, text)?;
+    if bytes.len() != RECORD_LEN {
+        return Err(failure_of(&InputFault::RecordLength));
+    }
+    let mut record = [0; RECORD_LEN];
+    record.copy_from_slice(&bytes);
+    Ok(record_of(record))
+}

@@ -1,0 +1,60 @@
+//! The text of code that a file has.
+ghost use Rattle.std.specs.Prelude.{◌≡◌, IfOk, IfErr};
+ghost use Rattle.assembler_text.specs.Grammar.{IsTextOf};
+ghost use Rattle.answers.specs.Refusals.{OnRefusal};
+ghost use Rattle.answers.specs.Sources.{IsFaulty, IsNoSource, IsNoText, IsReading, IsSource, IsText};
+
+use crate::failures::{Failure, InputFault, failure_of};
+use assembler_text::assemble;
+use instruction_set::Code;
+use std::alloc::Global;
+use std::io;
+use std::io::Read;
+
+/// The greatest number of bytes that a file may have.
+pub const MAX_FILE_LEN: usize = 1_048_576;
+
+/// All bytes that a reader has left, or one more than a file may have.
+pub fn read_whole<R: Read + Drop>(alloc: Global, reader: R) -> io::Result<Vec<u8>>
+    ensures { IfOk result (λ bytes. IsReading (R.remaining reader) bytes.items) }
+{
+    let mut bytes = Vec::new(alloc);
+    reader
+        .take(MAX_FILE_LEN as u64 + 1)
+        .read_to_end(&mut bytes)?;
+    Ok(bytes)
+}
+
+/// The text that a file's bytes are. That there are too many is looked for first.
+fn text_of(bytes: &[u8]) -> Result<&str, Failure>
+    ensures ok { IfOk result (λ text. (text.now ≡ bytes.now) × IsText bytes.now) }
+    ensures err { IfErr result (OnRefusal (IsNoText bytes.now)) }
+{
+    if bytes.len() > MAX_FILE_LEN {
+        return Err(failure_of(&InputFault::FileTooLong));
+    }
+    match str::from_utf8(bytes) {
+        Ok(text) => Ok(text),
+        Err(_) => Err(failure_of(&InputFault::NotText)),
+    }
+}
+
+/// The code of a text.
+fn code_of_text(alloc: Global, text: &str) -> Result<Code, Failure>
+    ensures ok { IfOk result (IsTextOf text.now) }
+    ensures err { IfErr result (OnRefusal (IsFaulty text.now)) }
+{
+    match assemble(alloc, text) {
+        Ok(code) => Ok(code),
+        Err(fault) => Err(failure_of(&fault)),
+    }
+}
+
+/// The code that the bytes of a file give.
+#[tactic(auto, using(crate::proofs::Readings::sources))]
+pub fn code_in(alloc: Global, bytes: &[u8]) -> Result<Code, Failure>
+    ensures ok { IfOk result (λ code. IsSource bytes.now code) }
+    ensures err { IfErr result (OnRefusal (IsNoSource bytes.now)) }
+{
+    code_of_text(alloc, text_of(bytes)?)
+}

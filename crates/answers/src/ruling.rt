@@ -1,0 +1,77 @@
+//! What code answers to a clash.
+ghost use Rattle.std.specs.Prelude.{◌≡◌};
+ghost use Rattle.answers.specs.Judging.{IsRuling};
+
+use builtin_resolvers::Verdict3;
+use clash_record::ClashRecord;
+use interpreter::run;
+use std::marker::Model;
+use verifier::Verified;
+
+/// Code, the record of a clash, and what the code answers to it.
+#[derive(Debug, Drop)]
+pub struct Answered<'p> {
+    program: &'p Verified,
+    clash: &'p ClashRecord,
+    verdict: Verdict3,
+    steps: u32,
+}
+
+impl<'p> Model for Answered<'p> {
+    ghost use Rattle.answers.specs.Judging.{Ruling, IsRuling, ruling};
+
+    ghost Value = { Ruling };
+
+    ghost view = { λ a. ruling a.program.now a.clash.now a.verdict a.steps };
+
+    ghost invariant = { λ a. IsRuling (ruling a.program.now a.clash.now a.verdict a.steps) };
+}
+
+impl<'p> Answered<'p> {
+    ghost use Rattle.answers.specs.Judging.{IsRuling};
+
+    /// The code that answered.
+    pub fn program(&self) -> &'p Verified
+        ensures { result.now ≡ self.now.code }
+    {
+        self.program
+    }
+
+    /// The record of the clash.
+    pub fn record(&self) -> &'p ClashRecord
+        ensures { result.now ≡ self.now.bytes }
+    {
+        self.clash
+    }
+
+    /// The verdict, which is that of the code's meaning on the record.
+    pub fn verdict(&self) -> Verdict3
+        ensures value { result ≡ self.now.verdict }
+        ensures ruling { IsRuling self.now }
+    {
+        self.verdict
+    }
+
+    /// How many instructions are carried out, wherever record and stack lie.
+    pub fn steps(&self) -> u32
+        ensures value { result ≡ self.now.steps }
+        ensures ruling { IsRuling self.now }
+    {
+        self.steps
+    }
+}
+
+/// Runs the code on the record. Takes no memory, and can't fail.
+pub fn judge_one<'p>(program: &'p Verified, clash: &'p ClashRecord) -> Answered<'p>
+    ensures program { result.code ≡ program.now }
+    ensures clash { result.bytes ≡ clash.now }
+    ensures ruling { IsRuling result }
+{
+    let ended = run(program, clash);
+    Answered {
+        program,
+        clash,
+        verdict: Verdict3::of_answer(ended.r0),
+        steps: ended.steps,
+    }
+}

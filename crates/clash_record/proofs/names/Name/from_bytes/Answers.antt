@@ -1,6 +1,0 @@
-use Rattle.std.proofs.Common.{rules}
-use Rattle.clash_record.proofs.Storing.{stored_name}
-use Rattle.clash_record.proofs.names.Name.from_bytes.Goals as goal
-
-pub invariant_of-result : goal.invariant_of-result
-invariant_of-result c = rw c.copy_from_slice.ensures.after (stored_name c.args.bytes.now (search rules))

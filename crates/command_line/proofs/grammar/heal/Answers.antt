@@ -1,0 +1,34 @@
+use Rattle.std.proofs.Common.{◌≡◌, ◌∙◌, ap, ap₂, true}
+use Rattle.clap.specs.Words.{App, app_of, new_app, with_subcommand}
+use Rattle.clap.specs.Simple.{app_of_fields}
+use Rattle.std.specs.Prelude.{codes}
+use Rattle.command_line.specs.Asked.{check_app, judge_app, asm_app, subcommands_app}
+use Rattle.command_line.proofs.grammar.heal.Goals as goal
+
+abbrev checking : App
+checking = with_subcommand (new_app (codes "heal")) check_app.top
+
+abbrev judging : App
+judging = with_subcommand checking judge_app.top
+
+abbrev assembling : App
+assembling = with_subcommand judging asm_app.top
+
+pub returns : goal.returns
+returns c =
+    let none : app_of c.after_help.result ≡ new_app (codes "heal") =
+    ap app_of_fields c.after_help.ensures ∙ ap app_of_fields c.in_ok-bin_name.ensures.0 ∙ c.new.ensures.app in
+    let one : app_of c.in_ok-subcommand.field-0 ≡ checking =
+    c.in_ok-subcommand.ensures.shape c.in_ok-check.ensures.1
+    ∙ ap₂ with_subcommand none (ap (λ (a : App). a.top) c.in_ok-check.ensures.0) in
+    let two : app_of c.in_ok-subcommand-2.field-0 ≡ judging =
+    c.in_ok-subcommand-2.ensures.shape c.in_ok-judge.ensures.1
+    ∙ ap₂ with_subcommand one (ap (λ (a : App). a.top) c.in_ok-judge.ensures.0) in
+    let three : app_of c.in_ok-subcommand-3.field-0 ≡ assembling =
+    c.in_ok-subcommand-3.ensures.shape c.in_ok-asm.ensures.1
+    ∙ ap₂ with_subcommand two (ap (λ (a : App). a.top) c.in_ok-asm.ensures.0) in
+    let four : app_of c.in_ok-heal.heal ≡ subcommands_app =
+    c.in_ok-heal.ensures.shape c.in_ok-dis.ensures.1
+    ∙ ap₂ with_subcommand three (ap (λ (a : App). a.top) c.in_ok-dis.ensures.0) in
+    ap app_of_fields c.subcommand_required.ensures
+    ∙ ap (λ (a : App). record a { top = record a.top { subcommand_required = true } }) four

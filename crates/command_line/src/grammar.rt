@@ -1,0 +1,105 @@
+//! The command line as clap knows it.
+ghost use Rattle.std.specs.Prelude.{◌≡◌, IfOk, false};
+ghost use Rattle.clap.specs.Words.{app_of, rule_of};
+ghost use Rattle.command_line.specs.Asked.{heal_app, judge_app, needed, one_app};
+ghost use Rattle.command_line.specs.model.Apps.{IsApp};
+
+use clap::{Arg, ArgAction, Command};
+use std::alloc::{AllocError, Global};
+
+// What stands at the end of help.
+const REFUSALS: &'static str = "Refusals:
+   1  no byte, or a text without an instruction
+   2  more than 1,024 slots
+   3  a last slot that isn't whole
+   4  an unknown opcode or operation
+   5  a register above ten
+   6  an unused field that isn't zero
+   7  a wide load without its second slot
+  10  a jump backward
+  11  a jump to the end or past it
+  12  a jump into a wide load
+  13  an instruction that goes on where none follows
+  14  an instruction that none leads to
+  15  a register that may be unset, or an address or a number
+  16  a write to R10
+  17  an operation that an address can't be in
+  18  an address moved too far, or by an unknown amount
+  19  a test of an address
+  20  a store of an address
+  21  an access that may leave the record
+  22  a store into the record
+  23  an access that may leave the stack
+  24  a load of stack bytes that may be unwritten
+  25  a number as an address
+  26  an address as the answer
+  42  other code that is kept under the same id
+  43  no room: 256 programs are kept
+  44  a name that isn't 1 to 32 visible characters of ASCII
+  50  a text that isn't hex digits, two a byte
+  55  a record that isn't 128 bytes
+  56  a file that isn't UTF-8
+  57  a file of more than 1,048,576 bytes
+  60  a line that begins with no mnemonic
+  61  an operand that is missing or wrong
+  62  a number out of range
+  63  more after the last operand
+  90  memory ran out";
+
+// An argument that has to be given.
+fn needed_arg<'a>(alloc: Global, id: &'a str, help: &'a str) -> Arg<'a>
+    ensures rule { rule_of result ≡ needed id.entry.now }
+    ensures global { result.global ≡ false }
+{
+    Arg::new(alloc, id)
+        .required(true)
+        .action(ArgAction::Set)
+        .help(help)
+}
+
+// The one subcommand with two arguments.
+fn judge_command<'a>(alloc: Global) -> Result<Command<'a>, AllocError>
+    ensures { IfOk result (λ c. IsApp c judge_app) }
+{
+    let code = needed_arg(alloc, "HEX", "The code that judges, in hex digits");
+    let clash = needed_arg(alloc, "RECORDHEX", "The record of the clash, in hex digits");
+    Command::new(alloc, "judge")
+        .about("Judges a clash by code: first, second or neither keeps the name")
+        .arg(code)?
+        .arg(clash)
+}
+
+// A subcommand with one argument.
+fn one_command<'a>(
+    alloc: Global,
+    name: &'a str,
+    about: &'a str,
+    id: &'a str,
+    help: &'a str,
+) -> Result<Command<'a>, AllocError>
+    ensures { IfOk result (λ c. IsApp c (one_app name.entry.now id.entry.now)) }
+{
+    Command::new(alloc, name)
+        .about(about)
+        .arg(needed_arg(alloc, id, help))
+}
+
+// The whole command line, with its help.
+pub(crate) fn heal<'a>(alloc: Global) -> Result<Command<'a>, AllocError>
+    ensures { IfOk result (λ c. app_of c ≡ heal_app) }
+{
+    let code = "Code, in hex digits";
+    let check = one_command(alloc, "check", "Says whether code is accepted", "HEX", code)?;
+    let judge = judge_command(alloc)?;
+    let file = "A file that holds the text of code";
+    let asm = one_command(alloc, "asm", "Prints the code of a text", "FILE", file)?;
+    let dis = one_command(alloc, "dis", "Prints the text of code", "HEX", code)?;
+    let heal = Command::new(alloc, "heal")
+        .bin_name("heal")?
+        .after_help(REFUSALS)
+        .subcommand(check)?
+        .subcommand(judge)?
+        .subcommand(asm)?
+        .subcommand(dis)?;
+    Ok(heal.subcommand_required(true))
+}

@@ -1,0 +1,89 @@
+//! The task that words ask for.
+ghost use Rattle.std.specs.Prelude.{◌≡◌, ◌∷◌, [], codes, ◌⊎◌, List, ℕ, IfOk, IfErr, map, option_map, option_and_then};
+ghost use Rattle.clap.specs.Words.{first_of, found_of, rows_of, subcommand_rows_of};
+ghost use Rattle.command_line.specs.Asked.{Asked, Asks, IsForMemory, asked_by, asked_of};
+ghost use Rattle.command_line.specs.Asked.{asm, asm_asked, check, check_asked, dis, dis_asked, judge, judge_asked};
+ghost use Rattle.command_line.specs.Plain.{IsPlain};
+
+use crate::faults::CommandFault;
+use crate::grammar::heal;
+use clap::ArgMatches;
+use std::alloc::Global;
+use std::convert::AsStr;
+use task::Task;
+
+// The first value of `id`.
+#[tactic(auto, using(crate::proofs::Rows::rows))]
+fn value<'a>(found: &ArgMatches<'a>, id: &str) -> Option<&'a str>
+    ensures { option_map (λ s. s.now) result ≡ first_of id.now (rows_of (found_of found.now)) }
+{
+    found.get_str(id)
+}
+
+fn check_of<'a>(found: &ArgMatches<'a>) -> Option<Task<'a>>
+    ensures { option_map asked_by result ≡ check_asked (rows_of (found_of found.now)) }
+{
+    let code = value(found, "HEX")?;
+    Some(Task::Check { code })
+}
+
+fn judge_of<'a>(found: &ArgMatches<'a>) -> Option<Task<'a>>
+    ensures { option_map asked_by result ≡ judge_asked (rows_of (found_of found.now)) }
+{
+    let code = value(found, "HEX")?;
+    let clash = value(found, "RECORDHEX")?;
+    Some(Task::Judge { code, clash })
+}
+
+fn asm_of<'a>(found: &ArgMatches<'a>) -> Option<Task<'a>>
+    ensures { option_map asked_by result ≡ asm_asked (rows_of (found_of found.now)) }
+{
+    let file = value(found, "FILE")?;
+    Some(Task::Asm { file })
+}
+
+fn dis_of<'a>(found: &ArgMatches<'a>) -> Option<Task<'a>>
+    ensures { option_map asked_by result ≡ dis_asked (rows_of (found_of found.now)) }
+{
+    let code = value(found, "HEX")?;
+    Some(Task::Dis { code })
+}
+
+fn task_of<'a>(matches: &ArgMatches<'a>) -> Option<Task<'a>>
+    ensures { option_map asked_by result ≡ option_and_then asked_of (subcommand_rows_of matches.now) }
+{
+    let (name, found) = matches.subcommand()?;
+    if name == "check" {
+        check_of(found)
+    } else if name == "judge" {
+        judge_of(found)
+    } else if name == "asm" {
+        asm_of(found)
+    } else if name == "dis" {
+        dis_of(found)
+    } else {
+        None
+    }
+}
+
+/// The task that the words ask for. The first word is the program's name.
+pub fn command<'a, S: AsStr>(alloc: Global, words: &'a [S]) -> Result<Task<'a>, CommandFault>
+    // It is the task of these very words.
+    ensures ok { IfOk result (λ task. Asks (map S.text words.now) (asked_by task)) }
+    // Words that ask for a task fail only for want of memory.
+    ensures err { IfErr result (λ e. IsForMemory e ⊎ ((task : Asked) → Asks (map S.text words.now) task → ⊥)) }
+{
+    let matches = heal(alloc)?.try_get_matches_from(words)?;
+    task_of(&matches).ok_or(CommandFault::NoTask)
+}
+
+/// Words that no hyphen begins are taken as they stand.
+///
+/// It does nothing when it runs: its contract is the law.
+pub fn plain_words_theorem()
+    ensures check { (name code : List ℕ) → IsPlain code → Asks (name ∷ codes "check" ∷ code ∷ []) (check code) }
+    ensures judge { (name code clash : List ℕ) → IsPlain code → IsPlain clash
+        → Asks (name ∷ codes "judge" ∷ code ∷ clash ∷ []) (judge code clash) }
+    ensures asm { (name file : List ℕ) → IsPlain file → Asks (name ∷ codes "asm" ∷ file ∷ []) (asm file) }
+    ensures dis { (name code : List ℕ) → IsPlain code → Asks (name ∷ codes "dis" ∷ code ∷ []) (dis code) }
+{}

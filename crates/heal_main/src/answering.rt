@@ -1,0 +1,54 @@
+//! From the words of the command line to what is printed and the status.
+ghost use Rattle.std.specs.Prelude.{◌≡◌, ◌⊎◌, IfOk, IfErr, map};
+ghost use Rattle.std.specs.IoError.{error_kind};
+ghost use Rattle.std.specs.String.{string_bytes};
+ghost use Rattle.command_line.specs.Asked.{IsForMemory};
+ghost use Rattle.heal_main.specs.Answering.{IsAnswered, IsUnread};
+
+use answers::obey;
+use command_line::{CommandFault, command};
+use std::convert::AsStr;
+use std::io;
+use std::io::Write;
+use std::rt::Files;
+
+/// Tells a fault of the command line, and answers its status. What the device takes of it changes nothing.
+fn refuse<E: Write>(fault: &CommandFault, errors: &mut E) -> u8
+    ensures memory { IsForMemory fault.now → result ≡ 3 }
+    ensures either { ((result ≡ 1) × (IsForMemory fault.now → ⊥)) ⊎ ((result ≡ 3) × IsForMemory fault.now) }
+{
+    let _ = write!(errors, "{fault}");
+    fault.status()
+}
+
+/// Carries out what the words ask for, and answers the program's status.
+fn answer_words<R: Files + AllocGlobal, S: AsStr, O: Write, E: Write>(
+    rt: &R,
+    words: &[S],
+    output: &mut O,
+    errors: &mut E,
+) -> u8
+    ensures { IsAnswered (map S.text words.now) (O.contents output.old) (O.contents output.new) result }
+{
+    match command(rt.alloc(), words) {
+        Ok(task) => obey(rt, &task, output),
+        Err(fault) => refuse(&fault, errors),
+    }
+}
+
+/// The same of the words that were read, if they could be. A fault of the command line is told as an error, with status 1,
+/// and nothing goes out; want of memory while the words are read is status 3.
+pub fn answer<R: Files + AllocGlobal, O: Write, E: Write>(
+    rt: &R,
+    words: io::Result<Vec<String>>,
+    output: &mut O,
+    errors: &mut E,
+) -> u8
+    ensures answered { IfOk words (λ words. IsAnswered (map string_bytes words.items) (O.contents output.old) (O.contents output.new) result) }
+    ensures unread { IfErr words (λ error. IsUnread (error_kind error) (O.contents output.old) (O.contents output.new) result) }
+{
+    match words {
+        Ok(words) => answer_words(rt, words.as_slice(), output, errors),
+        Err(error) => refuse(&CommandFault::from(error), errors),
+    }
+}

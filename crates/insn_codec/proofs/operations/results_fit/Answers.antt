@@ -1,5 +1,0 @@
-use Rattle.insn_codec.proofs.WordsFit.{alu_fits, neg_fits, mov_sx_fits, end_fits}
-use Rattle.insn_codec.proofs.operations.results_fit.Goals as goal
-
-pub returns : goal.returns
-returns c = record { alu = alu_fits; neg = neg_fits; movsx = mov_sx_fits; end = end_fits }

@@ -1,0 +1,2 @@
+-- What mirrors the code.
+pub mod Front

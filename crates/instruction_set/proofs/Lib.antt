@@ -1,0 +1,4 @@
+mod WordsFit
+mod SignedDivision
+pub mod Laying
+pub mod OpcodeRows

@@ -1,0 +1,6 @@
+-- What is proved of the definitions.
+pub mod FormTable
+pub mod FormOf
+pub mod OneInsn
+pub mod Places
+pub mod SameInsn

@@ -1,0 +1,3 @@
+-- What mirrors the code.
+pub mod Flat
+pub mod Effects

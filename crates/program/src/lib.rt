@@ -1,0 +1,10 @@
+//! Programs: bytes of strangers, read as code that the verifier accepts.
+#![tactic(auto)]
+
+mod fault;
+mod reading;
+#[cfg(test)]
+mod tests;
+
+pub use fault::ProgramFault;
+pub use reading::{Profile, read_program};

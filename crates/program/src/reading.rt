@@ -1,0 +1,38 @@
+//! Bytes read as code that the verifier accepts.
+ghost use Rattle.std.specs.Prelude.{List, Ok, Err, IfOk, IfErr};
+ghost use Rattle.instruction_set.specs.declared.insn.Insn.{Insn};
+ghost use Rattle.instruction_set.specs.Machine.{IsSafe};
+ghost use Rattle.program.specs.Programs.{IsAccepted, IsProgramFault, IsRefusal, Answers};
+ghost use Rattle.program.specs.declared.fault.ProgramFault.{ProgramFault};
+
+use crate::fault::ProgramFault;
+use abstract_value::Interval;
+use insn_codec::{decode, one_reading_theorem};
+use std::alloc::Global;
+use verifier::{Verified, one_verdict_theorem, verify};
+
+/// The domain over which programs are verified: ranges of unsigned words.
+pub type Profile = Interval;
+
+/// The code that these bytes spell, if the verifier accepts it.
+///
+/// Refusals are 1 to 7 for bytes that spell no code, with the slot from 4 on, and 10 to 26 for code that fails a rule, with
+/// the slot; 90 where memory runs out: it takes some for the code and for the states of the verifier.
+pub fn read_program(alloc: Global, bytes: &[u8]) -> Result<Verified, ProgramFault>
+    ensures accepted { IfOk result (IsAccepted bytes.now) }
+    ensures safe { IfOk result (λ program. IsSafe program) }
+    // Accepted code is the answer, unless memory runs out.
+    ensures taken { (code : List Insn) → IsAccepted bytes.now code → Answers result (Ok code) }
+    ensures refused { IfErr result (IsRefusal bytes.now) }
+    // Whatever is wrong is told, unless memory runs out; there is only one such fault.
+    ensures told { (fault : ProgramFault) → IsProgramFault bytes.now fault → Answers result (Err fault) }
+{
+    // Bytes are read in one way, and code is judged in one way.
+    one_reading_theorem();
+    one_verdict_theorem::<Profile>();
+    let code = decode(alloc, bytes)?;
+    let program = verify::<Profile>(alloc, code)?;
+    // What it lends is safe.
+    program.code();
+    Ok(program)
+}

@@ -1,0 +1,5 @@
+use Rattle.verifier.proofs.OneVerdict.{not_refused, refused_once}
+use Rattle.verifier.proofs.verify_code.one_verdict_theorem.Goals as goal
+
+pub returns : goal.returns
+returns g c = record { either = not_refused g.met.D.Domain.laws; one_refusal = refused_once g.met.D.Domain.laws }

@@ -1,0 +1,5 @@
+-- What mirrors the code.
+pub mod Accesses
+pub mod Edges
+pub mod Flow
+pub mod Values

@@ -1,0 +1,47 @@
+-- The rules of an access to memory, 21 to 25, apart from its instruction.
+use Rattle.std.specs.Prelude.{◌≡◌, ℕ, ◌<◌, Bool, true, false, not, IsTrue, Option, Some, None}
+use Rattle.instruction_set.specs.declared.insn.Insn.{Insn}
+use Rattle.abstract_value.specs.States.{View}
+use Rattle.abstract_value.specs.declared.states.RegState.{RegState}
+use Rattle.verifier.specs.declared.memory_access.Access.{Access as access}
+use Rattle.verifier.specs.declared.rule.Rule.{Rule}
+use Rattle.verifier.specs.declared.rule.Rule.TheVariants.{OutsideRecord, WritesRecord, OutsideStack, UnwrittenStack, ScalarAddress}
+use Rattle.verifier.specs.Structure.{rule_number}
+use Rattle.verifier.specs.Rules.{Access, of_access, is_scalar, inside_record, spares_record, inside_stack, finds_written}
+
+-- what the code calls an access, in the words of the rules
+abbrev pub as_access : access → Access
+as_access a = record { base = a.base.number; offset = a.offset; size = a.size; is_store = a.is_store }
+
+abbrev pub as_accesses : Option access → Option Access
+as_accesses None = None
+as_accesses (Some a) = Some (as_access a)
+
+-- whether an access through a register meets a rule
+abbrev pub access_meets : {D : Type 0} → (ℕ → Bool) → RegState D → Access → Rule → Bool
+access_meets written base r OutsideRecord = inside_record base r
+access_meets written base r WritesRecord = spares_record base r
+access_meets written base r OutsideStack = inside_stack base r
+access_meets written base r UnwrittenStack = finds_written written base r
+access_meets written base r ScalarAddress = not (is_scalar base)
+access_meets written base r _ = true
+
+-- it meets each rule
+abbrev pub AccessPasses : {D : Type 0} → (ℕ → Bool) → RegState D → Access → Type 0
+AccessPasses written base r = (rule : Rule) → IsTrue (access_meets written base r rule)
+
+-- a rule is the first that it fails
+pub record AccessFails {D : Type 0} (written : ℕ → Bool) (base : RegState D) (r : Access) (rule : Rule) : Type 0 where
+  pub fails : access_meets written base r rule ≡ false
+  pub first : (other : Rule) → rule_number other < rule_number rule → IsTrue (access_meets written base r other)
+
+-- the same of the access of an instruction in a state; it is met where there is none
+abbrev pub insn_access_meets : {D : Type 0} → Insn → View D → Rule → Bool
+insn_access_meets i s rule = of_access i s (λ base r. access_meets s.written base r rule)
+
+abbrev pub InsnAccessPasses : {D : Type 0} → Insn → View D → Type 0
+InsnAccessPasses i s = (rule : Rule) → IsTrue (insn_access_meets i s rule)
+
+pub record InsnAccessFails {D : Type 0} (i : Insn) (s : View D) (rule : Rule) : Type 0 where
+  pub fails : insn_access_meets i s rule ≡ false
+  pub first : (other : Rule) → rule_number other < rule_number rule → IsTrue (insn_access_meets i s other)
