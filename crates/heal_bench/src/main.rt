@@ -15,13 +15,13 @@ prints the mean times in nanoseconds, the steps of one run and the sum of all an
 
 fn report(rt: &HostRuntime, words: &[String]) -> io::Result<ExitCode> {
     let [_, code, clash, runs] = words else {
+        // No words at all are a question, and another count of them is a fault.
+        if words.len() <= 1 {
+            print!(rt; "{USAGE}")?;
+            return Ok(ExitCode::SUCCESS);
+        }
         eprint!(rt; "{USAGE}")?;
-        // No words at all are a question, and another count of them a fault.
-        return Ok(if words.len() <= 1 {
-            ExitCode::SUCCESS
-        } else {
-            ExitCode::FAILURE
-        });
+        return Ok(ExitCode::FAILURE);
     };
     match measure(rt, code, clash, runs) {
         Ok(measured) => {

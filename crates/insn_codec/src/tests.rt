@@ -1,12 +1,10 @@
 //! What the contracts don't say: values from outside, and that calls succeed.
-use crate::code::Slot;
-use crate::decoder::decode;
-use crate::encoder::encode;
-use crate::fault::{CodecFault, LengthFault, SlotFault};
-use crate::insn::{AluOp, EndKind, Test, Width};
-use crate::layout::lay_out;
-use crate::opcodes::Opcode;
-use crate::operations::{alu, end, movsx, neg, test};
+use crate::{
+    AluOp, CodecFault, EndKind, LengthFault, SlotFault, Test, Width, alu, decode, encode, end,
+    movsx, neg, test,
+};
+use instruction_set::Opcode;
+use numbered::{Numbered, Place};
 use std::alloc::Global;
 
 const EXIT: [u8; 8] = [0x95, 0, 0, 0, 0, 0, 0, 0];
@@ -125,7 +123,7 @@ fn reads_what_it_wrote(rt: HostRuntime) -> Result<(), CodecFault> {
     let code = decode(rt.alloc(), &GREATER)?;
     assert_eq!(rt; code.slot_count(), 6);
     assert_eq!(rt; code.len(), 6);
-    assert!(rt; matches!(code.slot(5), Slot::First(_)));
+    assert!(rt; code.begins(5) && !code.begins(6));
     let Ok(bytes) = encode(rt.alloc(), &code) else {
         return Err(CodecFault::OutOfMemory);
     };
@@ -158,16 +156,37 @@ fn lays_out_each_slot(rt: HostRuntime) -> Result<(), CodecFault> {
         (Opcode::LoadDouble, 2, 1, 0xfff8, 0),
         (Opcode::Exit, 0, 0, 0, 0),
     ];
-    let Ok(slots) = lay_out(rt.alloc(), &decode(rt.alloc(), &bytes)?) else {
-        return Err(CodecFault::OutOfMemory);
-    };
+    let code = decode(rt.alloc(), &bytes)?;
+    let slots = code.slots();
     assert_eq!(rt; slots.len(), 4);
+    assert!(rt; code.begins(0) && !code.begins(1));
     for (slot, (opcode, dst, src, offset, imm)) in slots.iter().zip(rows) {
         assert_eq!(rt; slot.opcode, opcode);
         assert_eq!(rt; slot.dst.number, dst);
         assert_eq!(rt; slot.src.number, src);
         assert_eq!(rt; slot.offset, offset);
         assert_eq!(rt; slot.imm, imm);
+    }
+    Ok(())
+}
+
+#[test]
+fn words_of_faults(rt: HostRuntime) -> Result<(), CodecFault> {
+    let fault = CodecFault::Slot {
+        fault: SlotFault::BadRegister,
+        slot: 3,
+    };
+    assert_eq!(rt; fault.number(), 5);
+    assert_eq!(rt; fault.place(), Some(Place::Slot(3)));
+    for (fault, words) in [
+        (CodecFault::Length(LengthFault::Empty), "there is no byte"),
+        (fault, "slot 3: a register is above ten"),
+        (CodecFault::OutOfMemory, "out of memory"),
+    ] {
+        let Ok(text) = format!(in rt.alloc(); "{fault}") else {
+            return Err(CodecFault::OutOfMemory);
+        };
+        assert_eq!(rt; text.as_str(), words);
     }
     Ok(())
 }
