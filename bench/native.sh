@@ -11,7 +11,7 @@ awk -v count="$count" 'BEGIN {
     srand(1)
     for (n = 0; n < count; n++) {
         line = ""
-        for (i = 0; i < 128; i++)
+        for (i = 0; i < 160; i++)
             line = line sprintf("%02x", n % 2 == 1 && i % 8 > 0 ? 0 : int(256 * rand()))
         print line
     }

@@ -8,7 +8,7 @@
 #include <string.h>
 #include <time.h>
 
-enum { LOADS = 2000, RECORD_LEN = 128, WORD_AT = 40, MOST_BYTES = 8192 };
+enum { LOADS = 2000, RECORD_LEN = 160, WORD_AT = 40, MOST_BYTES = 8192 };
 
 static double now_ns(void)
 {

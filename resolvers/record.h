@@ -1,4 +1,4 @@
-/* The record of a clash, 128 bytes, as C sees it. All numbers have their least byte first. */
+/* The record of a clash, 160 bytes, as C sees it. All numbers have their least byte first. */
 #include <stdint.h>
 
 struct registration {
@@ -9,6 +9,12 @@ struct registration {
     uint8_t extra[16];
 };
 
+/* Of the half that holds a registration. */
+struct facts {
+    uint64_t size;       /* how many names its table has */
+    uint64_t uptime;     /* how long it has been up, as a number that it was told */
+};
+
 struct record {
     uint32_t name_length; /* 1 to 32 */
     uint32_t zero;
@@ -16,6 +22,8 @@ struct record {
     uint64_t word;        /* one of four numbers that both sides know; serves as a lot */
     struct registration first;
     struct registration second;
+    struct facts of_first;
+    struct facts of_second;
 };
 
 /* What a resolver answers. Any other number counts as NONE. */

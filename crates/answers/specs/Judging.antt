@@ -1,10 +1,11 @@
 -- What code answers to a clash, and what may be wrong with the texts of both.
-use Rattle.std.specs.Prelude.{◌≡◌, ◌≢◌, ℕ, List, length, nat_le, if◌then◌else◌, Ok, Err}
+use Rattle.std.specs.Prelude.{◌≡◌, ◌⊎◌, ℕ, ◌-◌, List, ◌++◌, length, replicate, nat_le, if◌then◌else◌, Ok, Err}
 use Rattle.hex.specs.Hex.{decode_of}
 use Rattle.hex.specs.declared.error.FromHexError.{FromHexError}
 use Rattle.numbered.specs.declared.NumberedRefusal.{NumberedRefusal}
 use Rattle.instruction_set.specs.declared.insn.Insn.{Insn}
 use Rattle.instruction_set.specs.Machine.{Ends, meaning, record_len}
+use Rattle.verifier.specs.LongerRecords.{shorter_len}
 use Rattle.insn_codec.specs.declared.fault.CodecFault.{CodecFault}
 use Rattle.insn_codec.specs.Encoding.{Spells}
 use Rattle.insn_codec.specs.Faults.{IsFirstFault, fault_number, fault_place}
@@ -77,15 +78,21 @@ pub data IsProgramFault (text : List ℕ) (r : NumberedRefusal) : Type 0 where
   no_digits : IsNoHex text r → IsProgramFault text r
   no_program : (bytes : List ℕ) → decode_of text ≡ Ok bytes → IsNoProgram bytes r → IsProgramFault text r
 
--- the text is that of a record
-pub record IsClashText (text bytes : List ℕ) : Type 0 where
+-- a record has as many bytes as a clash record, or as many as the shorter one that came before
+abbrev pub IsRecordLength : ℕ → Type 0
+IsRecordLength n = (n ≡ record_len) ⊎ (n ≡ shorter_len)
+
+-- the text is that of a record, with zeros put after it up to the length of a clash record
+pub record IsClashText (text clash : List ℕ) : Type 0 where
+  pub bytes : List ℕ
   pub digits : decode_of text ≡ Ok bytes
-  pub whole : length bytes ≡ record_len
+  pub long : IsRecordLength (length bytes)
+  pub whole : clash ≡ bytes ++ replicate (record_len - length bytes) 0
 
 -- the text is that of no record, for this reason
 pub data IsClashFault (text : List ℕ) (r : NumberedRefusal) : Type 0 where
   no_bytes : IsNoHex text r → IsClashFault text r
-  wrong_length : (bytes : List ℕ) → decode_of text ≡ Ok bytes → length bytes ≢ record_len → IsInput RecordLength r → IsClashFault text r
+  wrong_length : (bytes : List ℕ) → decode_of text ≡ Ok bytes → (IsRecordLength (length bytes) → ⊥) → IsInput RecordLength r → IsClashFault text r
 
 -- the one with the lesser number
 abbrev pub least : NumberedRefusal → NumberedRefusal → NumberedRefusal

@@ -1,5 +1,5 @@
 -- The text of code in a file: what its bytes give, and what may be wrong with them.
-use Rattle.std.specs.Prelude.{◌≡◌, ℕ, ◌+◌, ◌<◌, ◌≤◌, List, length, take, Option, Some, None, IfSome, Ok, Err}
+use Rattle.std.specs.Prelude.{◌≡◌, ℕ, ◌+◌, ◌<◌, ◌≤◌, List, length, take, Option, Some, None, IfSome}
 use Rattle.std.specs.Str.{IsUtf8}
 use Rattle.instruction_set.specs.declared.insn.Insn.{Insn}
 use Rattle.assembler_text.specs.declared.faults.LineFault.{LineFault}

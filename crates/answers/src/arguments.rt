@@ -12,7 +12,7 @@ use hex::FromHexError;
 use insn_codec::{Code, decode};
 use program::read_program;
 use std::alloc::Global;
-use verifier::Verified;
+use verifier::{SHORTER_RECORD_LEN, Verified};
 
 /// The bytes of hex digits.
 fn bytes_of(alloc: Global, text: &str) -> Result<Vec<u8>, Failure>
@@ -68,16 +68,16 @@ pub fn program_of(alloc: Global, text: &str) -> Result<Verified, Failure>
     program_in_bytes(alloc, &bytes)
 }
 
-/// The record of hex digits.
+/// The record of hex digits: of 160 bytes, or of 128 with zeros put after them.
 pub fn clash_of(alloc: Global, text: &str) -> Result<ClashRecord, Failure>
     ensures ok { IfOk result (λ clash. IsClashText text.now clash) }
     ensures err { IfErr result (OnRefusal (IsClashFault text.now)) }
 {
     let bytes = bytes_of(alloc, text)?;
-    if bytes.len() != RECORD_LEN {
+    if bytes.len() != RECORD_LEN && bytes.len() != SHORTER_RECORD_LEN {
         return Err(failure_of(&InputFault::RecordLength));
     }
     let mut record = [0; RECORD_LEN];
-    record.copy_from_slice(&bytes);
+    record[..bytes.len()].copy_from_slice(&bytes);
     Ok(record_of(record))
 }

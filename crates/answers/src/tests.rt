@@ -98,8 +98,14 @@ fn code_on_db(rt: HostRuntime) -> Result<(), Fail> {
         ("b700000001000000 X", "first in 2 steps\n"),
         (STAMPS, "second in 6 steps\n"),
         ("7910780000000000 X", "none in 2 steps\n"),
+        ("7910790000000000 X", "none in 2 steps\n"),
+        ("7910980000000000 X", "none in 2 steps\n"),
         (
             "7112080000000000 570200001f000000 0f21000000000000 7110080000000000 X",
+            "none in 5 steps\n",
+        ),
+        (
+            "7112080000000000 570200007f000000 0f21000000000000 7110080000000000 X",
             "none in 5 steps\n",
         ),
         ("b4000000ffffffff 0400000001000000 X", "none in 3 steps\n"),
@@ -111,6 +117,14 @@ fn code_on_db(rt: HostRuntime) -> Result<(), Fail> {
         ("7a0af8ff02000000 79a0f8ff00000000 X", "second in 3 steps\n"),
         (
             "7112080000000000 b700000000000000 2502020077000000 0f21000000000000 7110080000000000 X",
+            "none in 6 steps\n",
+        ),
+        (
+            "7112080000000000 b700000000000000 2502020078000000 0f21000000000000 7110080000000000 X",
+            "none in 6 steps\n",
+        ),
+        (
+            "7112080000000000 b700000000000000 2502020097000000 0f21000000000000 7110080000000000 X",
             "none in 6 steps\n",
         ),
         (
@@ -187,7 +201,7 @@ fn no_code(rt: HostRuntime) -> Result<(), Fail> {
 }
 
 /// Code that isn't accepted, the rule that it fails, and the slot.
-const UNSAFE: [(&'static str, u32, u32); 29] = [
+const UNSAFE: [(&'static str, u32, u32); 30] = [
     ("0500ffff00000000 X", 10, 0),
     ("3d11ffff00000000 X", 10, 0),
     ("0500050000000000 X", 11, 0),
@@ -213,19 +227,20 @@ const UNSAFE: [(&'static str, u32, u32); 29] = [
     ("1501000000000000 X", 19, 0),
     ("7b1af8ff00000000 X", 20, 0),
     ("7b11000000000000 X", 20, 0),
-    ("7910790000000000 X", 21, 0),
-    ("7a01800001000000 X", 21, 0),
+    ("7910990000000000 X", 21, 0),
+    ("7a01a00001000000 X", 21, 0),
     (
-        "7112080000000000 570200007f000000 0f21000000000000 7110080000000000 X",
+        "7112080000000000 57020000ff000000 0f21000000000000 7110080000000000 X",
         21,
         3,
     ),
     (
-        "7112080000000000 b700000000000000 2502020078000000 0f21000000000000 7110080000000000 X",
+        "7112080000000000 b700000000000000 2502020098000000 0f21000000000000 7110080000000000 X",
         21,
         4,
     ),
     ("7a01000001000000 X", 22, 0),
+    ("7a01800001000000 X", 22, 0),
     ("79a0000000000000 X", 23, 0),
     ("79a0fcfd00000000 X", 23, 0),
     ("79a0f8ff00000000 X", 24, 0),
@@ -457,19 +472,62 @@ fn the_longest_code(rt: HostRuntime) -> Result<(), Fail> {
     Ok(())
 }
 
+/// Digits of so many zero bytes.
+fn zeros(alloc: Global, count: usize) -> io::Result<String> {
+    let mut text = String::new(alloc);
+    for _ in 0..count {
+        text.push_str("00")?;
+    }
+    Ok(text)
+}
+
+#[test]
+fn records_of_other_lengths(rt: HostRuntime) -> Result<(), Fail> {
+    let code = "b7000000010000009500000000000000";
+    for (count, status, line) in [
+        (127, 2, "refused 55\n"),
+        (128, 0, "first in 2 steps\n"),
+        (129, 2, "refused 55\n"),
+        (159, 2, "refused 55\n"),
+        (160, 0, "first in 2 steps\n"),
+        (161, 2, "refused 55\n"),
+    ] {
+        let text = zeros(rt.alloc(), count)?;
+        let clash = text.as_str();
+        assert!(rt;
+            is_answered(&rt, &Task::Judge { code, clash }, status, line),
+            "at {count}"
+        );
+    }
+    Ok(())
+}
+
+/// The size of the first's table stands at 128; a record of 128 bytes has zeros there.
+#[test]
+fn facts_behind_the_registrations(rt: HostRuntime) -> Result<(), Fail> {
+    let alloc = rt.alloc();
+    let size_of_first = code(alloc, "7910800000000000 X")?;
+    let shorter = db(alloc, NAME, "05", "09")?;
+    let mut whole = db(alloc, NAME, "05", "09")?;
+    whole.push_str("02")?;
+    whole.push_str(zeros(alloc, 31)?.as_str())?;
+    for (clash, line) in [
+        (shorter.as_str(), "none in 2 steps\n"),
+        (whole.as_str(), "second in 2 steps\n"),
+    ] {
+        let code = size_of_first.as_str();
+        assert!(rt;
+            is_answered(&rt, &Task::Judge { code, clash }, 0, line),
+            "at {line}"
+        );
+    }
+    Ok(())
+}
+
 #[test]
 fn wrong_records(rt: HostRuntime) -> Result<(), Fail> {
-    let alloc = rt.alloc();
-    let mut short = String::new(alloc);
-    for _ in 0..127u8 {
-        short.push_str("00")?;
-    }
+    let short = zeros(rt.alloc(), 127)?;
     for (code, clash, line) in [
-        (
-            "b7000000010000009500000000000000",
-            short.as_str(),
-            "refused 55\n",
-        ),
         ("b7000000010000009500000000000000", "000", "refused 50\n"),
         (EXIT, short.as_str(), "refused 15 at slot 0\n"),
         ("", "0g", "refused 1\n"),

@@ -10,7 +10,7 @@ after : (front rest part : List ℕ) (a k : ℕ) → length front ≡ a
 after front rest part a k at =
     rw (take_at front rest a at, drop_at front rest a at) (sym (append_assoc front part (drop k rest)))
 
--- four parts that fill a record stand in it one after another
+-- four parts that fill bytes stand in them one after another
 pub four_parts : (old n w a b : List ℕ) → length n ≡ 40 → length w ≡ 8 → length a ≡ 40
     → put_mid 88 (length (put_mid 48 40 (put_mid 40 8 (n ++ drop 40 old) w) a) - 88)
     (put_mid 48 40 (put_mid 40 8 (n ++ drop 40 old) w) a) b
@@ -27,4 +27,18 @@ four_parts old n w a b ln lw la =
     ap (λ (x : List ℕ). put_mid 88 (length x - 88) x b) up_to_first
     ∙ after front rest b 88 (length (front ++ rest) - 88) three
     ∙ ap (λ (x : List ℕ). (front ++ b) ++ x) (drop_of_length-le rest short)
+    ∙ simp (append-nil, append_assoc)
+
+-- a part and two of 16 bytes behind it do so too
+pub three_parts : (old front a b : List ℕ) → length front ≡ 128 → length a ≡ 16
+    → put_mid 144 (length (put_mid 128 16 (front ++ drop 128 old) a) - 144) (put_mid 128 16 (front ++ drop 128 old) a) b
+    ≡ front ++ (a ++ b)
+three_parts old front a b lf la =
+    let rest : List ℕ = drop 16 (drop 128 old) in
+    let up_to_first : put_mid 128 16 (front ++ drop 128 old) a ≡ (front ++ a) ++ rest = after front (drop 128 old) a 128 16 lf in
+    let two : length (front ++ a) ≡ 144 = omega (arith, length-append front a) in
+    let short : length rest ≤ length ((front ++ a) ++ rest) - 144 = omega (arith, length-append (front ++ a) rest) in
+    ap (λ (x : List ℕ). put_mid 144 (length x - 144) x b) up_to_first
+    ∙ after (front ++ a) rest b 144 (length ((front ++ a) ++ rest) - 144) two
+    ∙ ap (λ (x : List ℕ). ((front ++ a) ++ b) ++ x) (drop_of_length-le rest short)
     ∙ simp (append-nil, append_assoc)

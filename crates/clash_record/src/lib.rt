@@ -14,5 +14,5 @@ pub use instruction_set::RECORD_LEN;
 pub use names::naming::name;
 pub use names::{BadName, NAME_LEN, Name};
 pub use orders::order_theorem;
-pub use records::{ClashRecord, record, record_of};
+pub use records::{ClashRecord, Facts, record, record_of};
 pub use registrations::{Builtin, Owner, ProgramId, Registration, ResolverId};

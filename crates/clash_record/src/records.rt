@@ -1,7 +1,7 @@
 //! The record of a clash.
 ghost use Rattle.std.specs.Prelude.{◌≡◌, ◌<◌, length, All};
 ghost use Rattle.std.specs.Int.{w64, to_le_bytes};
-ghost use Rattle.clash_record.specs.Record.{name_field, registration_bytes, clash_bytes};
+ghost use Rattle.clash_record.specs.Record.{name_field, registration_bytes, registrations_bytes, facts_bytes, clash_bytes};
 ghost use Rattle.instruction_set.specs.Machine.{record_len};
 
 use crate::names::Name;
@@ -44,12 +44,28 @@ fn bytes_fit(bytes: &[u8])
     ensures { All (λ byte. byte < 256) bytes.now }
 {}
 
-/// The record of a clash of these two registrations of the name, at this word.
-pub fn record(name: &Name, first: &Registration, second: &Registration, word: u64) -> ClashRecord
-    ensures { result ≡ clash_bytes name.now first.now second.now word }
+/// What a side of a clash is beside its registration: how big its table is, and how long its half has been up.
+#[derive(Clone, Copy, Debug, PartialEq, Eq)]
+pub struct Facts {
+    /// How many names the table has that holds the registration.
+    pub size: u64,
+    /// How long that half has been up, as a number that was handed in.
+    pub uptime: u64,
+}
+
+/// The record of a clash of these two registrations of the name, at this word, with the facts of the half that holds each.
+pub fn record(
+    name: &Name,
+    first: &Registration,
+    second: &Registration,
+    word: u64,
+    of_first: Facts,
+    of_second: Facts,
+) -> ClashRecord
+    ensures { result ≡ clash_bytes name.now first.now second.now word of_first of_second }
 {
     let mut filled = [0; RECORD_LEN];
-    write_record(&mut filled, name, first, second, word);
+    write_record(&mut filled, name, first, second, word, of_first, of_second);
     ClashRecord { bytes: filled }
 }
 
@@ -60,10 +76,34 @@ pub fn record_of(bytes: [u8; RECORD_LEN]) -> ClashRecord
     ClashRecord { bytes }
 }
 
-// Writes the name, the word and the two registrations, one after another.
-fn write_record(out: &mut [u8], name: &Name, first: &Registration, second: &Registration, word: u64)
+// Writes the name, the word, the two registrations and the facts of each, one after another.
+fn write_record(
+    out: &mut [u8],
+    name: &Name,
+    first: &Registration,
+    second: &Registration,
+    word: u64,
+    of_first: Facts,
+    of_second: Facts,
+)
     requires { length out.old ≡ record_len }
-    ensures { out.new ≡ clash_bytes name.now first.now second.now word }
+    ensures { out.new ≡ clash_bytes name.now first.now second.now word of_first of_second }
+{
+    write_registrations(&mut out[..128], name, first, second, word);
+    write_facts(&mut out[128..144], of_first);
+    write_facts(&mut out[144..], of_second);
+}
+
+// Writes the name, the word and the two registrations, one after another.
+fn write_registrations(
+    out: &mut [u8],
+    name: &Name,
+    first: &Registration,
+    second: &Registration,
+    word: u64,
+)
+    requires { length out.old ≡ 128 }
+    ensures { out.new ≡ registrations_bytes name.now first.now second.now word }
 {
     write_name(&mut out[..40], name);
     write_word(&mut out[40..48], word);
@@ -99,4 +139,13 @@ fn write_registration(out: &mut [u8], registration: &Registration)
     LittleEndian::write_u64(&mut out[8..], registration.stamp);
     LittleEndian::write_u64(&mut out[16..], registration.weight);
     out[24..].copy_from_slice(&registration.extra);
+}
+
+// Writes the size and the uptime.
+fn write_facts(out: &mut [u8], facts: Facts)
+    requires { length out.old ≡ 16 }
+    ensures { out.new ≡ facts_bytes facts }
+{
+    LittleEndian::write_u64(out, facts.size);
+    LittleEndian::write_u64(&mut out[8..], facts.uptime);
 }

@@ -37,7 +37,7 @@ const REFUSALS: &'static str = "Refusals:
   43  no room: 256 programs are kept
   44  a name that isn't 1 to 32 visible characters of ASCII
   50  a text that isn't hex digits, two a byte
-  55  a record that isn't 128 bytes
+  55  a record that has neither 160 nor 128 bytes
   56  a file that isn't UTF-8
   57  a file of more than 1,048,576 bytes
   60  a line that begins with no mnemonic

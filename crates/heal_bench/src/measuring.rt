@@ -42,7 +42,7 @@ impl fmt::Display for Measured {
 pub(crate) enum Fault {
     #[error("no hex digits, two a byte: {0}")]
     Digits(#[from] FromHexError),
-    #[error("the record isn't 128 bytes")]
+    #[error("the record isn't 160 bytes")]
     RecordLength,
     #[error("RUNS isn't a number from 1 on")]
     Runs,

@@ -1,10 +1,10 @@
 -- Reading and writing memory, wherever record and stack lie.
-use Rattle.std.proofs.Common.{◌≡◌, ℕ, zero, suc, ◌+◌, ◌-◌, ◌*◌, ◌/◌, ◌%◌, ◌^◌, ◌<◌, ◌≤◌, Bool, true, false, ◌&&◌, ◌⊎◌, inl, inr, refl, ap, ◌∙◌, sym, subst, arith, List, Some, ℤ}
+use Rattle.std.proofs.Common.{◌≡◌, ℕ, zero, suc, ◌+◌, ◌-◌, ◌*◌, ◌/◌, ◌%◌, ◌^◌, ◌<◌, ◌≤◌, Bool, true, false, ◌&&◌, ◌⊎◌, inl, inr, refl, ap, ◌∙◌, sym, subst, arith, List, length, Some, ℤ}
 use Rattle.std.specs.Prelude.{IsTrue, pos, negsuc, ◌≤ℤ◌, ◌+ℤ◌, nat_le, nat_lt, slice_index, FitsSigned}
 use Rattle.std.specs.Int.{w16}
 use Rattle.std.proofs.lemmas.Int.{ints}
 use Rattle.std.proofs.lemmas.Bool.Decides.{nat_tests}
-use Rattle.instruction_set.specs.Machine.{Memory, Placement, IsPlacement, read_bytes, written, address_of, record_len, stack_len}
+use Rattle.instruction_set.specs.Machine.{Memory, Placement, IsPlacementFor, read_bytes, written, address_of, stack_len}
 use Rattle.abstract_value.specs.StackBytes.{all_written, with_marks}
 use Rattle.verifier.proofs.Tags.{the_record, the_stack, ptr, raw, is_in, memory_at}
 
@@ -53,25 +53,25 @@ pub whole_of : (z : ℤ) → pos 0 ≤ℤ z → (n : ℕ) × (z ≡ pos n)
 whole_of (pos n) h = (n, refl)
 whole_of (negsuc n) h = absurd (omega (arith, ints))
 
-pub record_address : (p : Placement) → IsPlacement p → (k d : ℤ) (n : ℕ) → negsuc 65535 ≤ℤ k → k ≤ℤ pos 65536 → FitsSigned w16 d → k +ℤ d ≡ pos n → n < record_len → address_of (raw p (ptr the_record k)) d ≡ p.record_at + n
+pub record_address : {len : ℕ} (p : Placement) → IsPlacementFor len p → (k d : ℤ) (n : ℕ) → negsuc 65535 ≤ℤ k → k ≤ℤ pos 65536 → FitsSigned w16 d → k +ℤ d ≡ pos n → n < len → address_of (raw p (ptr the_record k)) d ≡ p.record_at + n
 record_address p placed k d n a b f e l = let g = placed.record_fits in omega (arith, ints)
 
-pub stack_address : (p : Placement) → IsPlacement p → (k d : ℤ) (n : ℕ) → negsuc 65535 ≤ℤ k → k ≤ℤ pos 65536 → FitsSigned w16 d → (k +ℤ d) +ℤ pos stack_len ≡ pos n → n < stack_len → address_of (raw p (ptr the_stack k)) d ≡ p.stack_at + n
+pub stack_address : {len : ℕ} (p : Placement) → IsPlacementFor len p → (k d : ℤ) (n : ℕ) → negsuc 65535 ≤ℤ k → k ≤ℤ pos 65536 → FitsSigned w16 d → (k +ℤ d) +ℤ pos stack_len ≡ pos n → n < stack_len → address_of (raw p (ptr the_stack k)) d ≡ p.stack_at + n
 stack_address p placed k d n a b f e l = let g = placed.stack_fits in omega (arith, ints)
 
-pub record_byte : (p : Placement) (bytes : List ℕ) (stack : Memory) (n : ℕ) → n < record_len → memory_at p bytes stack (p.record_at + n) ≡ Some (slice_index bytes n)
+pub record_byte : (p : Placement) (bytes : List ℕ) (stack : Memory) (n : ℕ) → n < length bytes → memory_at p bytes stack (p.record_at + n) ≡ Some (slice_index bytes n)
 record_byte p bytes stack n h =
-    let t : is_in p.record_at record_len (p.record_at + n) ≡ true = grind (arith, nat_tests) in
+    let t : is_in p.record_at (length bytes) (p.record_at + n) ≡ true = grind (arith, nat_tests) in
     let e : p.record_at + n - p.record_at ≡ n = omega arith in
     rw (t, e) refl
 
-apart_in : (p : Placement) → (p.record_at + record_len ≤ p.stack_at) ⊎ (p.stack_at + stack_len ≤ p.record_at) → (n : ℕ) → n < stack_len → is_in p.record_at record_len (p.stack_at + n) ≡ false
-apart_in p (inl q) n h = grind (arith, nat_tests)
-apart_in p (inr q) n h = grind (arith, nat_tests)
+apart_in : (len : ℕ) (p : Placement) → (p.record_at + len ≤ p.stack_at) ⊎ (p.stack_at + stack_len ≤ p.record_at) → (n : ℕ) → n < stack_len → is_in p.record_at len (p.stack_at + n) ≡ false
+apart_in len p (inl q) n h = grind (arith, nat_tests)
+apart_in len p (inr q) n h = grind (arith, nat_tests)
 
-pub stack_byte : (p : Placement) → IsPlacement p → (bytes : List ℕ) (stack : Memory) (n : ℕ) → n < stack_len → memory_at p bytes stack (p.stack_at + n) ≡ stack n
-stack_byte p placed bytes stack n h =
-    let f = apart_in p placed.apart n h in
+pub stack_byte : (p : Placement) (bytes : List ℕ) → IsPlacementFor (length bytes) p → (stack : Memory) (n : ℕ) → n < stack_len → memory_at p bytes stack (p.stack_at + n) ≡ stack n
+stack_byte p bytes placed stack n h =
+    let f = apart_in (length bytes) p placed.apart n h in
     let t : is_in p.stack_at stack_len (p.stack_at + n) ≡ true = grind (arith, nat_tests) in
     let e : p.stack_at + n - p.stack_at ≡ n = omega arith in
     rw (f, t, e) refl
@@ -82,9 +82,9 @@ in_range : (a lo n : ℕ) → (((nat_le lo a && nat_lt a (lo + n)) ≡ true) × 
 in_range a lo n = grind (arith, nat_tests)
 
 -- a write to the stack, byte by byte
-pub stack_written : (p : Placement) → IsPlacement p → (bytes : List ℕ) (stack : Memory) (i n word : ℕ) → i + n ≤ stack_len → (a : ℕ)
+pub stack_written : (p : Placement) (bytes : List ℕ) → IsPlacementFor (length bytes) p → (stack : Memory) (i n word : ℕ) → i + n ≤ stack_len → (a : ℕ)
     → written (memory_at p bytes stack) (p.stack_at + i) n word a ≡ memory_at p bytes (written stack i n word) a
-stack_written p placed bytes stack i n word h a =
+stack_written p bytes placed stack i n word h a =
     elim (in_range a (p.stack_at + i) n) [
       | inl q ↦
           let j = a - p.stack_at in
@@ -93,7 +93,7 @@ stack_written p placed bytes stack i n word h a =
           let t : (nat_le i j && nat_lt j (i + n)) ≡ true = grind (arith, nat_tests) in
           let f : a - (p.stack_at + i) ≡ j - i = omega arith in
           let there : written stack i n word j ≡ Some (word / 256 ^ (j - i) % 256) = rw t refl in
-          rw (q.0, f) (sym (ap (memory_at p bytes (written stack i n word)) (sym e) ∙ stack_byte p placed bytes (written stack i n word) j l ∙ there))
+          rw (q.0, f) (sym (ap (memory_at p bytes (written stack i n word)) (sym e) ∙ stack_byte p bytes placed (written stack i n word) j l ∙ there))
       | inr q ↦ rw q.0 (unwritten p bytes stack i n word a q.1)
     ]
   where
@@ -112,7 +112,7 @@ stack_written p placed bytes stack i n word h a =
 
     unwritten : (p : Placement) (bytes : List ℕ) (stack : Memory) (i n word a : ℕ) → (a < p.stack_at + i) ⊎ (p.stack_at + i + n ≤ a) → memory_at p bytes stack a ≡ memory_at p bytes (written stack i n word) a
     unwritten p bytes stack i n word a q =
-        elim (truth (is_in p.record_at record_len a)) [
+        elim (truth (is_in p.record_at (length bytes) a)) [
           | inl t ↦ rw t refl
           | inr f ↦ elim (truth (is_in p.stack_at stack_len a)) [
             | inl t ↦ rw (f, t) (same_there p stack i n word a q t)

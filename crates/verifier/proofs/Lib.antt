@@ -14,3 +14,4 @@ pub mod Spans
 pub mod Rulings
 pub mod Look
 pub mod OneVerdict
+pub mod LongerRecords

@@ -1,9 +1,9 @@
 -- Where an instruction that passes leads, wherever record and stack lie: operations, loads and stores.
-use Rattle.std.proofs.Common.{◌≡◌, ℕ, ◌+◌, ◌-◌, ◌/◌, ◌%◌, ◌^◌, ◌≤◌, Bool, true, false, cond, ◌==◌, ◌&&◌, refl, ap, ◌∙◌, sym, arith, List, Option, Some, ℤ}
+use Rattle.std.proofs.Common.{◌≡◌, ℕ, ◌+◌, ◌-◌, ◌/◌, ◌%◌, ◌^◌, ◌≤◌, Bool, true, false, cond, ◌==◌, ◌&&◌, refl, ap, ◌∙◌, sym, arith, List, length, Option, Some, ℤ}
 use Rattle.std.specs.Prelude.{IsTrue, nat_le, nat_lt, not}
 use Rattle.std.specs.Int.{w64, cast_unsigned}
 use Rattle.std.proofs.lemmas.Bool.Decides.{nat_tests}
-use Rattle.instruction_set.specs.Machine.{Memory, Placement, IsPlacement, State, ◌>>=◌, read_bytes, written, bytes_of, address_of, store_at, stack_len, word_in, operand as word_of, set_register, after}
+use Rattle.instruction_set.specs.Machine.{Memory, Placement, IsPlacementFor, State, ◌>>=◌, read_bytes, written, bytes_of, address_of, store_at, stack_len, word_in, operand as word_of, set_register, after}
 use Rattle.instruction_set.specs.Operations.{alu_of}
 use Rattle.instruction_set.specs.declared.insn.Width.{Width}
 use Rattle.instruction_set.specs.declared.insn.Size.{Size}
@@ -41,7 +41,7 @@ source_at p bytes t u m (Reg r) = word_at p bytes t u m r
 
 -- an instruction goes from one tagged state to another, at each placement
 abbrev pub Goes : List ℕ → Insn → Tagged → Tagged → Type 0
-Goes bytes i t t' = (p : Placement) → IsPlacement p → (u : State) → Matches p bytes t u → (u' : State) × (after p.stack_at i u ≡ Some u') × Matches p bytes t' u'
+Goes bytes i t t' = (p : Placement) → IsPlacementFor (length bytes) p → (u : State) → Matches p bytes t u → (u' : State) × (after p.stack_at i u ≡ Some u') × Matches p bytes t' u'
 
 after_alu : (stack_at : ℕ) (w : Width) (op : AluOp) (dst : Register) (src : Source) (u : State) → is_mov op ≡ false
     → after stack_at (Alu w op dst src) u ≡ (word_in u dst >>= λ a. word_of u src >>= λ b. set_register u dst (alu_of w op a b) 1)
@@ -96,7 +96,7 @@ goes_wide bytes dst value t f p placed u m = set_on p bytes t u m dst f (num val
 pub goes_load : (bytes : List ℕ) (i : Insn) (dst base : Register) (size : Size) (offset : ℤ) (t : Tagged) (x : Tag) (word : ℕ) (f : ℕ → ℕ)
     → ((stack_at : ℕ) (u : State) → after stack_at i u ≡ (word_in u base >>= λ at. read_bytes u.memory (address_of at offset) (bytes_of size) >>= λ v. set_register u dst (f v) 1))
     → (dst.number == 10) ≡ false → t.registers base.number ≡ Some x
-    → ((p : Placement) → IsPlacement p → read_bytes (memory_at p bytes t.stack) (address_of (raw p x) offset) (bytes_of size) ≡ Some word)
+    → ((p : Placement) → IsPlacementFor (length bytes) p → read_bytes (memory_at p bytes t.stack) (address_of (raw p x) offset) (bytes_of size) ≡ Some word)
     → Goes bytes i t (with_tag t dst.number (num (f word)) 1)
 goes_load bytes i dst base size offset t x word f is free_dst bx there p placed u m =
     let a : word_in u base ≡ Some (raw p x) = word_at p bytes t u m base ∙ ap (raw_option p) bx in
@@ -116,9 +116,9 @@ written_same : (m m' : Memory) (at n word a : ℕ) → m a ≡ m' a → written 
 written_same m m' at n word a e = ap (λ x. cond (nat_le at a && nat_lt a (at + n)) (Some (word / 256 ^ (a - at) % 256)) x) e
 
 -- a store of a number inside the stack, at an index from its lowest byte
-pub store_on : (p : Placement) → IsPlacement p → (bytes : List ℕ) (t : Tagged) (u : State) → Matches p bytes t u → (at index n word : ℕ) → at ≡ p.stack_at + index → index + n ≤ stack_len
+pub store_on : (p : Placement) (bytes : List ℕ) → IsPlacementFor (length bytes) p → (t : Tagged) (u : State) → Matches p bytes t u → (at index n word : ℕ) → at ≡ p.stack_at + index → index + n ≤ stack_len
     → (u' : State) × (store_at p.stack_at u at n word ≡ Some u') × Matches p bytes (with_stack t (written t.stack index n word)) u'
-store_on p placed bytes t u m at index n word e h =
+store_on p bytes placed t u m at index n word e h =
     let lo : nat_le p.stack_at at ≡ true = grind (arith, nat_tests) in
     let hi : nat_le (at + n) (p.stack_at + stack_len) ≡ true = grind (arith, nat_tests) in (
       record { slot = u.slot + 1; registers = u.registers; memory = written u.memory at n word },
@@ -127,6 +127,6 @@ store_on p placed bytes t u m at index n word e h =
         slot = ap (λ k. k + 1) m.slot;
         long = m.long;
         registers = m.registers;
-        memory = λ a. written_same u.memory (memory_at p bytes t.stack) at n word a (m.memory a) ∙ ap (λ k. written (memory_at p bytes t.stack) k n word a) e ∙ stack_written p placed bytes t.stack index n word h a;
+        memory = λ a. written_same u.memory (memory_at p bytes t.stack) at n word a (m.memory a) ∙ ap (λ k. written (memory_at p bytes t.stack) k n word a) e ∙ stack_written p bytes placed t.stack index n word h a;
       },
     )

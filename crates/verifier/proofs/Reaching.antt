@@ -1,9 +1,9 @@
 -- What accesses that pass reach: bytes of the record, or of the stack.
 use Rattle.std.proofs.Common.{◌≡◌, ℕ, ◌+◌, ◌-◌, ◌*◌, ◌^◌, ◌<◌, ◌≤◌, Bool, true, false, ◌&&◌, inl, inr, refl, ap, ◌∙◌, sym, subst, arith, List, length, Option, Some, ℤ}
-use Rattle.std.specs.Prelude.{IsTrue, pos, negsuc, ◌≤ℤ◌, ◌+ℤ◌, ◌-ℤ◌, int_le, not, slice_index, FitsSigned}
+use Rattle.std.specs.Prelude.{IsTrue, pos, negsuc, ◌≤ℤ◌, ◌+ℤ◌, ◌-ℤ◌, int_le, not, slice_index, FitsSigned, All}
 use Rattle.std.specs.Int.{w16}
 use Rattle.std.proofs.lemmas.Int.{ints}
-use Rattle.instruction_set.specs.Machine.{Memory, Placement, IsPlacement, IsRecord, read_bytes, written, bytes_of, address_of, record_len, stack_len}
+use Rattle.instruction_set.specs.Machine.{Memory, Placement, IsPlacementFor, read_bytes, written, bytes_of, address_of, stack_len}
 use Rattle.instruction_set.specs.declared.insn.Size.{Size}
 use Rattle.instruction_set.specs.declared.insn.Size.TheVariants.{Byte as byte_size, Half, Word, Double}
 use Rattle.abstract_value.specs.Domain.{Ops}
@@ -39,24 +39,23 @@ pub record ReadAt (bytes : List ℕ) (stack : Memory) (x : Option Tag) (offset :
   pub is_tag : x ≡ Some tag
   pub word : ℕ
   pub small : word < 256 ^ n
-  pub reads : (p : Placement) → IsPlacement p → read_bytes (memory_at p bytes stack) (address_of (raw p tag) offset) n ≡ Some word
+  pub reads : (p : Placement) → IsPlacementFor (length bytes) p → read_bytes (memory_at p bytes stack) (address_of (raw p tag) offset) n ≡ Some word
 
-read_record : (bytes : List ℕ) (stack : Memory) (a : Span) (k offset : ℤ) (size : Size) → IsRecord bytes → a.lo ≤ℤ k → k ≤ℤ a.hi → FitsSigned w16 offset
-    → IsTrue (in_record (reach_of a offset size)) → ReadAt bytes stack (Some (ptr the_record k)) offset (bytes_of size)
-read_record bytes stack a k offset size rec l h f inside =
+read_record : (bytes : List ℕ) (stack : Memory) (a : Span) (k offset : ℤ) (size : Size) → All (λ byte. byte < 256) bytes → a.lo ≤ℤ k → k ≤ℤ a.hi → FitsSigned w16 offset
+    → IsTrue (in_record (length bytes) (reach_of a offset size)) → ReadAt bytes stack (Some (ptr the_record k)) offset (bytes_of size)
+read_record bytes stack a k offset size each l h f inside =
     let n = bytes_of size in
     let some = some_bytes size in
-    let q = both (int_le (pos 0) (a.lo +ℤ offset)) (int_le ((a.hi +ℤ offset) +ℤ pos n) (pos record_len)) inside in
+    let q = both (int_le (pos 0) (a.lo +ℤ offset)) (int_le ((a.hi +ℤ offset) +ℤ pos n) (pos (length bytes))) inside in
     let lo = le_tells (pos 0) (a.lo +ℤ offset) q.0 in
-    let hi = le_tells ((a.hi +ℤ offset) +ℤ pos n) (pos record_len) q.1 in
+    let hi = le_tells ((a.hi +ℤ offset) +ℤ pos n) (pos (length bytes)) q.1 in
     let al : negsuc 65535 ≤ℤ a.lo = a.near_below in
     let ah : a.hi ≤ℤ pos 65536 = a.near_above in
     let i = whole_of (k +ℤ offset) (omega (arith, ints)) in
     let e : (k +ℤ offset) ≡ pos i.0 = i.1 in
-    let room : i.0 + n ≤ record_len = omega (arith, ints) in
-    let long : length bytes ≡ record_len = rec.0 in
+    let room : i.0 + n ≤ length bytes = omega (arith, ints) in
     let there : Memory = λ j. Some (slice_index bytes j) in
-    let w = reads_some there i.0 n (λ j s. record { byte = slice_index bytes (i.0 + j); is_there = refl; small = rec.1 (i.0 + j) 0 (omega arith) }) in
+    let w = reads_some there i.0 n (λ j s. record { byte = slice_index bytes (i.0 + j); is_there = refl; small = each (i.0 + j) 0 (omega arith) }) in
     record {
       tag = ptr the_record k;
       is_tag = refl;
@@ -137,17 +136,17 @@ read_stack bytes stack w a k offset size there small l h f inside all =
           ap (λ at. read_bytes (memory_at p bytes stack) at n) (stack_address p placed k offset q.index (omega (arith, ints)) (omega (arith, ints)) f q.index_is (omega arith))
           ∙ read_same (memory_at p bytes stack) stack (p.stack_at + q.index) q.index n (λ j s.
           let g : p.stack_at + q.index + j ≡ p.stack_at + (q.index + j) = omega arith in
-          ap (memory_at p bytes stack) g ∙ stack_byte p placed bytes stack (q.index + j) (omega arith))
+          ap (memory_at p bytes stack) g ∙ stack_byte p bytes placed stack (q.index + j) (omega arith))
           ∙ word.is_there;
     }
 
 -- a load that passes reads a word
-pub load_there : {D : Type 0} (o : Ops D) (bytes : List ℕ) (s : View D) (t : Tagged) (a : RegState D) (x : Option Tag) (offset : ℤ) (size : Size) (base : ℕ) → IsRecord bytes → Covered o s t → FitsSigned w16 offset
+pub load_there : {D : Type 0} (o : Ops D) (bytes : List ℕ) (s : View D) (t : Tagged) (a : RegState D) (x : Option Tag) (offset : ℤ) (size : Size) (base : ℕ) → All (λ byte. byte < 256) bytes → Covered o s t → FitsSigned w16 offset
     → (let r : Access = record { base = base; offset = offset; size = size; is_store = false } in
-    Covers o a x → IsTrue (is_readable a) → IsTrue (inside_record a r) → IsTrue (inside_stack a r) → IsTrue (finds_written s.written a r) → IsTrue (not (is_scalar a)) → ReadAt bytes t.stack x offset (bytes_of size))
-load_there o bytes s t (Record a) (Some (ptr the_record k)) offset size base rec c f h r ir is w sc = read_record bytes t.stack a k offset size rec h.0 h.1 f ir
-load_there o bytes s t (Stack a) (Some (ptr the_stack k)) offset size base rec c f h r ir is w sc = read_stack bytes t.stack s.written a k offset size c.written c.small h.0 h.1 f is w
-load_there o bytes s t a x offset size base rec c f h r ir is w sc = absurd (first_of (assumption, cc))
+    Covers o a x → IsTrue (is_readable a) → IsTrue (inside_record (length bytes) a r) → IsTrue (inside_stack a r) → IsTrue (finds_written s.written a r) → IsTrue (not (is_scalar a)) → ReadAt bytes t.stack x offset (bytes_of size))
+load_there o bytes s t (Record a) (Some (ptr the_record k)) offset size base each c f h r ir is w sc = read_record bytes t.stack a k offset size each h.0 h.1 f ir
+load_there o bytes s t (Stack a) (Some (ptr the_stack k)) offset size base each c f h r ir is w sc = read_stack bytes t.stack s.written a k offset size c.written c.small h.0 h.1 f is w
+load_there o bytes s t a x offset size base each c f h r ir is w sc = absurd (first_of (assumption, cc))
 
 -- where a store that passes goes: to an index from the stack's lowest byte, and its state covers what is there then
 pub record StoreAt {D : Type 0} (o : Ops D) (s : View D) (t : Tagged) (a : RegState D) (x : Option Tag) (offset : ℤ) (size : Size) : Type 0 where
@@ -155,7 +154,7 @@ pub record StoreAt {D : Type 0} (o : Ops D) (s : View D) (t : Tagged) (a : RegSt
   pub is_tag : x ≡ Some tag
   pub index : ℕ
   pub room : index + bytes_of size ≤ stack_len
-  pub address : (p : Placement) → IsPlacement p → address_of (raw p tag) offset ≡ p.stack_at + index
+  pub address : {len : ℕ} (p : Placement) → IsPlacementFor len p → address_of (raw p tag) offset ≡ p.stack_at + index
   pub covers : (word : ℕ) → Covered o (after_store s a offset size) (with_stack t (written t.stack index (bytes_of size) word))
 
 store_written : (w : ℕ → Bool) (a : Reach) (stack : Memory) (from index word : ℕ) → stack_index a.lo ≡ from → (a.hi ≤ℤ a.lo → index ≡ from) → ((j : ℕ) → IsTrue (w j) → (b : ℕ) × (stack j ≡ Some b))

@@ -49,7 +49,7 @@ inside_down first end a b offset n h k =
     let u = le_tells ((b.hi +ℤ offset) +ℤ pos n) end q.1 in
     and (int_le first (a.lo +ℤ offset)) (int_le ((a.hi +ℤ offset) +ℤ pos n) end) (le_holds first (a.lo +ℤ offset) (omega (arith, ints))) (le_holds ((a.hi +ℤ offset) +ℤ pos n) end (omega (arith, ints)))
 
-inside_record_down : {D : Type 0} {o : Ops D} {a b : RegState D} (r : Access) → Readable o a b → IsTrue (inside_record b r) → IsTrue (inside_record a r)
+inside_record_down : {D : Type 0} {o : Ops D} {a b : RegState D} (r : Access) → Readable o a b → IsTrue (inside_record record_len b r) → IsTrue (inside_record record_len a r)
 inside_record_down r (numbers a b h) k = k
 inside_record_down r (records a b h) k = inside_down (pos 0) (pos record_len) a b r.offset (bytes_of r.size) h k
 inside_record_down r (stacks a b h) k = k
@@ -231,7 +231,7 @@ module _ {D : Type 0} {o : Ops D} (laws : Laws o) (s t : View D) (below : ViewBe
   passes_down i p PointerRange = ranges_down i p
   passes_down i p PointerCompared = comparison_down i p
   passes_down i p PointerStored = stored_down i p
-  passes_down i p OutsideRecord = reach_down i inside_record inside_record p (λ r q is h. inside_record_down r q h) (p OutsideRecord)
+  passes_down i p OutsideRecord = reach_down i (inside_record record_len) (inside_record record_len) p (λ r q is h. inside_record_down r q h) (p OutsideRecord)
   passes_down i p WritesRecord = reach_down i spares_record spares_record p (λ r q is h. leaves_record_down r q h) (p WritesRecord)
   passes_down i p OutsideStack = reach_down i inside_stack inside_stack p (λ r q is h. inside_stack_down r q h) (p OutsideStack)
   passes_down i p UnwrittenStack = reach_down i (finds_written s.written) (finds_written t.written) p (λ r q is h. finds_down s.written t.written r below.written q is h) (p UnwrittenStack)

@@ -1,10 +1,10 @@
 -- Code that some assignment fits is safe.
 use Rattle.std.proofs.Common.{◌≡◌, ℕ, zero, suc, ◌+◌, ◌-◌, ◌^◌, ◌<◌, ◌≤◌, true, false, cond, ◌==◌, ◌⊎◌, inl, inr, refl, ap, ◌∙◌, sym, subst, arith, List, length, get_or, Option, Some, None, ℤ}
-use Rattle.std.specs.Prelude.{IsTrue, IsSome, IfSome, pos, negsuc, ◌≤ℤ◌, slice_get, slice_index}
+use Rattle.std.specs.Prelude.{IsTrue, IsSome, IfSome, pos, negsuc, ◌≤ℤ◌, slice_get, slice_index, All}
 use Rattle.std.proofs.lemmas.Int.{ints, clamps}
 use Rattle.std.proofs.lemmas.Option.{slice_get-get_or}
 use Rattle.instruction_set.specs.Slots.{IsListed, IsCode}
-use Rattle.instruction_set.specs.Machine.{Placement, IsPlacement, IsRecord, State, slots_of, insn_at, entry, record_len, stack_len, after, step, steps, IsSafe, slot_count}
+use Rattle.instruction_set.specs.Machine.{Placement, IsPlacementFor, State, slots_of, insn_at, entry_for, stack_len, after, step, steps, EndsFor, IsSafeFor, slot_count}
 use Rattle.instruction_set.specs.declared.insn.Insn.{Insn}
 use Rattle.instruction_set.specs.declared.insn.Insn.TheVariants.{Exit}
 use Rattle.abstract_value.specs.Domain.{Ops, Laws}
@@ -15,7 +15,7 @@ use Rattle.abstract_value.specs.declared.states.RegState.TheVariants.{Scalar, Re
 use Rattle.verifier.specs.declared.rule.Rule.TheVariants.{Backward, Outside}
 use Rattle.verifier.specs.Structure.{distance_of, forward_target, leads_to, IsForward, IsStructured}
 use Rattle.verifier.specs.Rules.{fall, jump}
-use Rattle.verifier.specs.Assignments.{Assignment, Carries, EdgeCarries, FulfilsBefore, IsTypable}
+use Rattle.verifier.specs.Assignments.{Assignment, Carries, EdgeCarries, FulfilsBeforeFor, IsTypableFor}
 use Rattle.verifier.proofs.Tags.{the_record, the_stack, Tag, num, ptr, raw_option, Tagged, Matches, is_in, Covers, Covered}
 use Rattle.verifier.proofs.Onward.{bind}
 use Rattle.verifier.proofs.Steps.{ends, falls_on, jumps_on, onward}
@@ -100,11 +100,11 @@ after_jump slot to (Some (negsuc n)) e = absurd (cc)
 edge : {D : Type 0} (o : Ops D) (states : Assignment D) (x : Option ℕ) (y : Option (View D)) (to : ℕ) (s : View D) → x ≡ Some to → y ≡ Some s → EdgeCarries o states x y → Carries o states to s
 edge o states x y to s e f c = subst (λ q. EdgeCarries o states q (Some s)) e (subst (λ q. EdgeCarries o states x q) f c)
 
-module _ {D : Type 0} {o : Ops D} (laws : Laws o) (code : List Insn) (is_code : IsCode code) (structured : IsStructured code) (states : Assignment D) (fulfils : FulfilsBefore o code (slot_count code) states) (bytes : List ℕ) (rec : IsRecord bytes) where
+module _ {D : Type 0} {o : Ops D} (laws : Laws o) (code : List Insn) (is_code : IsCode code) (structured : IsStructured code) (states : Assignment D) (bytes : List ℕ) (each : All (λ byte. byte < 256) bytes) (fulfils : FulfilsBeforeFor (length bytes) o code (slot_count code) states) where
   Reaches : Tagged → ℕ → Type 0
-  Reaches t m = (v : ℕ) × (n : ℕ) × (n ≤ m) × ((p : Placement) → IsPlacement p → (u : State) → Matches p bytes t u → RunsTo code p u v n)
+  Reaches t m = (v : ℕ) × (n : ℕ) × (n ≤ m) × ((p : Placement) → IsPlacementFor (length bytes) p → (u : State) → Matches p bytes t u → RunsTo code p u v n)
 
-  go_further : (at m : ℕ) (i : Insn) (t t' : Tagged) → t.slot ≡ at → insn_at code at ≡ Some i → ((p : Placement) → IsPlacement p → (u : State) → Matches p bytes t u → (u' : State) × (after p.stack_at i u ≡ Some u') × Matches p bytes t' u') → Reaches t' m → Reaches t (suc m)
+  go_further : (at m : ℕ) (i : Insn) (t t' : Tagged) → t.slot ≡ at → insn_at code at ≡ Some i → ((p : Placement) → IsPlacementFor (length bytes) p → (u : State) → Matches p bytes t u → (u' : State) × (after p.stack_at i u ≡ Some u') × Matches p bytes t' u') → Reaches t' m → Reaches t (suc m)
   unfolding Reaches
   go_further at m i t t' slot here goes rest =
       let few : rest.1 ≤ m = rest.2 in (
@@ -138,7 +138,7 @@ module _ {D : Type 0} {o : Ops D} (laws : Laws o) (code : List Insn) (is_code : 
       let less : left code (at + 1) + 1 ≤ left code at = left_less code at i here in
       let within : at < slot_count code = insn_within code at i here in
       let there : insn_at code t.slot ≡ Some i = ap (insn_at code) slot ∙ here in
-      elim (onward laws bytes rec i s t (listed at i here) c (fulfils.passes at i s within here e) (λ to leads. fits t.slot to i there leads) (forward t.slot (distance_of i) (structured.meets t.slot i Backward there))) [
+      elim (onward laws bytes each i s t (listed at i here) c (fulfils.passes at i s within here e) (λ to leads. fits t.slot to i there leads) (forward t.slot (distance_of i) (structured.meets t.slot i Backward there))) [
         | ends v is_exit r0 ↦ (v, 1, omega arith, λ p placed u match. ended code p bytes t u v match (there ∙ ap Some is_exit) r0)
         | falls_on s' t' f slot' c' goes ↦
             let next = edge o states (Some (at + slots_of i)) (fall o i s) (at + slots_of i) s' refl f (fulfils.falls at i s within here e) in
@@ -172,47 +172,53 @@ begins_covered {D = D} o = record {
   small = λ k b e. absurd (cc);
 }
 
-begins_registers : (p : Placement) → IsPlacement p → (bytes : List ℕ) → (r : ℕ) → r < 11 → get_or (entry p bytes).registers r None ≡ raw_option p (begins.registers r)
-unfolding entry
-begins_registers p placed bytes zero h = refl
-begins_registers p placed bytes (suc zero) h = let f = placed.record_fits in ap Some (omega (arith, ints))
-begins_registers p placed bytes (suc (suc zero)) h = refl
-begins_registers p placed bytes (suc (suc (suc zero))) h = refl
-begins_registers p placed bytes (suc (suc (suc (suc zero)))) h = refl
-begins_registers p placed bytes (suc (suc (suc (suc (suc zero))))) h = refl
-begins_registers p placed bytes (suc (suc (suc (suc (suc (suc zero)))))) h = refl
-begins_registers p placed bytes (suc (suc (suc (suc (suc (suc (suc zero))))))) h = refl
-begins_registers p placed bytes (suc (suc (suc (suc (suc (suc (suc (suc zero)))))))) h = refl
-begins_registers p placed bytes (suc (suc (suc (suc (suc (suc (suc (suc (suc zero))))))))) h = refl
-begins_registers p placed bytes (suc (suc (suc (suc (suc (suc (suc (suc (suc (suc zero)))))))))) h = ap Some (omega (arith, ints))
-begins_registers p placed bytes (suc (suc (suc (suc (suc (suc (suc (suc (suc (suc (suc r))))))))))) h = absurd (omega arith)
+begins_registers : (p : Placement) (bytes : List ℕ) → 0 < length bytes → IsPlacementFor (length bytes) p → (r : ℕ) → r < 11 → get_or (entry_for (length bytes) p bytes).registers r None ≡ raw_option p (begins.registers r)
+unfolding entry_for
+begins_registers p bytes some placed zero h = refl
+begins_registers p bytes some placed (suc zero) h = let f = placed.record_fits in ap Some (omega (arith, ints))
+begins_registers p bytes some placed (suc (suc zero)) h = refl
+begins_registers p bytes some placed (suc (suc (suc zero))) h = refl
+begins_registers p bytes some placed (suc (suc (suc (suc zero)))) h = refl
+begins_registers p bytes some placed (suc (suc (suc (suc (suc zero))))) h = refl
+begins_registers p bytes some placed (suc (suc (suc (suc (suc (suc zero)))))) h = refl
+begins_registers p bytes some placed (suc (suc (suc (suc (suc (suc (suc zero))))))) h = refl
+begins_registers p bytes some placed (suc (suc (suc (suc (suc (suc (suc (suc zero)))))))) h = refl
+begins_registers p bytes some placed (suc (suc (suc (suc (suc (suc (suc (suc (suc zero))))))))) h = refl
+begins_registers p bytes some placed (suc (suc (suc (suc (suc (suc (suc (suc (suc (suc zero)))))))))) h = ap Some (omega (arith, ints))
+begins_registers p bytes some placed (suc (suc (suc (suc (suc (suc (suc (suc (suc (suc (suc r))))))))))) h = absurd (omega arith)
 
-begins_matches : (p : Placement) → IsPlacement p → (bytes : List ℕ) → Matches p bytes begins (entry p bytes)
-unfolding entry
-begins_matches p placed bytes = record {
+begins_matches : (p : Placement) (bytes : List ℕ) → 0 < length bytes → IsPlacementFor (length bytes) p → Matches p bytes begins (entry_for (length bytes) p bytes)
+unfolding entry_for
+begins_matches p bytes some placed = record {
   slot = refl;
   long = refl;
-  registers = begins_registers p placed bytes;
-  memory = λ a. elim (is_in p.record_at record_len a) as (λ b. cond b (Some (slice_index bytes (a - p.record_at))) None ≡ cond b (Some (slice_index bytes (a - p.record_at))) (cond (is_in p.stack_at stack_len a) None None)) [
+  registers = begins_registers p bytes some placed;
+  memory = λ a. elim (is_in p.record_at (length bytes) a) as (λ b. cond b (Some (slice_index bytes (a - p.record_at))) None ≡ cond b (Some (slice_index bytes (a - p.record_at))) (cond (is_in p.stack_at stack_len a) None None)) [
     | true ↦ refl
     | false ↦ elim (is_in p.stack_at stack_len a) as (λ b. None ≡ cond b None (let x : Option ℕ = None in x)) [ true ↦ refl | false ↦ refl ]
   ];
 }
 
--- code that some assignment fits is safe
-pub safe : {D : Type 0} {o : Ops D} (laws : Laws o) (code : List Insn) → IsCode code → IsStructured code → IsTypable o code → IsSafe code
+-- code that an assignment fits ends with one answer on these bytes
+ends_on : {D : Type 0} {o : Ops D} (laws : Laws o) (code : List Insn) → IsCode code → IsStructured code → (states : Assignment D) (bytes : List ℕ) → 0 < length bytes → All (λ byte. byte < 256) bytes
+    → FulfilsBeforeFor (length bytes) o code (slot_count code) states → (v : ℕ) × (n : ℕ) × (n ≤ length code) × EndsFor (length bytes) code bytes v n
 unfolding Reaches
-safe {o = o} laws code is_code structured typable bytes rec =
-    let states = typable.0 in
-    let f = typable.1 in
+ends_on {o = o} laws code is_code structured states bytes some each f =
     let first = f.start in
     let c = covered_up laws entry_view first.0 begins first.2 (begins_covered o) in
     let all = left_all code in
-    let r = runs laws code is_code structured states f bytes rec (length code) 0 first.0 begins (omega arith) refl first.1 c in (
+    let r = runs laws code is_code structured states bytes each f (length code) 0 first.0 begins (omega arith) refl first.1 c in (
       r.0,
       r.1,
       r.2,
       λ p placed.
-          let e = r.3 p placed (entry p bytes) (begins_matches p placed bytes) in
+          let e = r.3 p placed (entry_for (length bytes) p bytes) (begins_matches p bytes some placed) in
           record { last = e.last; counted = e.counted; reached = e.reached; at_exit = e.at_exit; answer = e.answer },
     )
+
+-- code that some assignment fits is safe
+pub safe : {D : Type 0} {o : Ops D} (laws : Laws o) (len : ℕ) → 0 < len → (code : List Insn) → IsCode code → IsStructured code → IsTypableFor len o code → IsSafeFor len code
+safe {o = o} laws len some code is_code structured typable bytes rec =
+    let long : length bytes ≡ len = rec.0 in
+    subst (λ k. (v : ℕ) × (n : ℕ) × (n ≤ length code) × EndsFor k code bytes v n) long
+    (ends_on laws code is_code structured typable.0 bytes (omega arith) rec.1 (subst (λ k. FulfilsBeforeFor k o code (slot_count code) typable.0) (sym long) typable.1))

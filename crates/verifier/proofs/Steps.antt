@@ -1,11 +1,11 @@
 -- Where each instruction that passes leads, wherever record and stack lie.
-use Rattle.std.proofs.Common.{◌≡◌, ℕ, ◌+◌, ◌*◌, ◌^◌, ◌<◌, Bool, true, false, cond, ◌==◌, ◌&&◌, ◌||◌, ◌⊎◌, inl, inr, refl, ap, ◌∙◌, sym, subst, arith, List, ◌∷◌, Option, Some, None, ℤ}
-use Rattle.std.specs.Prelude.{IsTrue, pos, negsuc, not, FitsSigned}
+use Rattle.std.proofs.Common.{◌≡◌, ℕ, ◌+◌, ◌*◌, ◌^◌, ◌<◌, Bool, true, false, cond, ◌==◌, ◌&&◌, ◌||◌, ◌⊎◌, inl, inr, refl, ap, ◌∙◌, sym, subst, arith, List, length, ◌∷◌, Option, Some, None, ℤ}
+use Rattle.std.specs.Prelude.{IsTrue, pos, negsuc, not, FitsSigned, All}
 use Rattle.std.specs.List.{list_all}
 use Rattle.std.specs.Int.{w16, w32, w64, cast_unsigned}
 use Rattle.std.proofs.lemmas.Int.{ints}
 use Rattle.instruction_set.specs.Slots.{IsListed, SourceFits}
-use Rattle.instruction_set.specs.Machine.{Placement, IsRecord, State, ◌>>=◌, slots_of, read_bytes, bytes_of, address_of, store_at, word_in, operand as word_of, set_register, target, go_to, after}
+use Rattle.instruction_set.specs.Machine.{Placement, State, ◌>>=◌, slots_of, read_bytes, bytes_of, address_of, store_at, word_in, operand as word_of, set_register, target, go_to, after}
 use Rattle.instruction_set.specs.Operations.{alu_of, neg_of, mov_sx_of, end_of, low, cut_test, is_taken}
 use Rattle.instruction_set.specs.declared.insn.Width.{Width}
 use Rattle.instruction_set.specs.declared.insn.Width.TheVariants.{W32, W64}
@@ -24,7 +24,7 @@ use Rattle.abstract_value.specs.declared.states.RegState.{RegState}
 use Rattle.abstract_value.specs.declared.states.RegState.TheVariants.{Scalar, Record, Stack, Unreadable}
 use Rattle.verifier.specs.declared.rule.Rule.TheVariants.{Unreadable as unreadable_rule, WritesR10, PointerOperation, PointerRange, PointerCompared, PointerStored, OutsideRecord, WritesRecord, OutsideStack, UnwrittenStack, ScalarAddress, PointerResult}
 use Rattle.verifier.specs.Structure.{distance_of, forward_target, leads_to}
-use Rattle.verifier.specs.Rules.{is_readable, is_pointer, reads, source_reads, operand, Passes, of_scalar, of_scalars, result_of, cut_one, cut_both, refined_imm, refined_pair, on_edge, fall, jump}
+use Rattle.verifier.specs.Rules.{is_readable, is_pointer, reads, source_reads, operand, PassesFor, of_scalar, of_scalars, result_of, cut_one, cut_both, refined_imm, refined_pair, on_edge, fall, jump}
 use Rattle.verifier.proofs.Tags.{Tag, num, ptr, raw, raw_option, Tagged, Matches, tells, word_at, with_tag, Covers, Covered, covers_put, covers_cut, NumberAt}
 use Rattle.verifier.proofs.Accesses.{both}
 use Rattle.verifier.proofs.Moves.{truth, is_mov, word_fits, binary}
@@ -105,14 +105,14 @@ low_fits : (w : Width) (n : ℕ) → low w n < 2 ^ 64
 low_fits W32 n = omega arith
 low_fits W64 n = omega arith
 
-module _ {D : Type 0} {o : Ops D} (laws : Laws o) (bytes : List ℕ) (rec : IsRecord bytes) where
+module _ {D : Type 0} {o : Ops D} (laws : Laws o) (bytes : List ℕ) (each : All (λ byte. byte < 256) bytes) where
   covers_source : (s : View D) (t : Tagged) → Covered o s t → (src : Source) → SourceFits src → Covers o (operand o s src) (source_tag t src)
   covers_source s t c (Imm n) f = laws.single_holds (cast_unsigned w64 n) (word_64 n f)
   covers_source s t c (Reg r) f = c.registers r.number
 
   -- ---- operations
 
-  alu_on : (w : Width) (op : AluOp) (dst : Register) (src : Source) (s : View D) (t : Tagged) → is_mov op ≡ false → SourceFits src → Covered o s t → Passes o (Alu w op dst src) s → Onward o bytes (Alu w op dst src) s t
+  alu_on : (w : Width) (op : AluOp) (dst : Register) (src : Source) (s : View D) (t : Tagged) → is_mov op ≡ false → SourceFits src → Covered o s t → PassesFor (length bytes) o (Alu w op dst src) s → Onward o bytes (Alu w op dst src) s t
   alu_on w op dst src s t n f c p =
       let all : IsTrue (list_all (λ r. is_readable (s.registers r)) (dst.number ∷ source_reads src)) = subst (λ rs. IsTrue (list_all (λ r. is_readable (s.registers r)) rs)) (reads_alu w op dst src n) (p unreadable_rule) in
       let q = both (is_readable (s.registers dst.number)) (list_all (λ r. is_readable (s.registers r)) (source_reads src)) all in
@@ -136,7 +136,7 @@ module _ {D : Type 0} {o : Ops D} (laws : Laws o) (bytes : List ℕ) (rec : IsRe
   copied (Record a) (num v) r h p = absurd h
   copied (Stack a) (num v) r h p = absurd h
 
-  mov_on : (w : Width) (dst : Register) (src : Source) (s : View D) (t : Tagged) → SourceFits src → Covered o s t → Passes o (Alu w Mov dst src) s → Onward o bytes (Alu w Mov dst src) s t
+  mov_on : (w : Width) (dst : Register) (src : Source) (s : View D) (t : Tagged) → SourceFits src → Covered o s t → PassesFor (length bytes) o (Alu w Mov dst src) s → Onward o bytes (Alu w Mov dst src) s t
   mov_on W64 dst src s t f c p =
       let b_readable = source_readable o s src (p unreadable_rule) in
       let b = operand o s src in
@@ -216,7 +216,7 @@ module _ {D : Type 0} {o : Ops D} (laws : Laws o) (bytes : List ℕ) (rec : IsRe
             (q.0, rw p.0 (ap (λ x. refined_pair o w test taken s d r.number x (s.registers r.number)) a.is ∙ ap (λ y. refined_pair o w test taken s d r.number (Scalar a.value) y) b.is ∙ q.1), q.2)
       ]
 
-  jump_if_on : (w : Width) (test : Test) (dst : Register) (src : Source) (distance : ℤ) (s : View D) (t : Tagged) → SourceFits src → Covered o s t → Passes o (JumpIf w test dst src distance) s
+  jump_if_on : (w : Width) (test : Test) (dst : Register) (src : Source) (distance : ℤ) (s : View D) (t : Tagged) → SourceFits src → Covered o s t → PassesFor (length bytes) o (JumpIf w test dst src distance) s
       → ((to : ℕ) → leads_to t.slot (JumpIf w test dst src distance) ≡ Some to → to < 2 ^ 64) → (to : ℕ) → leads_to t.slot (JumpIf w test dst src distance) ≡ Some to → Onward o bytes (JumpIf w test dst src distance) s t
   jump_if_on w test dst src distance s t f c p fits to leads =
       let q = both (is_readable (s.registers dst.number)) (list_all (λ r. is_readable (s.registers r)) (source_reads src)) (p unreadable_rule) in
@@ -250,17 +250,17 @@ module _ {D : Type 0} {o : Ops D} (laws : Laws o) (bytes : List ℕ) (rec : IsRe
       (g.0, is q.stack_at u ∙ g.1, g.2))
 
   -- a store goes to the stack
-  store_imm_on : (size : Size) (base : Register) (offset imm : ℤ) (s : View D) (t : Tagged) → FitsSigned w16 offset → Covered o s t → Passes o (StoreImm size base offset imm) s → Onward o bytes (StoreImm size base offset imm) s t
+  store_imm_on : (size : Size) (base : Register) (offset imm : ℤ) (s : View D) (t : Tagged) → FitsSigned w16 offset → Covered o s t → PassesFor (length bytes) o (StoreImm size base offset imm) s → Onward o bytes (StoreImm size base offset imm) s t
   store_imm_on size base offset imm s t f c p =
       let q = both (is_readable (s.registers base.number)) true (p unreadable_rule) in
       let r = store_there o s t (s.registers base.number) (t.registers base.number) offset size base.number c f (c.registers base.number) q.0 (p WritesRecord) (p OutsideStack) (p ScalarAddress) in
       let word = cast_unsigned w64 imm in
       falls_on _ _ refl refl (r.covers word)
       (λ z placed u m.
-      let g = store_on z placed bytes t u m (address_of (raw z r.tag) offset) r.index (bytes_of size) word (r.address z placed) r.room in
+      let g = store_on z bytes placed t u m (address_of (raw z r.tag) offset) r.index (bytes_of size) word (r.address z placed) r.room in
       (g.0, bind (word_in u base) (raw z r.tag) (λ at. store_at z.stack_at u (address_of at offset) (bytes_of size) word) (Some g.0) (word_at z bytes t u m base ∙ ap (raw_option z) r.is_tag) g.1, g.2))
 
-  store_reg_on : (size : Size) (base : Register) (offset : ℤ) (src : Register) (s : View D) (t : Tagged) → FitsSigned w16 offset → Covered o s t → Passes o (Store size base offset src) s → Onward o bytes (Store size base offset src) s t
+  store_reg_on : (size : Size) (base : Register) (offset : ℤ) (src : Register) (s : View D) (t : Tagged) → FitsSigned w16 offset → Covered o s t → PassesFor (length bytes) o (Store size base offset src) s → Onward o bytes (Store size base offset src) s t
   store_reg_on size base offset src s t f c p =
       let q = both (is_readable (s.registers base.number)) (is_readable (s.registers src.number) && true) (p unreadable_rule) in
       let q' = both (is_readable (s.registers src.number)) true q.1 in
@@ -268,21 +268,21 @@ module _ {D : Type 0} {o : Ops D} (laws : Laws o) (bytes : List ℕ) (rec : IsRe
       let r = store_there o s t (s.registers base.number) (t.registers base.number) offset size base.number c f (c.registers base.number) q.0 (p WritesRecord) (p OutsideStack) (p ScalarAddress) in
       falls_on _ _ refl refl (r.covers v.word)
       (λ z placed u m.
-      let g = store_on z placed bytes t u m (address_of (raw z r.tag) offset) r.index (bytes_of size) v.word (r.address z placed) r.room in (
+      let g = store_on z bytes placed t u m (address_of (raw z r.tag) offset) r.index (bytes_of size) v.word (r.address z placed) r.room in (
         g.0,
         bind (word_in u base) (raw z r.tag) (λ at. word_in u src >>= λ word. store_at z.stack_at u (address_of at offset) (bytes_of size) word) (Some g.0) (word_at z bytes t u m base ∙ ap (raw_option z) r.is_tag)
             (bind (word_in u src) v.word (λ word. store_at z.stack_at u (address_of (raw z r.tag) offset) (bytes_of size) word) (Some g.0) (word_at z bytes t u m src ∙ ap (raw_option z) v.is_tag) g.1),
         g.2,
       ))
 
-  exit_on : (s : View D) (t : Tagged) → Covered o s t → Passes o Exit s → Onward o bytes Exit s t
+  exit_on : (s : View D) (t : Tagged) → Covered o s t → PassesFor (length bytes) o Exit s → Onward o bytes Exit s t
   exit_on s t c p =
       let q = both (is_readable (s.registers 0)) true (p unreadable_rule) in
       let v = number_at o (s.registers 0) (t.registers 0) q.0 (p PointerResult) (c.registers 0) in
       ends v.word refl v.is_tag
 
   -- every instruction
-  pub onward : (i : Insn) (s : View D) (t : Tagged) → IsListed i → Covered o s t → Passes o i s → ((to : ℕ) → leads_to t.slot i ≡ Some to → to < 2 ^ 64) → (distance_of i ≡ None) ⊎ ((to : ℕ) × (leads_to t.slot i ≡ Some to)) → Onward o bytes i s t
+  pub onward : (i : Insn) (s : View D) (t : Tagged) → IsListed i → Covered o s t → PassesFor (length bytes) o i s → ((to : ℕ) → leads_to t.slot i ≡ Some to → to < 2 ^ 64) → (distance_of i ≡ None) ⊎ ((to : ℕ) × (leads_to t.slot i ≡ Some to)) → Onward o bytes i s t
   onward (Alu w Mov dst src) s t l c p fits forward = mov_on w dst src s t l.numbers c p
   onward (Alu w op dst src) s t l c p fits forward = alu_on w op dst src s t refl l.numbers c p
   onward (Neg w dst) s t l c p fits forward =
@@ -300,11 +300,11 @@ module _ {D : Type 0} {o : Ops D} (laws : Laws o) (bytes : List ℕ) (rec : IsRe
   onward (Load size dst base offset) s t l c p fits forward =
       let q = both (is_readable (s.registers base.number)) true (p unreadable_rule) in
       load_on (Load size dst base offset) dst base size offset s t (o.load size false) (λ v. v) refl refl (laws.load_holds size) (λ at u. refl) (p WritesR10) c
-      (load_there o bytes s t (s.registers base.number) (t.registers base.number) offset size base.number rec c l.numbers (c.registers base.number) q.0 (p OutsideRecord) (p OutsideStack) (p UnwrittenStack) (p ScalarAddress))
+      (load_there o bytes s t (s.registers base.number) (t.registers base.number) offset size base.number each c l.numbers (c.registers base.number) q.0 (p OutsideRecord) (p OutsideStack) (p UnwrittenStack) (p ScalarAddress))
   onward (LoadSx size dst base offset) s t l c p fits forward =
       let q = both (is_readable (s.registers base.number)) true (p unreadable_rule) in
       load_on (LoadSx size dst base offset) dst base size offset s t (o.load size true) (mov_sx_of W64 (8 * bytes_of size)) refl refl (laws.load_sx_holds size) (λ at u. refl) (p WritesR10) c
-      (load_there o bytes s t (s.registers base.number) (t.registers base.number) offset size base.number rec c l.numbers (c.registers base.number) q.0 (p OutsideRecord) (p OutsideStack) (p UnwrittenStack) (p ScalarAddress))
+      (load_there o bytes s t (s.registers base.number) (t.registers base.number) offset size base.number each c l.numbers (c.registers base.number) q.0 (p OutsideRecord) (p OutsideStack) (p UnwrittenStack) (p ScalarAddress))
   onward (Store size base offset src) s t l c p fits forward = store_reg_on size base offset src s t l.numbers c p
   onward (StoreImm size base offset imm) s t l c p fits forward = store_imm_on size base offset imm s t l.numbers.0 c p
   onward (Jump distance) s t l c p fits (inl none) = absurd (cc)

@@ -5,7 +5,7 @@ use Rattle.std.specs.Int.{w64, cast_unsigned}
 use Rattle.std.proofs.lemmas.Bool.Decides.{nat_tests}
 use Rattle.std.proofs.lemmas.Option.{slice_get-get_or}
 use Rattle.std.proofs.lemmas.List.{get_or-set_same, get_or-set_other, length-set}
-use Rattle.instruction_set.specs.Machine.{Memory, Placement, State, record_len, stack_len, word_in, set_register}
+use Rattle.instruction_set.specs.Machine.{Memory, Placement, State, stack_len, word_in, set_register}
 use Rattle.instruction_set.specs.declared.insn.Register.{Register}
 use Rattle.abstract_value.specs.Domain.{Ops}
 use Rattle.abstract_value.specs.States.{View, put}
@@ -45,7 +45,7 @@ is_in start len address = nat_le start address && nat_lt address (start + len)
 
 abbrev pub memory_at : Placement → List ℕ → Memory → Memory
 memory_at p bytes stack address =
-    cond (is_in p.record_at record_len address) (Some (slice_index bytes (address - p.record_at)))
+    cond (is_in p.record_at (length bytes) address) (Some (slice_index bytes (address - p.record_at)))
     (cond (is_in p.stack_at stack_len address) (stack (address - p.stack_at)) None)
 
 -- the raw state is the tagged one, where record and stack lie so

@@ -1,12 +1,12 @@
 -- Assignments of abstract states to the instructions of code, and when they fulfil the rules.
 use Rattle.std.specs.Prelude.{◌≡◌, ℕ, ◌+◌, ◌<◌, Option, Some, IsSome, List}
-use Rattle.instruction_set.specs.Machine.{slots_of, insn_at, slot_count}
+use Rattle.instruction_set.specs.Machine.{slots_of, insn_at, slot_count, record_len}
 use Rattle.instruction_set.specs.declared.insn.Insn.{Insn}
 use Rattle.abstract_value.specs.Domain.{Ops}
 use Rattle.abstract_value.specs.States.{View, ViewBelow, entry}
 use Rattle.verifier.specs.declared.rule.Rule.{Rule}
 use Rattle.verifier.specs.Structure.{leads_to, IsStructured}
-use Rattle.verifier.specs.Rules.{Passes, FailsFirst, fall, jump}
+use Rattle.verifier.specs.Rules.{PassesFor, FailsFirst, fall, jump}
 
 -- a state for each instruction, by its first slot, or none
 abbrev pub Assignment : Type 0 → Type 0
@@ -21,17 +21,24 @@ abbrev pub EdgeCarries : {D : Type 0} → Ops D → Assignment D → Option ℕ 
 EdgeCarries o states (Some slot) (Some s) = Carries o states slot s
 EdgeCarries o states _ _ = Unit {0}
 
--- the instructions before a slot fulfil the rules
-pub record FulfilsBefore {D : Type 0} (o : Ops D) (code : List Insn) (end : ℕ) (states : Assignment D) : Type 0 where
+-- the instructions before a slot fulfil the rules, where a record has so many bytes
+pub record FulfilsBeforeFor {D : Type 0} (len : ℕ) (o : Ops D) (code : List Insn) (end : ℕ) (states : Assignment D) : Type 0 where
   pub start : Carries o states 0 entry
   pub inside : (slot : ℕ) (s : View D) → states slot ≡ Some s → IsSome (insn_at code slot)
-  pub passes : (slot : ℕ) (i : Insn) (s : View D) → slot < end → insn_at code slot ≡ Some i → states slot ≡ Some s → Passes o i s
+  pub passes : (slot : ℕ) (i : Insn) (s : View D) → slot < end → insn_at code slot ≡ Some i → states slot ≡ Some s → PassesFor len o i s
   pub falls : (slot : ℕ) (i : Insn) (s : View D) → slot < end → insn_at code slot ≡ Some i → states slot ≡ Some s → EdgeCarries o states (Some (slot + slots_of i)) (fall o i s)
   pub jumps : (slot : ℕ) (i : Insn) (s : View D) → slot < end → insn_at code slot ≡ Some i → states slot ≡ Some s → EdgeCarries o states (leads_to slot i) (jump o i s)
 
 -- some assignment fulfils the rules
+abbrev pub IsTypableFor : {D : Type 0} → ℕ → Ops D → List Insn → Type 0
+IsTypableFor {D} len o code = (states : Assignment D) × FulfilsBeforeFor len o code (slot_count code) states
+
+-- the same for the record of a clash
+abbrev pub FulfilsBefore : {D : Type 0} → Ops D → List Insn → ℕ → Assignment D → Type 0
+FulfilsBefore = FulfilsBeforeFor record_len
+
 abbrev pub IsTypable : {D : Type 0} → Ops D → List Insn → Type 0
-IsTypable {D} o code = (states : Assignment D) × FulfilsBefore o code (slot_count code) states
+IsTypable = IsTypableFor record_len
 
 -- the least assignment that fulfils the rules before a slot
 pub record IsLeast {D : Type 0} (o : Ops D) (code : List Insn) (end : ℕ) (states : Assignment D) : Type 0 where

@@ -3,4 +3,5 @@ pub mod Rules
 pub mod Assignments
 pub mod Refusals
 pub mod Stores
+pub mod LongerRecords
 pub mod model

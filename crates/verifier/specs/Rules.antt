@@ -116,8 +116,8 @@ reach_of a offset size = record { lo = a.lo +ℤ offset; hi = a.hi +ℤ offset; 
 abbrev pub is_inside : ℤ → ℤ → Reach → Bool
 is_inside first end a = int_le first a.lo && int_le (a.hi +ℤ pos a.len) end
 
-abbrev pub in_record : Reach → Bool
-in_record a = is_inside (pos 0) (pos record_len) a
+abbrev pub in_record : ℕ → Reach → Bool
+in_record len a = is_inside (pos 0) (pos len) a
 
 abbrev pub in_stack : Reach → Bool
 in_stack a = is_inside (pos 0 -ℤ pos stack_len) (pos 0) a
@@ -198,9 +198,10 @@ abbrev pub meets_result : {D : Type 0} → Insn → View D → Bool
 meets_result Exit s = not (is_pointer (s.registers 0))
 meets_result _ s = true
 
-abbrev pub inside_record : {D : Type 0} → RegState D → Access → Bool
-inside_record (Record a) r = in_record (reach_of a r.offset r.size)
-inside_record _ r = true
+-- in a record of so many bytes
+abbrev pub inside_record : {D : Type 0} → ℕ → RegState D → Access → Bool
+inside_record len (Record a) r = in_record len (reach_of a r.offset r.size)
+inside_record len _ r = true
 
 abbrev pub spares_record : {D : Type 0} → RegState D → Access → Bool
 spares_record (Record a) r = not r.is_store
@@ -222,25 +223,32 @@ abbrev pub is_r10 : Option ℕ → Bool
 is_r10 None = false
 is_r10 (Some r) = r == 10
 
--- whether an instruction in a state meets a rule
-abbrev pub meets : {D : Type 0} → Ops D → Insn → View D → Rule → Bool
-meets o i s unreadable_rule = list_all (λ r. is_readable (s.registers r)) (reads i)
-meets o i s WritesR10 = not (is_r10 (writes i))
-meets o i s PointerOperation = meets_operation o i s
-meets o i s PointerRange = meets_range o i s
-meets o i s PointerCompared = meets_comparison o i s
-meets o i s PointerStored = meets_stored i s
-meets o i s OutsideRecord = of_access i s inside_record
-meets o i s WritesRecord = of_access i s spares_record
-meets o i s OutsideStack = of_access i s inside_stack
-meets o i s UnwrittenStack = of_access i s (finds_written s.written)
-meets o i s ScalarAddress = of_access i s (λ base r. not (is_scalar base))
-meets o i s PointerResult = meets_result i s
-meets o i s _ = true
+-- whether an instruction in a state meets a rule, where a record has so many bytes
+abbrev pub meets_for : {D : Type 0} → ℕ → Ops D → Insn → View D → Rule → Bool
+meets_for len o i s unreadable_rule = list_all (λ r. is_readable (s.registers r)) (reads i)
+meets_for len o i s WritesR10 = not (is_r10 (writes i))
+meets_for len o i s PointerOperation = meets_operation o i s
+meets_for len o i s PointerRange = meets_range o i s
+meets_for len o i s PointerCompared = meets_comparison o i s
+meets_for len o i s PointerStored = meets_stored i s
+meets_for len o i s OutsideRecord = of_access i s (inside_record len)
+meets_for len o i s WritesRecord = of_access i s spares_record
+meets_for len o i s OutsideStack = of_access i s inside_stack
+meets_for len o i s UnwrittenStack = of_access i s (finds_written s.written)
+meets_for len o i s ScalarAddress = of_access i s (λ base r. not (is_scalar base))
+meets_for len o i s PointerResult = meets_result i s
+meets_for len o i s _ = true
 
 -- it meets each rule
+abbrev pub PassesFor : {D : Type 0} → ℕ → Ops D → Insn → View D → Type 0
+PassesFor len o i s = (rule : Rule) → IsTrue (meets_for len o i s rule)
+
+-- the same for the record of a clash
+abbrev pub meets : {D : Type 0} → Ops D → Insn → View D → Rule → Bool
+meets = meets_for record_len
+
 abbrev pub Passes : {D : Type 0} → Ops D → Insn → View D → Type 0
-Passes o i s = (rule : Rule) → IsTrue (meets o i s rule)
+Passes = PassesFor record_len
 
 -- a rule is the first that it fails
 pub record FailsFirst {D : Type 0} (o : Ops D) (i : Insn) (s : View D) (rule : Rule) : Type 0 where

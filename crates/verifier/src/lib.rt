@@ -3,6 +3,7 @@
 
 mod checks;
 mod kinds;
+mod longer_records;
 mod memory_access;
 mod pointer_moves;
 mod refusal;
@@ -12,6 +13,7 @@ mod transfer;
 mod verified;
 mod verify_code;
 
+pub use longer_records::{SHORTER_RECORD_LEN, longer_record_theorem};
 pub use refusal::{Refusal, VerifyFault};
 pub use rule::Rule;
 pub use verified::Verified;

@@ -1,6 +1,6 @@
 //! Accesses to memory, and the rules 21 to 25.
 ghost use Rattle.std.specs.Prelude.{◌≡◌, ◌≤◌, ◌+ℤ◌, ◌-ℤ◌, ◌+◌, pos, IsTrue, MatchOption};
-ghost use Rattle.instruction_set.specs.Machine.{bytes_of};
+ghost use Rattle.instruction_set.specs.Machine.{bytes_of, record_len};
 ghost use Rattle.abstract_value.specs.StackBytes.{is_written};
 ghost use Rattle.verifier.specs.Rules.{whole, access_of, reach_of, is_inside, in_stack, stack_index, inside_record, spares_record, inside_stack, finds_written};
 ghost use Rattle.verifier.specs.model.Accesses.{as_access, as_accesses, AccessPasses, AccessFails};
@@ -103,7 +103,7 @@ impl Access {
     }
 
     fn is_inside_record<D>(&self, base: &RegState<D>) -> bool
-        ensures { result ≡ inside_record base.now (as_access self.now) }
+        ensures { result ≡ inside_record record_len base.now (as_access self.now) }
     {
         match base {
             RegState::Record(span) => self.is_within(*span, 0, RECORD_LEN as i32),

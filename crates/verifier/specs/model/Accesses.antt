@@ -7,6 +7,7 @@ use Rattle.verifier.specs.declared.memory_access.Access.{Access as access}
 use Rattle.verifier.specs.declared.rule.Rule.{Rule}
 use Rattle.verifier.specs.declared.rule.Rule.TheVariants.{OutsideRecord, WritesRecord, OutsideStack, UnwrittenStack, ScalarAddress}
 use Rattle.verifier.specs.Structure.{rule_number}
+use Rattle.instruction_set.specs.Machine.{record_len}
 use Rattle.verifier.specs.Rules.{Access, of_access, is_scalar, inside_record, spares_record, inside_stack, finds_written}
 
 -- what the code calls an access, in the words of the rules
@@ -19,7 +20,7 @@ as_accesses (Some a) = Some (as_access a)
 
 -- whether an access through a register meets a rule
 abbrev pub access_meets : {D : Type 0} → (ℕ → Bool) → RegState D → Access → Rule → Bool
-access_meets written base r OutsideRecord = inside_record base r
+access_meets written base r OutsideRecord = inside_record record_len base r
 access_meets written base r WritesRecord = spares_record base r
 access_meets written base r OutsideStack = inside_stack base r
 access_meets written base r UnwrittenStack = finds_written written base r
