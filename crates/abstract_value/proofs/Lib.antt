@@ -1,3 +1,4 @@
 pub mod WrittenBytes
 pub mod JoinPlaceByPlace
 pub mod Shifts
+pub mod ExactBoths

@@ -1,6 +1,10 @@
 pub mod laws
+pub mod model
 pub mod Domain
 pub mod Ranges
+pub mod SignedWords
+pub mod Boths
+pub mod SignedResults
 pub mod StackBytes
 pub mod States
 pub mod StateOrder

@@ -8,3 +8,10 @@ pub mod Unary
 pub mod Refinement
 pub mod IntervalDomain
 pub mod OrderOfStates
+pub mod TurnedWords
+pub mod Halves
+pub mod SignedRows
+pub mod BothOrder
+pub mod BothDomain
+pub mod Widening
+pub mod BothWidens

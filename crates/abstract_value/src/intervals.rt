@@ -3,10 +3,10 @@ ghost use Rattle.std.specs.Prelude.{◌≤◌, ◌<◌, ◌^◌};
 
 mod alu;
 mod arithmetic;
-mod bitwise;
-mod ends;
-mod refine;
-mod unary;
+pub(crate) mod bitwise;
+pub(crate) mod ends;
+pub(crate) mod refine;
+pub(crate) mod unary;
 
 use crate::Domain;
 use instruction_set::{AluOp, EndKind, Size, Test, Width};
@@ -14,8 +14,8 @@ use instruction_set::{AluOp, EndKind, Size, Test, Width};
 /// The words from `lo` to `hi`, both among them.
 #[derive(Clone, Copy, Debug, PartialEq, Eq)]
 pub struct Interval {
-    lo: u64,
-    hi: u64,
+    pub(crate) lo: u64,
+    pub(crate) hi: u64,
     ghost ordered: { lo ≤ hi },
     ghost fits: { hi < 2 ^ 64 },
 }

@@ -2,6 +2,7 @@
 //! abstract states over any of them.
 #![tactic(auto)]
 
+mod boths;
 mod domains;
 mod intervals;
 mod stack;
@@ -9,6 +10,7 @@ mod states;
 #[cfg(test)]
 mod tests;
 
+pub use boths::{Both, both_is_exact_theorem};
 pub use domains::Domain;
 pub use intervals::Interval;
 pub use stack::StackState;

@@ -1,12 +1,13 @@
 -- What is wrong with bytes, with code or with a file is wrong with the task.
 use Rattle.std.proofs.Common.{◌≡◌, Ok, Err, IfOk, ℕ, List, refl}
 use Rattle.hex.specs.Hex.{decode_of}
+use Rattle.abstract_value.specs.Domain.{Ops}
 use Rattle.instruction_set.specs.declared.insn.Insn.{Insn}
 use Rattle.answers.specs.declared.failures.Failure.{Failure}
 use Rattle.answers.specs.declared.failures.Failure.TheVariants.{Refused, OutOfMemory}
 use Rattle.answers.specs.Refusals.{OnRefusal}
-use Rattle.answers.specs.Judging.{IsNoHex, IsNoCode, IsNoProgram, IsCodeFault, IsProgram, IsProgramFault, IsClashText, IsClashFault, first, no_hex, no_code, no_digits, no_program}
-use Rattle.answers.specs.Lines.{IsChecked, IsDisassembled, IsJudged, answer_unless_memory, code_alone, clash_alone, both}
+use Rattle.answers.specs.Judging.{IsNoHex, IsNoCode, IsNoProgramOver, IsCodeFault, IsProgram, IsProgramFault, IsProgramFaultOver, IsClashText, IsClashFault, first, no_hex, no_code, no_digits, no_program}
+use Rattle.answers.specs.Lines.{IsCheckedOver, IsDisassembled, IsJudged, answer_unless_memory, code_alone, clash_alone, both}
 
 pub no_hex_failure : (text : List ℕ) (f : Failure) → OnRefusal (IsNoHex text) f → OnRefusal (IsCodeFault text) f
 no_hex_failure text (Refused r) h = no_hex h
@@ -16,19 +17,21 @@ pub no_code_failure : (text bytes : List ℕ) (f : Failure) → decode_of text �
 no_code_failure text bytes (Refused r) digits h = no_code bytes digits h
 no_code_failure text bytes OutOfMemory digits h = h
 
-pub no_digits_failure : (text : List ℕ) (f : Failure) → OnRefusal (IsNoHex text) f → OnRefusal (IsProgramFault text) f
-no_digits_failure text (Refused r) h = no_digits h
-no_digits_failure text OutOfMemory h = h
+pub no_digits_failure : {D : Type 0} (o : Ops D) (text : List ℕ) (f : Failure) → OnRefusal (IsNoHex text) f → OnRefusal (IsProgramFaultOver o text) f
+no_digits_failure o text (Refused r) h = no_digits h
+no_digits_failure o text OutOfMemory h = h
 
-pub no_program_failure : (text bytes : List ℕ) (f : Failure) → decode_of text ≡ Ok bytes → OnRefusal (IsNoProgram bytes) f → OnRefusal (IsProgramFault text) f
-no_program_failure text bytes (Refused r) digits h = no_program bytes digits h
-no_program_failure text bytes OutOfMemory digits h = h
+pub no_program_failure : {D : Type 0} (o : Ops D) (text bytes : List ℕ) (f : Failure) → decode_of text ≡ Ok bytes → OnRefusal (IsNoProgramOver o bytes) f
+    → OnRefusal (IsProgramFaultOver o text) f
+no_program_failure o text bytes (Refused r) digits h = no_program bytes digits h
+no_program_failure o text bytes OutOfMemory digits h = h
 
 pub ruleset failures = (no_hex_failure, no_code_failure, no_digits_failure, no_program_failure)
 
-pub check_failure : (text : List ℕ) (f : Failure) → OnRefusal (IsProgramFault text) f → IfOk (answer_unless_memory (Err f)) (IsChecked text)
-check_failure text (Refused r) h = h
-check_failure text OutOfMemory h = tt
+pub check_failure : {D : Type 0} (o : Ops D) (text : List ℕ) (f : Failure) → OnRefusal (IsProgramFaultOver o text) f
+    → IfOk (answer_unless_memory (Err f)) (IsCheckedOver o text)
+check_failure o text (Refused r) h = h
+check_failure o text OutOfMemory h = tt
 
 pub dis_failure : (text : List ℕ) (f : Failure) → OnRefusal (IsCodeFault text) f → IfOk (answer_unless_memory (Err f)) (IsDisassembled text)
 dis_failure text (Refused r) h = h

@@ -3,6 +3,7 @@ use Rattle.std.specs.Prelude.{◌≡◌, ◌⊎◌, ℕ, ◌-◌, List, ◌++◌
 use Rattle.hex.specs.Hex.{decode_of}
 use Rattle.hex.specs.declared.error.FromHexError.{FromHexError}
 use Rattle.numbered.specs.declared.NumberedRefusal.{NumberedRefusal}
+use Rattle.abstract_value.specs.Domain.{Ops}
 use Rattle.instruction_set.specs.declared.insn.Insn.{Insn}
 use Rattle.instruction_set.specs.Machine.{Ends, meaning, record_len}
 use Rattle.verifier.specs.LongerRecords.{shorter_len}
@@ -50,10 +51,10 @@ pub record IsNoCode (bytes : List ℕ) (r : NumberedRefusal) : Type 0 where
   pub first : IsFirstFault bytes fault
   pub same : r ≡ refusal (fault_number fault) (fault_place fault)
 
--- the bytes are no program: this is wrong with them
-pub record IsNoProgram (bytes : List ℕ) (r : NumberedRefusal) : Type 0 where
+-- the bytes are no program over a domain: this is wrong with them
+pub record IsNoProgramOver {D : Type 0} (o : Ops D) (bytes : List ℕ) (r : NumberedRefusal) : Type 0 where
   pub fault : ProgramFault
-  pub wrong : program.IsProgramFault bytes fault
+  pub wrong : program.IsProgramFaultOver o bytes fault
   pub same : r ≡ refusal (program_fault_number fault) (program_fault_place fault)
 
 -- the text is that of code
@@ -67,16 +68,23 @@ pub data IsCodeFault (text : List ℕ) (r : NumberedRefusal) : Type 0 where
   no_hex : IsNoHex text r → IsCodeFault text r
   no_code : (bytes : List ℕ) → decode_of text ≡ Ok bytes → IsNoCode bytes r → IsCodeFault text r
 
--- the text is that of code that is accepted
-pub record IsProgram (text : List ℕ) (code : List Insn) : Type 0 where
+-- the text is that of code that is accepted over a domain
+pub record IsProgramOver {D : Type 0} (o : Ops D) (text : List ℕ) (code : List Insn) : Type 0 where
   pub bytes : List ℕ
   pub digits : decode_of text ≡ Ok bytes
-  pub accepted : program.IsAccepted bytes code
+  pub accepted : program.IsAcceptedOver o bytes code
 
 -- the text is that of no accepted code, for this reason
-pub data IsProgramFault (text : List ℕ) (r : NumberedRefusal) : Type 0 where
-  no_digits : IsNoHex text r → IsProgramFault text r
-  no_program : (bytes : List ℕ) → decode_of text ≡ Ok bytes → IsNoProgram bytes r → IsProgramFault text r
+pub data IsProgramFaultOver {D : Type 0} (o : Ops D) (text : List ℕ) (r : NumberedRefusal) : Type 0 where
+  no_digits : IsNoHex text r → IsProgramFaultOver o text r
+  no_program : (bytes : List ℕ) → decode_of text ≡ Ok bytes → IsNoProgramOver o bytes r → IsProgramFaultOver o text r
+
+-- the same over the domain of programs
+abbrev pub IsProgram : List ℕ → List Insn → Type 0
+IsProgram = IsProgramOver program.profile
+
+abbrev pub IsProgramFault : List ℕ → NumberedRefusal → Type 0
+IsProgramFault = IsProgramFaultOver program.profile
 
 -- a record has as many bytes as a clash record, or as many as the shorter one that came before
 abbrev pub IsRecordLength : ℕ → Type 0

@@ -5,11 +5,16 @@ use Rattle.std.specs.Fmt.{decimal}
 use Rattle.std.specs.List.{flat_map}
 use Rattle.std.specs.Io.KnownBytes.{Appends}
 use Rattle.hex.specs.Hex.{encode_lower}
+use Rattle.abstract_value.specs.Boths.{both_ops}
+use Rattle.abstract_value.specs.Domain.{Ops}
+use Rattle.abstract_value.specs.Ranges.{interval_ops}
 use Rattle.instruction_set.specs.declared.insn.Insn.{Insn}
 use Rattle.insn_codec.specs.Encoding.{insn_bytes}
 use Rattle.assembler_text.specs.Text as text
 use Rattle.builtin_resolvers.specs.declared.verdicts.Verdict3.{Verdict3}
 use Rattle.builtin_resolvers.specs.declared.verdicts.Verdict3.TheVariants.{First, Second, Neither}
+use Rattle.task.specs.declared.Profile.{Profile}
+use Rattle.task.specs.declared.Profile.TheVariants.{Unsigned, Both}
 use Rattle.task.specs.declared.Task.{Task}
 use Rattle.task.specs.declared.Task.TheVariants.{Check, Judge, Asm, Dis}
 use Rattle.numbered.specs.declared.Place.{Place}
@@ -20,7 +25,7 @@ use Rattle.answers.specs.declared.failures.Failure.TheVariants as failure
 use Rattle.answers.specs.declared.printing.Answer.{Answer}
 use Rattle.answers.specs.declared.printing.Answer.TheVariants.{Accepted, Ruled, Assembled, Disassembled, Refused, DeviceFault}
 use Rattle.answers.specs.Sources.{OfBytes, IsSource, IsNoSource}
-use Rattle.answers.specs.Judging.{IsCodeText, IsCodeFault, IsProgram, IsProgramFault, IsClashText, IsClashFault, Ruling, IsRuling, least}
+use Rattle.answers.specs.Judging.{IsCodeText, IsCodeFault, IsProgram, IsProgramOver, IsProgramFault, IsProgramFaultOver, IsClashText, IsClashFault, Ruling, IsRuling, least}
 use Rattle.answers.specs.Sending.{AppendsFront}
 
 -- ---- what is said
@@ -46,17 +51,22 @@ IsJudged code clash (Ruled verdict steps) = IsVerdict code clash verdict steps
 IsJudged code clash (Refused r) = IsWrong code clash r
 IsJudged code clash said = ⊥
 
--- the code is accepted, and this is the count of its instructions
-pub record IsCount (text : List ℕ) (count : ℕ) : Type 0 where
+-- the code is accepted over a domain, and this is the count of its instructions
+pub record IsCountOver {D : Type 0} (o : Ops D) (text : List ℕ) (count : ℕ) : Type 0 where
   pub code : List Insn
-  pub is_program : IsProgram text code
+  pub is_program : IsProgramOver o text code
   pub count_is : count ≡ length code
 
--- what is said where code is checked
-abbrev pub IsChecked : List ℕ → Answer → Type 0
-IsChecked text (Accepted count) = IsCount text count
-IsChecked text (Refused r) = IsProgramFault text r
-IsChecked text said = ⊥
+-- what is said where code is checked over a domain
+abbrev pub IsCheckedOver : {D : Type 0} → Ops D → List ℕ → Answer → Type 0
+IsCheckedOver o text (Accepted count) = IsCountOver o text count
+IsCheckedOver o text (Refused r) = IsProgramFaultOver o text r
+IsCheckedOver o text said = ⊥
+
+-- over the ranges of a profile
+abbrev pub IsChecked : Profile → List ℕ → Answer → Type 0
+IsChecked Unsigned = IsCheckedOver interval_ops
+IsChecked Both = IsCheckedOver both_ops
 
 -- what is said where code is written as text
 abbrev pub IsDisassembled : List ℕ → Answer → Type 0
@@ -76,7 +86,7 @@ IsOfBytes known said = (said ≡ DeviceFault) ⊎ OfBytes known (λ bytes. IsAss
 
 -- what is said to a task; what a file has is known only by reading it
 abbrev pub IsAnswer : Task → Answer → Type 0
-IsAnswer (Check code) said = IsChecked code.now said
+IsAnswer (Check code profile) said = IsChecked profile code.now said
 IsAnswer (Judge code clash) said = IsJudged code.now clash.now said
 IsAnswer (Asm file) said = IsOfBytes None said
 IsAnswer (Dis code) said = IsDisassembled code.now said

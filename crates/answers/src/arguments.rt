@@ -2,15 +2,16 @@
 ghost use Rattle.std.specs.Prelude.{◌≡◌, Ok, IfOk, IfErr};
 ghost use Rattle.hex.specs.Hex.{decode_of};
 ghost use Rattle.insn_codec.specs.Encoding.{Spells};
-ghost use Rattle.program.specs.Programs.{IsAccepted};
+ghost use Rattle.program.specs.Programs.{IsAcceptedOver};
 ghost use Rattle.answers.specs.Refusals.{OnRefusal};
-ghost use Rattle.answers.specs.Judging.{IsClashFault, IsClashText, IsCodeFault, IsCodeText, IsNoCode, IsNoHex, IsProgram, IsProgramFault, IsNoProgram};
+ghost use Rattle.answers.specs.Judging.{IsClashFault, IsClashText, IsCodeFault, IsCodeText, IsNoCode, IsNoHex, IsProgramOver, IsProgramFaultOver, IsNoProgramOver};
 
 use crate::failures::{Failure, InputFault, failure_of};
+use abstract_value::Domain;
 use clash_record::{ClashRecord, RECORD_LEN, record_of};
 use hex::FromHexError;
 use insn_codec::{Code, decode};
-use program::read_program;
+use program::read_program_over;
 use std::alloc::Global;
 use verifier::{SHORTER_RECORD_LEN, Verified};
 
@@ -37,12 +38,12 @@ fn code_in_bytes(alloc: Global, bytes: &[u8]) -> Result<Code, Failure>
     }
 }
 
-/// The program that bytes are.
-fn program_in_bytes(alloc: Global, bytes: &[u8]) -> Result<Verified, Failure>
-    ensures ok { IfOk result (IsAccepted bytes.now) }
-    ensures err { IfErr result (OnRefusal (IsNoProgram bytes.now)) }
+/// The program that bytes are over a domain.
+fn program_in_bytes<D: Domain>(alloc: Global, bytes: &[u8]) -> Result<Verified, Failure>
+    ensures ok { IfOk result (IsAcceptedOver D.ops bytes.now) }
+    ensures err { IfErr result (OnRefusal (IsNoProgramOver D.ops bytes.now)) }
 {
-    match read_program(alloc, bytes) {
+    match read_program_over::<D>(alloc, bytes) {
         Ok(program) => Ok(program),
         Err(fault) => Err(failure_of(&fault)),
     }
@@ -58,14 +59,14 @@ pub fn code_of(alloc: Global, text: &str) -> Result<Code, Failure>
     code_in_bytes(alloc, &bytes)
 }
 
-/// The accepted code of hex digits.
+/// The code of hex digits that is accepted over a domain.
 #[tactic(auto, using(crate::proofs::Wrongs::failures))]
-pub fn program_of(alloc: Global, text: &str) -> Result<Verified, Failure>
-    ensures ok { IfOk result (λ program. IsProgram text.now program) }
-    ensures err { IfErr result (OnRefusal (IsProgramFault text.now)) }
+pub fn program_of<D: Domain>(alloc: Global, text: &str) -> Result<Verified, Failure>
+    ensures ok { IfOk result (λ program. IsProgramOver D.ops text.now program) }
+    ensures err { IfErr result (OnRefusal (IsProgramFaultOver D.ops text.now)) }
 {
     let bytes = bytes_of(alloc, text)?;
-    program_in_bytes(alloc, &bytes)
+    program_in_bytes::<D>(alloc, &bytes)
 }
 
 /// The record of hex digits: of 160 bytes, or of 128 with zeros put after them.

@@ -2,7 +2,7 @@
 ghost use Rattle.std.specs.Prelude.{◌≡◌, ◌≢◌, None, IfOk, IfErr, codes, string_bytes};
 ghost use Rattle.answers.specs.Judging.{first};
 ghost use Rattle.answers.specs.Sending.{AppendsFront};
-ghost use Rattle.answers.specs.Lines.{IsAnswer, IsChecked, IsDisassembled, IsOfBytes, IsJudged, IsPrinted, Obeys, answer_unless_memory};
+ghost use Rattle.answers.specs.Lines.{IsAnswer, IsChecked, IsCheckedOver, IsDisassembled, IsOfBytes, IsJudged, IsPrinted, Obeys, answer_unless_memory};
 ghost use Rattle.answers.specs.declared.failures.Failure.TheVariants.{OutOfMemory};
 ghost use Rattle.answers.specs.declared.printing.Answer.TheVariants.{DeviceFault};
 
@@ -12,11 +12,12 @@ use crate::files::{code_in, read_whole};
 use crate::printing::{Answer, answer_unless_memory, line, status};
 use crate::ruling::judge_one;
 use crate::sending::send;
+use abstract_value::{Both, Domain, Interval};
 use std::alloc::{AllocError, Global};
 use std::io::{ErrorKind, Read, Write};
 use std::rt::Files;
 use std::{fs, io};
-use task::Task;
+use task::{Profile, Task};
 
 /// Of two failures the one that is told: want of memory, else the lesser number.
 fn first(e: Failure, f: Failure) -> Failure
@@ -28,15 +29,25 @@ fn first(e: Failure, f: Failure) -> Failure
     }
 }
 
-/// Says that code is accepted, and how many instructions it has.
+/// Says that code is accepted over a domain, and how many instructions it has.
 #[tactic(auto, using(crate::proofs::Wrongs::hex_wrongs))]
-fn check(alloc: Global, code: &str) -> Result<Answer, Failure>
-    ensures { IfOk (answer_unless_memory result) (IsChecked code.now) }
+fn check_over<D: Domain>(alloc: Global, code: &str) -> Result<Answer, Failure>
+    ensures { IfOk (answer_unless_memory result) (IsCheckedOver D.ops code.now) }
 {
-    let program = program_of(alloc, code)?;
+    let program = program_of::<D>(alloc, code)?;
     Ok(Answer::Accepted {
         count: program.code().len(),
     })
+}
+
+/// Says the same over the ranges of a profile.
+fn check(alloc: Global, code: &str, profile: Profile) -> Result<Answer, Failure>
+    ensures { IfOk (answer_unless_memory result) (IsChecked profile code.now) }
+{
+    match profile {
+        Profile::Unsigned => check_over::<Interval>(alloc, code),
+        Profile::Both => check_over::<Both>(alloc, code),
+    }
 }
 
 /// Judges a clash by code. Of what is wrong with the two texts, the least number is said.
@@ -44,7 +55,10 @@ fn check(alloc: Global, code: &str) -> Result<Answer, Failure>
 fn judge(alloc: Global, code: &str, clash: &str) -> Result<Answer, Failure>
     ensures { IfOk (answer_unless_memory result) (IsJudged code.now clash.now) }
 {
-    match (program_of(alloc, code), clash_of(alloc, clash)) {
+    match (
+        program_of::<program::Profile>(alloc, code),
+        clash_of(alloc, clash),
+    ) {
         (Ok(program), Ok(clash)) => {
             let answered = judge_one(&program, &clash);
             Ok(Answer::Ruled {
@@ -111,7 +125,7 @@ fn answer_to<R: Files + AllocGlobal>(rt: &R, task: &Task<'_>) -> Result<Answer, 
 {
     let alloc = rt.alloc();
     match task {
-        Task::Check { code } => check(alloc, code),
+        Task::Check { code, profile } => check(alloc, code, *profile),
         Task::Judge { code, clash } => judge(alloc, code, clash),
         Task::Asm { file } => asm(rt, file),
         Task::Dis { code } => dis(alloc, code),

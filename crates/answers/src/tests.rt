@@ -8,7 +8,7 @@ use std::alloc::Global;
 use std::io::{ErrorKind, Read, Write};
 use std::test::Fail;
 use std::{env, fs, io};
-use task::Task;
+use task::{Profile, Task};
 
 const EXIT: &'static str = "9500000000000000";
 
@@ -59,11 +59,26 @@ impl Write for Device {
 
 /// The record `db` with these two stamps below ten.
 fn db(alloc: Global, name: &str, first: &str, second: &str) -> io::Result<String> {
+    weighted(alloc, name, first, second, "00")
+}
+
+/// The same with the highest byte of the first registration's weight.
+fn weighted(
+    alloc: Global,
+    name: &str,
+    first: &str,
+    second: &str,
+    weight: &str,
+) -> io::Result<String> {
     let mut text = String::new(alloc);
     text.push_str(name)?;
     text.push_str(REST)?;
     text.push_str(first)?;
-    for _ in 0..31u8 {
+    for _ in 0..14u8 {
+        text.push_str("00")?;
+    }
+    text.push_str(weight)?;
+    for _ in 0..16u8 {
         text.push_str("00")?;
     }
     text.push_str("0200000014000000")?;
@@ -191,7 +206,14 @@ fn no_code(rt: HostRuntime) -> Result<(), Fail> {
         let (code, clash) = (text.as_str(), clash.as_str());
         for task in [
             Task::Judge { code, clash },
-            Task::Check { code },
+            Task::Check {
+                code,
+                profile: Profile::Unsigned,
+            },
+            Task::Check {
+                code,
+                profile: Profile::Both,
+            },
             Task::Dis { code },
         ] {
             assert!(rt; is_answered(&rt, &task, 2, line), "at {task:?}");
@@ -266,7 +288,17 @@ fn unsafe_code(rt: HostRuntime) -> Result<(), Fail> {
         let text = code(alloc, slots)?;
         let line = format!(in alloc; "refused {number} at slot {slot}\n")?;
         let (code, clash) = (text.as_str(), clash.as_str());
-        for task in [Task::Judge { code, clash }, Task::Check { code }] {
+        for task in [
+            Task::Judge { code, clash },
+            Task::Check {
+                code,
+                profile: Profile::Unsigned,
+            },
+            Task::Check {
+                code,
+                profile: Profile::Both,
+            },
+        ] {
             assert!(rt; is_answered(&rt, &task, 2, &line), "at {task:?}");
         }
     }
@@ -289,11 +321,49 @@ fn accepted_code(rt: HostRuntime) -> Result<(), Fail> {
         ),
     ] {
         let text = code(alloc, slots)?;
-        let task = Task::Check {
-            code: text.as_str(),
-        };
-        assert!(rt; is_answered(&rt, &task, 0, line), "at {slots}");
+        for profile in [Profile::Unsigned, Profile::Both] {
+            let code = text.as_str();
+            assert!(rt;
+                is_answered(&rt, &Task::Check { code, profile }, 0, line),
+                "at {slots}"
+            );
+        }
     }
+    Ok(())
+}
+
+/// Code whose bounds are signed: a number between two signed tests, and a byte with its sign, are added to an address.
+const SIGNED: [(&'static str, &'static str); 2] = [
+    (
+        "7912400000000000 b700000000000000 c502030000000000 650202003f000000 0f21000000000000 7110080000000000 X",
+        "none in 7 steps\n",
+    ),
+    (
+        "9112080000000000 b700000000000000 7502030000000000 bfa3000000000000 0f23000000000000 7203000001000000 X",
+        "none in 4 steps\n",
+    ),
+];
+
+#[test]
+fn signed_bounds(rt: HostRuntime) -> Result<(), Fail> {
+    let alloc = rt.alloc();
+    let clash = db(alloc, NAME, "05", "09")?;
+    for (slots, line) in SIGNED {
+        let text = code(alloc, slots)?;
+        let (code, clash) = (text.as_str(), clash.as_str());
+        for (profile, status, said) in [
+            (Profile::Unsigned, 2, "refused 18 at slot 4\n"),
+            (Profile::Both, 0, "accepted 7 instructions\n"),
+        ] {
+            assert!(rt; is_answered(&rt, &Task::Check { code, profile }, status, said));
+        }
+        assert!(rt; is_answered(&rt, &Task::Judge { code, clash }, 0, line));
+    }
+    // A weight of 2^63 is below zero where it is read as a signed number.
+    let text = code(alloc, SIGNED[0].0)?;
+    let clash = weighted(alloc, NAME, "05", "09", "80")?;
+    let (code, clash) = (text.as_str(), clash.as_str());
+    assert!(rt; is_answered(&rt, &Task::Judge { code, clash }, 0, "none in 4 steps\n"));
     Ok(())
 }
 

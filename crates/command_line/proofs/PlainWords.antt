@@ -4,6 +4,7 @@ use Rattle.std.specs.Str.{bytes_eq}
 use Rattle.clap.specs.Lexer.{strip_byte}
 use Rattle.clap.specs.Words.{Text}
 use Rattle.clap.proofs.OnLiterals.{clap_on_literals}
+use Rattle.task.specs.declared.Profile.TheVariants.{Unsigned, Both}
 use Rattle.command_line.specs.Asked.{Asks, asm, check, dis, judge}
 use Rattle.command_line.specs.Plain.{IsPlain}
 
@@ -15,9 +16,23 @@ no_end : (word : Text) → IsPlain word → bytes_eq word (45 ∷ 45 ∷ []) ≡
 no_end [] plain = refl
 no_end (x ∷ xs) plain = rw plain refl
 
-pub plain_check : (name code : Text) → IsPlain code → Asks (name ∷ codes "check" ∷ code ∷ []) (check code)
+pub plain_check : (name code : Text) → IsPlain code → Asks (name ∷ codes "check" ∷ code ∷ []) (check code Both)
 unfolding clap_on_literals
 plain_check name code plain =
+    let a = no_hyphen code plain in
+    let b = no_end code plain in (simp (a, b), simp (a, b))
+
+pub plain_unsigned : (name code : Text) → IsPlain code
+    → Asks (name ∷ codes "check" ∷ code ∷ codes "--profile" ∷ codes "1" ∷ []) (check code Unsigned)
+unfolding clap_on_literals
+plain_unsigned name code plain =
+    let a = no_hyphen code plain in
+    let b = no_end code plain in (simp (a, b), simp (a, b))
+
+pub plain_both : (name code : Text) → IsPlain code
+    → Asks (name ∷ codes "check" ∷ code ∷ codes "--profile" ∷ codes "2" ∷ []) (check code Both)
+unfolding clap_on_literals
+plain_both name code plain =
     let a = no_hyphen code plain in
     let b = no_end code plain in (simp (a, b), simp (a, b))
 

@@ -9,6 +9,9 @@ use Rattle.clap.specs.declared.error.kind.ErrorKind.TheVariants.{OutOfMemory}
 use Rattle.command_line.specs.declared.faults.CommandFault.{CommandFault}
 use Rattle.command_line.specs.declared.faults.CommandFault.TheVariants.{Parse, NoTask, NotText}
 use Rattle.clap.specs.declared.builder.action.ArgAction.TheVariants.{Set}
+use Rattle.clap.specs.declared.builder.value_parser.ValueParser.TheVariants as value
+use Rattle.task.specs.declared.Profile.{Profile}
+use Rattle.task.specs.declared.Profile.TheVariants.{Unsigned, Both}
 use Rattle.task.specs.declared.Task.{Task}
 use Rattle.task.specs.declared.Task.TheVariants.{Check, Judge, Asm, Dis}
 
@@ -26,9 +29,18 @@ judge_app = with_rule (with_rule (new_app (codes "judge")) (needed (codes "HEX")
 abbrev pub one_app : List ℕ → List ℕ → App
 one_app name id = with_rule (new_app name) (needed id)
 
--- check HEX
+-- an option with one value, the number 1 or 2
+abbrev pub profile_option : Rule
+profile_option = record (new_rule (codes "profile")) {
+  long = Some (codes "profile");
+  action = Some Set;
+  value_names = 1;
+  parser = Some (value.Unsigned 1 2);
+}
+
+-- check HEX [--profile 1|2]
 abbrev pub check_app : App
-check_app = one_app (codes "check") (codes "HEX")
+check_app = with_rule (one_app (codes "check") (codes "HEX")) profile_option
 
 -- asm FILE
 abbrev pub asm_app : App
@@ -51,21 +63,30 @@ heal_app = on_top (λ s. record s { subcommand_required = true }) subcommands_ap
 
 -- a task without where its words lie in memory
 pub data Asked : Type 0 where
-  check : List ℕ → Asked
+  check : List ℕ → Profile → Asked
   judge : List ℕ → List ℕ → Asked
   asm : List ℕ → Asked
   dis : List ℕ → Asked
 
 -- the task, seen so
 abbrev pub asked_by : Task → Asked
-asked_by (Check code) = check code.now
+asked_by (Check code profile) = check code.now profile
 asked_by (Judge code clash) = judge code.now clash.now
 asked_by (Asm file) = asm file.now
 asked_by (Dis code) = dis code.now
 
+-- the profile of a number, and the second one where none is named
+abbrev pub profile_named : Option Text → Option Profile
+profile_named None = Some Both
+profile_named (Some number) =
+    if bytes_eq number (codes "1") then Some Unsigned
+    else (if bytes_eq number (codes "2") then Some Both else None)
+
 -- what the values of check ask for; and of judge, asm and dis
 abbrev pub check_asked : List Row → Option Asked
-check_asked rows = option_map check (first_of (codes "HEX") rows)
+check_asked rows =
+    option_and_then (λ code. option_map (check code) (profile_named (first_of (codes "profile") rows)))
+    (first_of (codes "HEX") rows)
 
 abbrev pub judge_asked : List Row → Option Asked
 judge_asked rows =

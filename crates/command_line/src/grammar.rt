@@ -1,9 +1,10 @@
 //! The command line as clap knows it.
 ghost use Rattle.std.specs.Prelude.{◌≡◌, IfOk, false};
 ghost use Rattle.clap.specs.Words.{app_of, rule_of};
-ghost use Rattle.command_line.specs.Asked.{heal_app, judge_app, needed, one_app};
+ghost use Rattle.command_line.specs.Asked.{check_app, heal_app, judge_app, needed, one_app, profile_option};
 ghost use Rattle.command_line.specs.model.Apps.{IsApp};
 
+use clap::builder::ValueParser;
 use clap::{Arg, ArgAction, Command};
 use std::alloc::{AllocError, Global};
 
@@ -57,6 +58,28 @@ fn needed_arg<'a>(alloc: Global, id: &'a str, help: &'a str) -> Arg<'a>
         .help(help)
 }
 
+// Which of the two profiles.
+fn profile_arg<'a>(alloc: Global) -> Arg<'a>
+    ensures rule { rule_of result ≡ profile_option }
+    ensures global { result.global ≡ false }
+{
+    Arg::new(alloc, "profile")
+        .long("profile")
+        .action(ArgAction::Set)
+        .value_name("1|2")
+        .value_parser(ValueParser::unsigned(1, 2))
+        .help("1: over unsigned ranges alone; 2: over signed ones beside them [default: 2]")
+}
+
+// The one subcommand with an option.
+fn check_command<'a>(alloc: Global) -> Result<Command<'a>, AllocError>
+    ensures { IfOk result (λ c. IsApp c check_app) }
+{
+    let about = "Says whether code is accepted";
+    let check = one_command(alloc, "check", about, "HEX", "Code, in hex digits")?;
+    check.arg(profile_arg(alloc))
+}
+
 // The one subcommand with two arguments.
 fn judge_command<'a>(alloc: Global) -> Result<Command<'a>, AllocError>
     ensures { IfOk result (λ c. IsApp c judge_app) }
@@ -88,12 +111,17 @@ fn one_command<'a>(
 pub(crate) fn heal<'a>(alloc: Global) -> Result<Command<'a>, AllocError>
     ensures { IfOk result (λ c. app_of c ≡ heal_app) }
 {
-    let code = "Code, in hex digits";
-    let check = one_command(alloc, "check", "Says whether code is accepted", "HEX", code)?;
+    let check = check_command(alloc)?;
     let judge = judge_command(alloc)?;
     let file = "A file that holds the text of code";
     let asm = one_command(alloc, "asm", "Prints the code of a text", "FILE", file)?;
-    let dis = one_command(alloc, "dis", "Prints the text of code", "HEX", code)?;
+    let dis = one_command(
+        alloc,
+        "dis",
+        "Prints the text of code",
+        "HEX",
+        "Code, in hex digits",
+    )?;
     let heal = Command::new(alloc, "heal")
         .bin_name("heal")?
         .after_help(REFUSALS)

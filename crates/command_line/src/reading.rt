@@ -2,7 +2,8 @@
 ghost use Rattle.std.specs.Prelude.{◌≡◌, ◌∷◌, [], codes, ◌⊎◌, List, ℕ, IfOk, IfErr, map, option_map, option_and_then};
 ghost use Rattle.clap.specs.Words.{first_of, found_of, rows_of, subcommand_rows_of};
 ghost use Rattle.command_line.specs.Asked.{Asked, Asks, IsForMemory, asked_by, asked_of};
-ghost use Rattle.command_line.specs.Asked.{asm, asm_asked, check, check_asked, dis, dis_asked, judge, judge_asked};
+ghost use Rattle.command_line.specs.Asked.{asm, asm_asked, check, check_asked, dis, dis_asked, judge, judge_asked, profile_named};
+ghost use Rattle.task.specs.declared.Profile.TheVariants.{Unsigned, Both};
 ghost use Rattle.command_line.specs.Plain.{IsPlain};
 
 use crate::faults::CommandFault;
@@ -10,7 +11,7 @@ use crate::grammar::heal;
 use clap::ArgMatches;
 use std::alloc::Global;
 use std::convert::AsStr;
-use task::Task;
+use task::{Profile, Task};
 
 // The first value of `id`.
 #[tactic(auto, using(crate::proofs::Rows::rows))]
@@ -20,11 +21,23 @@ fn value<'a>(found: &ArgMatches<'a>, id: &str) -> Option<&'a str>
     found.get_str(id)
 }
 
+// The profile of a number, and the second one where none is named.
+fn profile_of(number: Option<&str>) -> Option<Profile>
+    ensures { result ≡ profile_named (option_map (λ s. s.now) number.entry) }
+{
+    match number {
+        None | Some("2") => Some(Profile::Both),
+        Some("1") => Some(Profile::Unsigned),
+        Some(_) => None,
+    }
+}
+
 fn check_of<'a>(found: &ArgMatches<'a>) -> Option<Task<'a>>
     ensures { option_map asked_by result ≡ check_asked (rows_of (found_of found.now)) }
 {
     let code = value(found, "HEX")?;
-    Some(Task::Check { code })
+    let profile = profile_of(value(found, "profile"))?;
+    Some(Task::Check { code, profile })
 }
 
 fn judge_of<'a>(found: &ArgMatches<'a>) -> Option<Task<'a>>
@@ -81,7 +94,11 @@ pub fn command<'a, S: AsStr>(alloc: Global, words: &'a [S]) -> Result<Task<'a>, 
 ///
 /// It does nothing when it runs: its contract is the law.
 pub fn plain_words_theorem()
-    ensures check { (name code : List ℕ) → IsPlain code → Asks (name ∷ codes "check" ∷ code ∷ []) (check code) }
+    ensures check { (name code : List ℕ) → IsPlain code → Asks (name ∷ codes "check" ∷ code ∷ []) (check code Both) }
+    ensures unsigned { (name code : List ℕ) → IsPlain code
+        → Asks (name ∷ codes "check" ∷ code ∷ codes "--profile" ∷ codes "1" ∷ []) (check code Unsigned) }
+    ensures both { (name code : List ℕ) → IsPlain code
+        → Asks (name ∷ codes "check" ∷ code ∷ codes "--profile" ∷ codes "2" ∷ []) (check code Both) }
     ensures judge { (name code clash : List ℕ) → IsPlain code → IsPlain clash
         → Asks (name ∷ codes "judge" ∷ code ∷ clash ∷ []) (judge code clash) }
     ensures asm { (name file : List ℕ) → IsPlain file → Asks (name ∷ codes "asm" ∷ file ∷ []) (asm file) }

@@ -17,13 +17,27 @@ fn answered(rt: &HostRuntime, words: &[&str]) -> io::Result<(u8, Vec<u8>, Vec<u8
     Ok((status, output, errors))
 }
 
+/// A byte with its sign is added to an address.
+const SIGNED: &'static str =
+    "9112080000000000b7000000000000007502030000000000bfa30000000000000f2300000000000072030000010000009500000000000000";
+
 #[test]
 fn tasks(rt: HostRuntime) -> Result<(), Fail> {
-    let rows: [(&[&str], u8, &str); 4] = [
+    let rows: [(&[&str], u8, &str); 6] = [
         (
             &["heal", "check", "b7000000010000009500000000000000"],
             0,
             "accepted 2 instructions\n",
+        ),
+        (
+            &["heal", "check", SIGNED, "--profile", "1"],
+            2,
+            "refused 18 at slot 4\n",
+        ),
+        (
+            &["heal", "check", "--profile=2", SIGNED],
+            0,
+            "accepted 7 instructions\n",
         ),
         (&["heal", "dis", "9500000000000000"], 0, "exit\n"),
         (&["heal", "judge", "01", "00"], 2, "refused 3\n"),
@@ -42,13 +56,16 @@ fn tasks(rt: HostRuntime) -> Result<(), Fail> {
 
 #[test]
 fn no_task(rt: HostRuntime) -> Result<(), Fail> {
-    let wrong: [&[&str]; 11] = [
+    let wrong: [&[&str]; 14] = [
         &["heal"],
         &["heal", "judges", "01", "00"],
         &["heal", "judge"],
         &["heal", "judge", "01"],
         &["heal", "judge", "01", "00", "00"],
         &["heal", "check"],
+        &["heal", "check", "01", "--profile"],
+        &["heal", "check", "01", "--profile", "3"],
+        &["heal", "judge", "01", "00", "--profile", "1"],
         &["heal", "dis", "01", "00"],
         &["heal", "asm"],
         &["heal", "--help"],

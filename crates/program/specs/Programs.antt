@@ -7,9 +7,9 @@ use Rattle.insn_codec.specs.Encoding.{Spells}
 use Rattle.insn_codec.specs.Faults.{IsFirstFault, length_fault_number, slot_fault_number}
 use Rattle.insn_codec.specs.declared.fault.CodecFault.{CodecFault}
 use Rattle.insn_codec.specs.declared.fault.CodecFault.TheVariants as codec
-use Rattle.abstract_value.specs.Ranges.{interval_ops}
+use Rattle.abstract_value.specs.Boths.{both_ops}
 use Rattle.abstract_value.specs.Domain.{Ops}
-use Rattle.abstract_value.specs.declared.intervals.Interval.{Interval}
+use Rattle.abstract_value.specs.declared.boths.Both.{Both}
 use Rattle.verifier.specs.Structure.{rule_number, IsStructured}
 use Rattle.verifier.specs.Assignments.{IsTypable}
 use Rattle.verifier.specs.Refusals.{IsRefusedAt}
@@ -19,32 +19,47 @@ use Rattle.verifier.specs.declared.refusal.VerifyFault.TheVariants as verify
 use Rattle.program.specs.declared.fault.ProgramFault.{ProgramFault}
 use Rattle.program.specs.declared.fault.ProgramFault.TheVariants.{Length, Slot, Refused, OutOfMemory}
 
--- programs are verified over ranges of unsigned words
-abbrev pub profile : Ops Interval
-profile = interval_ops
+-- ---- over any domain
 
 -- the bytes spell code, and the verifier accepts it
-pub record IsAccepted (bytes : List ℕ) (code : List Insn) : Type 0 where
+pub record IsAcceptedOver {D : Type 0} (o : Ops D) (bytes : List ℕ) (code : List Insn) : Type 0 where
   pub spelled : Spells bytes code
   pub structured : IsStructured code
-  pub typable : IsTypable profile code
+  pub typable : IsTypable o code
 
 -- the bytes spell code that fails this rule at this slot
-pub record IsRejected (bytes : List ℕ) (refusal : Refusal) : Type 0 where
+pub record IsRejectedOver {D : Type 0} (o : Ops D) (bytes : List ℕ) (refusal : Refusal) : Type 0 where
   pub code : List Insn
   pub spelled : Spells bytes code
-  pub refused : IsRefusedAt profile code refusal.slot refusal.rule
+  pub refused : IsRefusedAt o code refusal.slot refusal.rule
 
 -- what is wrong with bytes; that memory ran out says nothing of them
-abbrev pub IsProgramFault : List ℕ → ProgramFault → Type 0
-IsProgramFault bytes (Length f) = IsFirstFault bytes (codec.Length f)
-IsProgramFault bytes (Slot f slot) = IsFirstFault bytes (codec.Slot f slot)
-IsProgramFault bytes (Refused refusal) = IsRejected bytes refusal
-IsProgramFault bytes OutOfMemory = ⊥
+abbrev pub IsProgramFaultOver : {D : Type 0} → Ops D → List ℕ → ProgramFault → Type 0
+IsProgramFaultOver o bytes (Length f) = IsFirstFault bytes (codec.Length f)
+IsProgramFaultOver o bytes (Slot f slot) = IsFirstFault bytes (codec.Slot f slot)
+IsProgramFaultOver o bytes (Refused refusal) = IsRejectedOver o bytes refusal
+IsProgramFaultOver o bytes OutOfMemory = ⊥
 
 -- a refusal tells what is wrong, or that memory ran out
+abbrev pub IsRefusalOver : {D : Type 0} → Ops D → List ℕ → ProgramFault → Type 0
+IsRefusalOver o bytes fault = IsProgramFaultOver o bytes fault ⊎ (fault ≡ OutOfMemory)
+
+-- ---- over the domain of programs
+
+-- programs are verified over ranges of words in both orders
+abbrev pub profile : Ops Both
+profile = both_ops
+
+abbrev pub IsAccepted : List ℕ → List Insn → Type 0
+IsAccepted = IsAcceptedOver profile
+
+abbrev pub IsProgramFault : List ℕ → ProgramFault → Type 0
+IsProgramFault = IsProgramFaultOver profile
+
 abbrev pub IsRefusal : List ℕ → ProgramFault → Type 0
-IsRefusal bytes fault = IsProgramFault bytes fault ⊎ (fault ≡ OutOfMemory)
+IsRefusal = IsRefusalOver profile
+
+-- ---- answers
 
 -- the answer is this one, or memory ran out
 abbrev pub Answers : Result (List Insn) ProgramFault → Result (List Insn) ProgramFault → Type 0

@@ -7,4 +7,4 @@ mod reading;
 mod tests;
 
 pub use fault::ProgramFault;
-pub use reading::{Profile, read_program};
+pub use reading::{Profile, read_program, read_program_over};

@@ -1,7 +1,11 @@
-//! The words of refusals, and one program read.
+//! The words of refusals, one program read, and code that is accepted over ranges in both orders alone.
 use super::*;
+use abstract_value::{Both, Domain, Interval};
+use insn_codec::decode;
 use numbered::{Numbered, Place};
+use std::alloc::Global;
 use std::test::Fail;
+use verifier::{Refusal, Rule, VerifyFault, verify, wider_theorem};
 
 #[test]
 fn reads_a_program(rt: HostRuntime) -> Result<(), Fail> {
@@ -41,6 +45,40 @@ fn tells_what_is_wrong(rt: HostRuntime) -> Result<(), Fail> {
         assert_eq!(rt; fault.number(), number);
         assert_eq!(rt; fault.place(), place);
         assert_eq!(rt; format!(in rt.alloc(); "{fault}")?.as_str(), words);
+    }
+    Ok(())
+}
+
+/// How many instructions are accepted, or what is refused.
+fn judged<D: Domain>(alloc: Global, bytes: &[u8]) -> Result<Result<usize, Refusal>, Fail> {
+    match verify::<D>(alloc, decode(alloc, bytes)?) {
+        Ok(program) => Ok(Ok(program.code().len())),
+        Err(VerifyFault::Refused(refusal)) => Ok(Err(refusal)),
+        Err(VerifyFault::OutOfMemory) => Err(Fail::from("out of memory")),
+    }
+}
+
+#[test]
+fn signed_bounds_are_enough_in_both_orders(rt: HostRuntime) -> Result<(), Fail> {
+    wider_theorem();
+    // A number between two signed tests, and a byte with its sign: each is added to an address.
+    let tested = [
+        0x79, 0x12, 0x40, 0, 0, 0, 0, 0, 0xb7, 0, 0, 0, 0, 0, 0, 0, 0xc5, 0x02, 0x03, 0, 0, 0, 0,
+        0, 0x65, 0x02, 0x02, 0, 0x3f, 0, 0, 0, 0x0f, 0x21, 0, 0, 0, 0, 0, 0, 0x71, 0x10, 0x08, 0,
+        0, 0, 0, 0, 0x95, 0, 0, 0, 0, 0, 0, 0,
+    ];
+    let loaded = [
+        0x91, 0x12, 0x08, 0, 0, 0, 0, 0, 0xb7, 0, 0, 0, 0, 0, 0, 0, 0x75, 0x02, 0x03, 0, 0, 0, 0,
+        0, 0xbf, 0xa3, 0, 0, 0, 0, 0, 0, 0x0f, 0x23, 0, 0, 0, 0, 0, 0, 0x72, 0x03, 0, 0, 0x01, 0,
+        0, 0, 0x95, 0, 0, 0, 0, 0, 0, 0,
+    ];
+    let refusal = Refusal {
+        slot: 4,
+        rule: Rule::PointerRange,
+    };
+    for bytes in [tested, loaded] {
+        assert_eq!(rt; judged::<Interval>(rt.alloc(), &bytes)?, Err(refusal));
+        assert_eq!(rt; judged::<Both>(rt.alloc(), &bytes)?, Ok(7));
     }
     Ok(())
 }

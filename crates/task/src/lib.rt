@@ -1,11 +1,20 @@
 //! The tasks of heal.
 #![tactic(auto)]
 
+/// Over which ranges code is verified.
+#[derive(Clone, Copy, Debug, PartialEq, Eq)]
+pub enum Profile {
+    /// Ranges of words in their own order alone.
+    Unsigned,
+    /// Ranges in that order and in the order of signed numbers.
+    Both,
+}
+
 /// What heal is asked for.
 #[derive(Clone, Copy, Debug, PartialEq, Eq)]
 pub enum Task<'a> {
-    /// Says whether code, in hex digits, is accepted.
-    Check { code: &'a str },
+    /// Says whether code, in hex digits, is accepted over these ranges.
+    Check { code: &'a str, profile: Profile },
     /// Judges the clash of a record by code, both in hex digits.
     Judge { code: &'a str, clash: &'a str },
     /// Reads a file as the text of code, and prints the code in hex digits.

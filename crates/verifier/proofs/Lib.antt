@@ -15,3 +15,4 @@ pub mod Rulings
 pub mod Look
 pub mod OneVerdict
 pub mod LongerRecords
+pub mod Lifted

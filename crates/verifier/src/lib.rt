@@ -12,9 +12,11 @@ mod structure;
 mod transfer;
 mod verified;
 mod verify_code;
+mod wider;
 
 pub use longer_records::{SHORTER_RECORD_LEN, longer_record_theorem};
 pub use refusal::{Refusal, VerifyFault};
 pub use rule::Rule;
 pub use verified::Verified;
 pub use verify_code::{one_verdict_theorem, verify};
+pub use wider::wider_theorem;

@@ -64,10 +64,10 @@ both_below (Some a) (Some b) (Some c) (Some d) h k = (h, k)
 -- ---- what each row promises
 
 -- it keeps every pair of words that takes the edge, is monotone, and only cuts
-record RowLaws (takes : ℕ → ℕ → Type 0) (row : Interval → Interval → Option (Interval × Interval)) : Type 0 where
-  keeps : (a b : Interval) (v u : ℕ) → Holds a v → Holds b u → takes v u → Keeps interval_ops (row a b) v u
-  grows : (a b c d : Interval) → IsBelow a c → IsBelow b d → BelowPair interval_ops (row a b) (row c d)
-  cuts : (a b c d : Interval) → IsBelow a c → IsBelow b d → BelowPair interval_ops (row a b) (Some (c, d))
+pub record RowLaws (takes : ℕ → ℕ → Type 0) (row : Interval → Interval → Option (Interval × Interval)) : Type 0 where
+  pub keeps : (a b : Interval) (v u : ℕ) → Holds a v → Holds b u → takes v u → Keeps interval_ops (row a b) v u
+  pub grows : (a b c d : Interval) → IsBelow a c → IsBelow b d → BelowPair interval_ops (row a b) (row c d)
+  pub cuts : (a b c d : Interval) → IsBelow a c → IsBelow b d → BelowPair interval_ops (row a b) (Some (c, d))
 
 uncut_laws : (takes : ℕ → ℕ → Type 0) → RowLaws takes (λ a b. Some (a, b))
 uncut_laws takes = record {
@@ -222,7 +222,7 @@ different_laws takes t = record {
 
 -- ---- all of them
 
-row_laws : (w : Width) (t : Test) (taken : Bool) → RowLaws (λ v u. cut_test w t v u ≡ taken) (refine_row t taken)
+pub row_laws : (w : Width) (t : Test) (taken : Bool) → RowLaws (λ v u. cut_test w t v u ≡ taken) (refine_row t taken)
 row_laws w Jeq true = equal_laws _ (λ v u e. grind (arith, nat_tests))
 row_laws w Jeq false = different_laws _ (λ v u e. grind (arith, nat_tests))
 row_laws w Jne true = different_laws _ (λ v u e. grind (arith, nat_tests))

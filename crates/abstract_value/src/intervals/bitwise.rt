@@ -36,7 +36,7 @@ pub fn xor(a: &Interval, b: &Interval) -> Interval
 }
 
 /// How far an operation of the width shifts by this amount.
-fn amount(width: Width, by: u64) -> u64
+pub fn amount(width: Width, by: u64) -> u64
     ensures exact { result ≡ shift_amount width by }
     ensures fits { result < 64 }
 {

@@ -26,7 +26,7 @@ pub fn refine(
 }
 
 /// Both ranges cut to the words with which an edge is taken or not, where these are words of the test.
-fn of_words(test: Test, taken: bool, a: &Interval, b: &Interval) -> Option<(Interval, Interval)>
+pub fn of_words(test: Test, taken: bool, a: &Interval, b: &Interval) -> Option<(Interval, Interval)>
     ensures { result ≡ ranges.refine_row test taken a.now b.now }
 {
     match (test, taken) {

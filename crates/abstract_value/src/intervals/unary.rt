@@ -58,7 +58,7 @@ pub fn end(kind: EndKind, bits: u32, a: &Interval) -> Interval
 }
 
 /// How many bits a load or store of the size moves.
-fn bits_of_size(size: Size) -> u32
+pub fn bits_of_size(size: Size) -> u32
     ensures { result ≡ 8 * bytes_of size }
 {
     match size {

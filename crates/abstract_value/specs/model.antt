@@ -1,0 +1,3 @@
+-- What mirrors the code.
+pub mod Halves
+pub mod NormalForms

@@ -1,0 +1,12 @@
+pub mod Merges
+pub mod Rulings
+pub mod Words
+pub mod Kept
+pub mod Carried
+pub mod Sent
+pub mod Steps
+pub mod Places
+pub mod Theorem
+pub mod Once
+pub mod Replays
+pub mod Told

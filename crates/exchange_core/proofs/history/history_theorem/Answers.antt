@@ -1,0 +1,29 @@
+use Rattle.exchange_core.proofs.history.history_theorem.Goals as goal
+use Rattle.exchange_core.proofs.Theorem.{one_table, is_lawful_merge}
+use Rattle.exchange_core.proofs.Once.{one_seed, began_once, closed_once, judged_once}
+use Rattle.exchange_core.proofs.Replays.{led}
+use Rattle.exchange_core.proofs.Told.{told}
+
+pub returns-clause-one_table : goal.returns-clause-one_table
+returns-clause-one_table c = one_table
+
+pub returns-clause-merge : goal.returns-clause-merge
+returns-clause-merge c = is_lawful_merge
+
+pub returns-clause-one_seed : goal.returns-clause-one_seed
+returns-clause-one_seed c = one_seed
+
+pub returns-clause-begins_once : goal.returns-clause-begins_once
+returns-clause-begins_once c = began_once
+
+pub returns-clause-closes_once : goal.returns-clause-closes_once
+returns-clause-closes_once c = closed_once
+
+pub returns-clause-judges_once : goal.returns-clause-judges_once
+returns-clause-judges_once c = judged_once
+
+pub returns-clause-told : goal.returns-clause-told
+returns-clause-told c = told
+
+pub returns-clause-replayed : goal.returns-clause-replayed
+returns-clause-replayed c = led

@@ -1,0 +1,4 @@
+pub mod Sides
+pub mod Calls
+pub mod Worlds
+pub mod History

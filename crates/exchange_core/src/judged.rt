@@ -1,0 +1,9 @@
+//! What a side keeps of a ruling.
+use builtin_resolvers::Verdict3;
+
+/// A word, and what the resolver of a clash answers at it.
+#[derive(Clone, Copy, Debug, PartialEq, Eq)]
+pub struct Judged {
+    pub word: u64,
+    pub answer: Verdict3,
+}

@@ -1,0 +1,15 @@
+pub mod Agreeing
+pub mod Changes
+pub mod Equal
+pub mod Held
+pub mod Holding
+pub mod Maps
+pub mod Merged
+pub mod OneClash
+pub mod Registering
+pub mod Removing
+pub mod Resolvers
+pub mod Settling
+pub mod Sides
+pub mod Uniting
+pub mod Walks

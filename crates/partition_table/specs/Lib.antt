@@ -1,0 +1,5 @@
+pub mod Faults
+pub mod Judged
+pub mod Tables
+pub mod laws
+pub mod model

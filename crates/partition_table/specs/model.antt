@@ -1,0 +1,4 @@
+pub mod Judging
+pub mod Keeping
+pub mod Merging
+pub mod Walking

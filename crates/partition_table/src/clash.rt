@@ -1,0 +1,205 @@
+//! Clashes: names that two tables register unequally.
+ghost use Rattle.std.specs.Prelude.{◌≡◌, ◌≤◌, length, slice_get, IfOk};
+ghost use Rattle.std.specs.Option.{option_map};
+ghost use Rattle.std.specs.Arc.{arc_value};
+ghost use Rattle.std.specs.Slice.Iter.{iter_rest};
+ghost use Rattle.clash_record.specs.Record.{clash_bytes};
+ghost use Rattle.partition_table.specs.Tables.{max_names};
+ghost use Rattle.partition_table.specs.Tables as tables;
+
+use clash_record::{ClashRecord, Facts, Name, Registration, ResolverId, record};
+use std::alloc::AllocError;
+use std::marker::Model;
+use std::slice;
+use std::sync::Arc;
+use verifier::Verified;
+
+/// A name that two tables register unequally, and all that judging it reads.
+///
+/// First is the lesser of the two registrations, and its resolver judges.
+#[derive(Drop)]
+pub struct Clash {
+    name: Name,
+    first: Registration,
+    second: Registration,
+    of_first: Facts,
+    of_second: Facts,
+    program: Option<Arc<Verified>>,
+}
+
+impl Model for Clash {
+    ghost use Rattle.std.specs.Option.{option_map};
+    ghost use Rattle.std.specs.Arc.{arc_value};
+    ghost use Rattle.partition_table.specs.Tables.{Clash};
+    ghost use Rattle.partition_table.specs.model.Judging.{coded_clash};
+
+    ghost Value = { Clash };
+
+    ghost coded = { coded_clash };
+
+    ghost view = { λ c. record {
+      name = c.name;
+      first = c.first;
+      second = c.second;
+      of_first = c.of_first;
+      of_second = c.of_second;
+      code = option_map arc_value c.program;
+    } };
+}
+
+impl Clash {
+    /// The clash of this name, where the first registration comes before the second. Takes memory for one more owner of
+    /// the program.
+    pub(crate) fn new(
+        name: Name,
+        first: Registration,
+        second: Registration,
+        of_first: Facts,
+        of_second: Facts,
+        program: Option<&Arc<Verified>>,
+    ) -> Result<Clash, AllocError>
+        ensures { IfOk result (λ clash. clash ≡ record {
+          name = name;
+          first = first;
+          second = second;
+          of_first = of_first;
+          of_second = of_second;
+          code = option_map (λ p. arc_value p.now) program.entry;
+        }) }
+    {
+        Ok(Clash {
+            name,
+            first,
+            second,
+            of_first,
+            of_second,
+            program: one_more_owner(program)?,
+        })
+    }
+
+    /// The name.
+    pub fn name(&self) -> &Name
+        ensures { result.now ≡ self.now.name }
+    {
+        &self.name
+    }
+
+    /// The lesser registration.
+    pub fn first(&self) -> &Registration
+        ensures { result.now ≡ self.now.first }
+    {
+        &self.first
+    }
+
+    /// The greater registration.
+    pub fn second(&self) -> &Registration
+        ensures { result.now ≡ self.now.second }
+    {
+        &self.second
+    }
+
+    /// The size and the uptime of the half that holds the lesser registration.
+    pub fn of_first(&self) -> Facts
+        ensures { result ≡ self.now.of_first }
+    {
+        self.of_first
+    }
+
+    /// The size and the uptime of the half that holds the greater registration.
+    pub fn of_second(&self) -> Facts
+        ensures { result ≡ self.now.of_second }
+    {
+        self.of_second
+    }
+
+    /// The resolver that judges, which the lesser registration names.
+    pub fn resolver(&self) -> ResolverId
+        ensures { result ≡ self.now.first.resolver }
+    {
+        self.first.resolver
+    }
+
+    /// The program that judges, if the resolver is one.
+    pub fn program(&self) -> Option<&Arc<Verified>>
+        ensures { option_map (λ p. arc_value p.now) result ≡ self.now.code }
+    {
+        self.program.as_ref()
+    }
+
+    /// The record that a program reads as it judges the clash at this word.
+    pub fn record(&self, word: u64) -> ClashRecord
+        ensures { result ≡ clash_bytes self.now.name self.now.first self.now.second word self.now.of_first self.now.of_second }
+    {
+        record(
+            &self.name,
+            &self.first,
+            &self.second,
+            word,
+            self.of_first,
+            self.of_second,
+        )
+    }
+}
+
+/// The clashes of two tables, in the order of names. A contract sees them as a list.
+#[derive(Drop)]
+pub struct ClashList {
+    clashes: Vec<Clash>,
+}
+
+impl Model for ClashList {
+    ghost use Rattle.std.specs.Prelude.{◌≤◌, List, length};
+    ghost use Rattle.std.specs.Coded.{coded_list};
+    ghost use Rattle.partition_table.specs.Tables.{Clash, max_names};
+    ghost use Rattle.partition_table.specs.model.Judging.{coded_clash};
+
+    ghost Value = { List Clash };
+
+    ghost coded = { coded_list coded_clash };
+
+    ghost view = { λ l. l.clashes.items };
+
+    ghost invariant = { λ l. length l.clashes.items ≤ max_names };
+}
+
+impl ClashList {
+    /// The list of these clashes.
+    pub(crate) fn new(clashes: Vec<Clash>) -> ClashList
+        requires { length clashes.items ≤ max_names }
+        ensures { result ≡ clashes.items }
+    {
+        ClashList { clashes }
+    }
+
+    /// How many clashes there are, at most 4,096.
+    pub fn len(&self) -> usize
+        ensures count { result ≡ length self.now }
+        ensures few { result ≤ max_names }
+    {
+        self.clashes.len()
+    }
+
+    /// The clash in this place, counted from 0.
+    pub fn get(&self, k: u32) -> Option<&Clash>
+        ensures { option_map (λ c. c.now) result ≡ slice_get self.now k }
+    {
+        self.clashes.get(k as usize)
+    }
+
+    /// The clashes in their order, as a slice has them.
+    pub fn iter(&self) -> slice::Iter<'_, Clash>
+        ensures { iter_rest result ≡ self.entry.now }
+    {
+        self.clashes.iter()
+    }
+}
+
+// One more owner of the program, if there is one.
+fn one_more_owner(program: Option<&Arc<Verified>>) -> Result<Option<Arc<Verified>>, AllocError>
+    ensures { IfOk result (λ owned. option_map arc_value owned ≡ option_map (λ p. arc_value p.now) program.entry) }
+{
+    match program {
+        Some(program) => Ok(Some(program.clone()?)),
+        None => Ok(None),
+    }
+}

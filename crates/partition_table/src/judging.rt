@@ -1,0 +1,69 @@
+//! How a clash is judged.
+ghost use Rattle.std.specs.Prelude.{◌≡◌};
+ghost use Rattle.partition_table.specs.Tables.{word_of};
+ghost use Rattle.partition_table.specs.Tables as tables;
+ghost use Rattle.partition_table.specs.Judged.{clash_of_verdict, word_of_verdict, answer_of_verdict};
+
+use crate::clash::Clash;
+use crate::verdict::Verdict;
+use builtin_resolvers::{Verdict3, decide};
+use clash_record::ResolverId;
+use interpreter::run;
+
+impl<'a> Verdict<'a> {
+    /// Runs the resolver of the clash on its record at this word. Takes no memory.
+    pub fn judged(clash: &'a Clash, word: u64) -> Verdict<'a>
+        ensures clash { clash_of_verdict result ≡ clash.entry.now }
+        ensures word { word_of_verdict result ≡ word }
+    {
+        Verdict {
+            clash,
+            word,
+            answer: answer(clash, word),
+        }
+    }
+
+    /// The clash that was judged.
+    pub fn clash(self) -> &'a Clash
+        ensures { result.now ≡ clash_of_verdict self.entry }
+    {
+        self.clash
+    }
+
+    /// The word at which it was judged.
+    pub fn word(self) -> u64
+        ensures { result ≡ word_of_verdict self.entry }
+    {
+        self.word
+    }
+
+    /// What the resolver answers.
+    pub fn answer(self) -> Verdict3
+        ensures value { result ≡ answer_of_verdict self.entry }
+        ensures judged { result ≡ tables.answer (clash_of_verdict self.entry) (word_of_verdict self.entry) }
+    {
+        self.answer
+    }
+}
+
+/// The word of clash `k` of `n` in a round, from the seed: the seed, the round times the count, and the place, modulo
+/// 2^64.
+pub fn word(seed: u64, round: u32, n: u32, k: u32) -> u64
+    ensures { result ≡ word_of seed round n k }
+{
+    seed.wrapping_add(u64::from(round) * u64::from(n))
+        .wrapping_add(u64::from(k))
+}
+
+// What the resolver of the first registration answers at the word.
+fn answer(clash: &Clash, word: u64) -> Verdict3
+    ensures { result ≡ tables.answer clash.now word }
+{
+    match clash.resolver() {
+        ResolverId::Builtin(builtin) => decide(builtin, word),
+        ResolverId::Program(_) => match clash.program() {
+            Some(program) => Verdict3::of_answer(run(program, &clash.record(word)).r0),
+            None => Verdict3::Neither,
+        },
+    }
+}

@@ -1,0 +1,28 @@
+//! Laws of clashes and merge: neither side is preferred, and a merge is told name by name.
+ghost use Rattle.std.specs.Prelude.{◌≡◌, ℕ, List, map, IsTrue};
+ghost use Rattle.builtin_resolvers.specs.declared.verdicts.Verdict3.{Verdict3};
+ghost use Rattle.partition_table.specs.Tables.{Name, Table, IsTable, tables_agree, clashes, clash_names, Gone, IsMerge, merge};
+
+/// The clashes of two tables are one list, whichever side asks, and their names don't depend on the uptimes.
+///
+/// It does nothing when it runs: its contract is the law.
+pub fn clashes_theorem()
+    ensures swapped { (a b : Table) (uptime_a uptime_b : ℕ)
+        → clashes a uptime_a b uptime_b ≡ clashes b uptime_b a uptime_a }
+    ensures names { (a b : Table) (uptime_a uptime_b : ℕ)
+        → map (λ clash. clash.name) (clashes a uptime_a b uptime_b) ≡ clash_names a b }
+    ensures names_swapped { (a b : Table) → clash_names a b ≡ clash_names b a }
+{}
+
+/// The merge has under each name what the definition says of that name, and is one table, whichever side asks, where no
+/// program has two codes.
+///
+/// It does nothing when it runs: its contract is the law.
+pub fn merge_theorem()
+    ensures by_name { (a b : Table) (answers : List Verdict3) (gone : Gone)
+        → IsMerge a b answers gone (merge a b answers gone) }
+    ensures swapped { (a b : Table) (answers : List Verdict3) (gone_a gone_b : List Name)
+        → IsTable a → IsTable b → IsTrue (tables_agree a b)
+        → merge a b answers record { of_a = gone_a; of_b = gone_b }
+        ≡ merge b a answers record { of_a = gone_b; of_b = gone_a } }
+{}

@@ -1,0 +1,28 @@
+//! Tables of names, their clashes, and the merge of two.
+#![tactic(auto)]
+
+mod clash;
+mod clashing;
+mod equality;
+mod fault;
+mod fitting;
+mod judging;
+mod laws;
+mod merging;
+mod order;
+mod paired;
+mod programs;
+mod table;
+#[cfg(test)]
+mod tests;
+mod verdict;
+
+pub use clash::{Clash, ClashList};
+pub use clashing::clashes;
+pub use fault::TableFault;
+pub use fitting::fit;
+pub use judging::word;
+pub use laws::{clashes_theorem, merge_theorem};
+pub use merging::merge;
+pub use table::{MAX_NAMES, Rows, Table};
+pub use verdict::{Ruling, Verdict};

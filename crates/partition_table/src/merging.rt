@@ -1,0 +1,208 @@
+//! The merge of two tables.
+ghost use Rattle.std.specs.Prelude.{◌≡◌, ◌<◌, ◌||◌, ◌&&◌, ◌↔◌, IsTrue, Option, Some, None, IfOk, OnOk, IfSome, length, []};
+ghost use Rattle.std.specs.Option.{option_map};
+ghost use Rattle.std.specs.Arc.{arc_value};
+ghost use Rattle.std.specs.FinMap as map;
+ghost use Rattle.std.specs.BTreeSet.{contains};
+ghost use Rattle.std.specs.Slice.Iter.{iter_rest};
+ghost use Rattle.clash_record.specs.Orders.{name_cmp};
+ghost use Rattle.partition_table.specs.Tables.{IsTable, Name, Row, max_names, tables_agree, differ, clash_names, is_in};
+ghost use Rattle.partition_table.specs.Tables.{merged_at, unless_gone, with_row, merge};
+ghost use Rattle.partition_table.specs.Faults.{IsAnswered, fit_fault};
+ghost use Rattle.partition_table.specs.model.Merging.{IsRowOf, IsReady, holds_as, first_answer, answers_left};
+ghost use Rattle.partition_table.specs.model.Merging.{settled, put_all, names_without, each_kept, kept_with};
+
+use crate::fault::TableFault;
+use crate::fitting::fit;
+use crate::order::order;
+use crate::paired::Paired;
+use crate::table::Table;
+use builtin_resolvers::Verdict3;
+use clash_record::{Name, Registration, ResolverId};
+use std::alloc::{AllocError, Global};
+use std::cmp::Ordering;
+use std::collections::BTreeSet;
+use std::slice;
+use std::sync::Arc;
+use verifier::Verified;
+
+/// The merge of two tables, by one answer for each of their clashes, in the order of names.
+///
+/// A name of one table alone is kept, equal registrations are kept once, and a clash is kept by whom its answer names or
+/// by nobody. Then a name goes whose kept registration was withdrawn by a side that holds that registration: `gone_a` and
+/// `gone_b` are the names that each side withdrew, in any order and any number of times; a name that a side doesn't hold
+/// changes nothing. Asks for as many answers as clashes.
+///
+/// Refusals are 37 where the tables have more than 4,096 names together, and 42 where they have two codes under one id;
+/// the least that stands is answered. 90 is answered where memory runs out: it takes some for the withdrawn names, the
+/// rows, and one more owner of each program. It walks both tables once each way.
+pub fn merge(
+    alloc: Global,
+    a: &Table,
+    b: &Table,
+    answers: &[Verdict3],
+    gone_a: &[Name],
+    gone_b: &[Name],
+) -> Result<Table, TableFault>
+    requires { length answers.now ≡ length (clash_names a.now b.now) }
+    ensures answer { IsAnswered (fit_fault a.now b.now) result }
+    ensures merged { IfOk result (λ table. table ≡ merge a.now b.now answers.now
+        record { of_a = gone_a.now; of_b = gone_b.now }) }
+{
+    fit(a, b)?;
+    let parents = Parents {
+        a,
+        b,
+        gone_a: set_of(alloc, gone_a)?,
+        gone_b: set_of(alloc, gone_b)?,
+    };
+    let mut merged = Table::new(alloc);
+    parents.put_names_of_a(&mut merged, answers)?;
+    parents.put_names_of_b_alone(&mut merged)?;
+    Ok(merged)
+}
+
+// What is merged: two tables, and the names that were withdrawn of each.
+#[derive(Drop)]
+struct Parents<'a> {
+    a: &'a Table,
+    b: &'a Table,
+    gone_a: BTreeSet<Name>,
+    gone_b: BTreeSet<Name>,
+}
+
+impl<'a> Parents<'a> {
+    // Puts what is kept under the names of `a`.
+    fn put_names_of_a(&self, merged: &mut Table, answers: &[Verdict3]) -> Result<(), AllocError>
+        requires agree { IsTrue (tables_agree self.now.a.now self.now.b.now) }
+        requires new { merged.old ≡ map.empty }
+        ensures put { OnOk result (merged.new ≡ put_all (settled self.now.a.now self.now.b.now
+            (contains name_cmp self.now.gone_a) (contains name_cmp self.now.gone_b)
+            (map.keys self.now.a.now) answers.now) map.empty) }
+        ensures few { OnOk result (IsReady self.now.a.now self.now.b.now [] (map.len self.now.a.now) merged.new) }
+    {
+        let mut answers = answers.iter();
+        for (name, mine, other) in Paired::new(self.a, self.b) {
+            let kept = settle(mine, other, &mut answers);
+            self.put(merged, name, kept)?;
+        }
+        Ok(())
+    }
+
+    // Puts what is kept under the names that `b` has alone.
+    fn put_names_of_b_alone(&self, merged: &mut Table) -> Result<(), AllocError>
+        requires agree { IsTrue (tables_agree self.now.a.now self.now.b.now) }
+        requires ready { IsReady self.now.a.now self.now.b.now
+            (names_without self.now.a.now (map.keys self.now.b.now)) max_names merged.old }
+        ensures { OnOk result (merged.new ≡ put_all (each_kept (λ name. unless_gone None (map.get self.now.b.now name)
+            (contains name_cmp self.now.gone_a name) (contains name_cmp self.now.gone_b name) (map.get self.now.b.now name))
+            (names_without self.now.a.now (map.keys self.now.b.now))) merged.old) }
+    {
+        for (name, theirs, mine) in Paired::new(self.b, self.a) {
+            if mine.is_some() {
+                continue;
+            }
+            self.put(merged, name, Some(theirs))?;
+        }
+        Ok(())
+    }
+
+    // Puts the row that one of the two has with the registration that is kept, unless it was withdrawn.
+    fn put(
+        &self,
+        merged: &mut Table,
+        name: &Name,
+        kept: Option<&Registration>,
+    ) -> Result<(), AllocError>
+        requires agree { IsTrue (tables_agree self.now.a.now self.now.b.now) }
+        requires tables { IsTable self.now.a.now × IsTable self.now.b.now }
+        requires held { IfSome kept (λ kept. (row : Row) × IsRowOf self.now.a.now self.now.b.now name.now row
+            × (row.registration ≡ kept.now)) }
+        requires new { map.get merged.old name.now ≡ None }
+        requires room { map.len merged.old < max_names }
+        requires part { (name : Name) (row : Row) → map.get merged.old name ≡ Some row
+            → IsRowOf self.now.a.now self.now.b.now name row }
+        ensures { OnOk result ((row : Option Row) → option_map (λ row. row.registration) row
+            ≡ option_map (λ kept. kept.now) kept.entry
+            → IfSome row (λ row. IsRowOf self.now.a.now self.now.b.now name.now row)
+            → merged.new ≡ with_row name.now (unless_gone (map.get self.now.a.now name.now)
+            (map.get self.now.b.now name.now) (contains name_cmp self.now.gone_a name.now)
+            (contains name_cmp self.now.gone_b name.now) row) merged.old) }
+    {
+        let Some(kept) = kept else {
+            return Ok(());
+        };
+        if self.is_withdrawn(name, kept) {
+            return Ok(());
+        }
+        merged.keep(*name, *kept, self.program_for(kept.resolver))
+    }
+
+    // Whether a side that holds the registration under the name withdrew it.
+    fn is_withdrawn(&self, name: &Name, kept: &Registration) -> bool
+        ensures { result ≡ ((contains name_cmp self.now.gone_a name.now && holds_as (map.get self.now.a.now name.now) kept.now)
+            || (contains name_cmp self.now.gone_b name.now && holds_as (map.get self.now.b.now name.now) kept.now)) }
+    {
+        (self.gone_a.contains(name) && holds(self.a, name, kept))
+            || (self.gone_b.contains(name) && holds(self.b, name, kept))
+    }
+
+    // The program that the resolver names, if one of the two keeps it.
+    fn program_for(&self, resolver: ResolverId) -> Option<&'a Arc<Verified>>
+        requires agree { IsTrue (tables_agree self.now.a.now self.now.b.now) }
+        requires tables { IsTable self.now.a.now × IsTable self.now.b.now }
+        ensures { (name : Name) (row : Row) → IsRowOf self.now.a.now self.now.b.now name row
+            → row.registration.resolver ≡ resolver → option_map (λ p. arc_value p.now) result ≡ row.code }
+    {
+        match self.a.program_for(resolver) {
+            Some(program) => Some(program),
+            None => self.b.program_for(resolver),
+        }
+    }
+}
+
+// What is kept of two tables under a name of the first. Takes an answer where the two have it with unequal registrations.
+fn settle<'a>(
+    mine: &'a Registration,
+    other: Option<&'a Registration>,
+    answers: &mut slice::Iter<'_, Verdict3>,
+) -> Option<&'a Registration>
+    ensures kept { (r : Row) (s : Option Row) → r.registration ≡ mine.entry.now
+        → option_map (λ row. row.registration) s ≡ option_map (λ s. s.now) other.entry
+        → option_map (λ kept. kept.now) result
+        ≡ option_map (λ row. row.registration) (merged_at (Some r) s (first_answer (iter_rest answers.old))) }
+    ensures left { (r : Row) (s : Option Row) → r.registration ≡ mine.entry.now
+        → option_map (λ row. row.registration) s ≡ option_map (λ s. s.now) other.entry
+        → iter_rest answers.new ≡ answers_left (Some r) s (iter_rest answers.old) }
+{
+    let Some(other) = other else {
+        return Some(mine);
+    };
+    let (first, second) = match order(mine, other) {
+        Ordering::Less => (mine, other),
+        Ordering::Equal => return Some(mine),
+        Ordering::Greater => (other, mine),
+    };
+    match answers.next() {
+        Some(Verdict3::First) => Some(first),
+        Some(Verdict3::Second) => Some(second),
+        Some(Verdict3::Neither) | None => None,
+    }
+}
+
+// Whether the table has the name with this registration.
+fn holds(table: &Table, name: &Name, registration: &Registration) -> bool
+    ensures { result ≡ holds_as (map.get table.now name.now) registration.now }
+{
+    match table.whereis(name) {
+        Some(held) => order(held, registration).is_eq(),
+        None => false,
+    }
+}
+
+// The set of these names.
+fn set_of(alloc: Global, names: &[Name]) -> Result<BTreeSet<Name>, AllocError>
+    ensures { IfOk result (λ set. (name : Name) → contains name_cmp set name ≡ is_in name names.now) }
+{
+    names.iter().copied().collect(alloc)
+}

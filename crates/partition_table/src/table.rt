@@ -1,0 +1,182 @@
+//! Tables.
+ghost use Rattle.std.specs.Prelude.{◌≡◌, ◌<◌, Some, None, Ok, Err, IfOk, OnOk, OnErr, IfSome, IsTrue};
+ghost use Rattle.std.specs.Option.{option_map};
+ghost use Rattle.std.specs.Arc.{arc_value};
+ghost use Rattle.std.specs.FinMap as map;
+ghost use Rattle.partition_table.specs.Tables.{IsTable, IsCodeOf, agrees_with, tables_agree, max_names, row_for, rows_of, Name, Row};
+ghost use Rattle.partition_table.specs.model.Keeping.{IsKeptFor};
+ghost use Rattle.partition_table.specs.Faults.{IsAnswered, register_fault, unregister_answer};
+
+use crate::fault::TableFault;
+use crate::programs::{
+    find_program, has_room, hold_program, programs_agree, release_program, unnamed_program,
+};
+use clash_record::{Name, ProgramId, Registration, ResolverId};
+use std::alloc::{AllocError, Global};
+use std::collections::{BTreeMap, btree_map};
+use std::marker::Model;
+use std::sync::Arc;
+use upload_store::UploadStore;
+use verifier::Verified;
+
+/// The most names that a table holds.
+pub const MAX_NAMES: usize = 4096;
+
+/// What a table gives row by row, in the order of names.
+pub type Rows<'a> = btree_map::Iter<'a, Name, Registration>;
+
+/// At most 4,096 names with their registrations, and the programs that these name.
+///
+/// A contract sees it as the finite map from names to registrations, each with the code of its program.
+#[derive(Drop)]
+pub struct Table {
+    rows: BTreeMap<Name, Registration>,
+    programs: BTreeMap<ProgramId, Arc<Verified>>,
+}
+
+impl Model for Table {
+    ghost use Rattle.std.specs.Arc.{arc_value};
+    ghost use Rattle.partition_table.specs.Tables.{Table};
+    ghost use Rattle.partition_table.specs.model.Keeping.{coded_table, programs_by, table_by, IsHeld};
+
+    ghost Value = { Table };
+
+    ghost coded = { coded_table };
+
+    ghost view = { λ t. table_by (programs_by arc_value t.programs.entries) t.rows.entries };
+
+    ghost invariant = { λ t. IsHeld (programs_by arc_value t.programs.entries)
+        (table_by (programs_by arc_value t.programs.entries) t.rows.entries) };
+}
+
+impl Table {
+    /// A table without names. Takes no memory.
+    pub fn new(alloc: Global) -> Table
+        ensures { result ≡ map.empty }
+    {
+        Table {
+            rows: BTreeMap::new(alloc),
+            programs: BTreeMap::new(alloc),
+        }
+    }
+
+    /// How many names it has. Takes no memory.
+    pub fn len(&self) -> usize
+        ensures count { result ≡ map.len self.now }
+        // It has at most 4,096 names, each program of a row is the one that the row names, and no id has two codes.
+        ensures kept { IsTable self.now }
+    {
+        self.rows.len()
+    }
+
+    /// What the name is registered with, if it is. Takes no memory.
+    pub fn whereis(&self, name: &Name) -> Option<&Registration>
+        ensures { option_map (λ r. r.now) result ≡ option_map (λ row. row.registration) (map.get self.now name.now) }
+    {
+        self.rows.get(name)
+    }
+
+    /// The names with their registrations, in the order of names. Takes no memory.
+    pub fn rows(&self) -> Rows<'_>
+        ensures rows { result ≡ rows_of self.now }
+        ensures kept { IsTable self.now }
+    {
+        self.rows.iter()
+    }
+
+    /// Registers the name, and keeps the program that the registration names, as the store has it.
+    ///
+    /// Refusals are 30 for a name that is registered, 32 where the table is full, 41 where the store has no such
+    /// program, and 42 where the table keeps other code under its id; the least that stands is answered. 90 is answered
+    /// where memory runs out: it takes some for the row, for the program's id, and for one more owner of the program.
+    pub fn register(
+        &mut self,
+        name: Name,
+        registration: Registration,
+        store: &UploadStore,
+    ) -> Result<(), TableFault>
+        ensures answer { IsAnswered (register_fault self.old name registration store.now) result }
+        ensures registered { OnOk result (self.new ≡ map.insert self.old name (row_for store.now registration)) }
+        ensures unchanged { OnErr result (self.new ≡ self.old) }
+    {
+        if self.rows.contains_key(&name) {
+            return Err(TableFault::NameTaken);
+        }
+        if self.rows.len() == MAX_NAMES {
+            return Err(TableFault::Full);
+        }
+        let program = find_program(store, registration.resolver)?;
+        if !has_room(&self.programs, registration.resolver, program) {
+            return Err(TableFault::OtherCode);
+        }
+        self.keep(name, registration, program)?;
+        Ok(())
+    }
+
+    /// Takes the name out, and answers what it was registered with; 31 where it isn't registered. Takes no memory.
+    pub fn unregister(&mut self, name: &Name) -> Result<Registration, TableFault>
+        ensures answer { result ≡ unregister_answer (map.get self.old name.now) }
+        ensures unregistered { self.new ≡ map.remove self.old name.now }
+        ensures unchanged { OnErr result (self.new ≡ self.old) }
+    {
+        let Some(registration) = self.rows.remove(name) else {
+            return Err(TableFault::NoSuchName);
+        };
+        let unnamed = unnamed_program(&self.rows, registration.resolver);
+        release_program(&mut self.programs, unnamed);
+        Ok(registration)
+    }
+
+    /// The same table again. Takes memory for the rows, and for one more owner of each program.
+    pub fn try_clone(&self) -> Result<Table, AllocError>
+        ensures { IfOk result (λ table. table ≡ self.now) }
+    {
+        Ok(Table {
+            rows: self.rows.clone()?,
+            programs: self.programs.clone()?,
+        })
+    }
+
+    // Whether the two tables keep no program with two codes.
+    pub(crate) fn agrees_with(&self, other: &Table) -> bool
+        ensures { result ≡ tables_agree self.now other.now }
+    {
+        programs_agree(&self.programs, &other.programs)
+    }
+
+    // The program that the resolver names, if the table keeps it.
+    pub(crate) fn program_for(&self, resolver: ResolverId) -> Option<&Arc<Verified>>
+        ensures each { (name : Name) (row : Row) → map.get self.now name ≡ Some row → row.registration.resolver ≡ resolver
+            → option_map (λ p. arc_value p.now) result ≡ row.code }
+        ensures named { IfSome result (λ p. IsKeptFor self.now resolver (arc_value p.now)) }
+    {
+        match resolver {
+            ResolverId::Builtin(_) => None,
+            ResolverId::Program(id) => self.programs.get(&id),
+        }
+    }
+
+    // Keeps a row under a name that has none. Its growths come in turn, and a refused one undoes those before it.
+    pub(crate) fn keep(
+        &mut self,
+        name: Name,
+        registration: Registration,
+        program: Option<&Arc<Verified>>,
+    ) -> Result<(), AllocError>
+        requires new { map.get self.old name ≡ None }
+        requires room { map.len self.old < max_names }
+        requires coded { IsCodeOf registration.resolver (option_map (λ p. arc_value p.now) program) }
+        requires agrees { IsTrue (agrees_with self.old
+            record { registration = registration; code = option_map (λ p. arc_value p.now) program }) }
+        ensures kept { OnOk result (self.new ≡ map.insert self.old name
+            record { registration = registration; code = option_map (λ p. arc_value p.now) program.entry }) }
+        ensures unchanged { OnErr result (self.new ≡ self.old) }
+    {
+        let added = hold_program(&mut self.programs, registration.resolver, program)?;
+        if let Err(refused) = self.rows.insert(name, registration) {
+            release_program(&mut self.programs, added);
+            return Err(AllocError::from(refused));
+        }
+        Ok(())
+    }
+}
