@@ -1,0 +1,94 @@
+/* Stands before malloc and its kin (LD_PRELOAD) and refuses requests for memory: the one with the number REFUSE_ALONE, or each from
+ * the number REFUSE_FROM on, counted from 1. At the end the count of requests goes to the file REFUSE_COUNT, if it is named. */
+#define _GNU_SOURCE
+#include <dlfcn.h>
+#include <errno.h>
+#include <fcntl.h>
+#include <stddef.h>
+#include <stdio.h>
+#include <stdlib.h>
+#include <string.h>
+#include <unistd.h>
+
+static unsigned long count, alone, from;
+
+static unsigned long number_in(const char *name)
+{
+    const char *text = getenv(name);
+
+    return text ? strtoul(text, NULL, 10) : 0;
+}
+
+__attribute__((constructor)) static void start(void)
+{
+    alone = number_in("REFUSE_ALONE");
+    from = number_in("REFUSE_FROM");
+    count = 0;
+}
+
+__attribute__((destructor)) static void end(void)
+{
+    const char *path = getenv("REFUSE_COUNT");
+    char line[32];
+    int file;
+
+    if (!path)
+        return;
+    file = open(path, O_WRONLY | O_CREAT | O_TRUNC, 0600);
+    if (file < 0 || write(file, line, snprintf(line, sizeof line, "%lu\n", count)) < 0)
+        _exit(99);
+    close(file);
+}
+
+static int is_refused(void)
+{
+    count++;
+    return count == alone || (from && count >= from);
+}
+
+#define NEXT(name) ((__typeof__(&name))dlsym(RTLD_NEXT, #name))
+
+void *malloc(size_t size)
+{
+    static void *(*next)(size_t);
+
+    if (!next)
+        next = NEXT(malloc);
+    return is_refused() ? (errno = ENOMEM, NULL) : next(size);
+}
+
+void *realloc(void *old, size_t size)
+{
+    static void *(*next)(void *, size_t);
+
+    if (!next)
+        next = NEXT(realloc);
+    return is_refused() ? (errno = ENOMEM, NULL) : next(old, size);
+}
+
+void *calloc(size_t items, size_t size)
+{
+    static void *(*next)(size_t, size_t);
+
+    if (!next)
+        next = NEXT(calloc);
+    return is_refused() ? (errno = ENOMEM, NULL) : next(items, size);
+}
+
+void *aligned_alloc(size_t alignment, size_t size)
+{
+    static void *(*next)(size_t, size_t);
+
+    if (!next)
+        next = NEXT(aligned_alloc);
+    return is_refused() ? (errno = ENOMEM, NULL) : next(alignment, size);
+}
+
+int posix_memalign(void **place, size_t alignment, size_t size)
+{
+    static int (*next)(void **, size_t, size_t);
+
+    if (!next)
+        next = NEXT(posix_memalign);
+    return is_refused() ? ENOMEM : next(place, alignment, size);
+}
