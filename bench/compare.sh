@@ -17,7 +17,7 @@ record=$(tail -1 ../heal_main/args)
 number() { awk -v word="$1" '$1 == word && (least == "" || $2 < least) { least = $2 } END { print least }' "$2"; }
 
 # The benchmark of ours on a program, so many runs.
-measure() { "$ours" "$1" "$record" "$2" >> "$out/ours"; }
+measure() { "$ours" program "$1" "$record" "$2" >> "$out/ours"; }
 
 ratio() { awk -v ours="$1" -v peers="$2" 'BEGIN { printf "%.2f", ours / peers }'; }
 

@@ -1,29 +1,45 @@
-//! heal_bench: what decoding, verifying and running a resolver costs on this machine.
+//! heal_bench: what the calls of `heal` cost on this machine.
 #![tactic(auto)]
 
-mod measuring;
+mod programs;
+mod tables;
 
-use measuring::{Measured, measure};
 use std::process::ExitCode;
-use std::{env, io};
+use std::{env, fmt, io};
 
-const USAGE: &'static str = "usage: heal_bench HEX RECORDHEX RUNS
+const USAGE: &'static str = "usage: heal_bench program HEX RECORDHEX RUNS
+       heal_bench tables ROWS
 
-Decodes and verifies the program 2,000 times, runs it RUNS times on the record, whose word changes from run to run, and
-prints the mean times in nanoseconds, the steps of one run and the sum of all answers.
+program: decodes and verifies the program 2,000 times, runs it RUNS times on the record, whose word changes from run to
+run, and prints the mean times in nanoseconds, the steps of one run and the sum of all answers.
+tables: makes tables of ROWS rows, 1 to 4096, and prints the mean times in nanoseconds: of registering one row; of the
+clashes and the merge of two that clash in every name; and of these for two that are equal.
 ";
 
-fn report(rt: &HostRuntime, words: &[String]) -> io::Result<ExitCode> {
-    let [_, code, clash, runs] = words else {
-        // No words at all are a question, and another count of them is a fault.
-        if words.len() <= 1 {
-            print!(rt; "{USAGE}")?;
-            return Ok(ExitCode::SUCCESS);
+fn main(rt: HostRuntime) -> io::Result<ExitCode> {
+    let words: Vec<String> = env::args(&rt)?.collect(rt.alloc())?;
+    let words: Vec<&str> = words.iter().map(|word| word.as_str()).collect(rt.alloc())?;
+    match words.as_slice() {
+        // No words at all are a question, and words of another form are a fault.
+        [] | [_] => {
+            print!(&rt; "{USAGE}")?;
+            Ok(ExitCode::SUCCESS)
         }
-        eprint!(rt; "{USAGE}")?;
-        return Ok(ExitCode::FAILURE);
-    };
-    match measure(rt, code, clash, runs) {
+        [_, "program", code, clash, runs] => report(&rt, programs::measure(&rt, code, clash, runs)),
+        [_, "tables", rows] => report(&rt, tables::measure(&rt, rows)),
+        _ => {
+            eprint!(&rt; "{USAGE}")?;
+            Ok(ExitCode::FAILURE)
+        }
+    }
+}
+
+/// Prints what was measured, or why nothing was.
+fn report<T: fmt::Display + Drop, E: fmt::Display + Drop>(
+    rt: &HostRuntime,
+    measured: Result<T, E>,
+) -> io::Result<ExitCode> {
+    match measured {
         Ok(measured) => {
             print!(rt; "{measured}")?;
             Ok(ExitCode::SUCCESS)
@@ -33,9 +49,4 @@ fn report(rt: &HostRuntime, words: &[String]) -> io::Result<ExitCode> {
             Ok(ExitCode::FAILURE)
         }
     }
-}
-
-fn main(rt: HostRuntime) -> io::Result<ExitCode> {
-    let words: Vec<String> = env::args(&rt)?.collect(rt.alloc())?;
-    report(&rt, &words)
 }

@@ -1,4 +1,4 @@
-//! The measurements.
+//! What decoding, verifying and running a program costs.
 ghost use Rattle.std.specs.Prelude.{◌<◌};
 
 use clash_record::{RECORD_LEN, record_of};

@@ -1,0 +1,11 @@
+-- The bytes so far end no line.
+use Rattle.std.proofs.Common.{◌≡◌, ℕ, List, length}
+use Rattle.std.specs.Io.KnownBytes.{Consumes}
+use Rattle.script_text.specs.Lines.{HasNoEnd, line_of}
+use Rattle.script_text.specs.Reading.{left, seen_line}
+use Rattle.script_text.proofs.input.next_line.Given as goal
+
+abbrev pub invariant-loop-seen : goal.invariant-loop-seen
+invariant-loop-seen g l = (text : List ℕ) × HasNoEnd text × (length text ≡ l.seen)
+    × (line_of text ≡ seen_line l.is_long l.line)
+    × Consumes (left l.fn.buffer (g.R.Read.remaining l.fn.reader)) (left l.buffer (g.R.Read.remaining l.reader)) text

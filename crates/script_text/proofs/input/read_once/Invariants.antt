@@ -1,0 +1,6 @@
+-- An interrupted read consumed nothing.
+use Rattle.std.specs.Io.KnownBytes.{Keeps}
+use Rattle.script_text.proofs.input.read_once.Given as goal
+
+abbrev pub invariant-loop : goal.invariant-loop
+invariant-loop g l = Keeps (g.R.Read.remaining l.fn.reader) (g.R.Read.remaining l.reader)

@@ -1,0 +1,7 @@
+pub mod Faults
+pub mod Words
+pub mod Asking
+pub mod Commands
+pub mod Lines
+pub mod Reading
+pub mod model

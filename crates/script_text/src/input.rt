@@ -1,0 +1,229 @@
+//! The lines of an input that is read in pieces of any size.
+ghost use Rattle.std.specs.Prelude.{◌≡◌, ◌↔◌, ◌<◌, ◌≤◌, IsTrue, ℕ, List, [], ◌∷◌, ◌++◌, length, OnErr, OnOk, IfOk, IfSome, IfNone};
+ghost use Rattle.std.specs.Io.KnownBytes.{Keeps, Consumes, IsAtEnd, ReadConsumes};
+ghost use Rattle.std.specs.Io.{ReadsAtMost};
+ghost use Rattle.script_text.specs.Lines.{line_limit, line_of};
+ghost use Rattle.script_text.specs.Reading.{left, IsSpent, FailsInLine, FindsLine, seen_line};
+
+use std::alloc::{AllocError, Global};
+use std::io;
+use std::io::{ErrorKind, Read};
+use std::marker::Model;
+
+/// The most bytes that a line has, without its end.
+pub const LINE_LIMIT: usize = 20_000;
+
+// How many bytes are asked for at a read.
+const PIECE: usize = 4096;
+
+/// What was read and not yet used. A contract sees it as the list of these bytes.
+#[derive(Drop)]
+pub struct ReadBuffer {
+    bytes: Vec<u8>,
+    start: usize,
+    end: usize,
+}
+
+impl Model for ReadBuffer {
+    ghost use Rattle.std.specs.Prelude.{ℕ, ◌-◌, List, take, drop};
+    ghost use Rattle.script_text.specs.model.Buffers.{IsWithin};
+
+    ghost Value = { List ℕ };
+
+    ghost view = { λ b. take (b.end - b.start) (drop b.start b.bytes.items) };
+
+    ghost invariant = { IsWithin };
+}
+
+impl ReadBuffer {
+    /// A buffer in which nothing waits. It takes all its memory here.
+    pub fn new(alloc: Global) -> Result<ReadBuffer, AllocError>
+        ensures { IfOk result (λ buffer. buffer ≡ []) }
+    {
+        Ok(ReadBuffer {
+            bytes: vec![in alloc; 0; PIECE]?,
+            start: 0,
+            end: 0,
+        })
+    }
+
+    // Reads once, where nothing waits.
+    fn fill<R: Read>(&mut self, reader: &mut R) -> io::Result<()>
+        requires { self.old ≡ [] }
+        ensures ok { OnOk result (Consumes (R.remaining reader.old) (R.remaining reader.new) self.new) }
+        ensures end { OnOk result (self.new ≡ [] → IsAtEnd (R.remaining reader.new)) }
+        ensures err { OnErr result (Keeps (R.remaining reader.old) (R.remaining reader.new) × (self.new ≡ [])) }
+    {
+        self.start = 0;
+        self.end = 0;
+        self.end = read_once(reader, self.bytes.as_mut_slice())?;
+        Ok(())
+    }
+
+    // Uses the first byte.
+    fn pop(&mut self) -> Option<u8>
+        ensures some { IfSome result (λ byte. self.old ≡ byte ∷ self.new) }
+        ensures none { IfNone result ((self.old ≡ []) × (self.new ≡ [])) }
+    {
+        if self.start >= self.end {
+            return None;
+        }
+        let byte = self.bytes[self.start];
+        self.start += 1;
+        Some(byte)
+    }
+}
+
+// One read, tried again where a signal interrupts it.
+fn read_once<R: Read>(reader: &mut R, into: &mut [u8]) -> io::Result<usize>
+    ensures bound { ReadsAtMost result into.new }
+    ensures bytes { ReadConsumes (R.remaining reader.old) (R.remaining reader.new) result into.new }
+{
+    for _ in 0..u64::MAX {
+        match reader.read(into) {
+            Err(error) if error.kind() == ErrorKind::Interrupted => {}
+            read => return read,
+        }
+    }
+    Err(io::Error::from(ErrorKind::Interrupted))
+}
+
+// The next byte, or nothing at the end.
+fn next_byte<R: Read>(buffer: &mut ReadBuffer, reader: &mut R) -> io::Result<Option<u8>>
+    ensures some { IfOk result (λ found. IfSome found (λ byte.
+        Consumes (left buffer.old (R.remaining reader.old)) (left buffer.new (R.remaining reader.new)) (byte ∷ []))) }
+    ensures none { IfOk result (λ found. IfNone found
+        (IsSpent (left buffer.old (R.remaining reader.old)) buffer.new (R.remaining reader.new))) }
+    ensures err { OnErr result
+        (Keeps (left buffer.old (R.remaining reader.old)) (R.remaining reader.new) × (buffer.new ≡ [])) }
+{
+    if let Some(byte) = buffer.pop() {
+        return Ok(Some(byte));
+    }
+    buffer.fill(reader)?;
+    Ok(buffer.pop())
+}
+
+/// A line of at most 20,000 bytes. A contract sees it as the list of them.
+#[derive(Drop)]
+pub struct LineBuffer {
+    bytes: Vec<u8>,
+    len: usize,
+}
+
+impl Model for LineBuffer {
+    ghost use Rattle.std.specs.Prelude.{ℕ, List, take};
+    ghost use Rattle.script_text.specs.model.Buffers.{HasRoom};
+
+    ghost Value = { List ℕ };
+
+    ghost view = { λ b. take b.len b.bytes.items };
+
+    ghost invariant = { HasRoom };
+}
+
+impl LineBuffer {
+    /// An empty line. It takes all its memory here.
+    pub fn new(alloc: Global) -> Result<LineBuffer, AllocError>
+        ensures { IfOk result (λ line. line ≡ []) }
+    {
+        Ok(LineBuffer {
+            bytes: vec![in alloc; 0; LINE_LIMIT]?,
+            len: 0,
+        })
+    }
+
+    /// The bytes of the line.
+    pub fn as_slice(&self) -> &[u8]
+        ensures { result.now ≡ self.now }
+    {
+        &self.bytes[..self.len]
+    }
+
+    fn clear(&mut self)
+        ensures { self.new ≡ [] }
+    {
+        self.len = 0;
+    }
+
+    fn is_full(&self) -> bool
+        ensures full { IsTrue result ↔ (length self.now ≡ line_limit) }
+        ensures most { length self.now ≤ line_limit }
+    {
+        self.len == LINE_LIMIT
+    }
+
+    fn push(&mut self, byte: u8)
+        requires { length self.old < line_limit }
+        ensures { self.new ≡ self.old ++ byte ∷ [] }
+    {
+        self.bytes[self.len] = byte;
+        self.len += 1;
+    }
+}
+
+/// What ended a line.
+#[derive(Clone, Copy, Debug, PartialEq, Eq)]
+pub enum Stop {
+    /// A line feed.
+    LineFeed,
+    /// The end of the input, after some bytes.
+    End,
+    /// The end of the input: there was no line.
+    Nothing,
+}
+
+/// A line that was found.
+#[derive(Clone, Copy, Debug)]
+pub struct Found {
+    pub stop: Stop,
+    /// It has more than 20,000 bytes, which were skipped.
+    pub is_long: bool,
+}
+
+/// The reader failed.
+#[derive(Debug, Drop)]
+pub struct ReadFailed;
+
+// Adds a byte to the line that was seen so far, and answers whether it is too long.
+fn take_byte(line: &mut LineBuffer, is_long: bool, byte: u8) -> bool
+    ensures { (text : List ℕ) → line_of text ≡ seen_line is_long line.old
+        → line_of (text ++ byte ∷ []) ≡ seen_line result line.new }
+{
+    if is_long || line.is_full() {
+        return true;
+    }
+    line.push(byte);
+    false
+}
+
+/// Finds the next line, and leaves its bytes in `line` where it isn't too long. Takes no memory.
+///
+/// Where the reader fails, what it gave of the line is gone.
+pub fn next_line<R: Read>(
+    buffer: &mut ReadBuffer,
+    reader: &mut R,
+    line: &mut LineBuffer,
+) -> Result<Found, ReadFailed>
+    ensures found { IfOk result (λ found.
+        FindsLine (left buffer.old (R.remaining reader.old)) buffer.new (R.remaining reader.new) found line.new) }
+    ensures failed { OnErr result
+        (FailsInLine (left buffer.old (R.remaining reader.old)) buffer.new (R.remaining reader.new)) }
+{
+    line.clear();
+    let mut is_long = false;
+    for seen in 0..u64::MAX {
+        let stop = match next_byte(buffer, reader) {
+            Err(_) => return Err(ReadFailed),
+            Ok(None) if seen == 0 => Stop::Nothing,
+            Ok(None) => Stop::End,
+            Ok(Some(b'\n')) => Stop::LineFeed,
+            Ok(Some(byte)) => {
+                is_long = take_byte(line, is_long, byte);
+                continue;
+            }
+        };
+        return Ok(Found { stop, is_long });
+    }
+    Err(ReadFailed)
+}
