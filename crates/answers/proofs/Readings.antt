@@ -15,20 +15,25 @@ pub no_text_failure : (bytes : List ℕ) (f : Failure) → OnRefusal (IsNoText b
 no_text_failure bytes (Refused r) h = no_text h
 no_text_failure bytes OutOfMemory h = h
 
-pub faulty_failure : (bytes : List ℕ) (f : Failure) → IsText bytes → OnRefusal (IsFaulty bytes) f → OnRefusal (IsNoSource bytes) f
+pub faulty_failure : (bytes : List ℕ) (f : Failure) → IsText bytes → OnRefusal (IsFaulty bytes) f
+    → OnRefusal (IsNoSource bytes) f
 faulty_failure bytes (Refused r) is_text h = faulty is_text h
 faulty_failure bytes OutOfMemory is_text h = h
 
 pub ruleset sources = (no_text_failure, faulty_failure)
 
-given : (known : Option (List ℕ)) (bytes : List ℕ) → IfSome (option_map (take (max_file_len + 1)) known) (λ all. bytes ≡ all) → IsReading known bytes
+given : (known : Option (List ℕ)) (bytes : List ℕ) → IfSome (option_map (take (max_file_len + 1)) known) (λ all. bytes
+    ≡ all) → IsReading known bytes
 given None bytes h = tt
 given (Some all) bytes h = h
 
 -- what a reader gives up to a limit
-pub whole_read : {R : Type 0} (remaining : R → Option (List ℕ)) (reader inner : R) (limit : ℕ) (old bytes : List ℕ) → inner ≡ reader → limit ≡ max_file_len + 1 → old ≡ []
-    → IfSome (option_map (take limit) (remaining inner)) (λ all. bytes ≡ old ++ all) → IsReading (remaining reader) bytes
-whole_read remaining reader inner limit old bytes inner-is limit-is old-is h = given (remaining reader) bytes (rw (inner-is, limit-is, old-is) at h)
+pub whole_read : {R : Type 0} (remaining : R → Option (List ℕ)) (reader inner : R) (limit : ℕ) (old bytes : List ℕ)
+    → inner ≡ reader → limit ≡ max_file_len + 1 → old ≡ []
+    → IfSome (option_map (take limit) (remaining inner)) (λ all. bytes ≡ old ++ all)
+        → IsReading (remaining reader) bytes
+whole_read remaining reader inner limit old bytes inner-is limit-is old-is h =
+    given (remaining reader) bytes (rw (inner-is, limit-is, old-is) at h)
 
 -- where reading gave few bytes they are all that there are
 few_are_all : (all : List ℕ) → length (take (max_file_len + 1) all) ≤ max_file_len → take (max_file_len + 1) all ≡ all
@@ -36,25 +41,30 @@ few_are_all all few = take_all (max_file_len + 1) all (omega (arith, few, length
 
 -- what is wrong with the bytes that reading gave is wrong with all that there are
 all_wrong : (all : List ℕ) (r : NumberedRefusal) → IsNoSource (take (max_file_len + 1) all) r → IsNoSource all r
-all_wrong all r (no_text (too_long long same)) = no_text (too_long (omega (arith, long, length-take (max_file_len + 1) all)) same)
-all_wrong all r (no_text (not_utf8 few bad same)) = subst (λ b. IsNoSource b r) (few_are_all all few) (no_text (not_utf8 few bad same))
+all_wrong all r (no_text (too_long long same)) = no_text (too_long
+    (omega (arith, long, length-take (max_file_len + 1) all)) same)
+all_wrong all r (no_text (not_utf8 few bad same)) = subst (λ b. IsNoSource b r) (few_are_all all few)
+    (no_text (not_utf8 few bad same))
 all_wrong all r (faulty is_text h) = subst (λ b. IsNoSource b r) (few_are_all all is_text.few) (faulty is_text h)
 
 all_right : (all : List ℕ) (code : List Insn) → IsSource (take (max_file_len + 1) all) code → IsSource all code
 all_right all code h = subst (λ b. IsSource b code) (few_are_all all h.is_text.few) h
 
 -- the code of the bytes that reading gave is that of all that the reader has
-pub code_failure : (known : Option (List ℕ)) (bytes : List ℕ) (f : Failure) → IsReading known bytes → OnRefusal (IsNoSource bytes) f → IfOk (answer_unless_memory (Err f)) (IsOfBytes known)
+pub code_failure : (known : Option (List ℕ)) (bytes : List ℕ) (f : Failure) → IsReading known bytes
+    → OnRefusal (IsNoSource bytes) f → IfOk (answer_unless_memory (Err f)) (IsOfBytes known)
 code_failure None bytes (Refused r) reading h = inr (bytes, h)
 code_failure (Some all) bytes (Refused r) reading h = inr (all_wrong all r (subst (λ b. IsNoSource b r) reading h))
 code_failure known bytes OutOfMemory reading h = tt
 
-pub code_is : (known : Option (List ℕ)) (bytes : List ℕ) (code : List Insn) → IsReading known bytes → IsSource bytes code → IfOk (answer_unless_memory (Ok (said.Assembled code))) (IsOfBytes known)
+pub code_is : (known : Option (List ℕ)) (bytes : List ℕ) (code : List Insn) → IsReading known bytes
+    → IsSource bytes code → IfOk (answer_unless_memory (Ok (said.Assembled code))) (IsOfBytes known)
 code_is None bytes code reading h = inr (bytes, h)
 code_is (Some all) bytes code reading h = inr (all_right all code (subst (λ b. IsSource b code) reading h))
 
 -- what is said of bytes that the reader tells is said of some bytes
-pub of_some_bytes : (known : Option (List ℕ)) (r : Result Answer Failure) → IfOk (answer_unless_memory r) (IsOfBytes known) → IfOk (answer_unless_memory r) (IsOfBytes None)
+pub of_some_bytes : (known : Option (List ℕ)) (r : Result Answer Failure)
+    → IfOk (answer_unless_memory r) (IsOfBytes known) → IfOk (answer_unless_memory r) (IsOfBytes None)
 of_some_bytes None r h = h
 of_some_bytes (Some all) (Ok s) (inl e) = inl e
 of_some_bytes (Some all) (Ok s) (inr h) = inr (all, h)

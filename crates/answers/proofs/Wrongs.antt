@@ -13,15 +13,18 @@ pub no_hex_failure : (text : List ℕ) (f : Failure) → OnRefusal (IsNoHex text
 no_hex_failure text (Refused r) h = no_hex h
 no_hex_failure text OutOfMemory h = h
 
-pub no_code_failure : (text bytes : List ℕ) (f : Failure) → decode_of text ≡ Ok bytes → OnRefusal (IsNoCode bytes) f → OnRefusal (IsCodeFault text) f
+pub no_code_failure : (text bytes : List ℕ) (f : Failure) → decode_of text ≡ Ok bytes → OnRefusal (IsNoCode bytes) f
+    → OnRefusal (IsCodeFault text) f
 no_code_failure text bytes (Refused r) digits h = no_code bytes digits h
 no_code_failure text bytes OutOfMemory digits h = h
 
-pub no_digits_failure : {D : Type 0} (o : Ops D) (text : List ℕ) (f : Failure) → OnRefusal (IsNoHex text) f → OnRefusal (IsProgramFaultOver o text) f
+pub no_digits_failure : {D : Type 0} (o : Ops D) (text : List ℕ) (f : Failure) → OnRefusal (IsNoHex text) f
+    → OnRefusal (IsProgramFaultOver o text) f
 no_digits_failure o text (Refused r) h = no_digits h
 no_digits_failure o text OutOfMemory h = h
 
-pub no_program_failure : {D : Type 0} (o : Ops D) (text bytes : List ℕ) (f : Failure) → decode_of text ≡ Ok bytes → OnRefusal (IsNoProgramOver o bytes) f
+pub no_program_failure : {D : Type 0} (o : Ops D) (text bytes : List ℕ) (f : Failure) → decode_of text ≡ Ok bytes
+    → OnRefusal (IsNoProgramOver o bytes) f
     → OnRefusal (IsProgramFaultOver o text) f
 no_program_failure o text bytes (Refused r) digits h = no_program bytes digits h
 no_program_failure o text bytes OutOfMemory digits h = h
@@ -33,21 +36,25 @@ pub check_failure : {D : Type 0} (o : Ops D) (text : List ℕ) (f : Failure) →
 check_failure o text (Refused r) h = h
 check_failure o text OutOfMemory h = tt
 
-pub dis_failure : (text : List ℕ) (f : Failure) → OnRefusal (IsCodeFault text) f → IfOk (answer_unless_memory (Err f)) (IsDisassembled text)
+pub dis_failure : (text : List ℕ) (f : Failure) → OnRefusal (IsCodeFault text) f
+    → IfOk (answer_unless_memory (Err f)) (IsDisassembled text)
 dis_failure text (Refused r) h = h
 dis_failure text OutOfMemory h = tt
 
 pub ruleset hex_wrongs = (check_failure, dis_failure)
 
-pub code_failure : (code clash bytes : List ℕ) (e : Failure) → OnRefusal (IsProgramFault code) e → IsClashText clash bytes → IfOk (answer_unless_memory (Err e)) (IsJudged code clash)
+pub code_failure : (code clash bytes : List ℕ) (e : Failure) → OnRefusal (IsProgramFault code) e
+    → IsClashText clash bytes → IfOk (answer_unless_memory (Err e)) (IsJudged code clash)
 code_failure code clash bytes (Refused r) h k = code_alone bytes h k
 code_failure code clash bytes OutOfMemory h k = tt
 
-pub clash_failure : (code clash : List ℕ) (program : List Insn) (f : Failure) → IsProgram code program → OnRefusal (IsClashFault clash) f → IfOk (answer_unless_memory (Err f)) (IsJudged code clash)
+pub clash_failure : (code clash : List ℕ) (program : List Insn) (f : Failure) → IsProgram code program
+    → OnRefusal (IsClashFault clash) f → IfOk (answer_unless_memory (Err f)) (IsJudged code clash)
 clash_failure code clash program (Refused r) h k = clash_alone program h k
 clash_failure code clash program OutOfMemory h k = tt
 
-pub both_failures : (code clash : List ℕ) (e f : Failure) → OnRefusal (IsProgramFault code) e → OnRefusal (IsClashFault clash) f → IfOk (answer_unless_memory (Err (first e f))) (IsJudged code clash)
+pub both_failures : (code clash : List ℕ) (e f : Failure) → OnRefusal (IsProgramFault code) e
+    → OnRefusal (IsClashFault clash) f → IfOk (answer_unless_memory (Err (first e f))) (IsJudged code clash)
 both_failures code clash (Refused e) (Refused f) h k = both e f h k refl
 both_failures code clash (Refused e) OutOfMemory h k = tt
 both_failures code clash OutOfMemory f h k = tt

@@ -100,7 +100,8 @@ pub record IsClashText (text clash : List ℕ) : Type 0 where
 -- the text is that of no record, for this reason
 pub data IsClashFault (text : List ℕ) (r : NumberedRefusal) : Type 0 where
   no_bytes : IsNoHex text r → IsClashFault text r
-  wrong_length : (bytes : List ℕ) → decode_of text ≡ Ok bytes → (IsRecordLength (length bytes) → ⊥) → IsInput RecordLength r → IsClashFault text r
+  wrong_length : (bytes : List ℕ) → decode_of text ≡ Ok bytes → (IsRecordLength (length bytes) → ⊥)
+      → IsInput RecordLength r → IsClashFault text r
 
 -- the one with the lesser number
 abbrev pub least : NumberedRefusal → NumberedRefusal → NumberedRefusal

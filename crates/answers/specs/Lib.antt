@@ -2,4 +2,3 @@ pub mod Refusals
 pub mod Judging
 pub mod Sources
 pub mod Lines
-pub mod Sending

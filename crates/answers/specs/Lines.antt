@@ -26,7 +26,7 @@ use Rattle.answers.specs.declared.printing.Answer.{Answer}
 use Rattle.answers.specs.declared.printing.Answer.TheVariants.{Accepted, Ruled, Assembled, Disassembled, Refused, DeviceFault}
 use Rattle.answers.specs.Sources.{OfBytes, IsSource, IsNoSource}
 use Rattle.answers.specs.Judging.{IsCodeText, IsCodeFault, IsProgram, IsProgramOver, IsProgramFault, IsProgramFaultOver, IsClashText, IsClashFault, Ruling, IsRuling, least}
-use Rattle.answers.specs.Sending.{AppendsFront}
+use Rattle.output.specs.Sending.{AppendsFront}
 
 -- ---- what is said
 
@@ -107,8 +107,10 @@ word_of Neither = codes "none"
 -- a refusal, with the slot or the line that it names
 abbrev pub refused_line : ℕ → Option Place → List ℕ
 refused_line number None = codes "refused " ++ (decimal number ++ codes "\n")
-refused_line number (Some (Slot slot)) = codes "refused " ++ (decimal number ++ (codes " at slot " ++ (decimal slot ++ codes "\n")))
-refused_line number (Some (Line line)) = codes "refused " ++ (decimal number ++ (codes " at line " ++ (decimal line ++ codes "\n")))
+refused_line number (Some (Slot slot)) = codes "refused " ++ (decimal number
+    ++ (codes " at slot " ++ (decimal slot ++ codes "\n")))
+refused_line number (Some (Line line)) = codes "refused " ++ (decimal number
+    ++ (codes " at line " ++ (decimal line ++ codes "\n")))
 
 -- the bytes of code in lower-case hex digits, on one line
 abbrev pub hex_line : List Insn → List ℕ
@@ -139,6 +141,8 @@ IsPrinted (Err e) status line = ⊥
 -- all that is printed went out, with its status; or the status is 3, and a beginning of it went out, or of the line for
 -- want of memory
 pub data Obeys (task : Task) (old new : Option (List ℕ)) (status : ℕ) : Type 0 where
-  obeyed : (said : Answer) → IsAnswer task said → status ≡ status_of said → Appends old new (line_of said) → Obeys task old new status
-  cut : (said : Answer) → IsAnswer task said → status ≡ 3 → AppendsFront old new (line_of said) → Obeys task old new status
+  obeyed : (said : Answer) → IsAnswer task said → status ≡ status_of said → Appends old new (line_of said)
+      → Obeys task old new status
+  cut : (said : Answer) → IsAnswer task said → status ≡ 3 → AppendsFront old new (line_of said)
+      → Obeys task old new status
   no_memory : status ≡ 3 → AppendsFront old new (codes "refused 90\n") → Obeys task old new status

@@ -7,7 +7,6 @@ mod files;
 mod obeying;
 mod printing;
 mod ruling;
-mod sending;
 #[cfg(test)]
 mod tests;
 
@@ -16,4 +15,3 @@ pub use files::MAX_FILE_LEN;
 pub use obeying::obey;
 pub use printing::Answer;
 pub use ruling::{Answered, judge_one};
-pub use sending::{DeviceFault, send};

@@ -1,7 +1,7 @@
 //! Carrying a task out.
 ghost use Rattle.std.specs.Prelude.{◌≡◌, ◌≢◌, None, IfOk, IfErr, codes, string_bytes};
 ghost use Rattle.answers.specs.Judging.{first};
-ghost use Rattle.answers.specs.Sending.{AppendsFront};
+ghost use Rattle.output.specs.Sending.{AppendsFront};
 ghost use Rattle.answers.specs.Lines.{IsAnswer, IsChecked, IsCheckedOver, IsDisassembled, IsOfBytes, IsJudged, IsPrinted, Obeys, answer_unless_memory};
 ghost use Rattle.answers.specs.declared.failures.Failure.TheVariants.{OutOfMemory};
 ghost use Rattle.answers.specs.declared.printing.Answer.TheVariants.{DeviceFault};
@@ -11,8 +11,9 @@ use crate::failures::Failure;
 use crate::files::{code_in, read_whole};
 use crate::printing::{Answer, answer_unless_memory, line, status};
 use crate::ruling::judge_one;
-use crate::sending::send;
+
 use abstract_value::{Both, Domain, Interval};
+use output::send;
 use std::alloc::{AllocError, Global};
 use std::io::{ErrorKind, Read, Write};
 use std::rt::Files;

@@ -72,7 +72,9 @@ one_line_fault line f g h k = one_err (line_at line) f g (line_told line f h) (l
 pub some_text : (text : List ℕ) → ((code : List Insn) × IsTextOf text code) ⊎ ((f : LineFault) × IsFirstFault text f)
 some_text text = from_read (either_way (code_of (lines_of text)))
   where
-    from_read : ((c : List Insn) × (code_of (lines_of text) ≡ Ok c)) ⊎ ((f : LineFault) × (code_of (lines_of text) ≡ Err f)) → ((code : List Insn) × IsTextOf text code) ⊎ ((f : LineFault) × IsFirstFault text f)
+    from_read : ((c : List Insn) × (code_of (lines_of text) ≡ Ok c))
+        ⊎ ((f : LineFault) × (code_of (lines_of text) ≡ Err f))
+        → ((code : List Insn) × IsTextOf text code) ⊎ ((f : LineFault) × IsFirstFault text f)
     from_read (inl h) = inl (h.0, text_is text h.0 h.1)
     from_read (inr h) = inr (h.0, fault_is text h.0 h.1)
 

@@ -50,7 +50,8 @@ short_is_long z f = omega (arith, ints, f)
 address_word : (r : Register) (z : ℤ) → FitsSigned w16 z → IsWord (91 ∷ register_text r ++ step_text z ++ 93 ∷ [])
 address_word r z f = (
   refl,
-  plain_with (register_text r ++ step_text z) (93 ∷ []) (plain_with (register_text r) (step_text z) (register_plain r) (word_plain (step_text z) (step_word z (short_is_long z f)))) (refl, tt),
+  plain_with (register_text r ++ step_text z) (93 ∷ []) (plain_with (register_text r) (step_text z) (register_plain r)
+      (word_plain (step_text z) (step_word z (short_is_long z f)))) (refl, tt),
 )
 
 hex_word : (w : List ℕ) (n : ℕ) → IsHex w n → IsWord w
@@ -117,7 +118,10 @@ begins_in text o t b f h =
     let w : AreIn class.Instruction b.word =
     among class.Instruction in_instruction b.word (word_plain b.word (operand_word o b.word b.is_operand f)) in
     let inside : AreIn class.Instruction (((b.before ++ b.word) ++ b.behind) ++ t) =
-    joined class.Instruction ((b.before ++ b.word) ++ b.behind) t (joined class.Instruction (b.before ++ b.word) b.behind (joined class.Instruction b.before b.word (blanks_among b.before b.before_blank) w) (blanks_among b.behind b.behind_blank)) h in
+    joined class.Instruction ((b.before ++ b.word) ++ b.behind) t
+        (joined class.Instruction (b.before ++ b.word) b.behind
+        (joined class.Instruction b.before b.word (blanks_among b.before b.before_blank) w)
+        (blanks_among b.behind b.behind_blank)) h in
     subst (AreIn class.Instruction) (sym b.spelled) inside
 
 separated_in : (text : List ℕ) (os : List Operand) → AreSeparated text os → AllFit os → AreIn class.Instruction text

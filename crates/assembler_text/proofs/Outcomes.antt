@@ -36,7 +36,8 @@ pub gives_map : {A : Type 0} {P S : A → Type 0} {Q R : Type 0} (r : Result A F
 gives_map (Ok x) h f g = f x h
 gives_map (Err e) h f g = kind_map g h
 
-pub gives_then : {A B : Type 0} {P : A → Type 0} {Q R : Type 0} (S : B → Type 0) (r : Result A Fault) (next : A → Result B Fault)
+pub gives_then : {A B : Type 0} {P : A → Type 0} {Q R : Type 0} (S : B → Type 0) (r : Result A Fault) (next : A
+    → Result B Fault)
     → Gives P Q r → ((x : A) → P x → Gives S R (next x)) → (Q → R) → Gives S R (r >>= next)
 gives_then S (Ok x) next h f g = f x h
 gives_then S (Err e) next h f g = kind_map g h

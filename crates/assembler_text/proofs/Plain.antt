@@ -41,7 +41,8 @@ four true false c d h = absurd cc
 four false b c d h = absurd cc
 
 pub in_operand : (c : ℕ) → is_plain c ≡ true → is_in class.Operand c ≡ true
-in_operand c h = let p = four (not (is_blank c)) (not (c == 44)) (not (c == 59)) (not (c == 10)) h in (λ i. p.0 i && p.1 i)
+in_operand c h = let p = four (not (is_blank c)) (not (c == 44)) (not (c == 59)) (not (c == 10)) h in
+    (λ i. p.0 i && p.1 i)
 
 pub in_mnemonic : (c : ℕ) → is_plain c ≡ true → is_in class.Mnemonic c ≡ true
 in_mnemonic c h = (four (not (is_blank c)) (not (c == 44)) (not (c == 59)) (not (c == 10)) h).0
@@ -92,7 +93,8 @@ unlike k c h g = by_test (c == k)
 
 pub plain_digit : (c : ℕ) → digit_value c < 16 → is_plain c ≡ true
 plain_digit c h =
-    (λ i. not (unlike 32 c h (lit≤ tt) i || unlike 9 c h (lit≤ tt) i) && (not (unlike 44 c h (lit≤ tt) i) && (not (unlike 59 c h (lit≤ tt) i) && not (unlike 10 c h (lit≤ tt) i))))
+    (λ i. not (unlike 32 c h (lit≤ tt) i || unlike 9 c h (lit≤ tt) i)
+        && (not (unlike 44 c h (lit≤ tt) i) && (not (unlike 59 c h (lit≤ tt) i) && not (unlike 10 c h (lit≤ tt) i))))
 
 pub digits_in : (k : Class) → ((c : ℕ) → digit_value c < 16 → is_in k c ≡ true) → (ds : List ℕ) → AllDigits 16 ds
     → AreIn k ds

@@ -36,7 +36,8 @@ shifted number line lines = omega arith
 -- lines are read after the code that is read so far, and then more lines
 pub read_before : (lines : List (List ℕ)) (code : List Insn) → AreLines lines code → (number : ℕ) (done : List Insn)
     → sum_by slots_of done + sum_by slots_of code ≤ max_slots
-    → (more : List (List ℕ)) → code_after number done (lines ++ more) ≡ code_after (number + length lines) (done ++ code) more
+    → (more : List (List ℕ)) → code_after number done (lines ++ more)
+        ≡ code_after (number + length lines) (done ++ code) more
 unfolding code_after
 read_before [] [] h number done f more = (λ i. code_after (sym (add-zero number) i) (sym (append-nil done) i) more)
 read_before [] (i ∷ code) h number done f more = absurd h
@@ -82,7 +83,8 @@ up_to lines number line code b =
     ap (code_after 0 []) b.split
     ∙ read_before b.before code b.lines_give 0 [] (omega (arith, b.few)) (line ∷ b.behind)
 
-line_number : (lines : List (List ℕ)) (number : ℕ) (line : List ℕ) (code : List Insn) (b : IsBefore lines number line code) → 0 + length b.before + 1 ≡ number
+line_number : (lines : List (List ℕ)) (number : ℕ) (line : List ℕ) (code : List Insn)
+    (b : IsBefore lines number line code) → 0 + length b.before + 1 ≡ number
 line_number lines number line code b = omega (arith, b.place)
 
 first_read : (lines : List (List ℕ)) (f : LineFault) → IsFirstOf lines f → code_of lines ≡ Err f
@@ -90,13 +92,16 @@ unfolding code_after
 first_read lines fault.OutOfMemory h = absurd h
 first_read lines (fault.Line g number) h =
     up_to lines number h.line h.code h.before
-    ∙ ap (λ r. with_line (0 + length h.before.before + 1) h.code r >>= λ more. code_after (0 + length h.before.before + 1) more h.before.behind) (line_told h.line g h.is_fault)
+    ∙ ap (λ r. with_line (0 + length h.before.before + 1) h.code r >>= λ more. code_after (0 + length h.before.before
+        + 1) more h.before.behind) (line_told h.line g h.is_fault)
     ∙ ap (told_at g) (line_number lines number h.line h.code h.before)
 first_read lines (fault.TooLong number) h =
     let t : nat_le (sum_by slots_of h.code + slots_of h.insn) max_slots ≡ false = not_le _ _ h.past in
     up_to lines number h.line h.code h.before
-    ∙ ap (λ r. with_line (0 + length h.before.before + 1) h.code r >>= λ more. code_after (0 + length h.before.before + 1) more h.before.behind) (line_reads h.line (Some h.insn) h.gives)
-    ∙ ap (λ b. cond b (Ok (h.code ++ h.insn ∷ [])) (too_long_at (0 + length h.before.before + 1)) >>= λ more. code_after (0 + length h.before.before + 1) more h.before.behind) t
+    ∙ ap (λ r. with_line (0 + length h.before.before + 1) h.code r >>= λ more. code_after (0 + length h.before.before
+        + 1) more h.before.behind) (line_reads h.line (Some h.insn) h.gives)
+    ∙ ap (λ b. cond b (Ok (h.code ++ h.insn ∷ [])) (too_long_at (0 + length h.before.before + 1)) >>= λ more. code_after
+        (0 + length h.before.before + 1) more h.before.behind) t
     ∙ ap too_long_at (line_number lines number h.line h.code h.before)
 first_read lines fault.Empty h =
     ap (code_after 0 []) (sym (append-nil lines)) ∙ read_before lines [] h 0 [] (omega arith) []

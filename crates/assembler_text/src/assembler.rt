@@ -98,7 +98,8 @@ pub fn line_theorem()
 
 /// A text is read in one way: it is the text of one code, or it has one first fault, never both and never neither.
 pub fn text_theorem()
-    ensures some { (text : List ℕ) → ((code : List Insn) × IsTextOf text code) ⊎ ((f : LineFault) × IsFirstFault text f) }
+    ensures some { (text : List ℕ) → ((code : List Insn) × IsTextOf text code)
+        ⊎ ((f : LineFault) × IsFirstFault text f) }
     ensures either { (text : List ℕ) (code : List Insn) (f : LineFault) → IsTextOf text code → IsFirstFault text f → ⊥ }
     ensures one_code { (text : List ℕ) (a b : List Insn) → IsTextOf text a → IsTextOf text b → a ≡ b }
     ensures one_fault { (text : List ℕ) (f g : LineFault) → IsFirstFault text f → IsFirstFault text g → f ≡ g }

@@ -53,7 +53,8 @@ pub struct Facts {
     pub uptime: u64,
 }
 
-/// The record of a clash of these two registrations of the name, at this word, with the facts of the half that holds each.
+/// The record of a clash of these two registrations of the name, at this word, with the facts of the half that holds
+/// each.
 pub fn record(
     name: &Name,
     first: &Registration,

@@ -36,16 +36,18 @@ fn answer_words<R: Files + AllocGlobal, S: AsStr, O: Write, E: Write>(
     }
 }
 
-/// The same of the words that were read, if they could be. A fault of the command line is told as an error, with status 1,
-/// and nothing goes out; want of memory while the words are read is status 3.
+/// The same of the words that were read, if they could be. A fault of the command line is told as an error, with
+/// status 1, and nothing goes out; want of memory while the words are read is status 3.
 pub fn answer<R: Files + AllocGlobal, O: Write, E: Write>(
     rt: &R,
     words: io::Result<Vec<String>>,
     output: &mut O,
     errors: &mut E,
 ) -> u8
-    ensures answered { IfOk words (λ words. IsAnswered (map string_bytes words.items) (O.contents output.old) (O.contents output.new) result) }
-    ensures unread { IfErr words (λ error. IsUnread (error_kind error) (O.contents output.old) (O.contents output.new) result) }
+    ensures answered { IfOk words (λ words. IsAnswered (map string_bytes words.items) (O.contents output.old)
+        (O.contents output.new) result) }
+    ensures unread { IfErr words (λ error. IsUnread (error_kind error) (O.contents output.old) (O.contents output.new)
+        result) }
 {
     match words {
         Ok(words) => answer_words(rt, words.as_slice(), output, errors),

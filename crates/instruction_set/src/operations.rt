@@ -245,6 +245,7 @@ fn test32(test: Test, a: u32, b: u32) -> bool
 pub fn results_fit_theorem()
     ensures alu { (width : Width) → (op : AluOp) → (a b : ℕ) → alu_of width op a b < 2 ^ bits_of width }
     ensures neg { (width : Width) → (a : ℕ) → neg_of width a < 2 ^ bits_of width }
-    ensures movsx { (width : Width) → (bits a : ℕ) → IsMovSxBits width bits → mov_sx_of width bits a < 2 ^ bits_of width }
+    ensures movsx { (width : Width) → (bits a : ℕ) → IsMovSxBits width bits
+        → mov_sx_of width bits a < 2 ^ bits_of width }
     ensures end { (kind : EndKind) → (bits a : ℕ) → IsEndBits bits → end_of kind bits a < 2 ^ 64 }
 {}

@@ -37,7 +37,8 @@ undone programs (Program p) (Some c) id coded named none =
     ap (λ i. remove (insert programs i c) id) is ∙ remove_insert ids_total ids_exact programs id c none
 
 -- programs after one was held, and released where it was new
-pub released : (before after : Programs) (r : ResolverId) (c : Option (List Insn)) (added : Option ProgramId) → IsCodeOf r c
+pub released : (before after : Programs) (r : ResolverId) (c : Option (List Insn)) (added : Option ProgramId)
+    → IsCodeOf r c
     → after ≡ with_code r c before → (added ≡ None → after ≡ before)
     → IfSome added (λ id. (program_of r ≡ Some id) × (get before id ≡ None)) → without_code added after ≡ before
 released before after r c None coded held kept new = kept refl
@@ -72,7 +73,8 @@ module _ (programs : Programs) (table : Table) (held : IsHeld programs table) (l
       by true e =
           let ids = same_id_is (program_of row.registration.resolver) (Some p) e in
           let is : ids.0 ≡ p = let h = ids.2 in cc in
-          let named : row.registration.resolver ≡ Program p = named_program row.registration.resolver p (ids.1 ∙ ap Some is) in
+          let named : row.registration.resolver ≡ Program p =
+                  named_program row.registration.resolver p (ids.1 ∙ ap Some is) in
           own (subst (λ r. has_room_for programs r row.code) named fits)
       by false e = refl
 
@@ -88,7 +90,8 @@ module _ (programs : Programs) (table : Table) (held : IsHeld programs table) (l
       (own_code row.registration.resolver row.code coded)
 
   -- a held row is looked up as before
-  same_row : (q : Name) (r : Row) → get table q ≡ Some r → row_for after r.registration ≡ row_for programs r.registration
+  same_row : (q : Name) (r : Row) → get table q ≡ Some r → row_for after r.registration
+      ≡ row_for programs r.registration
   same_row q r h =
       let there = subst (λ (x : Row). IsCodeOf r.registration.resolver x.code) (looked q r h) (held.coded q r h) in
       ap (λ (c : Option (List Insn)). record { registration = r.registration; code = c })
@@ -105,18 +108,21 @@ module _ (programs : Programs) (table : Table) (held : IsHeld programs table) (l
 
   pub held_more : IsHeld after (insert table name row)
   held_more = record {
-    few = omega (arith, len-insert names_total table name row ∙ ap (λ b. cond b (len table) (len table + 1)) (ap is_some new));
+    few = omega (arith, len-insert names_total table name row
+        ∙ ap (λ b. cond b (len table) (len table + 1)) (ap is_some new));
     coded = λ q r h. by q r (eq_by_cmp name_cmp q name) (sym (get-insert names_total table name row q) ∙ h);
     named = λ id c h.
         named_by id c (same_id (program_of row.registration.resolver) (Some id)) refl
         (sym (get-with_code programs row.registration.resolver row.code id coded) ∙ h);
   }
     where
-      by : (q : Name) (r : Row) (b : Bool) → cond b (Some row) (get table q) ≡ Some r → IsCodeOf r.registration.resolver r.code
+      by : (q : Name) (r : Row) (b : Bool) → cond b (Some row) (get table q) ≡ Some r
+          → IsCodeOf r.registration.resolver r.code
       by q r true e = let is : row ≡ r = cc in subst (λ (x : Row). IsCodeOf x.registration.resolver x.code) is coded
       by q r false e = held.coded q r e
 
-      named_by : (id : ProgramId) (c : List Insn) (b : Bool) → same_id (program_of row.registration.resolver) (Some id) ≡ b
+      named_by : (id : ProgramId) (c : List Insn) (b : Bool)
+          → same_id (program_of row.registration.resolver) (Some id) ≡ b
           → (if b then row.code else get programs id) ≡ Some c → IsNamed (insert table name row) id
       named_by id c true e h =
           let ids = same_id_is (program_of row.registration.resolver) (Some id) e in
@@ -156,7 +162,8 @@ module _ (programs : Programs) (table : Table) (held : IsHeld programs table) (l
       )
 
   -- a row that isn't the one taken out is still there
-  left : (q : Name) (r : Row) → get table q ≡ Some r → (eq_by_cmp name_cmp q name ≡ true → ⊥) → get (remove table name) q ≡ Some r
+  left : (q : Name) (r : Row) → get table q ≡ Some r → (eq_by_cmp name_cmp q name ≡ true → ⊥)
+      → get (remove table name) q ≡ Some r
   left q r h apart = get-remove names_total table name q ∙ by (eq_by_cmp name_cmp q name) refl
     where
       by : (b : Bool) → eq_by_cmp name_cmp q name ≡ b → cond b None (get table q) ≡ Some r
@@ -185,8 +192,10 @@ module _ (programs : Programs) (table : Table) (held : IsHeld programs table) (l
 
   -- no other row names its program, which goes
   module _ (id : ProgramId) (named : program_of row.registration.resolver ≡ Some id)
-      (alone : (q : Name) (r : Row) → get (remove table name) q ≡ Some r → program_of r.registration.resolver ≡ Some id → ⊥) where
-    same_code_for_left : (r : ResolverId) → (program_of r ≡ Some id → ⊥) → code_for (remove programs id) r ≡ code_for programs r
+      (alone : (q : Name) (r : Row) → get (remove table name) q ≡ Some r → program_of r.registration.resolver ≡ Some id
+          → ⊥) where
+    same_code_for_left : (r : ResolverId) → (program_of r ≡ Some id → ⊥)
+        → code_for (remove programs id) r ≡ code_for programs r
     same_code_for_left (Builtin b) apart = refl
     same_code_for_left (Program p) apart = get-remove ids_total programs id p ∙ by (eq_by_cmp id_cmp p id) refl
       where
@@ -201,16 +210,20 @@ module _ (programs : Programs) (table : Table) (held : IsHeld programs table) (l
       named = λ i c h. by i c (eq_by_cmp id_cmp i id) refl (sym (get-remove ids_total programs id i) ∙ h);
     }
       where
-        by_name : (i : ProgramId) (q : Name) (r : Row) → get table q ≡ Some r → program_of r.registration.resolver ≡ Some i
-            → (eq_by_cmp id_cmp i id ≡ false) → (b : Bool) → eq_by_cmp name_cmp q name ≡ b → IsNamed (remove table name) i
+        by_name : (i : ProgramId) (q : Name) (r : Row) → get table q ≡ Some r
+            → program_of r.registration.resolver ≡ Some i
+            → (eq_by_cmp id_cmp i id ≡ false) → (b : Bool) → eq_by_cmp name_cmp q name ≡ b
+                → IsNamed (remove table name) i
         by_name i q r h p apart true e =
-            let same : Some i ≡ Some id = sym p ∙ ap (λ (x : Row). program_of x.registration.resolver) (own q r h e) ∙ named in
+            let same : Some i ≡ Some id = sym p ∙ ap (λ (x : Row). program_of x.registration.resolver) (own q r h e)
+                    ∙ named in
             let is : i ≡ id = cc in
             let tied = (Equal-is (id_cmp i id)).1 (ap (id_cmp i) (sym is) ∙ tied_itself ids_total i) in
             let both : true ≡ false = sym tied ∙ apart in absurd (cc)
         by_name i q r h p apart false e = (q, r, left q r h (λ t. absurd (cc)), p)
 
-        by : (i : ProgramId) (c : List Insn) (b : Bool) → eq_by_cmp id_cmp i id ≡ b → cond b None (get programs i) ≡ Some c
+        by : (i : ProgramId) (c : List Insn) (b : Bool) → eq_by_cmp id_cmp i id ≡ b
+            → cond b None (get programs i) ≡ Some c
             → IsNamed (remove table name) i
         by i c true e h = absurd (cc)
         by i c false e h =

@@ -21,7 +21,8 @@ registered_so held registration b tested =
     (λ t. ap Some (decides.0 (sym tested ∙ t)), λ e. let is : held ≡ registration = cc in tested ∙ decides.1 is)
 
 pub within_itself : (a b : Table) → a ≡ b → IsWithin a b
-within_itself a b is q row h = ap (λ t. option_map (λ (row : Row). row.registration) (get t q)) (sym is) ∙ ap (option_map (λ (row : Row). row.registration)) h
+within_itself a b is q row h = ap (λ t. option_map (λ (row : Row). row.registration) (get t q)) (sym is)
+    ∙ ap (option_map (λ (row : Row). row.registration)) h
 
 module _ (a b : Table) (kept_a : IsTable a) (kept_b : IsTable b) where
   same_tables : IsWithin a b → IsWithin b a → tables_agree a b ≡ true → a ≡ b
@@ -30,13 +31,17 @@ module _ (a b : Table) (kept_a : IsTable a) (kept_b : IsTable b) where
       by : (q : Name) (r : Option Row) → get a q ≡ r → (s : Option Row) → get b q ≡ s → r ≡ s
       by q None h None k = refl
       by q None h (Some s) k =
-          let both : None ≡ Some s.registration = sym (ap (option_map (λ (row : Row). row.registration)) h) ∙ back q s k in absurd (cc)
+          let both : None ≡ Some s.registration = sym (ap (option_map (λ (row : Row). row.registration)) h)
+                  ∙ back q s k in absurd (cc)
       by q (Some r) h None k =
-          let both : None ≡ Some r.registration = sym (ap (option_map (λ (row : Row). row.registration)) k) ∙ within q r h in absurd (cc)
+          let both : None ≡ Some r.registration = sym (ap (option_map (λ (row : Row). row.registration)) k)
+                  ∙ within q r h in absurd (cc)
       by q (Some r) h (Some s) k =
-          let both : Some s.registration ≡ Some r.registration = sym (ap (option_map (λ (row : Row). row.registration)) k) ∙ within q r h in
+          let both : Some s.registration ≡ Some r.registration =
+                  sym (ap (option_map (λ (row : Row). row.registration)) k) ∙ within q r h in
           let is : r.registration ≡ s.registration = cc in
-          ap Some (one_row a b kept_a kept_b agree q r s h k ((registration_decides r.registration s.registration).1 is))
+          ap Some (one_row a b kept_a kept_b agree q r s h k
+              ((registration_decides r.registration s.registration).1 is))
 
   -- where each has the other's registrations, they are equal just where they agree
   pub equal_by_codes : IsWithin a b → IsWithin b a → tables_agree a b ≡ same_table a b
@@ -58,7 +63,8 @@ unequal a b apart = by (same_table a b) refl
 abbrev pub WithinSoFar : Table → Table → List Name → Type 0
 WithinSoFar a b left =
     (name : Name) (row : Row) → get a name ≡ Some row
-    → (option_map (λ row. row.registration) (get b name) ≡ Some row.registration) ⊎ (list_any (is_name name) left ≡ true)
+    → (option_map (λ row. row.registration) (get b name) ≡ Some row.registration)
+        ⊎ (list_any (is_name name) left ≡ true)
 
 pub all_left : (a b : Table) → WithinSoFar a b (keys a)
 all_left a b q row h = inr (sym (contains_key-keys a q) ∙ ap is_some h)
@@ -72,10 +78,12 @@ one_more_within a b n left mine other so_far met is q row h = by (so_far q row h
     by_name true e any =
         let at = same_name q n e in
         inl (ap (λ m. option_map (λ (row : Row). row.registration) (get b m)) at ∙ met.1 ∙ is ∙ sym met.0
-        ∙ ap (λ m. option_map (λ (row : Row). row.registration) (get a m)) (sym at) ∙ ap (option_map (λ (row : Row). row.registration)) h)
+        ∙ ap (λ m. option_map (λ (row : Row). row.registration) (get a m)) (sym at)
+            ∙ ap (option_map (λ (row : Row). row.registration)) h)
     by_name false e any = inr any
 
-    by : (option_map (λ row. row.registration) (get b q) ≡ Some row.registration) ⊎ ((is_name q n || list_any (is_name q) left) ≡ true)
+    by : (option_map (λ row. row.registration) (get b q) ≡ Some row.registration)
+        ⊎ ((is_name q n || list_any (is_name q) left) ≡ true)
         → (option_map (λ row. row.registration) (get b q) ≡ Some row.registration) ⊎ (list_any (is_name q) left ≡ true)
     by (inl there) = inl there
     by (inr any) = by_name (is_name q n) refl any
@@ -88,7 +96,8 @@ all_within a b so_far q row h = by (so_far q row h)
     by (inl there) = there
     by (inr e) = absurd (cc)
 
-pub one_missing : (a b : Table) (n : Name) (mine : Registration) (other : Option Registration) → IsPaired a b (n, mine, other)
+pub one_missing : (a b : Table) (n : Name) (mine : Registration) (other : Option Registration)
+    → IsPaired a b (n, mine, other)
     → (other ≡ Some mine → ⊥) → IsWithin a b → ⊥
 one_missing a b n mine other met apart within =
     let row = row_with (get a n) mine met.0 in

@@ -25,15 +25,18 @@ abbrev pub IsLookedUp : Programs → Table → Type 0
 IsLookedUp programs table = (q : Name) (row : Row) → get table q ≡ Some row → row ≡ row_for programs row.registration
 
 module _ (programs : Programs) (rows : List (Name × Registration)) where
-  pub get_row : (q : Name) → get (table_by programs rows) q ≡ option_map (row_for programs) (lookup (is_at (name_cmp q)) rows)
+  pub get_row : (q : Name) → get (table_by programs rows) q ≡ option_map (row_for programs)
+      (lookup (is_at (name_cmp q)) rows)
   get_row q = get-mapped names_total (row_for programs) rows q
 
   pub looked_up : IsLookedUp programs (table_by programs rows)
   looked_up q row h = by (lookup (is_at (name_cmp q)) rows) (sym h ∙ get_row q)
     where
-      by : (r : Option Registration) → Some row ≡ option_map (row_for programs) r → row ≡ row_for programs row.registration
+      by : (r : Option Registration) → Some row ≡ option_map (row_for programs) r
+          → row ≡ row_for programs row.registration
       by None e = absurd (cc)
-      by (Some r) e = let is : row ≡ row_for programs r = cc in is ∙ ap (λ (x : Row). row_for programs x.registration) (sym is)
+      by (Some r) e = let is : row ≡ row_for programs r = cc in
+          is ∙ ap (λ (x : Row). row_for programs x.registration) (sym is)
 
   -- a table has as many names as entries in order
   pub count_of : IsStrictlySortedBy name_cmp (keys_of rows) → len (table_by programs rows) ≡ length rows
@@ -46,7 +49,8 @@ module _ (programs : Programs) (rows : List (Name × Registration)) where
   -- entries in order are the rows of the table
   pub rows_made : IsStrictlySortedBy name_cmp (keys_of rows) → rows ≡ rows_of (table_by programs rows)
   rows_made ordered =
-      sym (back rows) ∙ ap (map (λ e. (e.0, e.1.registration))) (sym (entries-mapped names_total (row_for programs) names_exact rows ordered))
+      sym (back rows) ∙ ap (map (λ e. (e.0, e.1.registration)))
+          (sym (entries-mapped names_total (row_for programs) names_exact rows ordered))
 
   -- what is held of a table that the entries make
   pub held_now : (table : Table) → table_by programs rows ≡ table → IsHeld programs (table_by programs rows)
@@ -54,7 +58,8 @@ module _ (programs : Programs) (rows : List (Name × Registration)) where
   held_now table made held = (subst (IsHeld programs) made held, subst (IsLookedUp programs) made looked_up)
 
   -- a look-up that lends the registration
-  pub registration_lent : (table : Table) → table_by programs rows ≡ table → (q : Name) (lent : Option (Bor Registration))
+  pub registration_lent : (table : Table) → table_by programs rows ≡ table
+      → (q : Name) (lent : Option (Bor Registration))
       → option_copied lent ≡ lookup (is_at (name_cmp q)) rows
       → option_map (λ r. r.now) lent ≡ option_map (λ row. row.registration) (get table q)
   registration_lent table made q lent h =
@@ -62,7 +67,8 @@ module _ (programs : Programs) (rows : List (Name × Registration)) where
       ∙ ap (option_map (λ (row : Row). row.registration)) (sym (get_row q) ∙ ap (λ t. get t q) made)
     where
       by : (lent : Option (Bor Registration))
-          → option_map (λ r. r.now) lent ≡ option_map (λ (row : Row). row.registration) (option_map (row_for programs) (option_copied lent))
+          → option_map (λ r. r.now) lent ≡ option_map (λ (row : Row). row.registration)
+              (option_map (row_for programs) (option_copied lent))
       by None = refl
       by (Some r) = refl
 
@@ -76,7 +82,8 @@ module _ (programs : Programs) (rows : List (Name × Registration)) where
       by (Some r) = refl
 
 -- nothing is held of an empty table
-pub nothing_held : {P : Type 0} (code_of : P → List Insn) (programs : List (ProgramId × P)) (rows : List (Name × Registration))
+pub nothing_held : {P : Type 0} (code_of : P → List Insn) (programs : List (ProgramId × P)) (rows : List (Name
+    × Registration))
     → programs ≡ [] → rows ≡ [] → IsHeld (programs_by code_of programs) (table_by (programs_by code_of programs) rows)
 nothing_held code_of [] [] p r = record {
   few = omega (arith, len-empty name_cmp Row);
@@ -108,7 +115,8 @@ same_code_is (Some c) None h = absurd (cc)
 same_code_is None (Some d) h = absurd (cc)
 same_code_is None None h = refl
 
-pub code_under : (programs : Programs) (r : ResolverId) (id : ProgramId) → program_of r ≡ Some id → code_for programs r ≡ get programs id
+pub code_under : (programs : Programs) (r : ResolverId) (id : ProgramId) → program_of r ≡ Some id
+    → code_for programs r ≡ get programs id
 code_under programs (Builtin b) id h = absurd (cc)
 code_under programs (Program p) id h = let is : p ≡ id = cc in ap (get programs) is
 
@@ -118,7 +126,8 @@ named_program (Program p) id h = let is : p ≡ id = cc in ap Program is
 
 -- rows agree where each id that both name has the same code
 pub agree_from : (r s : Row)
-    → ((id : ProgramId) → program_of r.registration.resolver ≡ Some id → program_of s.registration.resolver ≡ Some id → r.code ≡ s.code)
+    → ((id : ProgramId) → program_of r.registration.resolver ≡ Some id → program_of s.registration.resolver ≡ Some id
+        → r.code ≡ s.code)
     → rows_agree r s ≡ true
 agree_from r s h = by (same_id (program_of r.registration.resolver) (program_of s.registration.resolver)) refl
   where
@@ -151,12 +160,14 @@ module _ (programs : Programs) (table : Table) (held : IsHeld programs table) (l
   code_held q row h r is = ap (λ (r : Row). r.code) (looked q row h) ∙ ap (code_for programs) is
 
   -- a program that is held is kept for some row
-  pub kept_for : {P : Type 0} (code_of : P → List Insn) (r : ResolverId) (id : ProgramId) → r ≡ Program id → (lent : Option (Bor P))
+  pub kept_for : {P : Type 0} (code_of : P → List Insn) (r : ResolverId) (id : ProgramId) → r ≡ Program id
+      → (lent : Option (Bor P))
       → get programs id ≡ option_map (λ p. code_of p.now) lent → IfSome lent (λ p. IsKeptFor table r (code_of p.now))
   kept_for code_of r id is None there = tt
   kept_for code_of r id is (Some p) there =
       let named = held.named id (code_of p.now) there in
-      (named.0, named.1, named.2, named_program named.1.registration.resolver id named.3 ∙ sym is, code_at named.0 named.1 named.2 id named.3 ∙ there)
+      (named.0, named.1, named.2, named_program named.1.registration.resolver id named.3
+          ∙ sym is, code_at named.0 named.1 named.2 id named.3 ∙ there)
 
   pub is_table : IsTable table
   is_table = record {
@@ -168,23 +179,28 @@ module _ (programs : Programs) (table : Table) (held : IsHeld programs table) (l
   }
 
   -- there is room for code under an id just where no row has other code there
-  pub agrees_from_room : (row : Row) → has_room_for programs row.registration.resolver row.code → agrees_with table row ≡ true
+  pub agrees_from_room : (row : Row) → has_room_for programs row.registration.resolver row.code
+      → agrees_with table row ≡ true
   agrees_from_room row room = all_values_from names_total table (rows_agree row) (λ q s h.
-      agree_from row s (λ id a b. by q s h id a b (subst (λ r. has_room_for programs r row.code) (named_program row.registration.resolver id a) room)))
+      agree_from row s (λ id a b. by q s h id a b (subst (λ r. has_room_for programs r row.code)
+          (named_program row.registration.resolver id a) room)))
     where
-      none_coded : (r : ResolverId) (id : ProgramId) → program_of r ≡ Some id → (c : Option (List Insn)) → IsCodeOf r c → c ≡ None → ⊥
+      none_coded : (r : ResolverId) (id : ProgramId) → program_of r ≡ Some id → (c : Option (List Insn)) → IsCodeOf r c
+          → c ≡ None → ⊥
       none_coded (Builtin b) id p c coded e = absurd (cc)
       none_coded (Program i) id p None coded e = coded
       none_coded (Program i) id p (Some c) coded e = absurd (cc)
 
-      by : (q : Name) (s : Row) → get table q ≡ Some s → (id : ProgramId) → program_of row.registration.resolver ≡ Some id
+      by : (q : Name) (s : Row) → get table q ≡ Some s → (id : ProgramId)
+          → program_of row.registration.resolver ≡ Some id
           → program_of s.registration.resolver ≡ Some id
           → (get programs id ≡ None) ⊎ (get programs id ≡ row.code) → row.code ≡ s.code
       by q s h id a b (inl none) =
           absurd (none_coded s.registration.resolver id b s.code (held.coded q s h) (code_at q s h id b ∙ none))
       by q s h id a b (inr same) = sym same ∙ sym (code_at q s h id b)
 
-  pub room_from_agrees : (row : Row) → agrees_with table row ≡ true → has_room_for programs row.registration.resolver row.code
+  pub room_from_agrees : (row : Row) → agrees_with table row ≡ true
+      → has_room_for programs row.registration.resolver row.code
   room_from_agrees row agrees = by row.registration.resolver refl
     where
       by_id : (id : ProgramId) → row.registration.resolver ≡ Program id → (c : Option (List Insn)) → get programs id ≡ c
@@ -192,7 +208,8 @@ module _ (programs : Programs) (table : Table) (held : IsHeld programs table) (l
       by_id id is None e = inl refl
       by_id id is (Some c) e =
           let some = held.named id c e in
-          let same = agree_at row some.1 (all_values_at names_total table (rows_agree row) agrees some.0 some.1 some.2) id (ap program_of is) some.3 in
+          let same = agree_at row some.1 (all_values_at names_total table (rows_agree row) agrees some.0 some.1 some.2)
+                  id (ap program_of is) some.3 in
           inr (sym e ∙ sym (code_at some.0 some.1 some.2 id some.3) ∙ sym same)
 
       by : (r : ResolverId) → row.registration.resolver ≡ r → has_room_for programs r row.code

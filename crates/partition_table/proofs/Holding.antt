@@ -23,7 +23,8 @@ is_none_by None h = refl
 is_none_by (Some x) h = absurd (cc)
 
 -- what is there already, and is the same, changes nothing
-pub held_already : (programs : Programs) (id : ProgramId) (c : List Insn) → (get programs id ≡ None) ⊎ (get programs id ≡ Some c)
+pub held_already : (programs : Programs) (id : ProgramId) (c : List Insn)
+    → (get programs id ≡ None) ⊎ (get programs id ≡ Some c)
     → is_some (get programs id) ≡ true → programs ≡ insert programs id c
 held_already programs id c (inl none) some = let both : false ≡ true = sym (ap is_some none) ∙ some in absurd (cc)
 held_already programs id c (inr same) some = sym (insert_again ids_total ids_exact programs id c same)
@@ -37,7 +38,8 @@ module _ {P : Type 0} (code_of : P → List Insn) where
   some_code None = refl
   some_code (Some p) = refl
 
-  pub is_some_code : (es : List (ProgramId × P)) (id : ProgramId) (b : Bool) → is_some (lookup (is_at (id_cmp id)) es) ≡ b
+  pub is_some_code : (es : List (ProgramId × P)) (id : ProgramId) (b : Bool)
+      → is_some (lookup (is_at (id_cmp id)) es) ≡ b
       → is_some (get (programs_by code_of es) id) ≡ b
   is_some_code es id b h = ap is_some (get_code es id) ∙ some_code (lookup (is_at (id_cmp id)) es) ∙ h
 
@@ -49,7 +51,8 @@ module _ {P : Type 0} (code_of : P → List Insn) where
 
   -- a look-up that lends the program
   pub code_lent : (es : List (ProgramId × P)) (id : ProgramId) (lent : Option (Bor P))
-      → option_copied lent ≡ lookup (is_at (id_cmp id)) es → get (programs_by code_of es) id ≡ option_map (λ p. code_of p.now) lent
+      → option_copied lent ≡ lookup (is_at (id_cmp id)) es → get (programs_by code_of es) id
+          ≡ option_map (λ p. code_of p.now) lent
   code_lent es id lent h = get_code es id ∙ ap (option_map code_of) (sym h) ∙ by lent
     where
       by : (lent : Option (Bor P)) → option_map code_of (option_copied lent) ≡ option_map (λ p. code_of p.now) lent
@@ -62,27 +65,32 @@ pub room_at_none : (programs : Programs) (id : ProgramId) (c : List Insn) → ge
 room_at_none programs id c none = (λ _. inl none, λ _. refl)
 
 -- there is room under an id where the code held is the same
-pub room_at_some : (programs : Programs) (id : ProgramId) (held c : List Insn) (b : Bool) → b ≡ pointwise insn_eq.ghosts.eq held c
+pub room_at_some : (programs : Programs) (id : ProgramId) (held c : List Insn) (b : Bool)
+    → b ≡ pointwise insn_eq.ghosts.eq held c
     → get programs id ≡ Some held → IsTrue b ↔ has_room_for programs (Program id) (Some c)
 room_at_some programs id held c b tested there =
     (λ t. inr (there ∙ ap Some ((insns.same_code held c b tested).0 t)), by)
   where
     by : (get programs id ≡ None) ⊎ (get programs id ≡ Some c) → b ≡ true
     by (inl none) = let both : None ≡ Some held = sym none ∙ there in absurd (cc)
-    by (inr same) = let both : Some held ≡ Some c = sym there ∙ same in let is : held ≡ c = cc in (insns.same_code held c b tested).1 is
+    by (inr same) = let both : Some held ≡ Some c = sym there ∙ same in let is : held ≡ c = cc in
+        (insns.same_code held c b tested).1 is
 
 -- a clone of entries is the same entries
 pub same_clone : {K X : Type 0} (es fs : List (K × X)) → AllZip (λ p q. (q.0 ≡ p.0) × (q.1 ≡ p.1)) es fs → fs ≡ es
 same_clone [] [] h = refl
 same_clone [] (f ∷ fs) h = absurd h
 same_clone (e ∷ es) [] h = absurd h
-same_clone (e ∷ es) (f ∷ fs) h = ap (λ k. (k, f.1) ∷ fs) h.0.0 ∙ ap (λ x. (e.0, x) ∷ fs) h.0.1 ∙ ap (λ xs. e ∷ xs) (same_clone es fs h.1)
+same_clone (e ∷ es) (f ∷ fs) h = ap (λ k. (k, f.1) ∷ fs) h.0.0 ∙ ap (λ x. (e.0, x) ∷ fs) h.0.1
+    ∙ ap (λ xs. e ∷ xs) (same_clone es fs h.1)
 
 -- and one that shares its values reads alike
-pub shared_clone : {K X Y : Type 0} (f : X → Y) (es fs : List (K × X)) → AllZip (λ p q. (q.0 ≡ p.0) × (f q.1 ≡ f p.1)) es fs
+pub shared_clone : {K X Y : Type 0} (f : X → Y) (es fs : List (K × X))
+    → AllZip (λ p q. (q.0 ≡ p.0) × (f q.1 ≡ f p.1)) es fs
     → mapped f fs ≡ mapped f es
 shared_clone f [] [] h = refl
 shared_clone f [] (e ∷ fs) h = absurd h
 shared_clone f (e ∷ es) [] h = absurd h
 shared_clone f (e ∷ es) (g ∷ fs) h =
-    ap (λ k. (k, f g.1) ∷ mapped f fs) h.0.0 ∙ ap (λ x. (e.0, x) ∷ mapped f fs) h.0.1 ∙ ap (λ xs. (e.0, f e.1) ∷ xs) (shared_clone f es fs h.1)
+    ap (λ k. (k, f g.1) ∷ mapped f fs) h.0.0 ∙ ap (λ x. (e.0, x) ∷ mapped f fs) h.0.1
+        ∙ ap (λ xs. (e.0, f e.1) ∷ xs) (shared_clone f es fs h.1)

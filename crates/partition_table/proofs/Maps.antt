@@ -105,7 +105,8 @@ made_alike {K = K} {X = X} {R = R} o exact f g es h = same_map o exact _ _ (λ q
 
 module _ {K X : Type 0} {R : K → K → Ordering} (o : IsTotalOrder R) where
   -- what is removed where it was put in newly leaves the map as it was
-  pub remove_insert : IsAntisymmetric R → (m : FinMap R X) (k : K) (x : X) → get m k ≡ None → remove (insert m k x) k ≡ m
+  pub remove_insert : IsAntisymmetric R → (m : FinMap R X) (k : K) (x : X) → get m k ≡ None
+      → remove (insert m k x) k ≡ m
   remove_insert exact m k x none = same_map o exact _ _ (λ q.
       get-remove o (insert m k x) k q
       ∙ ap (cond (eq_by_cmp R q k) None) (get-insert o m k x q)

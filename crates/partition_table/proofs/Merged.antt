@@ -35,7 +35,8 @@ with_row_get : (n : Name) (row : Option Row) (t : Table) → get t n ≡ None �
 with_row_get n None t none = none
 with_row_get n (Some row) t none = get-insert_same names_total t n row
 
-with_row_other : (n : Name) (row : Option Row) (t : Table) (q : Name) → is_name q n ≡ false → get (with_row n row t) q ≡ get t q
+with_row_other : (n : Name) (row : Option Row) (t : Table) (q : Name) → is_name q n ≡ false
+    → get (with_row n row t) q ≡ get t q
 with_row_other n None t q apart = refl
 with_row_other n (Some row) t q apart = get-insert names_total t n row q ∙ ap (λ b. cond b (Some row) (get t q)) apart
 
@@ -66,9 +67,11 @@ put_all_get f (n ∷ ns) t sorted fresh q =
 
 -- ---- the answers in their order
 
-each_alike : (f g : Name → Option Row) (ns : List Name) → AllByRecursion (λ n. f n ≡ g n) ns → each_kept f ns ≡ each_kept g ns
+each_alike : (f g : Name → Option Row) (ns : List Name) → AllByRecursion (λ n. f n ≡ g n) ns
+    → each_kept f ns ≡ each_kept g ns
 each_alike f g [] same = refl
-each_alike f g (n ∷ ns) same = ap (λ row. (n, row) ∷ each_kept f ns) same.0 ∙ ap (λ es. (n, g n) ∷ es) (each_alike f g ns same.1)
+each_alike f g (n ∷ ns) same = ap (λ row. (n, row) ∷ each_kept f ns) same.0
+    ∙ ap (λ es. (n, g n) ∷ es) (each_alike f g ns same.1)
 
 no_answers : (names : List Name) (q : Name) → answer_at names [] q ≡ Neither
 no_answers [] q = refl
@@ -91,7 +94,8 @@ module _ (a b : Table) (gone_a gone_b : Name → Bool) where
   abbrev at_answers : List Name → List Verdict3 → Name → Option Row
   at_answers names xs n = kept_with a b gone_a gone_b n (answer_at names xs n)
 
-  behind_head : (n : Name) (names : List Name) (xs : List Verdict3) (ns : List Name) → AllByRecursion (λ m. name_cmp n m ≡ Less) ns
+  behind_head : (n : Name) (names : List Name) (xs : List Verdict3) (ns : List Name)
+      → AllByRecursion (λ m. name_cmp n m ≡ Less) ns
       → AllByRecursion (λ m. at_answers names (answers_behind xs) m ≡ at_answers (n ∷ names) xs m) ns
   behind_head n names xs [] above = tt
   behind_head n names [] (m ∷ ns) above =
@@ -109,23 +113,30 @@ module _ (a b : Table) (gone_a gone_b : Name → Bool) where
   pub settled_is : (ns : List Name) (xs : List Verdict3) → IsStrictlySortedBy name_cmp ns
       → settled a b gone_a gone_b ns xs ≡ each_kept (at_answers (clashing ns) xs) ns
   settled_is [] xs sorted = refl
-  settled_is (n ∷ ns) xs sorted = by (differ (get a n) (get b n)) refl (settled_is ns (answers_left (get a n) (get b n) xs) (sorted_tail name_cmp n ns sorted))
+  settled_is (n ∷ ns) xs sorted = by (differ (get a n) (get b n)) refl
+      (settled_is ns (answers_left (get a n) (get b n) xs) (sorted_tail name_cmp n ns sorted))
     where
       by : (d : Bool) → differ (get a n) (get b n) ≡ d
-          → settled a b gone_a gone_b ns (answers_left (get a n) (get b n) xs) ≡ each_kept (at_answers (clashing ns) (answers_left (get a n) (get b n) xs)) ns
-          → settled a b gone_a gone_b (n ∷ ns) xs ≡ each_kept (at_answers (cond d (n ∷ clashing ns) (clashing ns)) xs) (n ∷ ns)
+          → settled a b gone_a gone_b ns (answers_left (get a n) (get b n) xs)
+              ≡ each_kept (at_answers (clashing ns) (answers_left (get a n) (get b n) xs)) ns
+          → settled a b gone_a gone_b (n ∷ ns) xs ≡ each_kept (at_answers (cond d (n ∷ clashing ns) (clashing ns)) xs)
+              (n ∷ ns)
       by true d ih =
-          let left : answers_left (get a n) (get b n) xs ≡ answers_behind xs = ap (λ b. if b then answers_behind xs else xs) d in
-          ap (λ x. (n, kept_with a b gone_a gone_b n x) ∷ settled a b gone_a gone_b ns (answers_left (get a n) (get b n) xs)) (head_answer n (clashing ns) xs)
+          let left : answers_left (get a n) (get b n) xs ≡ answers_behind xs =
+                  ap (λ b. if b then answers_behind xs else xs) d in
+          ap (λ x. (n, kept_with a b gone_a gone_b n x) ∷ settled a b gone_a gone_b ns
+              (answers_left (get a n) (get b n) xs)) (head_answer n (clashing ns) xs)
           ∙ ap (λ es. (n, at_answers (n ∷ clashing ns) xs n) ∷ es)
           (ih ∙ ap (λ ys. each_kept (at_answers (clashing ns) ys) ns) left
           ∙ each_alike (at_answers (clashing ns) (answers_behind xs)) (at_answers (n ∷ clashing ns) xs) ns
           (behind_head n (clashing ns) xs ns (sorted_head name_cmp n ns sorted)))
       by false d ih =
           let left : answers_left (get a n) (get b n) xs ≡ xs = ap (λ b. if b then answers_behind xs else xs) d in
-          ap (λ row. (n, unless_gone (get a n) (get b n) (gone_a n) (gone_b n) row) ∷ settled a b gone_a gone_b ns (answers_left (get a n) (get b n) xs))
+          ap (λ row. (n, unless_gone (get a n) (get b n) (gone_a n) (gone_b n) row)
+              ∷ settled a b gone_a gone_b ns (answers_left (get a n) (get b n) xs))
           (merged_alike (get a n) (get b n) (first_answer xs) (answer_at (clashing ns) xs n) d)
-          ∙ ap (λ es. (n, at_answers (clashing ns) xs n) ∷ es) (ih ∙ ap (λ ys. each_kept (at_answers (clashing ns) ys) ns) left)
+          ∙ ap (λ es. (n, at_answers (clashing ns) xs n) ∷ es) (ih
+              ∙ ap (λ ys. each_kept (at_answers (clashing ns) ys) ns) left)
 
 -- ---- the two passes
 
@@ -137,7 +148,8 @@ no_row table q none = by (get table q) (contains_key-keys table q ∙ none)
     by (Some r) e = absurd (cc)
 
 -- a name that the first has is none of the others
-none_of_others : (a : Table) (ns : List Name) (q : Name) → contains_key a q ≡ true → list_any (is_name q) (names_without a ns) ≡ false
+none_of_others : (a : Table) (ns : List Name) (q : Name) → contains_key a q ≡ true
+    → list_any (is_name q) (names_without a ns) ≡ false
 none_of_others a [] q has = refl
 none_of_others a (n ∷ ns) q has = by (contains_key a n) refl (none_of_others a ns q has)
   where
@@ -159,7 +171,8 @@ one_of_others a [] q lacks = refl
 one_of_others a (n ∷ ns) q lacks = by (contains_key a n) refl (one_of_others a ns q lacks)
   where
     by : (b : Bool) → contains_key a n ≡ b → list_any (is_name q) (names_without a ns) ≡ list_any (is_name q) ns
-        → list_any (is_name q) (cond (not b) (n ∷ names_without a ns) (names_without a ns)) ≡ (is_name q n || list_any (is_name q) ns)
+        → list_any (is_name q) (cond (not b) (n ∷ names_without a ns) (names_without a ns))
+            ≡ (is_name q n || list_any (is_name q) ns)
     by true e ih = ih ∙ differs (is_name q n) refl
       where
         differs : (b : Bool) → is_name q n ≡ b → list_any (is_name q) ns ≡ (b || list_any (is_name q) ns)
@@ -222,7 +235,8 @@ module _ (a b : Table) (gone_a gone_b : Name → Bool) (answers : List Verdict3)
       nothing None s x e h = h
       nothing (Some r) s x e h = absurd (cc)
 
-      alone : (r s : Option Row) (x : Verdict3) → r ≡ None → unless_gone None s (gone_a q) (gone_b q) s ≡ unless_gone r s (gone_a q) (gone_b q) (merged_at r s x)
+      alone : (r s : Option Row) (x : Verdict3) → r ≡ None → unless_gone None s (gone_a q) (gone_b q) s
+          ≡ unless_gone r s (gone_a q) (gone_b q) (merged_at r s x)
       alone None None x e = refl
       alone None (Some s) x e = refl
       alone (Some r) s x e = absurd (cc)
@@ -231,10 +245,12 @@ module _ (a b : Table) (gone_a gone_b : Name → Bool) (answers : List Verdict3)
       none_a None e = refl
       none_a (Some r) e = absurd (cc)
 
-      by_b : (any : Bool) → list_any (is_name q) (keys b) ≡ any → get a q ≡ None → (if any then alone_in_b q else None) ≡ kept_in q
+      by_b : (any : Bool) → list_any (is_name q) (keys b) ≡ any → get a q ≡ None
+          → (if any then alone_in_b q else None) ≡ kept_in q
       by_b true e lacks = alone (get a q) (get b q) (answer_at (clash_names a b) answers q) lacks
       by_b false e lacks =
-          sym (ap (unless_gone (get a q) (get b q) (gone_a q) (gone_b q)) (nothing (get a q) (get b q) (answer_at (clash_names a b) answers q) lacks (no_row b q e))
+          sym (ap (unless_gone (get a q) (get b q) (gone_a q) (gone_b q))
+              (nothing (get a q) (get b q) (answer_at (clash_names a b) answers q) lacks (no_row b q e))
           ∙ none_gone (get a q) (get b q) (gone_a q) (gone_b q))
 
       by : (has : Bool) → contains_key a q ≡ has
@@ -259,7 +275,8 @@ put_step name table f q (Some row) true is t same left other =
 put_step name table f q (Some row) false is t same left other =
     get-insert names_total table name row q ∙ ap (λ b. cond b (Some row) (get table q)) t ∙ other refl
 
-get-tabulated : (names : List Name) (f : Name → Option Row) (q : Name) → (list_any (is_name q) names ≡ false → f q ≡ None)
+get-tabulated : (names : List Name) (f : Name → Option Row) (q : Name)
+    → (list_any (is_name q) names ≡ false → f q ≡ None)
     → get (tabulated names f) q ≡ f q
 get-tabulated [] f q none = get-empty name_cmp q ∙ sym (none refl)
 get-tabulated (name ∷ names) f q none =
@@ -268,7 +285,8 @@ get-tabulated (name ∷ names) f q none =
     (λ gone. get-tabulated names f q (λ _. gone))
     (λ t. get-tabulated names f q (λ e. none (or_from _ _ t e)))
 
-any_append : (p : Name → Bool) (ns ms : List Name) → list_any p (ns ++ ms) ≡ false → (list_any p ns ≡ false) × (list_any p ms ≡ false)
+any_append : (p : Name → Bool) (ns ms : List Name) → list_any p (ns ++ ms) ≡ false
+    → (list_any p ns ≡ false) × (list_any p ms ≡ false)
 any_append p [] ms e = (refl, e)
 any_append p (n ∷ ns) ms e =
     let h = or_parts _ _ e in
@@ -290,7 +308,8 @@ merge_is a b answers gone name = get-tabulated (keys a ++ keys b) (kept_at a b a
     none_at (Some r) s p q = absurd (cc)
 
 -- a table that has what the merge has under each name is the merge
-pub is_the_merge : (a b : Table) (answers : List Verdict3) (gone : Gone) (table : Table) → IsMerge a b answers gone table
+pub is_the_merge : (a b : Table) (answers : List Verdict3) (gone : Gone) (table : Table)
+    → IsMerge a b answers gone table
     → table ≡ merge a b answers gone
 is_the_merge a b answers gone table is =
     same_map names_total names_exact table (merge a b answers gone) (λ q. is q ∙ sym (merge_is a b answers gone q))
@@ -298,12 +317,15 @@ is_the_merge a b answers gone table is =
 -- what the two passes make
 pub passes_merge : (a b : Table) (gone_a gone_b : Name → Bool) (answers : List Verdict3) (gone : Gone)
     → ((q : Name) → gone_a q ≡ is_in q gone.of_a) → ((q : Name) → gone_b q ≡ is_in q gone.of_b)
-    → put_all (each_kept (alone_in_b a b gone_a gone_b answers) (names_without a (keys b))) (first_pass a b gone_a gone_b answers) ≡ merge a b answers gone
+    → put_all (each_kept (alone_in_b a b gone_a gone_b answers) (names_without a (keys b)))
+        (first_pass a b gone_a gone_b answers) ≡ merge a b answers gone
 passes_merge a b gone_a gone_b answers gone first second =
     is_the_merge a b answers gone _ (λ q.
     second_get a b gone_a gone_b answers q
-    ∙ ap (λ p. unless_gone (get a q) (get b q) p (gone_b q) (merged_at (get a q) (get b q) (answer_at (clash_names a b) answers q))) (first q)
-    ∙ ap (λ p. unless_gone (get a q) (get b q) (is_in q gone.of_a) p (merged_at (get a q) (get b q) (answer_at (clash_names a b) answers q))) (second q))
+    ∙ ap (λ p. unless_gone (get a q) (get b q) p (gone_b q) (merged_at (get a q) (get b q)
+        (answer_at (clash_names a b) answers q))) (first q)
+    ∙ ap (λ p. unless_gone (get a q) (get b q) (is_in q gone.of_a) p
+        (merged_at (get a q) (get b q) (answer_at (clash_names a b) answers q))) (second q))
 
 -- tables that fit together have few names
 pub fit_few : (a b : Table) → fit_together a b ≡ true → union_len a b ≤ max_names

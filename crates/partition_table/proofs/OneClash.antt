@@ -28,7 +28,8 @@ pub keys_length : (table : Table) → length (keys table) ≡ len table
 keys_length table = named_length (entries table) ∙ sym (len-entries table)
 
 -- there are no more clashes than names
-pub few_found : (by_name : Name → Option Clash) (table : Table) → IsTable table → length (filter_map by_name (keys table)) ≤ max_names
+pub few_found : (by_name : Name → Option Clash) (table : Table) → IsTable table
+    → length (filter_map by_name (keys table)) ≤ max_names
 few_found by_name table kept = omega (arith, few_kept by_name (keys table), keys_length table, kept.few)
 
 -- where nothing is left, all was found
@@ -50,7 +51,8 @@ module _ (of_a of_b : Facts) (name : Name) (mine other : Registration) where
       let second : s.registration ≡ other = cc in
       rw (first, second, e) refl
 
-  pub less_clash : (ra sb : Option Row) (code : Option (List Insn)) → option_map (λ row. row.registration) ra ≡ Some mine
+  pub less_clash : (ra sb : Option Row) (code : Option (List Insn))
+      → option_map (λ row. row.registration) ra ≡ Some mine
       → option_map (λ row. row.registration) sb ≡ Some other → registration_cmp mine other ≡ Less
       → ((row : Row) → ra ≡ Some row → row.registration.resolver ≡ mine.resolver → code ≡ row.code)
       → clash_at of_a of_b name ra sb
@@ -63,7 +65,8 @@ module _ (of_a of_b : Facts) (name : Name) (mine other : Registration) where
       let coded : code ≡ r.code = c r refl (ap (λ (x : Registration). x.resolver) first) in
       rw (first, second, e, coded) refl
 
-  pub greater_clash : (ra sb : Option Row) (code : Option (List Insn)) → option_map (λ row. row.registration) ra ≡ Some mine
+  pub greater_clash : (ra sb : Option Row) (code : Option (List Insn))
+      → option_map (λ row. row.registration) ra ≡ Some mine
       → option_map (λ row. row.registration) sb ≡ Some other → registration_cmp mine other ≡ Greater
       → ((row : Row) → sb ≡ Some row → row.registration.resolver ≡ other.resolver → code ≡ row.code)
       → clash_at of_a of_b name ra sb
@@ -80,11 +83,13 @@ few_filtered : {X : Type 0} (p : X → Bool) (xs : List X) → length (filter p 
 few_filtered p [] = omega arith
 few_filtered p (x ∷ xs) = by (p x) (few_filtered p xs)
   where
-    by : (b : Bool) → length (filter p xs) ≤ length xs → length (cond b (x ∷ filter p xs) (filter p xs)) ≤ suc (length xs)
+    by : (b : Bool) → length (filter p xs) ≤ length xs → length (cond b (x ∷ filter p xs) (filter p xs))
+        ≤ suc (length xs)
     by true h = omega arith
     by false h = omega arith
 
 -- two tables have few names together
 pub union_few : (a b : Table) → IsTable a → IsTable b → union_len a b ≤ 8192
 union_few a b kept_a kept_b =
-    omega (arith, few_filtered (λ name. not (contains_key a name)) (keys b), keys_length a, keys_length b, kept_a.few, kept_b.few)
+    omega (arith, few_filtered (λ name. not (contains_key a name)) (keys b), keys_length a, keys_length b, kept_a.few,
+        kept_b.few)

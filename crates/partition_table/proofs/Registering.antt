@@ -15,7 +15,8 @@ use Rattle.partition_table.specs.model.Keeping.{IsHeld, has_room_for}
 use Rattle.partition_table.proofs.Held.{IsLookedUp, agrees_from_room, room_from_agrees}
 
 -- a refusal that is handed on
-pub handed_on : {A : Type 0} (due : Option TableFault) (r : Result A TableFault) (f : TableFault) → IsErrAnd r (λ e. e ≡ f)
+pub handed_on : {A : Type 0} (due : Option TableFault) (r : Result A TableFault) (f : TableFault)
+    → IsErrAnd r (λ e. e ≡ f)
     → (due ≡ Some f) ⊎ (f ≡ OutOfMemory) → IsAnswered due r
 handed_on due (Ok x) f h is = absurd h
 handed_on due (Err e) f h (inl is) = inl (is ∙ ap Some (sym h))
@@ -26,7 +27,8 @@ module _ (table : Table) (name : Name) (r : Registration) (store : Programs) whe
   taken_due a = rw a refl
 
   pub full_due : contains_key table name ≡ false → len table ≡ max_names → register_fault table name r store ≡ Some Full
-  full_due a full = let b : nat_lt (len table) max_names ≡ false = le-ltb (len table) max_names (omega arith) in rw (a, b) refl
+  full_due a full = let b : nat_lt (len table) max_names ≡ false = le-ltb (len table) max_names (omega arith) in
+      rw (a, b) refl
 
   module _ (a : contains_key table name ≡ false) (room : len table < max_names) where
     pub unknown_due : is_known store r.resolver ≡ false → register_fault table name r store ≡ Some UnknownProgram
@@ -34,11 +36,13 @@ module _ (table : Table) (name : Name) (r : Registration) (store : Programs) whe
 
     pub other_due : is_known store r.resolver ≡ true → agrees_with table (row_for store r) ≡ false
         → register_fault table name r store ≡ Some OtherCode
-    other_due k g = let b : nat_lt (len table) max_names ≡ true = lt-ltb (len table) max_names room in rw (a, b, k, g) refl
+    other_due k g = let b : nat_lt (len table) max_names ≡ true = lt-ltb (len table) max_names room in
+        rw (a, b, k, g) refl
 
     pub none_due : is_known store r.resolver ≡ true → agrees_with table (row_for store r) ≡ true
         → register_fault table name r store ≡ None
-    none_due k g = let b : nat_lt (len table) max_names ≡ true = lt-ltb (len table) max_names room in rw (a, b, k, g) refl
+    none_due k g = let b : nat_lt (len table) max_names ≡ true = lt-ltb (len table) max_names room in
+        rw (a, b, k, g) refl
 
 -- a table that isn't full has room
 pub has_place : (n m : ℕ) → n ≡ m → m ≤ max_names → n ≢ max_names → m < max_names

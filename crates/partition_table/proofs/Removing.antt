@@ -19,7 +19,8 @@ use Rattle.partition_table.proofs.Held.{IsLookedUp, same_id_is, same_id_from}
 use Rattle.partition_table.proofs.Changes.{held_less, held_released, made_released}
 
 any_row : (programs : Programs) (p : Registration → Bool) (rows : List (Name × Registration))
-    → list_any p (values_of rows) ≡ list_any (λ row. p row.registration) (map (λ e. e.1) (mapped (row_for programs) rows))
+    → list_any p (values_of rows) ≡ list_any (λ row. p row.registration)
+        (map (λ e. e.1) (mapped (row_for programs) rows))
 any_row programs p [] = refl
 any_row programs p (e ∷ es) = ap (λ b. p e.1 || b) (any_row programs p es)
 
@@ -41,7 +42,8 @@ module _ (programs : Programs) (table : Table) (held : IsHeld programs table) (l
 
   named_in : (id : ProgramId) → list_any (names id) (values_of n.entries)
       ≡ list_any (λ r. names id r.registration) (values (remove table name))
-  named_in id = any_kept programs (names id) n.entries ordered ∙ ap (λ t. list_any (λ (r : Row). names id r.registration) (values t)) made_less
+  named_in id = any_kept programs (names id) n.entries ordered
+      ∙ ap (λ t. list_any (λ (r : Row). names id r.registration) (values t)) made_less
 
   still_named : (id : ProgramId) → list_any (names id) (values_of n.entries) ≡ true → IsNamed (remove table name) id
   still_named id h =
@@ -52,7 +54,8 @@ module _ (programs : Programs) (table : Table) (held : IsHeld programs table) (l
   alone : (id : ProgramId) → list_any (names id) (values_of n.entries) ≡ false
       → (q : Name) (r : Row) → get (remove table name) q ≡ Some r → program_of r.registration.resolver ≡ Some id → ⊥
   alone id h q r found is =
-      let no = none_value_at names_total (remove table name) (λ r. names id r.registration) (sym (named_in id) ∙ h) q r found in
+      let no = none_value_at names_total (remove table name) (λ r. names id r.registration) (sym (named_in id)
+              ∙ h) q r found in
       let yes : names id r.registration ≡ true = ap (λ o. same_id o (Some id)) is ∙ same_id_from id in
       let both : true ≡ false = sym yes ∙ no in absurd (cc)
 
@@ -64,7 +67,8 @@ module _ (programs : Programs) (table : Table) (held : IsHeld programs table) (l
       subst (λ p. IsHeld p (table_by p n.entries) × (table_by p n.entries ≡ remove table name))
       (sym (a ∙ ap (λ o. without_code o programs) u)) (by row.registration.resolver refl)
     where
-      by_id : (id : ProgramId) → row.registration.resolver ≡ Program id → (b : Bool) → list_any (names id) (values_of n.entries) ≡ b
+      by_id : (id : ProgramId) → row.registration.resolver ≡ Program id → (b : Bool)
+          → list_any (names id) (values_of n.entries) ≡ b
           → let p : Programs = without_code (if b then None else Some id) programs in
           IsHeld p (table_by p n.entries) × (table_by p n.entries ≡ remove table name)
       by_id id is true h = (
@@ -75,7 +79,8 @@ module _ (programs : Programs) (table : Table) (held : IsHeld programs table) (l
       )
       by_id id is false h =
           let named : program_of row.registration.resolver ≡ Some id = ap program_of is in
-          let same = made_released programs table held looked name row there id named (alone id h) n.entries made_less in (
+          let same = made_released programs table held looked name row there id named (alone id h) n.entries
+                  made_less in (
             subst (IsHeld (without_code (Some id) programs)) (sym same)
                 (held_released programs table held looked name row there id named (alone id h)),
             same,

@@ -19,9 +19,11 @@ module _ (c : Clash) (word : ℕ) where
       → answer_by r code bytes word ≡ answer c word
   unfolding answer
   by_resolver r code is coded =
-      ap (λ r. answer_by r code bytes word) (sym is) ∙ ap (λ code. answer_by c.first.resolver code bytes word) (sym coded)
+      ap (λ r. answer_by r code bytes word) (sym is) ∙ ap (λ code. answer_by c.first.resolver code bytes word)
+          (sym coded)
 
-  pub builtin_answer : (resolver : b.Builtin) → c.first.resolver ≡ Builtin resolver → builtin_verdict resolver word ≡ answer c word
+  pub builtin_answer : (resolver : b.Builtin) → c.first.resolver ≡ Builtin resolver
+      → builtin_verdict resolver word ≡ answer c word
   builtin_answer resolver is = by_resolver (Builtin resolver) c.code is refl
 
   pub program_answer : (id : ProgramId) (code : List Insn) (r0 : ℕ) → c.first.resolver ≡ Program id → c.code ≡ Some code

@@ -51,7 +51,8 @@ module _ (a b : Table) where
   pub merged_of : (n : Name) (x : Verdict3) → IfSome (merged_at (get a n) (get b n) x) (IsRowOf a b n)
   merged_of n x = merged_is (get a n) (get b n) x
 
-  module _ (n : Name) (mine : Registration) (other : Option Registration) (met : IsPaired a b (n, mine, other)) (x : Verdict3) where
+  module _ (n : Name) (mine : Registration) (other : Option Registration) (met : IsPaired a b (n, mine, other))
+      (x : Verdict3) where
     -- what is settled is the registration that is kept
     pub settled_kept : (kept : Option (Bor Registration))
         → ((r : Row) (s : Option Row) → r.registration ≡ mine → option_map (λ row. row.registration) s ≡ other
@@ -81,7 +82,8 @@ module _ (a b : Table) where
       → AllByRecursion (λ m. name_cmp n m ≡ Less) ns → AllByRecursion (λ m. get (insert t n row) m ≡ None) ns
   still_fresh n row t [] fresh above = tt
   still_fresh n row t (m ∷ ns) fresh above = (
-    get-insert names_total t n row m ∙ ap (λ b. cond b (Some row) (get t m)) (ap is_eq (flipped n m Less above.0)) ∙ fresh.0,
+    get-insert names_total t n row m ∙ ap (λ b. cond b (Some row) (get t m)) (ap is_eq (flipped n m Less above.0))
+        ∙ fresh.0,
     still_fresh n row t ns fresh.1 above.1,
   )
 
@@ -105,7 +107,8 @@ module _ (a b : Table) where
         omega arith;
   }
     where
-      by : (q : Name) (r : Row) (x : Bool) → eq_by_cmp name_cmp q n ≡ x → cond x (Some row) (get t q) ≡ Some r → IsRowOf a b q r
+      by : (q : Name) (r : Row) (x : Bool) → eq_by_cmp name_cmp q n ≡ x → cond x (Some row) (get t q) ≡ Some r
+          → IsRowOf a b q r
       by q r true e h =
           let is : row ≡ r = cc in
           let at : n ≡ q = sym (names_exact q n ((Equal-is (name_cmp q n)).0 e)) in
@@ -113,7 +116,8 @@ module _ (a b : Table) where
       by q r false e h = ready.part q r h
 
 -- what isn't withdrawn is kept
-pub unless_gone_of : (P : Row → Type 0) (r s : Option Row) (p q : Bool) (o : Option Row) → IfSome o P → IfSome (unless_gone r s p q o) P
+pub unless_gone_of : (P : Row → Type 0) (r s : Option Row) (p q : Bool) (o : Option Row) → IfSome o P
+    → IfSome (unless_gone r s p q o) P
 unless_gone_of P r s p q o h = by ((p && holds r o) || (q && holds s o))
   where
     by : (b : Bool) → IfSome (if b then None else o) P
@@ -129,12 +133,14 @@ none_shown None e = refl
 none_shown (Some r) e = absurd (cc)
 
 -- a name that the first lacks
-pub lacked : (a : Table) (n : Name) (mine : Option (Bor Registration)) → option_map (λ row. row.registration) (get a n) ≡ option_map (λ r. r.now) mine
+pub lacked : (a : Table) (n : Name) (mine : Option (Bor Registration))
+    → option_map (λ row. row.registration) (get a n) ≡ option_map (λ r. r.now) mine
     → is_some mine ≡ false → get a n ≡ None
 lacked a n None met e = none_shown (get a n) met
 lacked a n (Some r) met e = absurd (cc)
 
-pub without_step : (a : Table) (n : Name) (ns : List Name) → get a n ≡ None → names_without a (n ∷ ns) ≡ n ∷ names_without a ns
+pub without_step : (a : Table) (n : Name) (ns : List Name) → get a n ≡ None
+    → names_without a (n ∷ ns) ≡ n ∷ names_without a ns
 without_step a n ns none = ap (λ o. cond (not (is_some o)) (n ∷ names_without a ns) (names_without a ns)) none
 
 -- the keys of a table are in order
@@ -143,7 +149,8 @@ unfolding IsStrictlySortedBy
 sorted_names [] h = tt
 sorted_names (e ∷ es) h = let both = and_parts _ _ h in (above e.0 es both.0, sorted_names es both.1)
   where
-    above : (k : Name) (es : List (Name × Row)) → below_all name_cmp k es ≡ true → AllByRecursion (λ m. name_cmp k m ≡ Less) (map (λ e. e.0) es)
+    above : (k : Name) (es : List (Name × Row)) → below_all name_cmp k es ≡ true
+        → AllByRecursion (λ m. name_cmp k m ≡ Less) (map (λ e. e.0) es)
     above k [] h = tt
     above k (e ∷ es) h = let both = and_parts _ _ h in (is_less (name_cmp k e.0) both.0, above k es both.1)
 

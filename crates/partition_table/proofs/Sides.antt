@@ -25,7 +25,8 @@ use Rattle.partition_table.proofs.Uniting.{two_agree}
 
 -- ---- the names of clashes
 
-head_name : (of_a of_b : Facts) (n : Name) (r s : Option Row) (cs : List Clash) (ns : List Name) → map (λ c. c.name) cs ≡ ns
+head_name : (of_a of_b : Facts) (n : Name) (r s : Option Row) (cs : List Clash) (ns : List Name)
+    → map (λ c. c.name) cs ≡ ns
     → map (λ c. c.name) (cons_option (clash_at of_a of_b n r s) cs) ≡ cond (differ r s) (n ∷ ns) ns
 head_name of_a of_b n None s cs ns h = h
 head_name of_a of_b n (Some r) None cs ns h = h
@@ -35,8 +36,10 @@ head_name of_a of_b n (Some r) (Some s) cs ns h =
     by : (same less : Bool)
         → map (λ c. c.name) (cons_option (if same then None else Some (
         if less
-        then record { name = n; first = r.registration; second = s.registration; of_first = of_a; of_second = of_b; code = r.code }
-        else record { name = n; first = s.registration; second = r.registration; of_first = of_b; of_second = of_a; code = s.code })) cs)
+        then record { name = n; first = r.registration; second = s.registration; of_first = of_a; of_second =
+            of_b; code = r.code }
+        else record { name = n; first = s.registration; second = r.registration; of_first = of_b; of_second =
+            of_a; code = s.code })) cs)
         ≡ cond (not same) (n ∷ ns) ns
     by true less = h
     by false true = ap (λ ms. n ∷ ms) h
@@ -64,7 +67,8 @@ count_of_clashes a b uptime_a uptime_b =
 
 -- ---- names in order with the same members are the same
 
-any_kept : (p : Name → Bool) (q : Name) (ns : List Name) → list_any (is_name q) (filter p ns) ≡ (p q && list_any (is_name q) ns)
+any_kept : (p : Name → Bool) (q : Name) (ns : List Name) → list_any (is_name q) (filter p ns)
+    ≡ (p q && list_any (is_name q) ns)
 any_kept p q [] = by (p q)
   where
     by : (b : Bool) → false ≡ (b && false)
@@ -72,7 +76,8 @@ any_kept p q [] = by (p q)
     by false = refl
 any_kept p q (n ∷ ns) = by (p n) refl (is_name q n) refl (any_kept p q ns)
   where
-    by : (b : Bool) → p n ≡ b → (t : Bool) → is_name q n ≡ t → list_any (is_name q) (filter p ns) ≡ (p q && list_any (is_name q) ns)
+    by : (b : Bool) → p n ≡ b → (t : Bool) → is_name q n ≡ t
+        → list_any (is_name q) (filter p ns) ≡ (p q && list_any (is_name q) ns)
         → list_any (is_name q) (cond b (n ∷ filter p ns) (filter p ns)) ≡ (p q && (t || list_any (is_name q) ns))
     by true e true t ih =
         let yes : p q ≡ true = ap p (same_name q n t) ∙ e in
@@ -86,7 +91,8 @@ any_kept p q (n ∷ ns) = by (p n) refl (is_name q n) refl (any_kept p q ns)
 same_names : (ns ms : List Name) → IsStrictlySortedBy name_cmp ns → IsStrictlySortedBy name_cmp ms
     → ((q : Name) → list_any (is_name q) ns ≡ list_any (is_name q) ms) → ns ≡ ms
 same_names ns ms sorted_ns sorted_ms same =
-    btree_set_from_contains names_total (record { keys = ns }) (record { keys = ms }) sorted_ns sorted_ms same names_exact
+    btree_set_from_contains names_total (record { keys = ns }) (record { keys =
+        ms }) sorted_ns sorted_ms same names_exact
 
 differ_back : (r s : Option Row) → differ r s ≡ differ s r
 differ_back None None = refl
@@ -112,7 +118,8 @@ any_clash a b q =
 
 clash_names_sorted : (a b : Table) → IsStrictlySortedBy name_cmp (clash_names a b)
 unfolding clash_names
-clash_names_sorted a b = IsStrictlySortedBy-filter name_cmp (λ name. differ (get a name) (get b name)) (keys a) (keys_sorted a)
+clash_names_sorted a b = IsStrictlySortedBy-filter name_cmp (λ name. differ (get a name) (get b name)) (keys a)
+    (keys_sorted a)
 
 -- the names that clash are the same from either side
 pub clash_names_back : (a b : Table) → clash_names a b ≡ clash_names b a
@@ -145,7 +152,8 @@ no_clash of_a of_b n (Some r) (Some s) e = by (same_registration r.registration 
     by true e = refl
     by false e = absurd (cc)
 
-only_kept : {Y : Type 0} (h : Name → Option Y) (p : Name → Bool) → ((n : Name) → p n ≡ false → h n ≡ None) → (ns : List Name)
+only_kept : {Y : Type 0} (h : Name → Option Y) (p : Name → Bool) → ((n : Name) → p n ≡ false → h n ≡ None)
+    → (ns : List Name)
     → filter_map h ns ≡ filter_map h (filter p ns)
 only_kept h p none [] = refl
 only_kept {Y = Y} h p none (n ∷ ns) = by (p n) refl (only_kept h p none ns)
@@ -155,9 +163,11 @@ only_kept {Y = Y} h p none (n ∷ ns) = by (p n) refl (only_kept h p none ns)
     by true e ih = ap (cons_option (h n)) ih
     by false e ih = ap (λ o. cons_option o (filter_map h ns)) (none n e) ∙ ih
 
-each_back : {Y : Type 0} (h k : Name → Option Y) → ((n : Name) → h n ≡ k n) → (ns : List Name) → filter_map h ns ≡ filter_map k ns
+each_back : {Y : Type 0} (h k : Name → Option Y) → ((n : Name) → h n ≡ k n) → (ns : List Name)
+    → filter_map h ns ≡ filter_map k ns
 each_back h k same [] = refl
-each_back h k same (n ∷ ns) = ap (λ o. cons_option o (filter_map h ns)) (same n) ∙ ap (cons_option (k n)) (each_back h k same ns)
+each_back h k same (n ∷ ns) = ap (λ o. cons_option o (filter_map h ns)) (same n)
+    ∙ ap (cons_option (k n)) (each_back h k same ns)
 
 by_clash_names : (of_a of_b : Facts) (a b : Table)
     → filter_map (λ name. clash_at of_a of_b name (get a name) (get b name)) (keys a)
@@ -175,16 +185,19 @@ clashes_back a b uptime_a uptime_b =
     let of_b = facts_of b uptime_b in
     by_clash_names of_a of_b a b
     ∙ ap (filter_map (λ name. clash_at of_a of_b name (get a name) (get b name))) (clash_names_back a b)
-    ∙ each_back (λ name. clash_at of_a of_b name (get a name) (get b name)) (λ name. clash_at of_b of_a name (get b name) (get a name))
+    ∙ each_back (λ name. clash_at of_a of_b name (get a name) (get b name))
+        (λ name. clash_at of_b of_a name (get b name) (get a name))
     (λ n. clash_back of_a of_b n (get a n) (get b n)) (clash_names b a)
     ∙ sym (by_clash_names of_b of_a b a)
 
 -- ---- the merge
 
-winner_back : (r s : Row) (x : Verdict3) → same_registration r.registration s.registration ≡ false → winner r s x ≡ winner s r x
+winner_back : (r s : Row) (x : Verdict3) → same_registration r.registration s.registration ≡ false
+    → winner r s x ≡ winner s r x
 winner_back r s x apart = by x (registration_cmp r.registration s.registration) refl
   where
-    by : (x : Verdict3) (o : Ordering) → registration_cmp r.registration s.registration ≡ o → winner r s x ≡ winner s r x
+    by : (x : Verdict3) (o : Ordering) → registration_cmp r.registration s.registration ≡ o
+        → winner r s x ≡ winner s r x
     by First Less e = let back = reversed r.registration s.registration Less e in rw (e, back) refl
     by First Greater e = let back = reversed r.registration s.registration Greater e in rw (e, back) refl
     by Second Less e = let back = reversed r.registration s.registration Less e in rw (e, back) refl
@@ -200,9 +213,11 @@ no_code (Program id) c coded e = absurd (cc)
 
 module _ (a b : Table) (kept_a : IsTable a) (kept_b : IsTable b) (agree : tables_agree a b ≡ true) where
   -- equal registrations have equal code
-  pub one_row : (n : Name) (r s : Row) → get a n ≡ Some r → get b n ≡ Some s → same_registration r.registration s.registration ≡ true → r ≡ s
+  pub one_row : (n : Name) (r s : Row) → get a n ≡ Some r → get b n ≡ Some s
+      → same_registration r.registration s.registration ≡ true → r ≡ s
   one_row n r s h k same =
-      let is : r.registration ≡ s.registration = registrations_exact r.registration s.registration ((Equal-is (registration_cmp r.registration s.registration)).0 same) in
+      let is : r.registration ≡ s.registration = registrations_exact r.registration s.registration
+              ((Equal-is (registration_cmp r.registration s.registration)).0 same) in
       let code = coded (program_of r.registration.resolver) refl is in
       ap (λ (x : Registration). record { registration = x; code = r.code }) is
       ∙ ap (λ (c : Option (List Insn)). record { registration = s.registration; code = c }) code
@@ -210,17 +225,21 @@ module _ (a b : Table) (kept_a : IsTable a) (kept_b : IsTable b) (agree : tables
       coded : (p : _) → program_of r.registration.resolver ≡ p → r.registration ≡ s.registration → r.code ≡ s.code
       coded None e is =
           no_code r.registration.resolver r.code (kept_a.coded n r h) e
-          ∙ sym (no_code s.registration.resolver s.code (kept_b.coded n s k) (ap (λ (x : Registration). program_of x.resolver) (sym is) ∙ e))
+          ∙ sym (no_code s.registration.resolver s.code (kept_b.coded n s k)
+              (ap (λ (x : Registration). program_of x.resolver) (sym is) ∙ e))
       coded (Some id) e is =
-          two_agree a b kept_a kept_b agree n n r s (inl h) (inr k) id e (ap (λ (x : Registration). program_of x.resolver) (sym is) ∙ e)
+          two_agree a b kept_a kept_b agree n n r s (inl h) (inr k) id e
+              (ap (λ (x : Registration). program_of x.resolver) (sym is) ∙ e)
 
-  merged_back : (n : Name) (r s : Option Row) (x : Verdict3) → get a n ≡ r → get b n ≡ s → merged_at r s x ≡ merged_at s r x
+  merged_back : (n : Name) (r s : Option Row) (x : Verdict3) → get a n ≡ r → get b n ≡ s
+      → merged_at r s x ≡ merged_at s r x
   merged_back n None None x h k = refl
   merged_back n None (Some s) x h k = refl
   merged_back n (Some r) None x h k = refl
   merged_back n (Some r) (Some s) x h k = by (same_registration r.registration s.registration) refl
     where
-      by : (b : Bool) → same_registration r.registration s.registration ≡ b → merged_at (Some r) (Some s) x ≡ merged_at (Some s) (Some r) x
+      by : (b : Bool) → same_registration r.registration s.registration ≡ b
+          → merged_at (Some r) (Some s) x ≡ merged_at (Some s) (Some r) x
       by true e =
           let turned = sym ((eq_by_cmp_equiv registrations_total).symm r.registration s.registration) ∙ e in
           ap (λ b. if b then Some r else winner r s x) e ∙ ap Some (one_row n r s h k e)
@@ -241,11 +260,14 @@ module _ (a b : Table) (kept_a : IsTable a) (kept_b : IsTable b) (agree : tables
 
   -- the merge is the same from either side
   pub merge_back : (answers : List Verdict3) (gone_a gone_b : List Name)
-      → merge a b answers (record { of_a = gone_a; of_b = gone_b }) ≡ merge b a answers (record { of_a = gone_b; of_b = gone_a })
+      → merge a b answers (record { of_a = gone_a; of_b = gone_b })
+          ≡ merge b a answers (record { of_a = gone_b; of_b = gone_a })
   merge_back answers gone_a gone_b =
-      is_the_merge b a answers (record { of_a = gone_b; of_b = gone_a }) (merge a b answers (record { of_a = gone_a; of_b = gone_b })) (λ q.
+      is_the_merge b a answers (record { of_a = gone_b; of_b =
+          gone_a }) (merge a b answers (record { of_a = gone_a; of_b = gone_b })) (λ q.
       merge_is a b answers (record { of_a = gone_a; of_b = gone_b }) q
-      ∙ gone_back (get a q) (get b q) (is_in q gone_a) (is_in q gone_b) (merged_at (get a q) (get b q) (answer_at (clash_names a b) answers q))
+      ∙ gone_back (get a q) (get b q) (is_in q gone_a) (is_in q gone_b)
+          (merged_at (get a q) (get b q) (answer_at (clash_names a b) answers q))
       ∙ ap (unless_gone (get b q) (get a q) (is_in q gone_b) (is_in q gone_a))
       (merged_back q (get a q) (get b q) (answer_at (clash_names a b) answers q) refl refl
       ∙ ap (λ names. merged_at (get b q) (get a q) (answer_at names answers q)) (clash_names_back a b)))

@@ -27,7 +27,8 @@ pub flipped : (n q : Name) (o : Ordering) → name_cmp n q ≡ o → name_cmp q 
 flipped n q o h = names_total.antisymm q n ∙ ap ordering_reverse h
 
 module _ {Y : Type 0} where
-  below_least : (n k : Name) (es : List (Name × Y)) → name_cmp n k ≡ Less → below_all name_cmp k es ≡ true → find name_cmp n es ≡ None
+  below_least : (n k : Name) (es : List (Name × Y)) → name_cmp n k ≡ Less → below_all name_cmp k es ≡ true
+      → find name_cmp n es ≡ None
   below_least n k [] less h = refl
   below_least n k (e ∷ es) less h =
       let both = and_parts _ _ h in
@@ -42,7 +43,8 @@ module _ {Y : Type 0} where
   first_found n (e ∷ es) h = by (first_found n es (and_parts _ _ h).1) (name_cmp e.0 n) refl
     where
       by : first_at n (drop_before n es) ≡ find name_cmp n es → (o : Ordering) → name_cmp e.0 n ≡ o
-          → first_at n (if is_lt (name_cmp e.0 n) then drop_before n es else e ∷ es) ≡ cond (eq_by_cmp name_cmp n e.0) (Some e.1) (find name_cmp n es)
+          → first_at n (if is_lt (name_cmp e.0 n) then drop_before n es else e ∷ es)
+              ≡ cond (eq_by_cmp name_cmp n e.0) (Some e.1) (find name_cmp n es)
       by rest Less is = let turned = flipped e.0 n Less is in rw (is, turned) rest
       by rest Equal is = let turned = flipped e.0 n Equal is in rw (is, turned, is) refl
       by rest Greater is =
@@ -50,22 +52,26 @@ module _ {Y : Type 0} where
           rw (is, turned, is) (sym (below_least n e.0 es turned (and_parts _ _ h).0))
 
   -- what comes before a name isn't looked for behind it
-  found_behind : (n q : Name) (es : List (Name × Y)) → name_cmp n q ≡ Less → find name_cmp q (drop_before n es) ≡ find name_cmp q es
+  found_behind : (n q : Name) (es : List (Name × Y)) → name_cmp n q ≡ Less
+      → find name_cmp q (drop_before n es) ≡ find name_cmp q es
   found_behind n q [] less = refl
   found_behind n q (e ∷ es) less = by (found_behind n q es less) (name_cmp e.0 n) refl
     where
       by : find name_cmp q (drop_before n es) ≡ find name_cmp q es → (o : Ordering) → name_cmp e.0 n ≡ o
-          → find name_cmp q (if is_lt (name_cmp e.0 n) then drop_before n es else e ∷ es) ≡ cond (eq_by_cmp name_cmp q e.0) (Some e.1) (find name_cmp q es)
+          → find name_cmp q (if is_lt (name_cmp e.0 n) then drop_before n es else e ∷ es)
+              ≡ cond (eq_by_cmp name_cmp q e.0) (Some e.1) (find name_cmp q es)
       by rest Less is =
           let turned = flipped e.0 q Less (names_total.trans e.0 n q is less) in rw (is, turned) rest
       by rest Equal is = rw is refl
       by rest Greater is = rw is refl
 
-  sorted_behind : (n : Name) (es : List (Name × Y)) → is_sorted name_cmp es ≡ true → is_sorted name_cmp (drop_before n es) ≡ true
+  sorted_behind : (n : Name) (es : List (Name × Y)) → is_sorted name_cmp es ≡ true
+      → is_sorted name_cmp (drop_before n es) ≡ true
   sorted_behind n [] h = refl
   sorted_behind n (e ∷ es) h = by (sorted_behind n es (and_parts _ _ h).1) (is_lt (name_cmp e.0 n))
     where
-      by : is_sorted name_cmp (drop_before n es) ≡ true → (b : Bool) → is_sorted name_cmp (if b then drop_before n es else e ∷ es) ≡ true
+      by : is_sorted name_cmp (drop_before n es) ≡ true → (b : Bool)
+          → is_sorted name_cmp (if b then drop_before n es else e ∷ es) ≡ true
       by rest true = rest
       by rest false = h
 
@@ -86,7 +92,8 @@ module _ {X Y : Type 0} where
       )
 
   -- with what the second list has there
-  walk_finds : (xs : List (Name × X)) (ys : List (Name × Y)) → is_sorted name_cmp xs ≡ true → is_sorted name_cmp ys ≡ true
+  walk_finds : (xs : List (Name × X)) (ys : List (Name × Y)) → is_sorted name_cmp xs ≡ true
+      → is_sorted name_cmp ys ≡ true
       → AllByRecursion (λ item. find name_cmp item.0 ys ≡ item.2) (walk xs ys)
   walk_finds [] ys h k = tt
   walk_finds (x ∷ xs) ys h k =
@@ -117,23 +124,30 @@ module _ {X Y : Type 0} where
         own_behind x.0 x.1 xs xs (drop_before x.0 ys) both.0 (walk_owns xs (drop_before x.0 ys) both.1),
       )
 
-find_shown : (es : List (Name × Row)) (q : Name) → find name_cmp q (mapped (λ row. row.registration) es) ≡ option_map (λ row. row.registration) (find name_cmp q es)
+find_shown : (es : List (Name × Row)) (q : Name) → find name_cmp q (mapped (λ row. row.registration) es)
+    ≡ option_map (λ row. row.registration) (find name_cmp q es)
 find_shown [] q = refl
 find_shown (e ∷ es) q = by (eq_by_cmp name_cmp q e.0) (find_shown es q)
   where
-    by : (b : Bool) → find name_cmp q (mapped (λ row. row.registration) es) ≡ option_map (λ row. row.registration) (find name_cmp q es)
-        → cond b (Some e.1.registration) (find name_cmp q (mapped (λ row. row.registration) es)) ≡ option_map (λ row. row.registration) (cond b (Some e.1) (find name_cmp q es))
+    by : (b : Bool) → find name_cmp q (mapped (λ row. row.registration) es)
+        ≡ option_map (λ row. row.registration) (find name_cmp q es)
+        → cond b (Some e.1.registration) (find name_cmp q (mapped (λ row. row.registration) es))
+            ≡ option_map (λ row. row.registration) (cond b (Some e.1) (find name_cmp q es))
     by true h = refl
     by false h = h
 
-pub find_rows : (table : Table) (q : Name) → find name_cmp q (rows_of table) ≡ option_map (λ row. row.registration) (get table q)
-find_rows table q = find_shown (entries table) q ∙ ap (option_map (λ (row : Row). row.registration)) (sym (get-entries table q))
+pub find_rows : (table : Table) (q : Name) → find name_cmp q (rows_of table)
+    ≡ option_map (λ row. row.registration) (get table q)
+find_rows table q = find_shown (entries table) q ∙ ap (option_map (λ (row : Row). row.registration))
+    (sym (get-entries table q))
 
-above_shown : (k : Name) (es : List (Name × Row)) → below_all name_cmp k (mapped (λ row. row.registration) es) ≡ below_all name_cmp k es
+above_shown : (k : Name) (es : List (Name × Row)) → below_all name_cmp k (mapped (λ row. row.registration) es)
+    ≡ below_all name_cmp k es
 above_shown k [] = refl
 above_shown k (e ∷ es) = ap (λ b. is_lt (name_cmp k e.0) && b) (above_shown k es)
 
-sorted_shown : (es : List (Name × Row)) → is_sorted name_cmp (mapped (λ row. row.registration) es) ≡ is_sorted name_cmp es
+sorted_shown : (es : List (Name × Row)) → is_sorted name_cmp (mapped (λ row. row.registration) es)
+    ≡ is_sorted name_cmp es
 sorted_shown [] = refl
 sorted_shown (e ∷ es) =
     ap (λ b. b && is_sorted name_cmp (mapped (λ (row : Row). row.registration) es)) (above_shown e.0 es)

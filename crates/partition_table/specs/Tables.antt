@@ -55,7 +55,8 @@ same_code None None = true
 
 -- they don't name one program with two codes
 abbrev pub rows_agree : Row → Row → Bool
-rows_agree r s = not (same_id (program_of r.registration.resolver) (program_of s.registration.resolver)) || same_code r.code s.code
+rows_agree r s = not (same_id (program_of r.registration.resolver) (program_of s.registration.resolver))
+    || same_code r.code s.code
 
 -- a row agrees with each of a table
 abbrev pub agrees_with : Table → Row → Bool
@@ -137,8 +138,10 @@ same_clash c d =
 abbrev pub clash_of : Name → Row → Facts → Row → Facts → Clash
 clash_of name r of_r s of_s =
     if is_lt (registration_cmp r.registration s.registration)
-    then record { name = name; first = r.registration; second = s.registration; of_first = of_r; of_second = of_s; code = r.code }
-    else record { name = name; first = s.registration; second = r.registration; of_first = of_s; of_second = of_r; code = s.code }
+    then record { name = name; first = r.registration; second = s.registration; of_first = of_r; of_second =
+        of_s; code = r.code }
+    else record { name = name; first = s.registration; second = r.registration; of_first = of_s; of_second =
+        of_r; code = s.code }
 
 abbrev pub clash_at : Facts → Facts → Name → Option Row → Option Row → Option Clash
 clash_at of_a of_b name (Some r) (Some s) =
@@ -148,7 +151,8 @@ clash_at of_a of_b name None s = None
 
 -- the clashes of two tables in name order, each table with the uptime of its half
 unfoldable pub clashes : Table → ℕ → Table → ℕ → List Clash
-clashes a uptime_a b uptime_b = filter_map (λ name. clash_at (facts_of a uptime_a) (facts_of b uptime_b) name (get a name) (get b name)) (keys a)
+clashes a uptime_a b uptime_b = filter_map (λ name. clash_at (facts_of a uptime_a) (facts_of b uptime_b) name
+    (get a name) (get b name)) (keys a)
 
 -- ---- judging
 

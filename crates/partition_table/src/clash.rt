@@ -128,7 +128,8 @@ impl Clash {
 
     /// The record that a program reads as it judges the clash at this word.
     pub fn record(&self, word: u64) -> ClashRecord
-        ensures { result ≡ clash_bytes self.now.name self.now.first self.now.second word self.now.of_first self.now.of_second }
+        ensures { result ≡ clash_bytes self.now.name self.now.first self.now.second word self.now.of_first
+            self.now.of_second }
     {
         record(
             &self.name,

@@ -19,8 +19,8 @@ struct Half<'a> {
     facts: Facts,
 }
 
-/// The names that both tables have with unequal registrations, in the order of names, as they are judged where each half
-/// has been up so long.
+/// The names that both tables have with unequal registrations, in the order of names, as they are judged where each
+/// half has been up so long.
 ///
 /// It walks both tables once. It takes memory for the list, and for one more owner of each program that judges.
 pub fn clashes(

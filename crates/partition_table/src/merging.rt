@@ -28,10 +28,10 @@ use verifier::Verified;
 
 /// The merge of two tables, by one answer for each of their clashes, in the order of names.
 ///
-/// A name of one table alone is kept, equal registrations are kept once, and a clash is kept by whom its answer names or
-/// by nobody. Then a name goes whose kept registration was withdrawn by a side that holds that registration: `gone_a` and
-/// `gone_b` are the names that each side withdrew, in any order and any number of times; a name that a side doesn't hold
-/// changes nothing. Asks for as many answers as clashes.
+/// A name of one table alone is kept, equal registrations are kept once, and a clash is kept by whom its answer names
+/// or by nobody. Then a name goes whose kept registration was withdrawn by a side that holds that registration:
+/// `gone_a` and `gone_b` are the names that each side withdrew, in any order and any number of times; a name that a
+/// side doesn't hold changes nothing. Asks for as many answers as clashes.
 ///
 /// Refusals are 37 where the tables have more than 4,096 names together, and 42 where they have two codes under one id;
 /// the least that stands is answered. 90 is answered where memory runs out: it takes some for the withdrawn names, the
@@ -140,7 +140,8 @@ impl<'a> Parents<'a> {
 
     // Whether a side that holds the registration under the name withdrew it.
     fn is_withdrawn(&self, name: &Name, kept: &Registration) -> bool
-        ensures { result ≡ ((contains name_cmp self.now.gone_a name.now && holds_as (map.get self.now.a.now name.now) kept.now)
+        ensures { result ≡ ((contains name_cmp self.now.gone_a name.now
+            && holds_as (map.get self.now.a.now name.now) kept.now)
             || (contains name_cmp self.now.gone_b name.now && holds_as (map.get self.now.b.now name.now) kept.now)) }
     {
         (self.gone_a.contains(name) && holds(self.a, name, kept))
@@ -161,7 +162,8 @@ impl<'a> Parents<'a> {
     }
 }
 
-// What is kept of two tables under a name of the first. Takes an answer where the two have it with unequal registrations.
+// What is kept of two tables under a name of the first. Takes an answer where the two have it with unequal
+// registrations.
 fn settle<'a>(
     mine: &'a Registration,
     other: Option<&'a Registration>,

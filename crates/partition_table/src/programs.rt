@@ -25,10 +25,12 @@ pub(crate) fn hold_program(
     resolver: ResolverId,
     program: Option<&Arc<Verified>>,
 ) -> Result<Option<ProgramId>, AllocError>
-    requires room { has_room_for (programs_by arc_value programs.old.entries) resolver (option_map (λ p. arc_value p.now) program) }
+    requires room { has_room_for (programs_by arc_value programs.old.entries) resolver
+        (option_map (λ p. arc_value p.now) program) }
     requires coded { IsCodeOf resolver (option_map (λ p. arc_value p.now) program) }
     ensures held { OnOk result (programs_by arc_value programs.new.entries
-        ≡ with_code resolver (option_map (λ p. arc_value p.now) program.entry) (programs_by arc_value programs.old.entries)) }
+        ≡ with_code resolver (option_map (λ p. arc_value p.now) program.entry)
+            (programs_by arc_value programs.old.entries)) }
     ensures kept { IfOk result (λ added. added ≡ None → programs.new.entries ≡ programs.old.entries) }
     ensures added { IfOk result (λ added. IfSome added (λ id.
         (program_of resolver ≡ Some id) × (map.get (programs_by arc_value programs.old.entries) id ≡ None))) }
@@ -49,7 +51,8 @@ pub(crate) fn release_program(
     programs: &mut BTreeMap<ProgramId, Arc<Verified>>,
     id: Option<ProgramId>,
 )
-    ensures { programs_by arc_value programs.new.entries ≡ without_code id (programs_by arc_value programs.old.entries) }
+    ensures { programs_by arc_value programs.new.entries ≡ without_code id (programs_by arc_value programs.old.entries)
+        }
 {
     if let Some(id) = id {
         programs.remove(&id);

@@ -146,7 +146,8 @@ impl Table {
 
     // The program that the resolver names, if the table keeps it.
     pub(crate) fn program_for(&self, resolver: ResolverId) -> Option<&Arc<Verified>>
-        ensures each { (name : Name) (row : Row) → map.get self.now name ≡ Some row → row.registration.resolver ≡ resolver
+        ensures each { (name : Name) (row : Row) → map.get self.now name ≡ Some row
+            → row.registration.resolver ≡ resolver
             → option_map (λ p. arc_value p.now) result ≡ row.code }
         ensures named { IfSome result (λ p. IsKeptFor self.now resolver (arc_value p.now)) }
     {

@@ -24,7 +24,8 @@ converted (Err y) x h = ap Err h.1
 converted (Ok a) x h = let e = h.0 in absurd (cc)
 
 -- bytes that are no code
-pub codec_told : {D : Type 0} (o : Ops D) (bytes : List ℕ) (e : CodecFault) → ((code : List Insn) → Spells bytes code → DecodesTo (Err e) code)
+pub codec_told : {D : Type 0} (o : Ops D) (bytes : List ℕ) (e : CodecFault)
+    → ((code : List Insn) → Spells bytes code → DecodesTo (Err e) code)
     → ((f : CodecFault) → IsFirstFault bytes f → FailsWith (Err e) f)
     → (fault : ProgramFault) → IsProgramFaultOver o bytes fault → Answers (Err (of_codec e)) (Err fault)
 codec_told o bytes codec.OutOfMemory read told fault h = inr refl
@@ -46,7 +47,8 @@ module _ {D : Type 0} (o : Ops D) (bytes : List ℕ) (code : List Insn) (spelled
     (one_code : (c : List Insn) → Spells bytes c → c ≡ code)
     (judged : (r : Refusal) → IsStructured code → IsTypable o code → IsRefusedAt o code r.slot r.rule → ⊥)
     (one_refusal : (a b : Refusal) → IsRefusedAt o code a.slot a.rule → IsRefusedAt o code b.slot b.rule → a ≡ b) where
-  pub refused_taken : (v : VerifyFault) → IsRefused o code v → (c : List Insn) → IsAcceptedOver o bytes c → Answers (Err (of_verify v)) (Ok c)
+  pub refused_taken : (v : VerifyFault) → IsRefused o code v → (c : List Insn) → IsAcceptedOver o bytes c
+      → Answers (Err (of_verify v)) (Ok c)
   refused_taken verify.OutOfMemory h c a = inr refl
   refused_taken (verify.Refused r) h c a =
       let same = one_code c a.spelled in
@@ -62,7 +64,8 @@ module _ {D : Type 0} (o : Ops D) (bytes : List ℕ) (code : List Insn) (spelled
       inl (ap (λ x. Err (Refused x)) (one_refusal r s h (subst (λ c. IsRefusedAt o c s.slot s.rule) same k.refused)))
   refused_told (verify.Refused r) h OutOfMemory k = absurd k
 
-  pub accepted_told : IsStructured code → IsTypable o code → (fault : ProgramFault) → IsProgramFaultOver o bytes fault → Answers (Ok code) (Err fault)
+  pub accepted_told : IsStructured code → IsTypable o code → (fault : ProgramFault) → IsProgramFaultOver o bytes fault
+      → Answers (Ok code) (Err fault)
   accepted_told s t (Length f) k = absurd (either code (codec.Length f) spelled k)
   accepted_told s t (Slot f slot) k = absurd (either code (codec.Slot f slot) spelled k)
   accepted_told s t (Refused r) k =

@@ -16,8 +16,8 @@ pub type Profile = Both;
 
 /// The code that these bytes spell, if the verifier accepts it over this domain.
 ///
-/// Refusals are 1 to 7 for bytes that spell no code, with the slot from 4 on, and 10 to 26 for code that fails a rule, with
-/// the slot; 90 where memory runs out: it takes some for the code and for the states of the verifier.
+/// Refusals are 1 to 7 for bytes that spell no code, with the slot from 4 on, and 10 to 26 for code that fails a rule,
+/// with the slot; 90 where memory runs out: it takes some for the code and for the states of the verifier.
 pub fn read_program_over<D: Domain>(alloc: Global, bytes: &[u8]) -> Result<Verified, ProgramFault>
     ensures accepted { IfOk result (IsAcceptedOver D.ops bytes.now) }
     ensures safe { IfOk result (λ program. IsSafe program) }
@@ -39,8 +39,8 @@ pub fn read_program_over<D: Domain>(alloc: Global, bytes: &[u8]) -> Result<Verif
 
 /// The code that these bytes spell, if the verifier accepts it.
 ///
-/// Refusals are 1 to 7 for bytes that spell no code, with the slot from 4 on, and 10 to 26 for code that fails a rule, with
-/// the slot; 90 where memory runs out: it takes some for the code and for the states of the verifier.
+/// Refusals are 1 to 7 for bytes that spell no code, with the slot from 4 on, and 10 to 26 for code that fails a rule,
+/// with the slot; 90 where memory runs out: it takes some for the code and for the states of the verifier.
 pub fn read_program(alloc: Global, bytes: &[u8]) -> Result<Verified, ProgramFault>
     ensures accepted { IfOk result (IsAccepted bytes.now) }
     ensures safe { IfOk result (λ program. IsSafe program) }

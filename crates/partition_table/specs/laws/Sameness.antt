@@ -19,11 +19,13 @@ use Rattle.partition_table.specs.Tables.{Name, Row, Table, Clash, is_name, same_
 pub equivalent_by : {A : Type 0} {E : A → A → Bool} → ((x y : A) → Decides (E x y) (x ≡ y)) → IsEquivalence E
 equivalent_by {E = E} decides = record {
   refl = λ x. (decides x x).1 refl;
-  symm = λ x y. same_from_decides (E x y) (E y x) (decides x y) (λ t. sym ((decides y x).0 t), λ e. (decides y x).1 (sym e));
+  symm = λ x y. same_from_decides (E x y) (E y x) (decides x y) (λ t. sym ((decides y x).0 t),
+      λ e. (decides y x).1 (sym e));
   congr = λ x y z t. ap (λ u. E u z) ((decides x y).0 t);
 }
 
-by_order : {A : Type 0} {R : A → A → Ordering} → IsTotalOrder R → IsAntisymmetric R → (x y : A) → Decides (eq_by_cmp R x y) (x ≡ y)
+by_order : {A : Type 0} {R : A → A → Ordering} → IsTotalOrder R → IsAntisymmetric R → (x y : A)
+    → Decides (eq_by_cmp R x y) (x ≡ y)
 by_order {R = R} total exact x y =
     (λ t. exact x y ((Equal-is (R x y)).0 t), λ e. ap (λ u. is_eq (R x u)) (sym e) ∙ ap is_eq (tied_itself total x))
 
@@ -34,7 +36,8 @@ pub registration_decides : (r s : Registration) → Decides (same_registration r
 registration_decides = by_order registrations_total registrations_exact
 
 pub code_decides : (c d : Option (List Insn)) → Decides (same_code c d) (c ≡ d)
-code_decides (Some c) (Some d) = (λ t. ap Some ((insns.same_code c d _ refl).0 t), λ e. let is : c ≡ d = cc in (insns.same_code c d _ refl).1 is)
+code_decides (Some c) (Some d) = (λ t. ap Some ((insns.same_code c d _ refl).0 t), λ e. let is : c ≡ d = cc in
+    (insns.same_code c d _ refl).1 is)
 code_decides (Some c) None = (λ t. absurd (cc), λ e. absurd (cc))
 code_decides None (Some d) = (λ t. absurd (cc), λ e. absurd (cc))
 code_decides None None = (λ t. refl, λ e. refl)
@@ -48,7 +51,8 @@ pub row_decides : (r s : Row) → Decides (same_row r s) (r ≡ s)
 row_decides r s =
     let parts = both_decide _ _ (registration_decides r.registration s.registration) (code_decides r.code s.code) in (
       λ t. let is = parts.0 t in
-          ap (λ (x : Registration). record { registration = x; code = r.code }) is.0 ∙ ap (λ (c : Option (List Insn)). record { registration = s.registration; code = c }) is.1,
+          ap (λ (x : Registration). record { registration = x; code = r.code }) is.0
+              ∙ ap (λ (c : Option (List Insn)). record { registration = s.registration; code = c }) is.1,
       λ e. parts.1 (ap (λ (x : Row). x.registration) e, ap (λ (x : Row). x.code) e),
     )
 
@@ -68,7 +72,8 @@ table_decides a b =
 facts_decide : (f g : Facts) → Decides (same_facts f g) (f ≡ g)
 facts_decide f g =
     let parts = both_decide _ _ (Decides-eqb f.size g.size) (Decides-eqb f.uptime g.uptime) in (
-      λ t. let is = parts.0 t in ap (λ (n : ℕ). record { size = n; uptime = f.uptime }) is.0 ∙ ap (λ (n : ℕ). record { size = g.size; uptime = n }) is.1,
+      λ t. let is = parts.0 t in ap (λ (n : ℕ). record { size = n; uptime = f.uptime }) is.0
+          ∙ ap (λ (n : ℕ). record { size = g.size; uptime = n }) is.1,
       λ e. parts.1 (ap (λ (x : Facts). x.size) e, ap (λ (x : Facts). x.uptime) e),
     )
 
@@ -81,12 +86,18 @@ clash_decides c d =
     (both_decide _ _ (facts_decide c.of_first d.of_first)
     (both_decide _ _ (facts_decide c.of_second d.of_second) (code_decides c.code d.code))))) in (
       λ t. let is = parts.0 t in
-          ap (λ (n : Name). record { name = n; first = c.first; second = c.second; of_first = c.of_first; of_second = c.of_second; code = c.code }) is.0
-          ∙ ap (λ (r : Registration). record { name = d.name; first = r; second = c.second; of_first = c.of_first; of_second = c.of_second; code = c.code }) is.1.0
-          ∙ ap (λ (r : Registration). record { name = d.name; first = d.first; second = r; of_first = c.of_first; of_second = c.of_second; code = c.code }) is.1.1.0
-          ∙ ap (λ (f : Facts). record { name = d.name; first = d.first; second = d.second; of_first = f; of_second = c.of_second; code = c.code }) is.1.1.1.0
-          ∙ ap (λ (f : Facts). record { name = d.name; first = d.first; second = d.second; of_first = d.of_first; of_second = f; code = c.code }) is.1.1.1.1.0
-          ∙ ap (λ (x : Option (List Insn)). record { name = d.name; first = d.first; second = d.second; of_first = d.of_first; of_second = d.of_second; code = x }) is.1.1.1.1.1,
+          ap (λ (n : Name). record { name = n; first = c.first; second = c.second; of_first = c.of_first; of_second =
+              c.of_second; code = c.code }) is.0
+          ∙ ap (λ (r : Registration). record { name = d.name; first = r; second = c.second; of_first =
+              c.of_first; of_second = c.of_second; code = c.code }) is.1.0
+          ∙ ap (λ (r : Registration). record { name = d.name; first = d.first; second = r; of_first =
+              c.of_first; of_second = c.of_second; code = c.code }) is.1.1.0
+          ∙ ap (λ (f : Facts). record { name = d.name; first = d.first; second = d.second; of_first = f; of_second =
+              c.of_second; code = c.code }) is.1.1.1.0
+          ∙ ap (λ (f : Facts). record { name = d.name; first = d.first; second = d.second; of_first =
+              d.of_first; of_second = f; code = c.code }) is.1.1.1.1.0
+          ∙ ap (λ (x : Option (List Insn)). record { name = d.name; first = d.first; second = d.second; of_first =
+              d.of_first; of_second = d.of_second; code = x }) is.1.1.1.1.1,
       λ e. parts.1 (
         ap (λ (x : Clash). x.name) e,
         (

@@ -79,4 +79,5 @@ programs_agree programs other =
 -- some row has this resolver and this code
 abbrev pub IsKeptFor : Table → ResolverId → List Insn → Type 0
 IsKeptFor table resolver c =
-    (name : Name) × (row : Row) × (get table name ≡ Some row) × (row.registration.resolver ≡ resolver) × (row.code ≡ Some c)
+    (name : Name) × (row : Row) × (get table name ≡ Some row) × (row.registration.resolver ≡ resolver)
+        × (row.code ≡ Some c)

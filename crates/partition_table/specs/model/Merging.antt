@@ -37,7 +37,8 @@ kept_with a b gone_a gone_b name x =
     unless_gone (get a name) (get b name) (gone_a name) (gone_b name) (merged_at (get a name) (get b name) x)
 
 -- what is kept under each name, at the answers in their order
-abbrev pub settled : Table → Table → (Name → Bool) → (Name → Bool) → List Name → List Verdict3 → List (Name × Option Row)
+abbrev pub settled : Table → Table → (Name → Bool) → (Name → Bool) → List Name → List Verdict3
+    → List (Name × Option Row)
 settled a b gone_a gone_b [] xs = []
 settled a b gone_a gone_b (name ∷ names) xs =
     (name, kept_with a b gone_a gone_b name (first_answer xs))

@@ -42,7 +42,8 @@ abbrev pub pairs_left : Paired → List (Name × Registration × Option Registra
 pairs_left p = walk p.rows (rows_ahead p.other)
 
 -- an item of a walk
-abbrev pub pair_shown : Bor Name × Bor Registration × Option (Bor Registration) → Name × Registration × Option Registration
+abbrev pub pair_shown : Bor Name × Bor Registration × Option (Bor Registration)
+    → Name × Registration × Option Registration
 pair_shown p = (p.0.now, p.1.now, option_map (λ r. r.now) p.2)
 
 -- the registrations of a name in two tables

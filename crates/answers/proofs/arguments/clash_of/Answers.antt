@@ -6,5 +6,6 @@ pub returns-then-len-ne-SHORTER_RECORD_LEN-clause-err : goal.returns-then-len-ne
 returns-then-len-ne-SHORTER_RECORD_LEN-clause-err c =
     rw c.failure_of.ensures (wrong_length c.in_ok-bytes.bytes.items c.in_ok-bytes.ensures.ok (λ long. elim long [
       | inl e ↦ c.if-len-ne-RECORD_LEN.true (c.len.ensures ∙ c.in_ok-bytes.bytes.ok.0 ∙ e)
-      | inr e ↦ c.if-len-ne-SHORTER_RECORD_LEN.true (c.len-then-len-ne-RECORD_LEN.ensures ∙ c.in_ok-bytes.bytes.ok.0 ∙ e)
+      | inr e ↦ c.if-len-ne-SHORTER_RECORD_LEN.true (c.len-then-len-ne-RECORD_LEN.ensures ∙ c.in_ok-bytes.bytes.ok.0
+          ∙ e)
     ]) refl)

@@ -12,6 +12,7 @@ invariant-loop-name l =
     let b = l.half_b.table.now in
     let by_name = clash_by_name l.half_a.facts a l.half_b.facts b in
     record {
-      told : l.found.items ++ filter_map by_name (map (λ item. item.0) (pairs_left l.name-iterator)) ≡ filter_map by_name (keys a);
+      told : l.found.items ++ filter_map by_name (map (λ item. item.0) (pairs_left l.name-iterator))
+          ≡ filter_map by_name (keys a);
       met : AllByRecursion (IsPaired a b) (pairs_left l.name-iterator);
     }

@@ -12,7 +12,8 @@ loop-mine-init c =
     let b = c.args.other_table.now in
     let items = λ (pairs : Paired). map (λ item. item.0) (pairs_left pairs) in
     record {
-      so_far = subst (WithinSoFar a b) (sym (ap items c.into_iter-mine-iterator.ensures.into_iter_gives ∙ c.new-mine-items.ensures.names)) (all_left a b);
+      so_far = subst (WithinSoFar a b) (sym (ap items c.into_iter-mine-iterator.ensures.into_iter_gives
+          ∙ c.new-mine-items.ensures.names)) (all_left a b);
       met = subst (λ (pairs : Paired). AllByRecursion (IsPaired a b) (pairs_left pairs))
           (sym c.into_iter-mine-iterator.ensures.into_iter_gives) c.new-mine-items.ensures.met;
     }
@@ -23,8 +24,10 @@ returns-then-not-is_registered_so-clause-within c =
     let b = c.args.other_table.now in
     let met = subst (AllByRecursion (IsPaired a b)) c.in-Some.ensures.steps c.loop-mine.invariant.met in (
       λ t. absurd (cc),
-      λ within. absurd (one_missing a b c.in-Some.field-0-0.now c.in-Some.mine.now (option_map (λ r. r.now) c.in-Some.other) met.0
-          (λ e. let yes = c.is_registered_so.ensures.1 e in let no = c.if-not-is_registered_so.true in absurd (cc)) within),
+      λ within. absurd (one_missing a b c.in-Some.field-0-0.now c.in-Some.mine.now
+          (option_map (λ r. r.now) c.in-Some.other) met.0
+          (λ e. let yes = c.is_registered_so.ensures.1 e in let no = c.if-not-is_registered_so.true in
+              absurd (cc)) within),
     )
 
 pub loop-mine-preserved : goal.loop-mine-preserved
@@ -33,9 +36,11 @@ loop-mine-preserved c =
     let b = c.args.other_table.now in
     let left = map (λ item. item.0) (pairs_left c.next.new.self) in
     let met = subst (AllByRecursion (IsPaired a b)) c.in-Some.ensures.steps c.loop-mine.invariant.met in
-    let so_far = subst (WithinSoFar a b) (ap (map (λ item. item.0)) c.in-Some.ensures.steps) c.loop-mine.invariant.so_far in
+    let so_far = subst (WithinSoFar a b) (ap (map (λ item. item.0)) c.in-Some.ensures.steps)
+            c.loop-mine.invariant.so_far in
     record {
-      so_far = one_more_within a b c.in-Some.field-0-0.now left c.in-Some.mine.now (option_map (λ r. r.now) c.in-Some.other) so_far met.0
+      so_far = one_more_within a b c.in-Some.field-0-0.now left c.in-Some.mine.now
+          (option_map (λ r. r.now) c.in-Some.other) so_far met.0
           (c.is_registered_so.ensures.0 c.if-not-is_registered_so.false);
       met = met.1;
     }

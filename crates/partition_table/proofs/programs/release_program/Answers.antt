@@ -6,4 +6,5 @@ use Rattle.partition_table.proofs.programs.release_program.Goals as goal
 pub returns-in-Some : goal.returns-in-Some
 returns-in-Some c =
     rw c.in-Some.is
-    (made_removed ids_total arc_value ids_exact c.args.programs.now c.remove.new.self c.in-Some.id c.remove.ensures.updates)
+    (made_removed ids_total arc_value ids_exact c.args.programs.now c.remove.new.self c.in-Some.id
+        c.remove.ensures.updates)

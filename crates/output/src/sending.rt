@@ -1,7 +1,7 @@
 //! Writing to a device that may fail.
-ghost use Rattle.std.specs.Prelude.{◌≡◌, ◌≤◌, length, take, OnOk};
+ghost use Rattle.std.specs.Prelude.{◌++◌, ℕ, List, Option, OnOk};
 ghost use Rattle.std.specs.Io.KnownBytes.{Appends};
-ghost use Rattle.answers.specs.Sending.{AppendsFront};
+ghost use Rattle.output.specs.Sending.{AppendsFront, Sends};
 
 use std::io::{ErrorKind, Write};
 
@@ -30,4 +30,20 @@ pub fn send<W: Write>(writer: &mut W, bytes: &[u8]) -> Result<(), DeviceFault>
         }
     }
     Err(DeviceFault)
+}
+
+/// Goes on with further bytes, unless the device failed before. So a text is sent piece by piece, and at a fault a
+/// beginning of the whole went out.
+pub fn send_after<W: Write>(
+    sent: Result<(), DeviceFault>,
+    writer: &mut W,
+    bytes: &[u8],
+) -> Result<(), DeviceFault>
+    ensures { (start : Option (List ℕ)) (before : List ℕ) → Sends start (W.contents writer.old) before sent
+        → Sends start (W.contents writer.new) (before ++ bytes.now) result }
+{
+    match sent {
+        Ok(()) => send(writer, bytes),
+        Err(fault) => Err(fault),
+    }
 }

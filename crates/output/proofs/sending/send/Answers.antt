@@ -1,7 +1,7 @@
 use Rattle.std.proofs.Common.{◌≡◌, take, arith, take-add, length-drop, drop, length, take_all, ◌-◌, List, ℕ}
 use Rattle.std.proofs.KnownBytes.{Appends-kept, Appends-trans}
-use Rattle.answers.proofs.sending.send.Goals as goal
-use Rattle.answers.proofs.sending.send.Goals.{in-Ok, in-Err+else-ne}
+use Rattle.output.proofs.sending.send.Goals as goal
+use Rattle.output.proofs.sending.send.Goals.{in-Ok, in-Err+else-ne}
 
 -- what is left from a place on
 rest : (bytes : List ℕ) (from : ℕ) → take (length bytes - from) (drop from bytes) ≡ drop from bytes
