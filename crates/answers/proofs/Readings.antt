@@ -31,7 +31,7 @@ given (Some all) bytes h = h
 pub whole_read : {R : Type 0} (remaining : R → Option (List ℕ)) (reader inner : R) (limit : ℕ) (old bytes : List ℕ)
     → inner ≡ reader → limit ≡ max_file_len + 1 → old ≡ []
     → IfSome (option_map (take limit) (remaining inner)) (λ all. bytes ≡ old ++ all)
-        → IsReading (remaining reader) bytes
+    → IsReading (remaining reader) bytes
 whole_read remaining reader inner limit old bytes inner-is limit-is old-is h =
     given (remaining reader) bytes (rw (inner-is, limit-is, old-is) at h)
 

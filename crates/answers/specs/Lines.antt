@@ -12,7 +12,7 @@ use Rattle.instruction_set.specs.declared.insn.Insn.{Insn}
 use Rattle.insn_codec.specs.Encoding.{insn_bytes}
 use Rattle.assembler_text.specs.Text as text
 use Rattle.builtin_resolvers.specs.declared.verdicts.Verdict3.{Verdict3}
-use Rattle.builtin_resolvers.specs.declared.verdicts.Verdict3.TheVariants.{First, Second, Neither}
+use Rattle.builtin_resolvers.specs.Verdicts.{verdict_text}
 use Rattle.task.specs.declared.Profile.{Profile}
 use Rattle.task.specs.declared.Profile.TheVariants.{Unsigned, Both}
 use Rattle.task.specs.declared.Task.{Task}
@@ -99,11 +99,6 @@ answer_unless_memory (Err failure.OutOfMemory) = Err (record {})
 
 -- ---- how it is said
 
-abbrev pub word_of : Verdict3 → List ℕ
-word_of First = codes "first"
-word_of Second = codes "second"
-word_of Neither = codes "none"
-
 -- a refusal, with the slot or the line that it names
 abbrev pub refused_line : ℕ → Option Place → List ℕ
 refused_line number None = codes "refused " ++ (decimal number ++ codes "\n")
@@ -119,7 +114,7 @@ hex_line code = encode_lower (flat_map insn_bytes code) ++ codes "\n"
 -- what is printed
 abbrev pub line_of : Answer → List ℕ
 line_of (Accepted count) = codes "accepted " ++ (decimal count ++ codes " instructions\n")
-line_of (Ruled verdict steps) = word_of verdict ++ (codes " in " ++ (decimal steps ++ codes " steps\n"))
+line_of (Ruled verdict steps) = verdict_text verdict ++ (codes " in " ++ (decimal steps ++ codes " steps\n"))
 line_of (Assembled code) = hex_line code
 line_of (Disassembled code) = flat_map text.line_of code
 line_of (Refused r) = refused_line r.number r.place

@@ -11,7 +11,6 @@ use crate::failures::Failure;
 use crate::files::{code_in, read_whole};
 use crate::printing::{Answer, answer_unless_memory, line, status};
 use crate::ruling::judge_one;
-
 use abstract_value::{Both, Domain, Interval};
 use output::send;
 use std::alloc::{AllocError, Global};

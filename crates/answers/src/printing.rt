@@ -1,6 +1,6 @@
 //! What is said to a task, and how it is said.
 ghost use Rattle.std.specs.Prelude.{◌≡◌, IfOk, string_bytes};
-ghost use Rattle.answers.specs.Lines.{hex_line, line_of, refused_line, status_of, answer_unless_memory, word_of};
+ghost use Rattle.answers.specs.Lines.{hex_line, line_of, refused_line, status_of, answer_unless_memory};
 
 use crate::failures::Failure;
 use assembler_text::disassemble;
@@ -38,16 +38,6 @@ pub fn answer_unless_memory(said: Result<Answer, Failure>) -> Result<Answer, All
     }
 }
 
-fn word(verdict: Verdict3) -> &'static str
-    ensures { result.now ≡ word_of verdict }
-{
-    match verdict {
-        Verdict3::First => "first",
-        Verdict3::Second => "second",
-        Verdict3::Neither => "none",
-    }
-}
-
 /// The line of a refusal.
 fn refused_line(alloc: Global, refusal: NumberedRefusal) -> Result<String, AllocError>
     ensures { IfOk result (λ text. string_bytes text ≡ refused_line refusal.number refusal.place) }
@@ -76,7 +66,7 @@ pub fn line(alloc: Global, said: &Answer) -> Result<String, AllocError>
     match said {
         Answer::Accepted { count } => format!(in alloc; "accepted {count} instructions\n"),
         Answer::Ruled { verdict, steps } => {
-            let word = word(*verdict);
+            let word = verdict.as_str();
             format!(in alloc; "{word} in {steps} steps\n")
         }
         Answer::Assembled { code } => hex_line(alloc, code),

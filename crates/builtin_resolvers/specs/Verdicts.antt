@@ -1,5 +1,5 @@
 -- Who keeps the name of a clash, as a program or a built-in resolver answers.
-use Rattle.std.specs.Prelude.{ℕ, ◌%◌, ◌==◌, if◌then◌else◌}
+use Rattle.std.specs.Prelude.{ℕ, ◌%◌, ◌==◌, if◌then◌else◌, List, codes}
 use Rattle.clash_record.specs.declared.registrations.Builtin.{Builtin}
 use Rattle.clash_record.specs.declared.registrations.Builtin.TheVariants as by
 use Rattle.builtin_resolvers.specs.declared.verdicts.Verdict3.{Verdict3}
@@ -18,3 +18,9 @@ abbrev pub builtin_verdict : Builtin → ℕ → Verdict3
 builtin_verdict by.Exit word = by_lowest_bit word
 builtin_verdict by.Notify word = by_lowest_bit word
 builtin_verdict by.NotifyAll word = Neither
+
+-- how a verdict is said
+abbrev pub verdict_text : Verdict3 → List ℕ
+verdict_text First = codes "first"
+verdict_text Second = codes "second"
+verdict_text Neither = codes "none"

@@ -1,6 +1,6 @@
 //! Who keeps the name of a clash, as a program or a built-in resolver answers.
 ghost use Rattle.std.specs.Prelude.{◌≡◌};
-ghost use Rattle.builtin_resolvers.specs.Verdicts.{builtin_verdict, verdict_of_answer};
+ghost use Rattle.builtin_resolvers.specs.Verdicts.{builtin_verdict, verdict_of_answer, verdict_text};
 
 use clash_record::Builtin;
 
@@ -24,6 +24,17 @@ impl Verdict3 {
             1 => Verdict3::First,
             2 => Verdict3::Second,
             _ => Verdict3::Neither,
+        }
+    }
+
+    /// The word for it: `first`, `second` or `none`.
+    pub fn as_str(self) -> &'static str
+        ensures { result.now ≡ verdict_text self }
+    {
+        match self {
+            Verdict3::First => "first",
+            Verdict3::Second => "second",
+            Verdict3::Neither => "none",
         }
     }
 }

@@ -12,16 +12,19 @@ still_front sent text more =
     ∙ take-append_seam (take sent text) (drop sent text ++ more)
 
 -- a beginning of a text is one of the longer text
-pub front_longer : (a b : Option (List ℕ)) (text more : List ℕ) → AppendsFront a b text → AppendsFront a b (text ++ more)
+pub front_longer : (a b : Option (List ℕ)) (text more : List ℕ) → AppendsFront a b text
+    → AppendsFront a b (text ++ more)
 front_longer a b text more h =
     (length (take h.0 text), subst (λ front. Appends a b front) (sym (still_front h.0 text more)) h.1)
 
 -- a beginning of the second text, after the first
 front_after : (a b c : Option (List ℕ)) (text more : List ℕ)
     → Appends a b text → AppendsFront b c more → AppendsFront a c (text ++ more)
-front_after a b c text more appended h =
-    (length text + h.0, subst (λ front. Appends a c front) (sym (take-append-add text more h.0))
-    (Appends-trans a b c text (take h.0 more) appended h.1))
+front_after a b c text more appended h = (
+  length text + h.0,
+  subst (λ front. Appends a c front) (sym (take-append-add text more h.0))
+      (Appends-trans a b c text (take h.0 more) appended h.1),
+)
 
 -- a text was sent, and then another
 pub sends_after : {A E : Type 0} (a b c : Option (List ℕ)) (text more : List ℕ) (result : Result A E)

@@ -1,5 +1,5 @@
 -- What a writer holds after bytes were sent to it.
-use Rattle.std.specs.Prelude.{ℕ, List, Option, Result, MatchResult, take}
+use Rattle.std.specs.Prelude.{ℕ, List, ◌++◌, Option, Result, MatchResult, take}
 use Rattle.std.specs.Io.KnownBytes.{Appends}
 
 -- a beginning of the bytes went out
@@ -9,3 +9,9 @@ AppendsFront old new bytes = (sent : ℕ) × Appends old new (take sent bytes)
 -- all of them went out, or a beginning where the device failed
 abbrev pub Sends : {A E : Type 0} → Option (List ℕ) → Option (List ℕ) → List ℕ → Result A E → Type 0
 Sends old new bytes result = MatchResult result (λ _. Appends old new bytes) (λ _. AppendsFront old new bytes)
+
+-- bytes were sent after others, however many those were
+abbrev pub SendsOn : {A E : Type 0} →
+    Result A E → Option (List ℕ) → Option (List ℕ) → List ℕ → Result A E → Type 0
+SendsOn sent old new bytes result = (start : Option (List ℕ)) (before : List ℕ) →
+    Sends start old before sent → Sends start new (before ++ bytes) result

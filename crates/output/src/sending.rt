@@ -1,7 +1,7 @@
 //! Writing to a device that may fail.
-ghost use Rattle.std.specs.Prelude.{◌++◌, ℕ, List, Option, OnOk};
+ghost use Rattle.std.specs.Prelude.{OnOk};
 ghost use Rattle.std.specs.Io.KnownBytes.{Appends};
-ghost use Rattle.output.specs.Sending.{AppendsFront, Sends};
+ghost use Rattle.output.specs.Sending.{AppendsFront, SendsOn};
 
 use std::io::{ErrorKind, Write};
 
@@ -39,8 +39,7 @@ pub fn send_after<W: Write>(
     writer: &mut W,
     bytes: &[u8],
 ) -> Result<(), DeviceFault>
-    ensures { (start : Option (List ℕ)) (before : List ℕ) → Sends start (W.contents writer.old) before sent
-        → Sends start (W.contents writer.new) (before ++ bytes.now) result }
+    ensures { SendsOn sent (W.contents writer.old) (W.contents writer.new) bytes.now result }
 {
     match sent {
         Ok(()) => send(writer, bytes),

@@ -16,7 +16,7 @@ spoken_is P (Err _) status line status_and_text h = elim status_and_text [ ]
 pub returns-in-Ok-send : goal.returns-in-Ok-send
 returns-in-Ok-send g c =
     let a = spoken_is (IsAnswer c.args.task.now) (answer_unless_memory c.answer_to.result) _ _ c.in-Ok.ensures
-            c.answer_to.ensures in
+    c.answer_to.ensures in
     let old = g.W.Write.contents c.args.writer.now in
     let new = g.W.Write.contents c.send.new.writer in
     obeyed a.0 a.1 a.2 (subst (Appends old new) (c.as_bytes.ensures.value ∙ a.3) c.in-Ok-send.ensures.all)
@@ -24,7 +24,7 @@ returns-in-Ok-send g c =
 pub returns-in-Ok : goal.returns-in-Ok
 returns-in-Ok g c =
     let a = spoken_is (IsAnswer c.args.task.now) (answer_unless_memory c.answer_to.result) _ _ c.in-Ok.ensures
-            c.answer_to.ensures in
+    c.answer_to.ensures in
     let old = g.W.Write.contents c.args.writer.now in
     let new = g.W.Write.contents c.send.new.writer in
     cut a.0 a.1 refl (subst (AppendsFront old new) (c.as_bytes.ensures.value ∙ a.3) c.in-Err-send.ensures.front)
