@@ -9,3 +9,5 @@ pub mod StackBytes
 pub mod States
 pub mod StateOrder
 pub mod Fits
+pub mod Counts
+pub mod Pending

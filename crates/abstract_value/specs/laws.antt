@@ -15,3 +15,4 @@ pub mod BothOrder
 pub mod BothDomain
 pub mod Widening
 pub mod BothWidens
+pub mod Counting

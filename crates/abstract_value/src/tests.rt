@@ -1,6 +1,7 @@
 //! Rows of the table of ranges by hand, each operation through a caller that knows the domain's trait alone.
-use crate::{Domain, Interval, RegState, Span, StackState, State, state_order_theorem};
+use crate::{Domain, Interval, Pending, RegState, Span, StackState, State, state_order_theorem};
 use instruction_set::{AluOp, EndKind, Register, Size, Test, Width};
+use std::alloc::{AllocError, Global};
 
 const TOP: u64 = u64::MAX;
 
@@ -135,4 +136,21 @@ fn states_join(rt: HostRuntime) {
     assert_eq!(rt; offsets(&state.register(r1)), (1, 0, 16));
     assert_eq!(rt; offsets(&state.register(r10)), (3, 0, 0));
     assert_eq!(rt; state.stack().is_written(504), false);
+}
+
+/// The greatest number of states held, once two slots have had one and both are passed.
+fn peak_of_two<D: Domain>(alloc: Global) -> Result<(bool, u32), AllocError> {
+    let mut pending = Pending::<D>::new(alloc, 3)?;
+    pending.put(1, Box::new(alloc, State::entry())?);
+    pending.put(2, Box::new(alloc, State::entry())?);
+    pending.put(2, Box::new(alloc, State::entry())?);
+    let passed = pending.take(1).is_some() && pending.take(2).is_some();
+    pending.put(0, Box::new(alloc, State::entry())?);
+    Ok((passed && pending.take(1).is_none(), pending.peak()))
+}
+
+#[test]
+fn states_wait(rt: HostRuntime) -> Result<(), AllocError> {
+    assert_eq!(rt; peak_of_two::<Interval>(rt.alloc())?, (true, 2));
+    Ok(())
 }

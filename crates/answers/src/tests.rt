@@ -130,6 +130,8 @@ fn code_on_db(rt: HostRuntime) -> Result<(), Fail> {
         ),
         ("b700000007000000 3700000000000000 X", "none in 3 steps\n"),
         ("7a0af8ff02000000 79a0f8ff00000000 X", "second in 3 steps\n"),
+        ("7a0a3cfe02000000 79a03cfe00000000 X", "second in 3 steps\n"),
+        ("720a00fe01000000 71a000fe00000000 X", "first in 3 steps\n"),
         (
             "7112080000000000 b700000000000000 2502020077000000 0f21000000000000 7110080000000000 X",
             "none in 6 steps\n",
@@ -223,7 +225,7 @@ fn no_code(rt: HostRuntime) -> Result<(), Fail> {
 }
 
 /// Code that isn't accepted, the rule that it fails, and the slot.
-const UNSAFE: [(&'static str, u32, u32); 30] = [
+const UNSAFE: [(&'static str, u32, u32); 32] = [
     ("0500ffff00000000 X", 10, 0),
     ("3d11ffff00000000 X", 10, 0),
     ("0500050000000000 X", 11, 0),
@@ -265,7 +267,9 @@ const UNSAFE: [(&'static str, u32, u32); 30] = [
     ("7a01800001000000 X", 22, 0),
     ("79a0000000000000 X", 23, 0),
     ("79a0fcfd00000000 X", 23, 0),
+    ("720afffd01000000 X", 23, 0),
     ("79a0f8ff00000000 X", 24, 0),
+    ("7a0a3cfe02000000 79a03dfe00000000 X", 24, 1),
     (
         "7912080000000000 1502010000000000 7a0af8ff02000000 79a0f8ff00000000 X",
         24,

@@ -1,7 +1,9 @@
 //! heal_bench: what the calls of `heal` cost on this machine.
 #![tactic(auto)]
 
+mod exchanges;
 mod programs;
+mod registry;
 mod tables;
 
 use std::process::ExitCode;
@@ -9,11 +11,14 @@ use std::{env, fmt, io};
 
 const USAGE: &'static str = "usage: heal_bench program HEX RECORDHEX RUNS
        heal_bench tables ROWS
+       heal_bench exchange ROWS
 
 program: decodes and verifies the program 2,000 times, runs it RUNS times on the record, whose word changes from run to
 run, and prints the mean times in nanoseconds, the steps of one run and the sum of all answers.
 tables: makes tables of ROWS rows, 1 to 4096, and prints the mean times in nanoseconds: of registering one row; of the
 clashes and the merge of two that clash in every name; and of these for two that are equal.
+exchange: two sides with ROWS names begin, hear each other, take a ruling for each name and finish; prints the times in
+nanoseconds of each of these on both sides together.
 ";
 
 fn main(rt: HostRuntime) -> io::Result<ExitCode> {
@@ -27,6 +32,7 @@ fn main(rt: HostRuntime) -> io::Result<ExitCode> {
         }
         [_, "program", code, clash, runs] => report(&rt, programs::measure(&rt, code, clash, runs)),
         [_, "tables", rows] => report(&rt, tables::measure(&rt, rows)),
+        [_, "exchange", rows] => report(&rt, exchanges::measure(&rt, rows)),
         _ => {
             eprint!(&rt; "{USAGE}")?;
             Ok(ExitCode::FAILURE)

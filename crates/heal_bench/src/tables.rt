@@ -1,12 +1,11 @@
 //! What the calls of tables cost.
 
+use crate::registry::{Fault, numbered_name, of_node, row_count};
 use builtin_resolvers::Verdict3;
-use clash_record::{BadName, Builtin, Name, Owner, Registration, ResolverId, name};
-use partition_table::{Table, TableFault, clashes, merge};
-use std::alloc::{AllocError, Global};
+use partition_table::{Table, clashes, merge};
+use std::alloc::Global;
+use std::fmt;
 use std::time::Instant;
-use std::{fmt, io};
-use thiserror::Error;
 use upload_store::UploadStore;
 
 /// How often each call is made.
@@ -37,27 +36,9 @@ impl fmt::Display for TableTimes {
     }
 }
 
-/// Why nothing was measured.
-#[derive(Debug, Drop, Error)]
-pub(crate) enum Fault {
-    #[error("ROWS isn't a number from 1 to 4096")]
-    Rows,
-    #[error(transparent)]
-    Name(#[from] BadName),
-    #[error(transparent)]
-    Table(#[from] TableFault),
-    #[error("out of memory")]
-    Memory(#[from] AllocError),
-    #[error("the clock: {0}")]
-    Clock(#[from] io::Error),
-}
-
 /// Takes the times of calls on tables of so many rows: on two that clash in every name, and on two that are equal.
 pub(crate) fn measure(rt: &HostRuntime, rows: &str) -> Result<TableTimes, Fault> {
-    let rows = match rows.parse::<u16>() {
-        Ok(rows) if rows > 0 => rows,
-        _ => return Err(Fault::Rows),
-    };
+    let rows = row_count(rows)?;
     let start = Instant::now(rt)?;
     let a = table(rt.alloc(), rows, 1)?;
     let register = start.elapsed(rt)?.as_nanos() / u128::from(rows);
@@ -78,22 +59,6 @@ fn table(alloc: Global, rows: u16, node: u32) -> Result<Table, Fault> {
         table.register(numbered_name(row)?, of_node(node), &store)?;
     }
     Ok(table)
-}
-
-/// The name of four letters that spells the number.
-fn numbered_name(number: u16) -> Result<Name, BadName> {
-    let digit = |shift: u16| b'a' + (number >> shift & 0xf) as u8;
-    name(&[digit(12), digit(8), digit(4), digit(0)])
-}
-
-fn of_node(node: u32) -> Registration {
-    Registration {
-        owner: Owner { node, serial: 1 },
-        stamp: 0,
-        weight: 0,
-        extra: [0; 16],
-        resolver: ResolverId::Builtin(Builtin::Exit),
-    }
 }
 
 fn pair_times(rt: &HostRuntime, a: &Table, b: &Table) -> Result<PairTimes, Fault> {

@@ -12,7 +12,7 @@ pub mod RuleOrder
 pub mod Pass
 pub mod Spans
 pub mod Rulings
-pub mod Look
+pub mod Waits
 pub mod OneVerdict
 pub mod LongerRecords
 pub mod Lifted

@@ -37,11 +37,13 @@ pub record Step (lo hi : ℤ) (u : ℕ) : Type 0 where
 -- the steps of a domain's value, if it has some
 pub data Steps : ℕ → ℕ → Option (ℤ × ℤ) → Type 0 where
   small : (low high : ℕ) → high ≤ 65535 → Steps low high (Some (pos low, pos high))
-  below_zero : (low high : ℕ) → 2 ^ 64 - 65536 ≤ low → Steps low high (Some (pos low -ℤ pos (2 ^ 64), pos high -ℤ pos (2 ^ 64)))
+  below_zero : (low high : ℕ) → 2 ^ 64 - 65536 ≤ low → Steps low high
+      (Some (pos low -ℤ pos (2 ^ 64), pos high -ℤ pos (2 ^ 64)))
   none : (low high : ℕ) → Steps low high None
 
 abbrev chosen : ℕ → ℕ → Option (ℤ × ℤ)
-chosen low high = cond (nat_le high 65535) (Some (pos low, pos high)) (cond (nat_le (2 ^ 64 - 65536) low) (Some (pos low -ℤ pos (2 ^ 64), pos high -ℤ pos (2 ^ 64))) None)
+chosen low high = cond (nat_le high 65535) (Some (pos low, pos high))
+    (cond (nat_le (2 ^ 64 - 65536) low) (Some (pos low -ℤ pos (2 ^ 64), pos high -ℤ pos (2 ^ 64))) None)
 
 steps_are : (low high : ℕ) → Steps low high (chosen low high)
 steps_are low high =
@@ -59,9 +61,11 @@ Stepped (Some steps) u = Step steps.0 steps.1 u
 
 step_of : (low high u : ℕ) (q : Option (ℤ × ℤ)) → Steps low high q → low ≤ u → u ≤ high → high < 2 ^ 64 → Stepped q u
 step_of low high u q (small l h s) a b f =
-    record { by = pos u; above = omega (arith, ints); below = omega (arith, ints); word = omega (arith, ints); near_below = omega (arith, ints); near_above = omega (arith, ints) }
+    record { by = pos u; above = omega (arith, ints); below = omega (arith, ints); word =
+        omega (arith, ints); near_below = omega (arith, ints); near_above = omega (arith, ints) }
 step_of low high u q (below_zero l h s) a b f =
-    record { by = pos u -ℤ pos (2 ^ 64); above = omega (arith, ints); below = omega (arith, ints); word = omega (arith, ints); near_below = omega (arith, ints); near_above = omega (arith, ints) }
+    record { by = pos u -ℤ pos (2 ^ 64); above = omega (arith, ints); below = omega (arith, ints); word =
+        omega (arith, ints); near_below = omega (arith, ints); near_above = omega (arith, ints) }
 step_of low high u q (none l h) a b f = tt
 
 -- ---- moving an address
@@ -73,23 +77,27 @@ pub record Moved (op : AluOp) (k : ℤ) (u : ℕ) (r : Option Span) : Type 0 whe
   pub to : ℤ
   pub above : span.lo ≤ℤ to
   pub below : to ≤ℤ span.hi
-  pub word : (base : ℕ) → alu_of W64 op ((base + cast_unsigned w64 k) % 2 ^ 64) u ≡ (base + cast_unsigned w64 to) % 2 ^ 64
+  pub word : (base : ℕ) → alu_of W64 op ((base + cast_unsigned w64 k) % 2 ^ 64) u
+      ≡ (base + cast_unsigned w64 to) % 2 ^ 64
 
 near_tells : (lo hi : ℤ) → is_near lo hi ≡ true → (negsuc 65535 ≤ℤ lo) × (hi ≤ℤ pos 65536)
 near_tells lo hi h = grind (arith, ints)
 
-add_word : (base u : ℕ) (k d : ℤ) → negsuc 65535 ≤ℤ k → k ≤ℤ pos 65536 → negsuc 65535 ≤ℤ d → d ≤ℤ pos 65536 → cast_unsigned w64 d ≡ u
+add_word : (base u : ℕ) (k d : ℤ) → negsuc 65535 ≤ℤ k → k ≤ℤ pos 65536 → negsuc 65535 ≤ℤ d → d ≤ℤ pos 65536
+    → cast_unsigned w64 d ≡ u
     → alu_of W64 Add ((base + cast_unsigned w64 k) % 2 ^ 64) u ≡ (base + cast_unsigned w64 (k +ℤ d)) % 2 ^ 64
 add_word base u k d a b c e f = omega (arith, ints)
 
-sub_word : (base u : ℕ) (k d : ℤ) → negsuc 65535 ≤ℤ k → k ≤ℤ pos 65536 → negsuc 65535 ≤ℤ d → d ≤ℤ pos 65536 → cast_unsigned w64 d ≡ u
+sub_word : (base u : ℕ) (k d : ℤ) → negsuc 65535 ≤ℤ k → k ≤ℤ pos 65536 → negsuc 65535 ≤ℤ d → d ≤ℤ pos 65536
+    → cast_unsigned w64 d ≡ u
     → alu_of W64 Sub ((base + cast_unsigned w64 k) % 2 ^ 64) u ≡ (base + cast_unsigned w64 (k -ℤ d)) % 2 ^ 64
 sub_word base u k d a b c e f = omega (arith, ints)
 
 add_swapped : (x y : ℕ) → alu_of W64 Add x y ≡ alu_of W64 Add y x
 add_swapped x y = omega arith
 
-add_made : (a : Span) (lo hi by k : ℤ) (u : ℕ) → a.lo ≤ℤ k → k ≤ℤ a.hi → lo ≤ℤ by → by ≤ℤ hi → negsuc 65535 ≤ℤ by → by ≤ℤ pos 65536 → cast_unsigned w64 by ≡ u
+add_made : (a : Span) (lo hi by k : ℤ) (u : ℕ) → a.lo ≤ℤ k → k ≤ℤ a.hi → lo ≤ℤ by → by ≤ℤ hi → negsuc 65535 ≤ℤ by
+    → by ≤ℤ pos 65536 → cast_unsigned w64 by ≡ u
     → (is_near (a.lo +ℤ lo) (a.hi +ℤ hi) ≡ true) → Moved Add k u (Some (make_span (a.lo +ℤ lo) (a.hi +ℤ hi)))
 add_made a lo hi by k u l h sl sh bl bh w near =
     let n = near_tells (a.lo +ℤ lo) (a.hi +ℤ hi) near in
@@ -107,7 +115,8 @@ add_made a lo hi by k u l h sl sh bl bh w near =
       word = λ base. add_word base u k by (omega (arith, ints)) (omega (arith, ints)) bl bh w;
     }
 
-sub_made : (a : Span) (lo hi by k : ℤ) (u : ℕ) → a.lo ≤ℤ k → k ≤ℤ a.hi → lo ≤ℤ by → by ≤ℤ hi → negsuc 65535 ≤ℤ by → by ≤ℤ pos 65536 → cast_unsigned w64 by ≡ u
+sub_made : (a : Span) (lo hi by k : ℤ) (u : ℕ) → a.lo ≤ℤ k → k ≤ℤ a.hi → lo ≤ℤ by → by ≤ℤ hi → negsuc 65535 ≤ℤ by
+    → by ≤ℤ pos 65536 → cast_unsigned w64 by ≡ u
     → (is_near (a.lo -ℤ hi) (a.hi -ℤ lo) ≡ true) → Moved Sub k u (Some (make_span (a.lo -ℤ hi) (a.hi -ℤ lo)))
 sub_made a lo hi by k u l h sl sh bl bh w near =
     let n = near_tells (a.lo -ℤ hi) (a.hi -ℤ lo) near in
@@ -125,7 +134,8 @@ sub_made a lo hi by k u l h sl sh bl bh w near =
       word = λ base. sub_word base u k by (omega (arith, ints)) (omega (arith, ints)) bl bh w;
     }
 
-add_moved : (a : Span) (k : ℤ) (u : ℕ) (q : Option (ℤ × ℤ)) → a.lo ≤ℤ k → k ≤ℤ a.hi → Stepped q u → IsTrue (is_move (moved_by Add a q)) → Moved Add k u (moved_by Add a q)
+add_moved : (a : Span) (k : ℤ) (u : ℕ) (q : Option (ℤ × ℤ)) → a.lo ≤ℤ k → k ≤ℤ a.hi → Stepped q u
+    → IsTrue (is_move (moved_by Add a q)) → Moved Add k u (moved_by Add a q)
 add_moved a k u None l h s m = absurd (cc)
 add_moved a k u (Some steps) l h s m =
     elim (truth (is_near (a.lo +ℤ steps.0) (a.hi +ℤ steps.1))) [
@@ -133,7 +143,8 @@ add_moved a k u (Some steps) l h s m =
       | inr f ↦ let bad : false ≡ true = rw f at m in absurd (cc)
     ]
 
-sub_moved : (a : Span) (k : ℤ) (u : ℕ) (q : Option (ℤ × ℤ)) → a.lo ≤ℤ k → k ≤ℤ a.hi → Stepped q u → IsTrue (is_move (moved_by Sub a q)) → Moved Sub k u (moved_by Sub a q)
+sub_moved : (a : Span) (k : ℤ) (u : ℕ) (q : Option (ℤ × ℤ)) → a.lo ≤ℤ k → k ≤ℤ a.hi → Stepped q u
+    → IsTrue (is_move (moved_by Sub a q)) → Moved Sub k u (moved_by Sub a q)
 sub_moved a k u None l h s m = absurd (cc)
 sub_moved a k u (Some steps) l h s m =
     elim (truth (is_near (a.lo -ℤ steps.1) (a.hi -ℤ steps.0))) [
@@ -153,46 +164,61 @@ abbrev pub is_mov : AluOp → Bool
 is_mov Mov = true
 is_mov _ = false
 
-to_record_covers : {D : Type 0} (o : Ops D) (r : Option Span) (span : Span) (k : ℤ) → r ≡ Some span → span.lo ≤ℤ k → k ≤ℤ span.hi → Covers o (to_record r) (Some (ptr the_record k))
+to_record_covers : {D : Type 0} (o : Ops D) (r : Option Span) (span : Span) (k : ℤ) → r ≡ Some span → span.lo ≤ℤ k
+    → k ≤ℤ span.hi → Covers o (to_record r) (Some (ptr the_record k))
 to_record_covers o None span k e l h = absurd (cc)
-to_record_covers o (Some a) span k e l h = let f : a ≡ span = cc in subst (λ (s : Span). (s.lo ≤ℤ k) × (k ≤ℤ s.hi)) (sym f) (l, h)
+to_record_covers o (Some a) span k e l h = let f : a ≡ span = cc in
+    subst (λ (s : Span). (s.lo ≤ℤ k) × (k ≤ℤ s.hi)) (sym f) (l, h)
 
-to_stack_covers : {D : Type 0} (o : Ops D) (r : Option Span) (span : Span) (k : ℤ) → r ≡ Some span → span.lo ≤ℤ k → k ≤ℤ span.hi → Covers o (to_stack r) (Some (ptr the_stack k))
+to_stack_covers : {D : Type 0} (o : Ops D) (r : Option Span) (span : Span) (k : ℤ) → r ≡ Some span → span.lo ≤ℤ k
+    → k ≤ℤ span.hi → Covers o (to_stack r) (Some (ptr the_stack k))
 to_stack_covers o None span k e l h = absurd (cc)
-to_stack_covers o (Some a) span k e l h = let f : a ≡ span = cc in subst (λ (s : Span). (s.lo ≤ℤ k) × (k ≤ℤ s.hi)) (sym f) (l, h)
+to_stack_covers o (Some a) span k e l h = let f : a ≡ span = cc in
+    subst (λ (s : Span). (s.lo ≤ℤ k) × (k ≤ℤ s.hi)) (sym f) (l, h)
 
 module _ {D : Type 0} {o : Ops D} (laws : Laws o) where
   pub word_fits : (a : D) (v : ℕ) → o.holds a v → v < 2 ^ 64
   word_fits a v h = let b = laws.bounds_hold a v h in let f = laws.bounds_fit a in omega arith
 
   stepped : (b : D) (u : ℕ) → o.holds b u → Stepped (steps_of o b) u
-  stepped b u h = let q = laws.bounds_hold b u h in step_of (o.low b) (o.high b) u (steps_of o b) (steps_are (o.low b) (o.high b)) q.0 q.1 (laws.bounds_fit b)
+  stepped b u h = let q = laws.bounds_hold b u h in step_of (o.low b) (o.high b) u (steps_of o b)
+      (steps_are (o.low b) (o.high b)) q.0 q.1 (laws.bounds_fit b)
 
   -- what operations other than a move give
-  pub binary : (w : Width) (op : AluOp) (a b : RegState D) (x y : Tag) → is_mov op ≡ false → IsTrue (is_readable a) → IsTrue (is_readable b) → Covers o a (Some x) → Covers o b (Some y)
-      → IsTrue (pointers_fit w op a b) → IsTrue (operation_in_range o w op a b) → Result o w op (result_of o w op a b) x y
+  pub binary : (w : Width) (op : AluOp) (a b : RegState D) (x y : Tag) → is_mov op ≡ false → IsTrue (is_readable a)
+      → IsTrue (is_readable b) → Covers o a (Some x) → Covers o b (Some y)
+      → IsTrue (pointers_fit w op a b) → IsTrue (operation_in_range o w op a b)
+          → Result o w op (result_of o w op a b) x y
   binary w Mov a b x y n r s h k f g = absurd (cc)
   binary W64 Add (Record a) (Scalar b) (ptr the_record k) (num u) n r s h c f g =
       let m = add_moved a k u (steps_of o b) h.0 h.1 (stepped b u c) g in
-      record { tag = ptr the_record m.to; covers = to_record_covers o (moved_span o Add a b) m.span m.to m.is m.above m.below; word = λ p. m.word p.record_at }
+      record { tag = ptr the_record m.to; covers = to_record_covers o (moved_span o Add a b) m.span m.to m.is m.above
+          m.below; word = λ p. m.word p.record_at }
   binary W64 Add (Stack a) (Scalar b) (ptr the_stack k) (num u) n r s h c f g =
       let m = add_moved a k u (steps_of o b) h.0 h.1 (stepped b u c) g in
-      record { tag = ptr the_stack m.to; covers = to_stack_covers o (moved_span o Add a b) m.span m.to m.is m.above m.below; word = λ p. m.word (base_of p the_stack) }
+      record { tag = ptr the_stack m.to; covers = to_stack_covers o (moved_span o Add a b) m.span m.to m.is m.above
+          m.below; word = λ p. m.word (base_of p the_stack) }
   binary W64 Add (Scalar b) (Record a) (num u) (ptr the_record k) n r s c h f g =
       let m = add_moved a k u (steps_of o b) h.0 h.1 (stepped b u c) g in
-      record { tag = ptr the_record m.to; covers = to_record_covers o (moved_span o Add a b) m.span m.to m.is m.above m.below; word = λ p. add_swapped u (raw p (ptr the_record k)) ∙ m.word p.record_at }
+      record { tag = ptr the_record m.to; covers = to_record_covers o (moved_span o Add a b) m.span m.to m.is m.above
+          m.below; word = λ p. add_swapped u (raw p (ptr the_record k)) ∙ m.word p.record_at }
   binary W64 Add (Scalar b) (Stack a) (num u) (ptr the_stack k) n r s c h f g =
       let m = add_moved a k u (steps_of o b) h.0 h.1 (stepped b u c) g in
-      record { tag = ptr the_stack m.to; covers = to_stack_covers o (moved_span o Add a b) m.span m.to m.is m.above m.below; word = λ p. add_swapped u (raw p (ptr the_stack k)) ∙ m.word (base_of p the_stack) }
+      record { tag = ptr the_stack m.to; covers = to_stack_covers o (moved_span o Add a b) m.span m.to m.is m.above
+          m.below; word = λ p. add_swapped u (raw p (ptr the_stack k)) ∙ m.word (base_of p the_stack) }
   binary W64 Sub (Record a) (Scalar b) (ptr the_record k) (num u) n r s h c f g =
       let m = sub_moved a k u (steps_of o b) h.0 h.1 (stepped b u c) g in
-      record { tag = ptr the_record m.to; covers = to_record_covers o (moved_span o Sub a b) m.span m.to m.is m.above m.below; word = λ p. m.word p.record_at }
+      record { tag = ptr the_record m.to; covers = to_record_covers o (moved_span o Sub a b) m.span m.to m.is m.above
+          m.below; word = λ p. m.word p.record_at }
   binary W64 Sub (Stack a) (Scalar b) (ptr the_stack k) (num u) n r s h c f g =
       let m = sub_moved a k u (steps_of o b) h.0 h.1 (stepped b u c) g in
-      record { tag = ptr the_stack m.to; covers = to_stack_covers o (moved_span o Sub a b) m.span m.to m.is m.above m.below; word = λ p. m.word (base_of p the_stack) }
-  binary w op (Scalar a) (Scalar b) (num v) (num u) n r s h c f g = record { tag = num (alu_of w op v u); covers = scalars w op a b v u n h c; word = λ p. refl }
+      record { tag = ptr the_stack m.to; covers = to_stack_covers o (moved_span o Sub a b) m.span m.to m.is m.above
+          m.below; word = λ p. m.word (base_of p the_stack) }
+  binary w op (Scalar a) (Scalar b) (num v) (num u) n r s h c f g =
+      record { tag = num (alu_of w op v u); covers = scalars w op a b v u n h c; word = λ p. refl }
     where
-      scalars : (w : Width) (op : AluOp) (a b : D) (v u : ℕ) → is_mov op ≡ false → o.holds a v → o.holds b u → Covers o (result_of o w op (Scalar a) (Scalar b)) (Some (num (alu_of w op v u)))
+      scalars : (w : Width) (op : AluOp) (a b : D) (v u : ℕ) → is_mov op ≡ false → o.holds a v → o.holds b u
+          → Covers o (result_of o w op (Scalar a) (Scalar b)) (Some (num (alu_of w op v u)))
       scalars w Mov a b v u n h k = absurd (cc)
       scalars W64 op a b v u n h k = laws.alu_holds W64 op a b v u h k
       scalars W32 op a b v u n h k = laws.alu_holds W32 op a b v u h k

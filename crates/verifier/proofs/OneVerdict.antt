@@ -20,9 +20,12 @@ use Rattle.instruction_set.specs.laws.Places.{insn_within}
 -- ---- a rule is known by its number
 
 abbrev numbered : ℕ → Rule
-numbered n = if n == 10 then Backward else (if n == 11 then Outside else (if n == 12 then IntoWide else (if n == 13 then FallsOff else (if n == 14 then NoEdge
-    else (if n == 15 then Unreadable else (if n == 16 then WritesR10 else (if n == 17 then PointerOperation else (if n == 18 then PointerRange else (if n == 19 then PointerCompared
-    else (if n == 20 then PointerStored else (if n == 21 then OutsideRecord else (if n == 22 then WritesRecord else (if n == 23 then OutsideStack else (if n == 24 then UnwrittenStack
+numbered n = if n == 10 then Backward else (if n == 11 then Outside
+    else (if n == 12 then IntoWide else (if n == 13 then FallsOff else (if n == 14 then NoEdge
+    else (if n == 15 then Unreadable else (if n == 16 then WritesR10
+        else (if n == 17 then PointerOperation else (if n == 18 then PointerRange else (if n == 19 then PointerCompared
+    else (if n == 20 then PointerStored else (if n == 21 then OutsideRecord
+        else (if n == 22 then WritesRecord else (if n == 23 then OutsideStack else (if n == 24 then UnwrittenStack
     else (if n == 25 then ScalarAddress else PointerResult)))))))))))))))
 
 numbered_back : (r : Rule) → numbered (rule_number r) ≡ r
@@ -48,7 +51,8 @@ neither_less : (m n : ℕ) → (m < n → ⊥) → (n < m → ⊥) → m ≡ n
 neither_less m n h k = grind (arith, nat_tests)
 
 same_rule : (r q : Rule) → (rule_number r < rule_number q → ⊥) → (rule_number q < rule_number r → ⊥) → r ≡ q
-same_rule r q h k = sym (numbered_back r) ∙ ap numbered (neither_less (rule_number r) (rule_number q) h k) ∙ numbered_back q
+same_rule r q h k = sym (numbered_back r) ∙ ap numbered (neither_less (rule_number r) (rule_number q) h k)
+    ∙ numbered_back q
 
 -- ---- rules of structure
 
@@ -59,7 +63,8 @@ module _ (code : List Insn) where
   ill_later : (s t : ℕ) (r q : Rule) → IsIllStructured code s r → IsIllStructured code t q → s < t → ⊥
   ill_later s t r q a b less = a.fails (b.before s a.insn r less a.is_at)
 
-  ill_lesser : (s : ℕ) (r q : Rule) → IsIllStructured code s r → IsIllStructured code s q → rule_number r < rule_number q → ⊥
+  ill_lesser : (s : ℕ) (r q : Rule) → IsIllStructured code s r → IsIllStructured code s q
+      → rule_number r < rule_number q → ⊥
   ill_lesser s r q a b less =
       let there : Some b.insn ≡ Some a.insn = sym b.is_at ∙ a.is_at in
       let same : b.insn ≡ a.insn = cc in
@@ -80,7 +85,8 @@ same_bool true false h k = sym (h refl)
 same_bool false true h k = k refl
 
 module _ {D : Type 0} {o : Ops D} (laws : Laws o) (code : List Insn) where
-  fulfils_less : (m n : ℕ) (states : Assignment D) → m ≤ n → FulfilsBefore o code n states → FulfilsBefore o code m states
+  fulfils_less : (m n : ℕ) (states : Assignment D) → m ≤ n → FulfilsBefore o code n states
+      → FulfilsBefore o code m states
   fulfils_less m n states less f = record {
     start = f.start;
     inside = f.inside;
@@ -104,22 +110,26 @@ module _ {D : Type 0} {o : Ops D} (laws : Laws o) (code : List Insn) where
   }
 
   unfulfilled_later : (s t : ℕ) (r q : Rule) → IsUnfulfilled o code s r → IsUnfulfilled o code t q → s < t → ⊥
-  unfulfilled_later s t r q a b less = a.unfulfilled b.fails.states (fulfils_less (s + 1) t b.fails.states (omega arith) b.fails.least.fulfils)
+  unfulfilled_later s t r q a b less = a.unfulfilled b.fails.states
+      (fulfils_less (s + 1) t b.fails.states (omega arith) b.fails.least.fulfils)
 
   -- the least states at the slot where a rule fails are the same
-  state_below : (s : ℕ) (r q : Rule) → (a : FailsLeast o code s r) → (b : FailsLeast o code s q) → ViewBelow o a.state b.state
+  state_below : (s : ℕ) (r q : Rule) → (a : FailsLeast o code s r) → (b : FailsLeast o code s q)
+      → ViewBelow o a.state b.state
   state_below s r q a b =
       let above : Carries o b.states s a.state = a.least.least b.states b.least.fulfils s a.state a.is_state in
       let there : Some above.0 ≡ Some b.state = sym above.1 ∙ b.is_state in
       let same : above.0 ≡ b.state = cc in
       subst (λ v. ViewBelow o a.state v) same above.2
 
-  fails_lesser : (s : ℕ) (r q : Rule) → (a : FailsLeast o code s r) → (b : FailsLeast o code s q) → rule_number r < rule_number q → ⊥
+  fails_lesser : (s : ℕ) (r q : Rule) → (a : FailsLeast o code s r) → (b : FailsLeast o code s q)
+      → rule_number r < rule_number q → ⊥
   fails_lesser s r q a b less =
       let there : Some b.insn ≡ Some a.insn = sym b.is_at ∙ a.is_at in
       let same_insn : b.insn ≡ a.insn = cc in
       let same_state : b.state ≡ a.state = view_both b.state a.state (state_below s q r b a) (state_below s r q a b) in
-      let met : IsTrue (meets o a.insn a.state r) = subst (λ v. IsTrue (meets o a.insn v r)) same_state (subst (λ i. IsTrue (meets o i b.state r)) same_insn (b.fails.first r less)) in
+      let met : IsTrue (meets o a.insn a.state r) = subst (λ v. IsTrue (meets o a.insn v r)) same_state
+              (subst (λ i. IsTrue (meets o i b.state r)) same_insn (b.fails.first r less)) in
       absurd (cc)
 
   unfulfilled_once : (s t : ℕ) (r q : Rule) → IsUnfulfilled o code s r → IsUnfulfilled o code t q → (s ≡ t) × (r ≡ q)
@@ -130,7 +140,8 @@ module _ {D : Type 0} {o : Ops D} (laws : Laws o) (code : List Insn) where
 
   -- ---- all rules
 
-  split : (slot : ℕ) (rule : Rule) → IsRefusedAt o code slot rule → IsIllStructured code slot rule ⊎ IsUnfulfilled o code slot rule
+  split : (slot : ℕ) (rule : Rule) → IsRefusedAt o code slot rule
+      → IsIllStructured code slot rule ⊎ IsUnfulfilled o code slot rule
   split slot Backward h = inl h
   split slot Outside h = inl h
   split slot IntoWide h = inl h
@@ -138,18 +149,22 @@ module _ {D : Type 0} {o : Ops D} (laws : Laws o) (code : List Insn) where
   split slot NoEdge h = inl h
   split slot _ h = inr h
 
-  once : (s t : ℕ) (r q : Rule) → IsIllStructured code s r ⊎ IsUnfulfilled o code s r → IsIllStructured code t q ⊎ IsUnfulfilled o code t q → (s ≡ t) × (r ≡ q)
+  once : (s t : ℕ) (r q : Rule) → IsIllStructured code s r ⊎ IsUnfulfilled o code s r
+      → IsIllStructured code t q ⊎ IsUnfulfilled o code t q → (s ≡ t) × (r ≡ q)
   once s t r q (inl a) (inl b) = ill_once code s t r q a b
   once s t r q (inr a) (inr b) = unfulfilled_once s t r q a b
   once s t r q (inl a) (inr b) = absurd (not_ill code s r b.fails.structured a)
   once s t r q (inr a) (inl b) = absurd (not_ill code t q a.fails.structured b)
 
-  not_split : (slot : ℕ) (rule : Rule) → IsStructured code → IsTypable o code → IsIllStructured code slot rule ⊎ IsUnfulfilled o code slot rule → ⊥
+  not_split : (slot : ℕ) (rule : Rule) → IsStructured code → IsTypable o code
+      → IsIllStructured code slot rule ⊎ IsUnfulfilled o code slot rule → ⊥
   not_split slot rule structured typable (inl ill) = not_ill code slot rule structured ill
   not_split slot rule structured typable (inr un) = not_unfulfilled slot rule typable un
 
-  pub not_refused : (refusal : Refusal) → IsStructured code → IsTypable o code → IsRefusedAt o code refusal.slot refusal.rule → ⊥
-  not_refused refusal structured typable h = not_split refusal.slot refusal.rule structured typable (split refusal.slot refusal.rule h)
+  pub not_refused : (refusal : Refusal) → IsStructured code → IsTypable o code
+      → IsRefusedAt o code refusal.slot refusal.rule → ⊥
+  not_refused refusal structured typable h = not_split refusal.slot refusal.rule structured typable
+      (split refusal.slot refusal.rule h)
 
   pub refused_once : (a b : Refusal) → IsRefusedAt o code a.slot a.rule → IsRefusedAt o code b.slot b.rule → a ≡ b
   refused_once a b h k i =

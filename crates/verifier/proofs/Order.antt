@@ -31,7 +31,8 @@ pub data Readable {D : Type 0} (o : Ops D) : RegState D → RegState D → Type 
   records : (a b : Span) → IsTrue (span_below a b) → Readable o (Record a) (Record b)
   stacks : (a b : Span) → IsTrue (span_below a b) → Readable o (Stack a) (Stack b)
 
-pub is_below : {D : Type 0} (o : Ops D) (a b : RegState D) → IsTrue (reg_below o a b) → IsTrue (is_readable b) → Readable o a b
+pub is_below : {D : Type 0} (o : Ops D) (a b : RegState D) → IsTrue (reg_below o a b) → IsTrue (is_readable b)
+    → Readable o a b
 is_below o (Scalar a) (Scalar b) h k = numbers a b h
 is_below o (Record a) (Record b) h k = records a b h
 is_below o (Stack a) (Stack b) h k = stacks a b h
@@ -63,7 +64,9 @@ same_scalar (records a b h) = refl
 same_scalar (stacks a b h) = refl
 
 -- whether an operation may have these operands depends on their kinds alone, and of a move on its source's
-pub same_fit : {D : Type 0} (w : Width) (op : AluOp) (a b c e : RegState D) → (is_mov op ≡ false → is_pointer a ≡ is_pointer b) → is_pointer c ≡ is_pointer e → pointers_fit w op a c ≡ pointers_fit w op b e
+pub same_fit : {D : Type 0} (w : Width) (op : AluOp) (a b c e : RegState D)
+    → (is_mov op ≡ false → is_pointer a ≡ is_pointer b) → is_pointer c ≡ is_pointer e
+    → pointers_fit w op a c ≡ pointers_fit w op b e
 same_fit W64 Mov a b c e h k = refl
 same_fit W32 Mov a b c e h k = ap (λ x. not x) k
 same_fit W64 Add a b c e h k = ap₂ (λ x y. not (x && y)) (h refl) k
@@ -80,12 +83,14 @@ StepsWithin None (Some s) = ⊥
 StepsWithin (Some r) (Some s) = (s.0 ≤ℤ r.0) × (r.1 ≤ℤ s.1) × (r.0 ≤ℤ r.1)
 
 abbrev steps : ℕ → ℕ → Option (ℤ × ℤ)
-steps low high = cond (nat_le high 65535) (Some (pos low, pos high)) (cond (nat_le (2 ^ 64 - 65536) low) (Some (pos low -ℤ pos (2 ^ 64), pos high -ℤ pos (2 ^ 64))) None)
+steps low high = cond (nat_le high 65535) (Some (pos low, pos high))
+    (cond (nat_le (2 ^ 64 - 65536) low) (Some (pos low -ℤ pos (2 ^ 64), pos high -ℤ pos (2 ^ 64))) None)
 
 le_tells : (m n : ℕ) → ((nat_le m n ≡ true) × (m ≤ n)) ⊎ ((nat_le m n ≡ false) × (n < m))
 le_tells m n = grind (arith, nat_tests)
 
-steps_within : (low high low' high' : ℕ) → low' ≤ low → high ≤ high' → low ≤ high → StepsWithin (steps low high) (steps low' high')
+steps_within : (low high low' high' : ℕ) → low' ≤ low → high ≤ high' → low ≤ high
+    → StepsWithin (steps low high) (steps low' high')
 steps_within low high low' high' l h o =
     elim (le_tells high' 65535) [
       | inl p ↦
@@ -112,42 +117,51 @@ near_tells lo hi = grind (arith, ints)
 near : (lo hi : ℤ) → negsuc 65535 ≤ℤ lo → hi ≤ℤ pos 65536 → is_near lo hi ≡ true
 near lo hi l h = grind (arith, ints)
 
-made : (lo hi lo' hi' : ℤ) → lo' ≤ℤ lo → hi ≤ℤ hi' → lo ≤ℤ hi → negsuc 65535 ≤ℤ lo' → hi' ≤ℤ pos 65536 → IsTrue (span_below (make_span lo hi) (make_span lo' hi'))
+made : (lo hi lo' hi' : ℤ) → lo' ≤ℤ lo → hi ≤ℤ hi' → lo ≤ℤ hi → negsuc 65535 ≤ℤ lo' → hi' ≤ℤ pos 65536
+    → IsTrue (span_below (make_span lo hi) (make_span lo' hi'))
 made lo hi lo' hi' l h o m n =
     let a = make_lo lo hi o (omega (arith, ints)) (omega (arith, ints)) in
     let b = make_hi lo hi o (omega (arith, ints)) (omega (arith, ints)) in
     let c = make_lo lo' hi' (omega (arith, ints)) m n in
     let d = make_hi lo' hi' (omega (arith, ints)) m n in
-    within_span (make_span lo hi) (make_span lo' hi') (subst (λ z. z ≤ℤ (make_span lo hi).lo) (sym c) (subst (λ z. lo' ≤ℤ z) (sym a) l)) (subst (λ z. z ≤ℤ (make_span lo' hi').hi) (sym b) (subst (λ z. hi ≤ℤ z) (sym d) h))
+    within_span (make_span lo hi) (make_span lo' hi') (subst (λ z. z ≤ℤ (make_span lo hi).lo) (sym c)
+        (subst (λ z. lo' ≤ℤ z) (sym a) l)) (subst (λ z. z ≤ℤ (make_span lo' hi').hi) (sym b)
+        (subst (λ z. hi ≤ℤ z) (sym d) h))
 
-add_down : (a b : Span) (r s : ℤ × ℤ) → IsTrue (span_below a b) → s.0 ≤ℤ r.0 → r.1 ≤ℤ s.1 → r.0 ≤ℤ r.1 → SpanBelow (span_moved Add a r) (span_moved Add b s)
+add_down : (a b : Span) (r s : ℤ × ℤ) → IsTrue (span_below a b) → s.0 ≤ℤ r.0 → r.1 ≤ℤ s.1 → r.0 ≤ℤ r.1
+    → SpanBelow (span_moved Add a r) (span_moved Add b s)
 add_down a b r s h l u o =
     let w = span_within a b h in
     let ao : a.lo ≤ℤ a.hi = a.ordered in
     elim (near_tells (b.lo +ℤ s.0) (b.hi +ℤ s.1)) [
       | inl p ↦
           let t = near (a.lo +ℤ r.0) (a.hi +ℤ r.1) (omega (arith, ints)) (omega (arith, ints)) in
-          rw (p.0, t) (made (a.lo +ℤ r.0) (a.hi +ℤ r.1) (b.lo +ℤ s.0) (b.hi +ℤ s.1) (omega (arith, ints)) (omega (arith, ints)) (omega (arith, ints)) p.1 p.2)
+          rw (p.0, t) (made (a.lo +ℤ r.0) (a.hi +ℤ r.1) (b.lo +ℤ s.0) (b.hi +ℤ s.1) (omega (arith, ints))
+              (omega (arith, ints)) (omega (arith, ints)) p.1 p.2)
       | inr f ↦ rw f tt
     ]
 
-sub_down : (a b : Span) (r s : ℤ × ℤ) → IsTrue (span_below a b) → s.0 ≤ℤ r.0 → r.1 ≤ℤ s.1 → r.0 ≤ℤ r.1 → SpanBelow (span_moved Sub a r) (span_moved Sub b s)
+sub_down : (a b : Span) (r s : ℤ × ℤ) → IsTrue (span_below a b) → s.0 ≤ℤ r.0 → r.1 ≤ℤ s.1 → r.0 ≤ℤ r.1
+    → SpanBelow (span_moved Sub a r) (span_moved Sub b s)
 sub_down a b r s h l u o =
     let w = span_within a b h in
     let ao : a.lo ≤ℤ a.hi = a.ordered in
     elim (near_tells (b.lo -ℤ s.1) (b.hi -ℤ s.0)) [
       | inl p ↦
           let t = near (a.lo -ℤ r.1) (a.hi -ℤ r.0) (omega (arith, ints)) (omega (arith, ints)) in
-          rw (p.0, t) (made (a.lo -ℤ r.1) (a.hi -ℤ r.0) (b.lo -ℤ s.1) (b.hi -ℤ s.0) (omega (arith, ints)) (omega (arith, ints)) (omega (arith, ints)) p.1 p.2)
+          rw (p.0, t) (made (a.lo -ℤ r.1) (a.hi -ℤ r.0) (b.lo -ℤ s.1) (b.hi -ℤ s.0) (omega (arith, ints))
+              (omega (arith, ints)) (omega (arith, ints)) p.1 p.2)
       | inr f ↦ rw f tt
     ]
 
-add_steps_down : (a b : Span) (x y : Option (ℤ × ℤ)) → IsTrue (span_below a b) → StepsWithin x y → SpanBelow (moved_by Add a x) (moved_by Add b y)
+add_steps_down : (a b : Span) (x y : Option (ℤ × ℤ)) → IsTrue (span_below a b) → StepsWithin x y
+    → SpanBelow (moved_by Add a x) (moved_by Add b y)
 add_steps_down a b x None h k = tt
 add_steps_down a b None (Some s) h k = absurd k
 add_steps_down a b (Some r) (Some s) h k = add_down a b r s h k.0 k.1 k.2
 
-sub_steps_down : (a b : Span) (x y : Option (ℤ × ℤ)) → IsTrue (span_below a b) → StepsWithin x y → SpanBelow (moved_by Sub a x) (moved_by Sub b y)
+sub_steps_down : (a b : Span) (x y : Option (ℤ × ℤ)) → IsTrue (span_below a b) → StepsWithin x y
+    → SpanBelow (moved_by Sub a x) (moved_by Sub b y)
 sub_steps_down a b x None h k = tt
 sub_steps_down a b None (Some s) h k = absurd k
 sub_steps_down a b (Some r) (Some s) h k = sub_down a b r s h k.0 k.1 k.2
@@ -159,36 +173,50 @@ is_move_down (Some a) (Some b) h k = refl
 
 -- ---- bytes that are written
 
-within_all : (w v : ℕ → Bool) (from n from' n' : ℕ) → ((k : ℕ) → IsTrue (v k) → IsTrue (w k)) → from ≤ from' → from' + n' ≤ from + n → ((j : ℕ) → j < n → IsTrue (v (from + j))) → IsTrue (all_written w from' n')
+within_all : (w v : ℕ → Bool) (from n from' n' : ℕ) → ((k : ℕ) → IsTrue (v k) → IsTrue (w k)) → from ≤ from'
+    → from' + n' ≤ from + n → ((j : ℕ) → j < n → IsTrue (v (from + j))) → IsTrue (all_written w from' n')
 within_all w v from n from' zero up l h each = refl
 within_all w v from n from' (suc n') up l h each =
     let j = from' - from in
     let e : from + j ≡ from' = omega arith in
-    and (w from') (all_written w (from' + 1) n') (up from' (subst (λ k. IsTrue (v k)) e (each j (omega arith)))) (within_all w v from n (from' + 1) n' up (omega arith) (omega arith) each)
+    and (w from') (all_written w (from' + 1) n') (up from' (subst (λ k. IsTrue (v k)) e (each j (omega arith))))
+        (within_all w v from n (from' + 1) n' up (omega arith) (omega arith) each)
 
 each_of : (w : ℕ → Bool) (from n j : ℕ) → IsTrue (all_written w from n) → j < n → IsTrue (w (from + j))
 each_of w from zero j h l = absurd (omega arith)
-each_of w from (suc n) zero h l = let e : from + 0 ≡ from = omega arith in subst (λ k. IsTrue (w k)) (sym e) (both (w from) (all_written w (from + 1) n) h).0
+each_of w from (suc n) zero h l = let e : from + 0 ≡ from = omega arith in
+    subst (λ k. IsTrue (w k)) (sym e) (both (w from) (all_written w (from + 1) n) h).0
 each_of w from (suc n) (suc j) h l =
     let e : from + 1 + j ≡ from + suc j = omega arith in
-    subst (λ k. IsTrue (w k)) e (each_of w (from + 1) n j (both (w from) (all_written w (from + 1) n) h).1 (omega arith))
+    subst (λ k. IsTrue (w k)) e (each_of w (from + 1) n j (both (w from) (all_written w (from + 1) n) h).1
+        (omega arith))
 
 -- fewer bytes of more that are written
-pub all_written_down : (w v : ℕ → Bool) (from n from' n' : ℕ) → ((k : ℕ) → IsTrue (v k) → IsTrue (w k)) → from ≤ from' → from' + n' ≤ from + n → IsTrue (all_written v from n) → IsTrue (all_written w from' n')
-all_written_down w v from n from' n' up l h all = within_all w v from n from' n' up l h (λ j k. each_of v from n j all k)
+pub all_written_down : (w v : ℕ → Bool) (from n from' n' : ℕ) → ((k : ℕ) → IsTrue (v k) → IsTrue (w k)) → from ≤ from'
+    → from' + n' ≤ from + n → IsTrue (all_written v from n) → IsTrue (all_written w from' n')
+all_written_down w v from n from' n' up l h all = within_all w v from n from' n' up l h
+    (λ j k. each_of v from n j all k)
 
 module _ {D : Type 0} {o : Ops D} (laws : Laws o) where
   steps_down : (a b : D) → IsTrue (o.below a b) → StepsWithin (steps_of o a) (steps_of o b)
-  steps_down a b h = let p = laws.bounds_widen a b h in steps_within (o.low a) (o.high a) (o.low b) (o.high b) p.0 p.1 (laws.bounds_ordered a)
+  steps_down a b h = let p = laws.bounds_widen a b h in steps_within (o.low a) (o.high a) (o.low b) (o.high b) p.0 p.1
+      (laws.bounds_ordered a)
 
   -- operands in range are so in each state below
-  pub range_down : (w : Width) (op : AluOp) {a b c e : RegState D} → Readable o a b → Readable o c e → IsTrue (operation_in_range o w op b e) → IsTrue (operation_in_range o w op a c)
-  range_down W64 Add (records a b h) (numbers c e k) f = is_move_down (moved_span o Add a c) (moved_span o Add b e) (add_steps_down a b (steps_of o c) (steps_of o e) h (steps_down c e k)) f
-  range_down W64 Add (stacks a b h) (numbers c e k) f = is_move_down (moved_span o Add a c) (moved_span o Add b e) (add_steps_down a b (steps_of o c) (steps_of o e) h (steps_down c e k)) f
-  range_down W64 Add (numbers c e k) (records a b h) f = is_move_down (moved_span o Add a c) (moved_span o Add b e) (add_steps_down a b (steps_of o c) (steps_of o e) h (steps_down c e k)) f
-  range_down W64 Add (numbers c e k) (stacks a b h) f = is_move_down (moved_span o Add a c) (moved_span o Add b e) (add_steps_down a b (steps_of o c) (steps_of o e) h (steps_down c e k)) f
-  range_down W64 Sub (records a b h) (numbers c e k) f = is_move_down (moved_span o Sub a c) (moved_span o Sub b e) (sub_steps_down a b (steps_of o c) (steps_of o e) h (steps_down c e k)) f
-  range_down W64 Sub (stacks a b h) (numbers c e k) f = is_move_down (moved_span o Sub a c) (moved_span o Sub b e) (sub_steps_down a b (steps_of o c) (steps_of o e) h (steps_down c e k)) f
+  pub range_down : (w : Width) (op : AluOp) {a b c e : RegState D} → Readable o a b → Readable o c e
+      → IsTrue (operation_in_range o w op b e) → IsTrue (operation_in_range o w op a c)
+  range_down W64 Add (records a b h) (numbers c e k) f = is_move_down (moved_span o Add a c) (moved_span o Add b e)
+      (add_steps_down a b (steps_of o c) (steps_of o e) h (steps_down c e k)) f
+  range_down W64 Add (stacks a b h) (numbers c e k) f = is_move_down (moved_span o Add a c) (moved_span o Add b e)
+      (add_steps_down a b (steps_of o c) (steps_of o e) h (steps_down c e k)) f
+  range_down W64 Add (numbers c e k) (records a b h) f = is_move_down (moved_span o Add a c) (moved_span o Add b e)
+      (add_steps_down a b (steps_of o c) (steps_of o e) h (steps_down c e k)) f
+  range_down W64 Add (numbers c e k) (stacks a b h) f = is_move_down (moved_span o Add a c) (moved_span o Add b e)
+      (add_steps_down a b (steps_of o c) (steps_of o e) h (steps_down c e k)) f
+  range_down W64 Sub (records a b h) (numbers c e k) f = is_move_down (moved_span o Sub a c) (moved_span o Sub b e)
+      (sub_steps_down a b (steps_of o c) (steps_of o e) h (steps_down c e k)) f
+  range_down W64 Sub (stacks a b h) (numbers c e k) f = is_move_down (moved_span o Sub a c) (moved_span o Sub b e)
+      (sub_steps_down a b (steps_of o c) (steps_of o e) h (steps_down c e k)) f
   range_down W32 op h k f = refl
   range_down W64 op h k f = refl
 
@@ -203,28 +231,37 @@ module _ {D : Type 0} {o : Ops D} (laws : Laws o) where
   to_stack_up (Some a) (Some b) h = h
 
   -- results keep the order
-  pub result_up : (w : Width) (op : AluOp) {a b c e : RegState D} → is_mov op ≡ false → Readable o a b → Readable o c e → IsTrue (reg_below o (result_of o w op a c) (result_of o w op b e))
+  pub result_up : (w : Width) (op : AluOp) {a b c e : RegState D} → is_mov op ≡ false → Readable o a b → Readable o c e
+      → IsTrue (reg_below o (result_of o w op a c) (result_of o w op b e))
   result_up w Mov n h k = absurd (cc)
   result_up W64 Add n (numbers a b h) (numbers c e k) = laws.alu_monotone W64 Add a c b e h k
-  result_up W64 Add n (records a b h) (numbers c e k) = to_record_up (moved_span o Add a c) (moved_span o Add b e) (add_steps_down a b (steps_of o c) (steps_of o e) h (steps_down c e k))
-  result_up W64 Add n (stacks a b h) (numbers c e k) = to_stack_up (moved_span o Add a c) (moved_span o Add b e) (add_steps_down a b (steps_of o c) (steps_of o e) h (steps_down c e k))
-  result_up W64 Add n (numbers c e k) (records a b h) = to_record_up (moved_span o Add a c) (moved_span o Add b e) (add_steps_down a b (steps_of o c) (steps_of o e) h (steps_down c e k))
-  result_up W64 Add n (numbers c e k) (stacks a b h) = to_stack_up (moved_span o Add a c) (moved_span o Add b e) (add_steps_down a b (steps_of o c) (steps_of o e) h (steps_down c e k))
+  result_up W64 Add n (records a b h) (numbers c e k) = to_record_up (moved_span o Add a c) (moved_span o Add b e)
+      (add_steps_down a b (steps_of o c) (steps_of o e) h (steps_down c e k))
+  result_up W64 Add n (stacks a b h) (numbers c e k) = to_stack_up (moved_span o Add a c) (moved_span o Add b e)
+      (add_steps_down a b (steps_of o c) (steps_of o e) h (steps_down c e k))
+  result_up W64 Add n (numbers c e k) (records a b h) = to_record_up (moved_span o Add a c) (moved_span o Add b e)
+      (add_steps_down a b (steps_of o c) (steps_of o e) h (steps_down c e k))
+  result_up W64 Add n (numbers c e k) (stacks a b h) = to_stack_up (moved_span o Add a c) (moved_span o Add b e)
+      (add_steps_down a b (steps_of o c) (steps_of o e) h (steps_down c e k))
   result_up W64 Sub n (numbers a b h) (numbers c e k) = laws.alu_monotone W64 Sub a c b e h k
-  result_up W64 Sub n (records a b h) (numbers c e k) = to_record_up (moved_span o Sub a c) (moved_span o Sub b e) (sub_steps_down a b (steps_of o c) (steps_of o e) h (steps_down c e k))
-  result_up W64 Sub n (stacks a b h) (numbers c e k) = to_stack_up (moved_span o Sub a c) (moved_span o Sub b e) (sub_steps_down a b (steps_of o c) (steps_of o e) h (steps_down c e k))
+  result_up W64 Sub n (records a b h) (numbers c e k) = to_record_up (moved_span o Sub a c) (moved_span o Sub b e)
+      (sub_steps_down a b (steps_of o c) (steps_of o e) h (steps_down c e k))
+  result_up W64 Sub n (stacks a b h) (numbers c e k) = to_stack_up (moved_span o Sub a c) (moved_span o Sub b e)
+      (sub_steps_down a b (steps_of o c) (steps_of o e) h (steps_down c e k))
   result_up W32 op n (numbers a b h) (numbers c e k) = laws.alu_monotone W32 op a c b e h k
   result_up W64 op n (numbers a b h) (numbers c e k) = laws.alu_monotone W64 op a c b e h k
   result_up W32 op n h k = refl
   result_up W64 op n h k = refl
 
-  pub scalar_up : (f g : D → D) {a b : RegState D} → ((x y : D) → IsTrue (o.below x y) → IsTrue (o.below (f x) (g y))) → Readable o a b → IsTrue (reg_below o (of_scalar f a) (of_scalar g b))
+  pub scalar_up : (f g : D → D) {a b : RegState D} → ((x y : D) → IsTrue (o.below x y) → IsTrue (o.below (f x) (g y)))
+      → Readable o a b → IsTrue (reg_below o (of_scalar f a) (of_scalar g b))
   scalar_up f g m (numbers a b h) = m a b h
   scalar_up f g m (records a b h) = refl
   scalar_up f g m (stacks a b h) = refl
 
   -- a 32-bit move reads its source alone
-  pub mov_up : (w : Width) (a b : RegState D) {c e : RegState D} → Readable o c e → IsTrue (reg_below o c e) → IsTrue (reg_below o (result_of o w Mov a c) (result_of o w Mov b e))
+  pub mov_up : (w : Width) (a b : RegState D) {c e : RegState D} → Readable o c e → IsTrue (reg_below o c e)
+      → IsTrue (reg_below o (result_of o w Mov a c) (result_of o w Mov b e))
   mov_up W64 a b h k = k
   mov_up W32 a b (numbers c e h) k = laws.alu_monotone W32 Mov c c e e h h
   mov_up W32 a b (records c e h) k = refl

@@ -1,5 +1,5 @@
 -- One step of the pass keeps the least assignment.
-use Rattle.std.proofs.Common.{◌≡◌, ◌≢◌, ℕ, zero, suc, ◌+◌, ◌-◌, ◌<◌, ◌≤◌, replicate, ◌==◌, true, false, inl, inr, refl, ap, ◌∙◌, sym, subst, arith, List, [], ◌∷◌, Option, Some, None, ℤ}
+use Rattle.std.proofs.Common.{◌≡◌, ◌≢◌, ℕ, ◌+◌, ◌-◌, ◌<◌, ◌≤◌, ◌==◌, true, false, inl, inr, refl, ap, ◌∙◌, sym, subst, arith, List, [], ◌∷◌, Option, Some, None, ℤ}
 use Rattle.std.specs.Prelude.{IsSome, IfSome, nat_lt, pos, negsuc}
 use Rattle.std.proofs.lemmas.Bool.Decides.{nat_tests}
 use Rattle.std.proofs.lemmas.List.Sums.{sum_by-cons}
@@ -15,7 +15,8 @@ use Rattle.verifier.specs.declared.rule.Rule.TheVariants.{Outside, IntoWide, Fal
 use Rattle.verifier.specs.Structure.{distance_of, goes_on, forward_target, leads_to, IsStructured}
 use Rattle.verifier.specs.Rules.{Passes, fall, jump}
 use Rattle.verifier.specs.Assignments.{Assignment, Carries, EdgeCarries, FulfilsBefore, IsTypable, IsLeast, FailsLeast}
-use Rattle.verifier.specs.model.Flow.{flowed, flow, flow_edge, look}
+use Rattle.abstract_value.specs.Pending.{nothing, with_joined}
+use Rattle.verifier.specs.model.Flow.{flow, flow_edge}
 use Rattle.verifier.proofs.Tags.{tells}
 use Rattle.instruction_set.specs.laws.Places.{first, later, stands, some_slots, insn_within, insn_all, one_or_two, none_within}
 use Rattle.verifier.proofs.RuleOrder.{FlowBelow, passes_down, fall_up, jump_up}
@@ -31,7 +32,8 @@ insn_first [] h = absurd (omega arith)
 insn_first (i ∷ code) h = refl
 
 -- behind an instruction that isn't the last stands another
-pub insn_next : (code : List Insn) (slot : ℕ) (i : Insn) → insn_at code slot ≡ Some i → slot + slots_of i < slot_count code → IsSome (insn_at code (slot + slots_of i))
+pub insn_next : (code : List Insn) (slot : ℕ) (i : Insn) → insn_at code slot ≡ Some i
+    → slot + slots_of i < slot_count code → IsSome (insn_at code (slot + slots_of i))
 insn_next [] slot i e h = absurd (cc)
 insn_next (j ∷ code) slot i e h =
     let total : slot_count (j ∷ code) ≡ slots_of j + slot_count code = sum_by-cons slots_of j code in
@@ -47,7 +49,8 @@ insn_next (j ∷ code) slot i e h =
           subst (λ k. IsSome (insn_at (j ∷ code) k)) s (behind j code (slot - slots_of j + slots_of i) rest)
     ]
   where
-    behind : (j : Insn) (code : List Insn) (k : ℕ) → IsSome (insn_at code k) → IsSome (insn_at (j ∷ code) (slots_of j + k))
+    behind : (j : Insn) (code : List Insn) (k : ℕ) → IsSome (insn_at code k)
+        → IsSome (insn_at (j ∷ code) (slots_of j + k))
     behind j code k h =
         let some = some_slots j in
         let a : (slots_of j + k == 0) ≡ false = grind (arith, nat_tests) in
@@ -73,7 +76,9 @@ at_target P None to e h = absurd (cc)
 at_target P (Some k) to e h = let f : k ≡ to = cc in subst P f h
 
 -- what holds before n, and at n
-each_more : {X Y : Type 0} (xs : ℕ → Option X) (ys : ℕ → Option Y) (P : ℕ → X → Y → Type 0) (n : ℕ) (x : X) (y : Y) → xs n ≡ Some x → ys n ≡ Some y → P n x y → ((k : ℕ) (a : X) (b : Y) → k < n → xs k ≡ Some a → ys k ≡ Some b → P k a b) → (k : ℕ) (a : X) (b : Y) → k < n + 1 → xs k ≡ Some a → ys k ≡ Some b → P k a b
+each_more : {X Y : Type 0} (xs : ℕ → Option X) (ys : ℕ → Option Y) (P : ℕ → X → Y → Type 0) (n : ℕ) (x : X) (y : Y)
+    → xs n ≡ Some x → ys n ≡ Some y → P n x y → ((k : ℕ) (a : X) (b : Y) → k < n → xs k ≡ Some a → ys k ≡ Some b
+    → P k a b) → (k : ℕ) (a : X) (b : Y) → k < n + 1 → xs k ≡ Some a → ys k ≡ Some b → P k a b
 each_more xs ys P n x y e f p before k a b h u v =
     elim (tells k n) [
       | inl q ↦
@@ -86,24 +91,27 @@ each_more xs ys P n x y e f p before k a b h u v =
 module _ {D : Type 0} {o : Ops D} (laws : Laws o) where
   -- ---- flowing
 
-  above_old : (x : Option (View D)) (t u : View D) → x ≡ Some u → ViewBelow o u (flowed o x t)
+  above_old : (x : Option (View D)) (t u : View D) → x ≡ Some u → ViewBelow o u (with_joined o x t)
   above_old None t u e = absurd (cc)
   above_old (Some x) t u e = let q : x ≡ u = cc in subst (λ y. ViewBelow o y (view_join o x t)) q (view_left laws x t)
 
-  above_new : (x : Option (View D)) (t : View D) → ViewBelow o t (flowed o x t)
+  above_new : (x : Option (View D)) (t : View D) → ViewBelow o t (with_joined o x t)
   above_new None t = view_same laws t
   above_new (Some x) t = view_right laws x t
 
   -- what is carried stays carried
-  flow_keeps : (states : Assignment D) (j k : ℕ) (t : Option (View D)) (s : View D) → Carries o states k s → Carries o (flow o states j t) k s
+  flow_keeps : (states : Assignment D) (j k : ℕ) (t : Option (View D)) (s : View D) → Carries o states k s
+      → Carries o (flow o states j t) k s
   flow_keeps states j k None s c = c
   flow_keeps states j k (Some t) s c =
       elim (tells k j) [
-        | inl p ↦ (flowed o (states j) t, rw p.0 refl, view_through laws s c.0 (flowed o (states j) t) c.2 (above_old (states j) t c.0 (ap states (sym p.1) ∙ c.1)))
+        | inl p ↦ (with_joined o (states j) t, rw p.0 refl, view_through laws s c.0 (with_joined o (states j) t) c.2
+            (above_old (states j) t c.0 (ap states (sym p.1) ∙ c.1)))
         | inr p ↦ (c.0, rw p.0 c.1, c.2)
       ]
 
-  edge_keeps : (states : Assignment D) (x : Option ℕ) (k : ℕ) (t : Option (View D)) (s : View D) → Carries o states k s → Carries o (flow_edge o states x t) k s
+  edge_keeps : (states : Assignment D) (x : Option ℕ) (k : ℕ) (t : Option (View D)) (s : View D) → Carries o states k s
+      → Carries o (flow_edge o states x t) k s
   edge_keeps states None k t s c = c
   edge_keeps states (Some j) k t s c = flow_keeps states j k t s c
 
@@ -112,20 +120,23 @@ module _ {D : Type 0} {o : Ops D} (laws : Laws o) where
   flow_carries states k None = tt
   flow_carries states k (Some t) =
       elim (tells k k) [
-        | inl p ↦ (flowed o (states k) t, rw p.0 refl, above_new (states k) t)
+        | inl p ↦ (with_joined o (states k) t, rw p.0 refl, above_new (states k) t)
         | inr p ↦ absurd (p.1 refl)
       ]
 
-  edge_carries : (states : Assignment D) (x : Option ℕ) (t : Option (View D)) → EdgeCarries o (flow_edge o states x t) x t
+  edge_carries : (states : Assignment D) (x : Option ℕ) (t : Option (View D))
+      → EdgeCarries o (flow_edge o states x t) x t
   edge_carries states None t = tt
   edge_carries states (Some k) t = flow_carries states k t
 
-  edge_more : (states states' : Assignment D) → ((k : ℕ) (s : View D) → Carries o states k s → Carries o states' k s) → (x : Option ℕ) (t : Option (View D)) → EdgeCarries o states x t → EdgeCarries o states' x t
+  edge_more : (states states' : Assignment D) → ((k : ℕ) (s : View D) → Carries o states k s → Carries o states' k s)
+      → (x : Option ℕ) (t : Option (View D)) → EdgeCarries o states x t → EdgeCarries o states' x t
   edge_more states states' more None t c = tt
   edge_more states states' more (Some k) None c = tt
   edge_more states states' more (Some k) (Some t) c = more k t c
 
-  edge_below : (states : Assignment D) (x : Option ℕ) (s t : Option (View D)) → FlowBelow o s t → EdgeCarries o states x t → EdgeCarries o states x s
+  edge_below : (states : Assignment D) (x : Option ℕ) (s t : Option (View D)) → FlowBelow o s t
+      → EdgeCarries o states x t → EdgeCarries o states x s
   edge_below states None s t h c = tt
   edge_below states (Some k) None t h c = tt
   edge_below states (Some k) (Some s) None h c = absurd h
@@ -140,11 +151,14 @@ module _ {D : Type 0} {o : Ops D} (laws : Laws o) where
         | inr p ↦ rw p.0 refl
       ]
 
-  edge_other : (states : Assignment D) (x : Option ℕ) (k : ℕ) (t : Option (View D)) → ((j : ℕ) → x ≡ Some j → k < j) → flow_edge o states x t k ≡ states k
+  edge_other : (states : Assignment D) (x : Option ℕ) (k : ℕ) (t : Option (View D)) → ((j : ℕ) → x ≡ Some j → k < j)
+      → flow_edge o states x t k ≡ states k
   edge_other states None k t h = refl
   edge_other states (Some j) k t h = flow_other states j k t (h j refl)
 
-  flowed_least : (x : Option (View D)) (t s : View D) (others : Assignment D) (j : ℕ) → ((u : View D) → x ≡ Some u → Carries o others j u) → Carries o others j t → flowed o x t ≡ s → Carries o others j s
+  flowed_least : (x : Option (View D)) (t s : View D) (others : Assignment D) (j : ℕ)
+      → ((u : View D) → x ≡ Some u → Carries o others j u) → Carries o others j t → with_joined o x t ≡ s
+      → Carries o others j s
   flowed_least None t s others j h c e = subst (λ y. Carries o others j y) e c
   flowed_least (Some u) t s others j h c e =
       let a = h u refl in
@@ -153,22 +167,29 @@ module _ {D : Type 0} {o : Ops D} (laws : Laws o) where
       subst (λ y. Carries o others j y) e (a.0, a.1, view_least laws u t a.0 a.2 b)
 
   -- what flows keeps below
-  flow_least : (states others : Assignment D) (j : ℕ) (t : Option (View D)) → ((k : ℕ) (s : View D) → states k ≡ Some s → Carries o others k s) → EdgeCarries o others (Some j) t → (k : ℕ) (s : View D) → flow o states j t k ≡ Some s → Carries o others k s
+  flow_least : (states others : Assignment D) (j : ℕ) (t : Option (View D))
+      → ((k : ℕ) (s : View D) → states k ≡ Some s → Carries o others k s) → EdgeCarries o others (Some j) t
+      → (k : ℕ) (s : View D) → flow o states j t k ≡ Some s → Carries o others k s
   flow_least states others j None h c k s e = h k s e
   flow_least states others j (Some t) h c k s e =
       elim (tells k j) [
         | inl p ↦
-            let q : Some (flowed o (states j) t) ≡ Some s = rw p.0 at e in
-            let f : flowed o (states j) t ≡ s = cc in
+            let q : Some (with_joined o (states j) t) ≡ Some s = rw p.0 at e in
+            let f : with_joined o (states j) t ≡ s = cc in
             subst (λ y. Carries o others y s) (sym p.1) (flowed_least (states j) t s others j (h j) c f)
         | inr p ↦ h k s (rw p.0 at e)
       ]
 
-  edge_least : (states others : Assignment D) (x : Option ℕ) (t : Option (View D)) → ((k : ℕ) (s : View D) → states k ≡ Some s → Carries o others k s) → EdgeCarries o others x t → (k : ℕ) (s : View D) → flow_edge o states x t k ≡ Some s → Carries o others k s
+  edge_least : (states others : Assignment D) (x : Option ℕ) (t : Option (View D))
+      → ((k : ℕ) (s : View D) → states k ≡ Some s → Carries o others k s) → EdgeCarries o others x t
+      → (k : ℕ) (s : View D) → flow_edge o states x t k ≡ Some s → Carries o others k s
   edge_least states others None t h c k s e = h k s e
   edge_least states others (Some j) t h c k s e = flow_least states others j t h c k s e
 
-  flow_inside : (states : Assignment D) (j : ℕ) (t : Option (View D)) (code : List Insn) → ((u : View D) → t ≡ Some u → IsSome (insn_at code j)) → ((k : ℕ) (s : View D) → states k ≡ Some s → IsSome (insn_at code k)) → (k : ℕ) (s : View D) → flow o states j t k ≡ Some s → IsSome (insn_at code k)
+  flow_inside : (states : Assignment D) (j : ℕ) (t : Option (View D)) (code : List Insn)
+      → ((u : View D) → t ≡ Some u → IsSome (insn_at code j))
+      → ((k : ℕ) (s : View D) → states k ≡ Some s → IsSome (insn_at code k)) → (k : ℕ) (s : View D)
+      → flow o states j t k ≡ Some s → IsSome (insn_at code k)
   flow_inside states j None code h i k s e = i k s e
   flow_inside states j (Some t) code h i k s e =
       elim (tells k j) [
@@ -176,12 +197,15 @@ module _ {D : Type 0} {o : Ops D} (laws : Laws o) where
         | inr p ↦ i k s (rw p.0 at e)
       ]
 
-  edge_inside : (states : Assignment D) (x : Option ℕ) (t : Option (View D)) (code : List Insn) → ((j : ℕ) → x ≡ Some j → IsSome (insn_at code j)) → ((k : ℕ) (s : View D) → states k ≡ Some s → IsSome (insn_at code k)) → (k : ℕ) (s : View D) → flow_edge o states x t k ≡ Some s → IsSome (insn_at code k)
+  edge_inside : (states : Assignment D) (x : Option ℕ) (t : Option (View D)) (code : List Insn)
+      → ((j : ℕ) → x ≡ Some j → IsSome (insn_at code j)) → ((k : ℕ) (s : View D) → states k ≡ Some s
+      → IsSome (insn_at code k)) → (k : ℕ) (s : View D) → flow_edge o states x t k ≡ Some s → IsSome (insn_at code k)
   edge_inside states None t code h i k s e = i k s e
   edge_inside states (Some j) t code h i k s e = flow_inside states j t code (λ u q. h j refl) i k s e
 
   -- fewer instructions fulfil the rules
-  pub fulfils_upto : (code : List Insn) (n m : ℕ) (states : Assignment D) → n ≤ m → FulfilsBefore o code m states → FulfilsBefore o code n states
+  pub fulfils_upto : (code : List Insn) (n m : ℕ) (states : Assignment D) → n ≤ m → FulfilsBefore o code m states
+      → FulfilsBefore o code n states
   fulfils_upto code n m states l f = record {
     start = f.start;
     inside = f.inside;
@@ -193,7 +217,8 @@ module _ {D : Type 0} {o : Ops D} (laws : Laws o) where
   -- ---- the steps of the pass
 
   -- an instruction that passes
-  pub passed : (code : List Insn) (n : ℕ) (i : Insn) (states : Assignment D) (s : View D) → IsCode code → IsStructured code → IsLeast o code n states → insn_at code n ≡ Some i → states n ≡ Some s → Passes o i s
+  pub passed : (code : List Insn) (n : ℕ) (i : Insn) (states : Assignment D) (s : View D) → IsCode code
+      → IsStructured code → IsLeast o code n states → insn_at code n ≡ Some i → states n ≡ Some s → Passes o i s
       → IsLeast o code (n + 1) (flow_edge o (flow o states (n + slots_of i) (fall o i s)) (leads_to n i) (jump o i s))
   passed code n i states s is_code structured m at is p =
       let next = n + slots_of i in
@@ -202,26 +227,37 @@ module _ {D : Type 0} {o : Ops D} (laws : Laws o) where
       let some = some_slots i in
       let listed : IsListed i = insn_all IsListed code n i is_code.listed at in
       let past : (j : ℕ) → leads_to n i ≡ Some j → n + 1 ≤ j = λ j e. leads_past n j (distance_of i) e in
-      let keeps : (k : ℕ) (t : View D) → Carries o states k t → Carries o after k t = λ k t c. edge_keeps falling (leads_to n i) k (jump o i s) t (flow_keeps states next k (fall o i s) t c) in
-      let more : (k : ℕ) (t : View D) → Carries o falling k t → Carries o after k t = λ k t c. edge_keeps falling (leads_to n i) k (jump o i s) t c in
+      let keeps : (k : ℕ) (t : View D) → Carries o states k t → Carries o after k t =
+              λ k t c. edge_keeps falling (leads_to n i) k (jump o i s) t (flow_keeps states next k (fall o i s) t c) in
+      let more : (k : ℕ) (t : View D) → Carries o falling k t → Carries o after k t =
+              λ k t c. edge_keeps falling (leads_to n i) k (jump o i s) t c in
       let same : (k : ℕ) → k < n + 1 → after k ≡ states k = λ k h.
-      edge_other falling (leads_to n i) k (jump o i s) (λ j e. let q = past j e in omega arith) ∙ flow_other states next k (fall o i s) (omega arith) in
+      edge_other falling (leads_to n i) k (jump o i s) (λ j e. let q = past j e in omega arith)
+          ∙ flow_other states next k (fall o i s) (omega arith) in
       let falls_to : (u : View D) → fall o i s ≡ Some u → IsSome (insn_at code next) = λ u e.
       insn_next code n i at (structured.meets n i FallsOff at (fall_goes o i s u e)) in
       let jumps_to : (j : ℕ) → leads_to n i ≡ Some j → IsSome (insn_at code j) = λ j e.
-      at_target (λ k. k < slot_count code → IsSome (insn_at code k)) (leads_to n i) j e (structured.meets n i IntoWide at) (at_target (λ k. k < slot_count code) (leads_to n i) j e (structured.meets n i Outside at)) in
+      at_target (λ k. k < slot_count code → IsSome (insn_at code k)) (leads_to n i) j e
+          (structured.meets n i IntoWide at) (at_target (λ k. k
+          < slot_count code) (leads_to n i) j e (structured.meets n i Outside at)) in
       let f = m.fulfils in
       record {
         fulfils = record {
           start = keeps 0 entry f.start;
-          inside = edge_inside falling (leads_to n i) (jump o i s) code jumps_to (flow_inside states next (fall o i s) code falls_to f.inside);
-          passes = λ k j t h a b. each_more (insn_at code) states (λ k' j' t'. Passes o j' t') n i s at is p f.passes k j t h a (sym (same k h) ∙ b);
-          falls = λ k j t h a b. each_more (insn_at code) states (λ k' j' t'. EdgeCarries o after (Some (k' + slots_of j')) (fall o j' t')) n i s at is
+          inside = edge_inside falling (leads_to n i) (jump o i s) code jumps_to
+              (flow_inside states next (fall o i s) code falls_to f.inside);
+          passes = λ k j t h a b. each_more (insn_at code) states (λ k' j' t'. Passes o j' t') n i s at is p f.passes k
+              j t h a (sym (same k h) ∙ b);
+          falls = λ k j t h a b. each_more (insn_at code) states
+              (λ k' j' t'. EdgeCarries o after (Some (k' + slots_of j')) (fall o j' t')) n i s at is
               (edge_more falling after more (Some next) (fall o i s) (flow_carries states next (fall o i s)))
-              (λ k' j' t' h' a' b'. edge_more states after keeps (Some (k' + slots_of j')) (fall o j' t') (f.falls k' j' t' h' a' b')) k j t h a (sym (same k h) ∙ b);
-          jumps = λ k j t h a b. each_more (insn_at code) states (λ k' j' t'. EdgeCarries o after (leads_to k' j') (jump o j' t')) n i s at is
+              (λ k' j' t' h' a' b'. edge_more states after keeps (Some (k' + slots_of j')) (fall o j' t')
+                  (f.falls k' j' t' h' a' b')) k j t h a (sym (same k h) ∙ b);
+          jumps = λ k j t h a b. each_more (insn_at code) states
+              (λ k' j' t'. EdgeCarries o after (leads_to k' j') (jump o j' t')) n i s at is
               (edge_carries falling (leads_to n i) (jump o i s))
-              (λ k' j' t' h' a' b'. edge_more states after keeps (leads_to k' j') (jump o j' t') (f.jumps k' j' t' h' a' b')) k j t h a (sym (same k h) ∙ b);
+              (λ k' j' t' h' a' b'. edge_more states after keeps (leads_to k' j') (jump o j' t')
+                  (f.jumps k' j' t' h' a' b')) k j t h a (sym (same k h) ∙ b);
         };
         least = λ others g.
             let below = m.least others (fulfils_upto code n (n + 1) others (omega arith) g) in
@@ -230,12 +266,15 @@ module _ {D : Type 0} {o : Ops D} (laws : Laws o) where
             let q = g.passes n i here.0 h at here.1 in
             edge_least falling others (leads_to n i) (jump o i s)
             (flow_least states others next (fall o i s) below
-            (edge_below others (Some next) (fall o i s) (fall o i here.0) (fall_up laws s here.0 here.2 i listed q) (g.falls n i here.0 h at here.1)))
-            (edge_below others (leads_to n i) (jump o i s) (jump o i here.0) (jump_up laws s here.0 here.2 i q) (g.jumps n i here.0 h at here.1));
+            (edge_below others (Some next) (fall o i s) (fall o i here.0) (fall_up laws s here.0 here.2 i listed q)
+                (g.falls n i here.0 h at here.1)))
+            (edge_below others (leads_to n i) (jump o i s) (jump o i here.0) (jump_up laws s here.0 here.2 i q)
+                (g.jumps n i here.0 h at here.1));
       }
 
   -- a slot that no state reaches
-  pub skipped : (code : List Insn) (n : ℕ) (states : Assignment D) → IsLeast o code n states → states n ≡ None → IsLeast o code (n + 1) states
+  pub skipped : (code : List Insn) (n : ℕ) (states : Assignment D) → IsLeast o code n states → states n ≡ None
+      → IsLeast o code (n + 1) states
   skipped code n states m e =
       let f = m.fulfils in
       let less : (k : ℕ) (t : View D) → k < n + 1 → states k ≡ Some t → k < n = λ k t h g. elim (tells k n) [
@@ -254,14 +293,17 @@ module _ {D : Type 0} {o : Ops D} (laws : Laws o) where
       }
 
   -- over all slots of an instruction
-  pub over_insn : (code : List Insn) (n : ℕ) (i : Insn) (states : Assignment D) → insn_at code n ≡ Some i → IsLeast o code (n + 1) states → IsLeast o code (n + slots_of i) states
+  pub over_insn : (code : List Insn) (n : ℕ) (i : Insn) (states : Assignment D) → insn_at code n ≡ Some i
+      → IsLeast o code (n + 1) states → IsLeast o code (n + slots_of i) states
   over_insn code n i states is m =
       elim (one_or_two i) [
         | inl e ↦ subst (λ w. IsLeast o code (n + w) states) (sym e) m
         | inr e ↦
             let two : n + 1 + 1 ≡ n + slots_of i = omega arith in
             let none : insn_at code (n + 1) ≡ None = none_within code n (n + 1) i is (omega arith) (omega arith) in
-            subst (λ w. IsLeast o code w states) two (skipped code (n + 1) states m (stateless (states (n + 1)) (λ s g. nowhere (insn_at code (n + 1)) none (m.fulfils.inside (n + 1) s g))))
+            subst (λ w. IsLeast o code w states) two (skipped code (n + 1) states m
+                (stateless (states (n + 1)) (λ s g. nowhere (insn_at code (n + 1)) none
+                (m.fulfils.inside (n + 1) s g))))
       ]
     where
       nowhere : (x : Option Insn) → x ≡ None → IsSome x → ⊥
@@ -272,9 +314,11 @@ module _ {D : Type 0} {o : Ops D} (laws : Laws o) where
       stateless (Some s) h = absurd (h s refl)
 
   -- at a refusal no assignment fulfils the rules
-  pub refused : (code : List Insn) (slot : ℕ) (rule : Rule) → FailsLeast o code slot rule → (states : Assignment D) → FulfilsBefore o code (slot + 1) states → ⊥
+  pub refused : (code : List Insn) (slot : ℕ) (rule : Rule) → FailsLeast o code slot rule → (states : Assignment D)
+      → FulfilsBefore o code (slot + 1) states → ⊥
   refused code slot rule r states f =
-      let here = r.least.least states (fulfils_upto code slot (slot + 1) states (omega arith) f) slot r.state r.is_state in
+      let here = r.least.least states (fulfils_upto code slot (slot + 1) states (omega arith) f) slot r.state
+              r.is_state in
       let k : slot < slot + 1 = omega arith in
       let p = passes_down laws r.state here.0 here.2 r.insn (f.passes slot r.insn here.0 k r.is_at here.1) rule in
       let q = r.fails.fails in
@@ -286,23 +330,15 @@ module _ {D : Type 0} {o : Ops D} (laws : Laws o) where
       let within : slot < slot_count code = insn_within code slot r.insn r.is_at in
       refused code slot rule r t.0 (fulfils_upto code (slot + 1) (slot_count code) t.0 (omega arith) t.1)
 
-  no_state : (n k : ℕ) → look {D = D} (replicate n None) k ≡ None
-  no_state zero k = refl
-  no_state (suc n) zero = refl
-  no_state (suc n) (suc k) = no_state n k
-
   -- the assignment with which the pass begins
-  pub begun : (code : List Insn) (n : ℕ) → IsCode code → IsLeast o code 0 (flow o (look (replicate n None)) 0 (Some entry))
-  begun code n is_code =
-      let none = look {D = D} (replicate n None) in
-      let nowhere : (k : ℕ) (s : View D) → none k ≡ Some s → ⊥ = λ k s e. let f : none k ≡ None = no_state n k in absurd (cc) in
-      record {
-        fulfils = record {
-          start = flow_carries none 0 (Some entry);
-          inside = flow_inside none 0 (Some entry) code (λ u e. insn_first code is_code.some) (λ k s e. absurd (nowhere k s e));
-          passes = λ k i s l. absurd (omega arith);
-          falls = λ k i s l. absurd (omega arith);
-          jumps = λ k i s l. absurd (omega arith);
-        };
-        least = λ others f. flow_least none others 0 (Some entry) (λ k s e. absurd (nowhere k s e)) f.start;
-      }
+  pub begun : (code : List Insn) → IsCode code → IsLeast o code 0 (flow o nothing 0 (Some entry))
+  begun code is_code = record {
+    fulfils = record {
+      start = flow_carries nothing 0 (Some entry);
+      inside = flow_inside nothing 0 (Some entry) code (λ u e. insn_first code is_code.some) (λ k s e. absurd (cc));
+      passes = λ k i s l. absurd (omega arith);
+      falls = λ k i s l. absurd (omega arith);
+      jumps = λ k i s l. absurd (omega arith);
+    };
+    least = λ others f. flow_least nothing others 0 (Some entry) (λ k s e. absurd (cc)) f.start;
+  }

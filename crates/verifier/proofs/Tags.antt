@@ -60,26 +60,32 @@ tells m n = grind (arith, nat_tests)
 
 -- ---- registers
 
-pub word_at : (p : Placement) (bytes : List ℕ) (t : Tagged) (u : State) → Matches p bytes t u → (r : Register) → word_in u r ≡ raw_option p (t.registers r.number)
+pub word_at : (p : Placement) (bytes : List ℕ) (t : Tagged) (u : State) → Matches p bytes t u → (r : Register)
+    → word_in u r ≡ raw_option p (t.registers r.number)
 word_at p bytes t u m r =
     let h : r.number ≤ 10 = r.in_range in
     let l : length u.registers ≡ 11 = m.long in
-    let e : slice_get u.registers r.number ≡ Some (get_or u.registers r.number None) = slice_get-get_or u.registers r.number None (omega arith) in
+    let e : slice_get u.registers r.number ≡ Some (get_or u.registers r.number None) =
+            slice_get-get_or u.registers r.number None (omega arith) in
     rw e (m.registers r.number (omega arith))
 
 abbrev pub with_tag : Tagged → ℕ → Tag → ℕ → Tagged
 with_tag t r x slots = record { slot = t.slot + slots; registers = put t.registers r (Some x); stack = t.stack }
 
-registers_put : (p : Placement) (xs : List (Option ℕ)) (tags : ℕ → Option Tag) (d word : ℕ) (x : Tag) → raw p x ≡ word → length xs ≡ 11 → d < 11
-    → ((r : ℕ) → r < 11 → get_or xs r None ≡ raw_option p (tags r)) → (r : ℕ) → r < 11 → get_or (set xs d (Some word)) r None ≡ raw_option p (put tags d (Some x) r)
+registers_put : (p : Placement) (xs : List (Option ℕ)) (tags : ℕ → Option Tag) (d word : ℕ) (x : Tag) → raw p x ≡ word
+    → length xs ≡ 11 → d < 11
+    → ((r : ℕ) → r < 11 → get_or xs r None ≡ raw_option p (tags r)) → (r : ℕ) → r < 11
+        → get_or (set xs d (Some word)) r None ≡ raw_option p (put tags d (Some x) r)
 registers_put p xs tags d word x e l h before r k =
     elim (tells r d) [
-      | inl same ↦ rw same.0 (ap (λ i. get_or (set xs d (Some word)) i None) same.1 ∙ get_or-set_same xs d (Some word) None (omega arith) ∙ ap Some (sym e))
+      | inl same ↦ rw same.0 (ap (λ i. get_or (set xs d (Some word)) i None) same.1
+          ∙ get_or-set_same xs d (Some word) None (omega arith) ∙ ap Some (sym e))
       | inr other ↦ rw other.0 (get_or-set_other xs d r (Some word) None other.1 ∙ before r k)
     ]
 
 -- a register that isn't R10 is set
-pub set_on : (p : Placement) (bytes : List ℕ) (t : Tagged) (u : State) → Matches p bytes t u → (r : Register) → (r.number == 10) ≡ false → (x : Tag) (word : ℕ) → raw p x ≡ word → (slots : ℕ)
+pub set_on : (p : Placement) (bytes : List ℕ) (t : Tagged) (u : State) → Matches p bytes t u → (r : Register)
+    → (r.number == 10) ≡ false → (x : Tag) (word : ℕ) → raw p x ≡ word → (slots : ℕ)
     → (after : State) × (set_register u r word slots ≡ Some after) × Matches p bytes (with_tag t r.number x slots) after
 set_on p bytes t u m r free x word e slots =
     let h : r.number ≤ 10 = r.in_range in
@@ -108,12 +114,15 @@ pub record Covered {D : Type 0} (o : Ops D) (s : View D) (t : Tagged) : Type 0 w
   pub written : (k : ℕ) → IsTrue (s.written k) → (b : ℕ) × (t.stack k ≡ Some b)
   pub small : (k b : ℕ) → t.stack k ≡ Some b → b < 256
 
-pub covers_put : {D : Type 0} (o : Ops D) (regs : ℕ → RegState D) (tags : ℕ → Option Tag) (d : ℕ) (a : RegState D) (x : Tag) → ((r : ℕ) → Covers o (regs r) (tags r)) → Covers o a (Some x)
+pub covers_put : {D : Type 0} (o : Ops D) (regs : ℕ → RegState D) (tags : ℕ
+    → Option Tag) (d : ℕ) (a : RegState D) (x : Tag) → ((r : ℕ) → Covers o (regs r) (tags r)) → Covers o a (Some x)
     → (r : ℕ) → Covers o (put regs d a r) (put tags d (Some x) r)
-covers_put o regs tags d a x h k r = elim (r == d) as (λ b. Covers o (cond b a (regs r)) (cond b (Some x) (tags r))) [ true ↦ k | false ↦ h r ]
+covers_put o regs tags d a x h k r = elim (r == d) as (λ b. Covers o (cond b a (regs r)) (cond b (Some x) (tags r)))
+    [ true ↦ k | false ↦ h r ]
 
 -- a register alone is known better
-pub covers_cut : {D : Type 0} (o : Ops D) (regs : ℕ → RegState D) (tags : ℕ → Option Tag) (d : ℕ) (a : RegState D) → ((r : ℕ) → Covers o (regs r) (tags r)) → Covers o a (tags d)
+pub covers_cut : {D : Type 0} (o : Ops D) (regs : ℕ → RegState D) (tags : ℕ → Option Tag) (d : ℕ) (a : RegState D)
+    → ((r : ℕ) → Covers o (regs r) (tags r)) → Covers o a (tags d)
     → (r : ℕ) → Covers o (put regs d a r) (tags r)
 covers_cut o regs tags d a h k r =
     elim (tells r d) [

@@ -22,12 +22,16 @@ EdgeCarries o states (Some slot) (Some s) = Carries o states slot s
 EdgeCarries o states _ _ = Unit {0}
 
 -- the instructions before a slot fulfil the rules, where a record has so many bytes
-pub record FulfilsBeforeFor {D : Type 0} (len : ℕ) (o : Ops D) (code : List Insn) (end : ℕ) (states : Assignment D) : Type 0 where
+pub record FulfilsBeforeFor {D : Type 0} (len : ℕ) (o : Ops D) (code : List Insn) (end : ℕ)
+    (states : Assignment D) : Type 0 where
   pub start : Carries o states 0 entry
   pub inside : (slot : ℕ) (s : View D) → states slot ≡ Some s → IsSome (insn_at code slot)
-  pub passes : (slot : ℕ) (i : Insn) (s : View D) → slot < end → insn_at code slot ≡ Some i → states slot ≡ Some s → PassesFor len o i s
-  pub falls : (slot : ℕ) (i : Insn) (s : View D) → slot < end → insn_at code slot ≡ Some i → states slot ≡ Some s → EdgeCarries o states (Some (slot + slots_of i)) (fall o i s)
-  pub jumps : (slot : ℕ) (i : Insn) (s : View D) → slot < end → insn_at code slot ≡ Some i → states slot ≡ Some s → EdgeCarries o states (leads_to slot i) (jump o i s)
+  pub passes : (slot : ℕ) (i : Insn) (s : View D) → slot < end → insn_at code slot ≡ Some i → states slot ≡ Some s
+      → PassesFor len o i s
+  pub falls : (slot : ℕ) (i : Insn) (s : View D) → slot < end → insn_at code slot ≡ Some i → states slot ≡ Some s
+      → EdgeCarries o states (Some (slot + slots_of i)) (fall o i s)
+  pub jumps : (slot : ℕ) (i : Insn) (s : View D) → slot < end → insn_at code slot ≡ Some i → states slot ≡ Some s
+      → EdgeCarries o states (leads_to slot i) (jump o i s)
 
 -- some assignment fulfils the rules
 abbrev pub IsTypableFor : {D : Type 0} → ℕ → Ops D → List Insn → Type 0
@@ -43,7 +47,8 @@ IsTypable = IsTypableFor record_len
 -- the least assignment that fulfils the rules before a slot
 pub record IsLeast {D : Type 0} (o : Ops D) (code : List Insn) (end : ℕ) (states : Assignment D) : Type 0 where
   pub fulfils : FulfilsBefore o code end states
-  pub least : (others : Assignment D) → FulfilsBefore o code end others → (slot : ℕ) (s : View D) → states slot ≡ Some s → Carries o others slot s
+  pub least : (others : Assignment D) → FulfilsBefore o code end others → (slot : ℕ) (s : View D) → states slot ≡ Some s
+      → Carries o others slot s
 
 -- the rules can be fulfilled before the slot, and in the least state there this rule is the first that fails
 pub record FailsLeast {D : Type 0} (o : Ops D) (code : List Insn) (slot : ℕ) (rule : Rule) : Type 0 where

@@ -84,15 +84,18 @@ operand o s (Reg r) = s.registers r.number
 abbrev pub steps_of : {D : Type 0} → Ops D → D → Option (ℤ × ℤ)
 steps_of o b =
     if nat_le (o.high b) 65535 then Some (pos (o.low b), pos (o.high b))
-    else (if nat_le (2 ^ 64 - 65536) (o.low b) then Some (pos (o.low b) -ℤ pos (2 ^ 64), pos (o.high b) -ℤ pos (2 ^ 64)) else None)
+    else (if nat_le (2 ^ 64 - 65536) (o.low b) then Some (pos (o.low b) -ℤ pos (2 ^ 64), pos (o.high b) -ℤ pos (2 ^ 64))
+        else None)
 
 abbrev pub is_near : ℤ → ℤ → Bool
 is_near lo hi = int_le (negsuc 65535) lo && int_le hi (pos 65536)
 
 -- the offsets moved by the steps, where they stay near
 abbrev pub span_moved : AluOp → Span → ℤ × ℤ → Option Span
-span_moved Sub a steps = if is_near (a.lo -ℤ steps.1) (a.hi -ℤ steps.0) then Some (make_span (a.lo -ℤ steps.1) (a.hi -ℤ steps.0)) else None
-span_moved _ a steps = if is_near (a.lo +ℤ steps.0) (a.hi +ℤ steps.1) then Some (make_span (a.lo +ℤ steps.0) (a.hi +ℤ steps.1)) else None
+span_moved Sub a steps = if is_near (a.lo -ℤ steps.1) (a.hi -ℤ steps.0)
+    then Some (make_span (a.lo -ℤ steps.1) (a.hi -ℤ steps.0)) else None
+span_moved _ a steps = if is_near (a.lo +ℤ steps.0) (a.hi +ℤ steps.1)
+    then Some (make_span (a.lo +ℤ steps.0) (a.hi +ℤ steps.1)) else None
 
 abbrev pub moved_by : AluOp → Span → Option (ℤ × ℤ) → Option Span
 moved_by op a None = None
@@ -142,15 +145,20 @@ pub record Access : Type 0 where
   pub is_store : Bool
 
 abbrev pub access_of : Insn → Option Access
-access_of (Load size dst base offset) = Some (record { base = base.number; offset = offset; size = size; is_store = false })
-access_of (LoadSx size dst base offset) = Some (record { base = base.number; offset = offset; size = size; is_store = false })
-access_of (Store size base offset src) = Some (record { base = base.number; offset = offset; size = size; is_store = true })
-access_of (StoreImm size base offset imm) = Some (record { base = base.number; offset = offset; size = size; is_store = true })
+access_of (Load size dst base offset) = Some (record { base = base.number; offset = offset; size = size; is_store =
+    false })
+access_of (LoadSx size dst base offset) = Some (record { base = base.number; offset = offset; size = size; is_store =
+    false })
+access_of (Store size base offset src) = Some (record { base = base.number; offset = offset; size = size; is_store =
+    true })
+access_of (StoreImm size base offset imm) = Some (record { base = base.number; offset = offset; size = size; is_store =
+    true })
 access_of _ = None
 
 -- ---- the rules, each as a test; where a rule does not speak of an instruction or a register it is met
 
--- an operation on 64 bits may move an address: a move copies it, a sum takes it on either side, a difference on the left
+-- an operation on 64 bits may move an address: a move copies it, a sum takes it on either side, a difference on the
+-- left
 abbrev pub pointers_fit : {D : Type 0} → Width → AluOp → RegState D → RegState D → Bool
 pointers_fit W64 Mov a b = true
 pointers_fit W64 Add a b = not (is_pointer a && is_pointer b)
@@ -187,7 +195,8 @@ meets_range o (Alu width op dst src) s = operation_in_range o width op (s.regist
 meets_range o _ s = true
 
 abbrev pub meets_comparison : {D : Type 0} → Ops D → Insn → View D → Bool
-meets_comparison o (JumpIf width test dst src distance) s = not (is_pointer (s.registers dst.number) || is_pointer (operand o s src))
+meets_comparison o (JumpIf width test dst src distance) s = not (is_pointer (s.registers dst.number)
+    || is_pointer (operand o s src))
 meets_comparison o _ s = true
 
 abbrev pub meets_stored : {D : Type 0} → Insn → View D → Bool
@@ -296,7 +305,8 @@ abbrev pub marks : (ℕ → Bool) → Reach → ℕ → Bool
 marks written a = if int_le a.hi a.lo then with_marks written (stack_index a.lo) a.len else written
 
 abbrev pub after_store : {D : Type 0} → View D → RegState D → ℤ → Size → View D
-after_store s (Stack a) offset size = record { registers = s.registers; written = marks s.written (reach_of a offset size) }
+after_store s (Stack a) offset size = record { registers = s.registers; written =
+    marks s.written (reach_of a offset size) }
 after_store s _ offset size = s
 
 -- the state with a destination and a tested register cut, or nothing on a dead edge
@@ -313,20 +323,24 @@ abbrev pub refined_imm : {D : Type 0} → Ops D → Width → Test → Bool → 
 refined_imm o w test taken s d n (Scalar a) = cut_one s d (o.refine w test taken a (o.single (low w n)))
 refined_imm o w test taken s d n _ = None
 
-abbrev pub refined_pair : {D : Type 0} → Ops D → Width → Test → Bool → View D → ℕ → ℕ → RegState D → RegState D → Option (View D)
+abbrev pub refined_pair : {D : Type 0} → Ops D → Width → Test → Bool → View D → ℕ → ℕ → RegState D → RegState D
+    → Option (View D)
 refined_pair o w test taken s d r (Scalar a) (Scalar b) = cut_both s d r (o.refine w test taken a b)
 refined_pair o w test taken s d r _ _ = None
 
 -- a test of two registers cuts both, a register tested with itself none
 abbrev pub on_edge : {D : Type 0} → Ops D → Width → Test → Bool → View D → ℕ → Source → Option (View D)
 on_edge o w test taken s d (Imm n) = refined_imm o w test taken s d (cast_unsigned w64 n) (s.registers d)
-on_edge o w test taken s d (Reg r) = if d == r.number then Some s else refined_pair o w test taken s d r.number (s.registers d) (s.registers r.number)
+on_edge o w test taken s d (Reg r) = if d == r.number then Some s
+    else refined_pair o w test taken s d r.number (s.registers d) (s.registers r.number)
 
 -- the state that goes on to the next instruction
 abbrev pub fall : {D : Type 0} → Ops D → Insn → View D → Option (View D)
-fall o (Alu width op dst src) s = Some (with_register s dst.number (result_of o width op (s.registers dst.number) (operand o s src)))
+fall o (Alu width op dst src) s = Some (with_register s dst.number
+    (result_of o width op (s.registers dst.number) (operand o s src)))
 fall o (Neg width dst) s = Some (with_register s dst.number (of_scalar (o.neg width) (s.registers dst.number)))
-fall o (MovSx width bits dst src) s = Some (with_register s dst.number (of_scalar (o.mov_sx width bits) (s.registers src.number)))
+fall o (MovSx width bits dst src) s = Some (with_register s dst.number
+    (of_scalar (o.mov_sx width bits) (s.registers src.number)))
 fall o (End kind bits dst) s = Some (with_register s dst.number (of_scalar (o.end kind bits) (s.registers dst.number)))
 fall o (LoadWide dst value) s = Some (with_register s dst.number (Scalar (o.single value)))
 fall o (Load size dst base offset) s = Some (with_register s dst.number (Scalar (o.load size false)))

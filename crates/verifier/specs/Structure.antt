@@ -83,4 +83,5 @@ pub record IsIllStructured (code : List Insn) (slot : ℕ) (rule : Rule) : Type 
   pub is_at : insn_at code slot ≡ Some insn
   pub fails : MeetsStructure code slot insn rule → ⊥
   pub first : (other : Rule) → rule_number other < rule_number rule → MeetsStructure code slot insn other
-  pub before : (earlier : ℕ) (i : Insn) (other : Rule) → earlier < slot → insn_at code earlier ≡ Some i → MeetsStructure code earlier i other
+  pub before : (earlier : ℕ) (i : Insn) (other : Rule) → earlier < slot → insn_at code earlier ≡ Some i
+      → MeetsStructure code earlier i other

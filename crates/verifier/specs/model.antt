@@ -2,4 +2,5 @@
 pub mod Accesses
 pub mod Edges
 pub mod Flow
+pub mod Pending
 pub mod Values

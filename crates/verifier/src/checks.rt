@@ -152,7 +152,8 @@ fn meets_result<D: Domain>(insn: Insn, state: &State<D>) -> bool
 
 /// The first of the rules 21 to 25 that the access of an instruction fails.
 fn check_access<D: Domain>(insn: Insn, state: &State<D>) -> Option<Rule>
-    ensures { MatchOption result (InsnAccessPasses insn (view state.now)) (λ rule. InsnAccessFails insn (view state.now) rule) }
+    ensures { MatchOption result (InsnAccessPasses insn (view state.now))
+        (λ rule. InsnAccessFails insn (view state.now) rule) }
 {
     let access = access_of(&insn)?;
     access.check(&state.register(access.base), state.stack())
@@ -160,7 +161,8 @@ fn check_access<D: Domain>(insn: Insn, state: &State<D>) -> Option<Rule>
 
 /// The first of the rules 15 to 26 that an instruction fails in a state.
 pub(crate) fn check<D: Domain>(insn: Insn, state: &State<D>) -> Option<Rule>
-    ensures { MatchOption result (Passes D.ops insn (view state.now)) (λ rule. FailsFirst D.ops insn (view state.now) rule) }
+    ensures { MatchOption result (Passes D.ops insn (view state.now))
+        (λ rule. FailsFirst D.ops insn (view state.now) rule) }
 {
     if !meets_reads(insn, state) {
         return Some(Rule::Unreadable);

@@ -9,6 +9,8 @@ mod pointer_moves;
 mod refusal;
 mod rule;
 mod structure;
+#[cfg(test)]
+mod tests;
 mod transfer;
 mod verified;
 mod verify_code;
@@ -18,5 +20,5 @@ pub use longer_records::{SHORTER_RECORD_LEN, longer_record_theorem};
 pub use refusal::{Refusal, VerifyFault};
 pub use rule::Rule;
 pub use verified::Verified;
-pub use verify_code::{one_verdict_theorem, verify};
+pub use verify_code::{one_verdict_theorem, verify, verify_peak};
 pub use wider::wider_theorem;

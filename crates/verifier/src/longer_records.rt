@@ -19,5 +19,6 @@ pub fn longer_record_theorem<D: Domain>()
     // What fulfils the rules for the shorter record fulfils them for the record.
     ensures typable { (code : List Insn) → IsTypableFor shorter_len D.ops code → IsTypable D.ops code }
     // On each record it ends with the same value in the same number of steps as on the first 128 bytes of it.
-    ensures alike { (code : List Insn) (bytes : List ℕ) → IsCode code → IsStructured code → IsTypableFor shorter_len D.ops code → IsRecord bytes → EndsAlike code bytes }
+    ensures alike { (code : List Insn) (bytes : List ℕ) → IsCode code → IsStructured code
+        → IsTypableFor shorter_len D.ops code → IsRecord bytes → EndsAlike code bytes }
 {}

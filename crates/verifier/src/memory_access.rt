@@ -85,7 +85,8 @@ fn reach(span: Span, offset: i16, size: Size) -> (i32, i32)
 pub(crate) fn stack_bytes(span: Span, offset: i16, size: Size) -> (usize, usize)
     requires { IsTrue (in_stack (reach_of span offset size)) }
     ensures first { result.0 ≡ stack_index (reach_of span offset size).lo }
-    ensures count { result.1 ≡ whole ((reach_of span offset size).hi -ℤ (reach_of span offset size).lo) + bytes_of size }
+    ensures count { result.1 ≡ whole ((reach_of span offset size).hi -ℤ (reach_of span offset size).lo)
+        + bytes_of size }
     ensures inside { result.0 + result.1 ≤ STACK_LEN }
 {
     let (start, _) = reach(span, offset, size);
@@ -144,7 +145,8 @@ impl Access {
 
     /// The first of the rules 21 to 25 that it fails, through a register in this state.
     pub(crate) fn check<D>(&self, base: &RegState<D>, stack: &StackState) -> Option<Rule>
-        ensures { MatchOption result (AccessPasses (is_written stack.now) base.now (as_access self.now)) (λ rule. AccessFails (is_written stack.now) base.now (as_access self.now) rule) }
+        ensures { MatchOption result (AccessPasses (is_written stack.now) base.now (as_access self.now))
+            (λ rule. AccessFails (is_written stack.now) base.now (as_access self.now) rule) }
     {
         if !self.is_inside_record(base) {
             Some(Rule::OutsideRecord)

@@ -54,7 +54,8 @@ fn falls_to(slot: usize, insn: &Insn) -> Option<usize>
 /// The first of the rules 10 to 12 that an instruction fails.
 fn jump_fault(code: &Code, slot: usize, insn: &Insn) -> Option<Rule>
     requires { slot < slot_count code.now }
-    ensures { MatchOption result (MeetsBelow code.now slot insn.now 13) (λ rule. FailsStructure code.now slot insn.now rule) }
+    ensures { MatchOption result (MeetsBelow code.now slot insn.now 13)
+        (λ rule. FailsStructure code.now slot insn.now rule) }
 {
     if distance_of(insn).is_none() {
         return None;
@@ -68,12 +69,14 @@ fn jump_fault(code: &Code, slot: usize, insn: &Insn) -> Option<Rule>
     }
 }
 
-/// The first of the rules 10 to 14 that an instruction fails; an edge leads to it, or it is the first, if it is reached.
+/// The first of the rules 10 to 14 that an instruction fails; an edge leads to it, or it is the first, if it is
+/// reached.
 fn fault(code: &Code, slot: usize, insn: &Insn, is_reached: bool) -> Option<Rule>
     requires slot { slot < slot_count code.now }
     requires reached { is_reached ≡ true → (slot ≡ 0) ⊎ HasEdge code.now slot }
     requires unreached { is_reached ≡ false → (slot ≡ 0) ⊎ HasEdge code.now slot → ⊥ }
-    ensures { MatchOption result ((rule : Rule) → MeetsStructure code.now slot insn.now rule) (λ rule. FailsStructure code.now slot insn.now rule) }
+    ensures { MatchOption result ((rule : Rule) → MeetsStructure code.now slot insn.now rule)
+        (λ rule. FailsStructure code.now slot insn.now rule) }
 {
     if let Some(rule) = jump_fault(code, slot, insn) {
         return Some(rule);
@@ -104,7 +107,8 @@ fn visit(code: &Code, slot: usize, insn: &Insn, reached: &mut [bool]) -> Option<
     requires few { slot_count code.now ≤ MAX_SLOTS }
     requires long { length reached.old ≡ MAX_SLOTS }
     requires seen { IsSeen code.now slot reached.old }
-    ensures { MatchOption result (IsSeen code.now (slot + slots_of insn.now) reached.new) (λ rule. IsIllStructured code.now slot rule) }
+    ensures { MatchOption result (IsSeen code.now (slot + slots_of insn.now) reached.new)
+        (λ rule. IsIllStructured code.now slot rule) }
 {
     if let Some(rule) = fault(code, slot, insn, reached[slot]) {
         return Some(rule);

@@ -3,10 +3,10 @@ ghost use Rattle.std.specs.Prelude.{◌≡◌, IsTrue};
 ghost use Rattle.instruction_set.specs.Operations.{low, IsMovSxBits, IsEndBits};
 ghost use Rattle.instruction_set.specs.Slots.{IsSelected};
 ghost use Rattle.std.specs.Int.{w64, cast_unsigned};
-ghost use Rattle.abstract_value.specs.States.{view, with_register};
-ghost use Rattle.verifier.specs.Rules.{in_stack, reach_of, of_scalar, of_scalars, result_of, after_store, on_edge, Passes, fall, jump};
-ghost use Rattle.verifier.specs.model.Flow.{view_of};
-ghost use Rattle.verifier.specs.model.Values.{value_of};
+ghost use Rattle.abstract_value.specs.States.{view};
+ghost use Rattle.verifier.specs.Rules.{in_stack, reach_of, of_scalar, of_scalars, result_of, after_store, on_edge, Passes, fall, jump, writes};
+ghost use Rattle.verifier.specs.model.Flow.{if_live};
+ghost use Rattle.verifier.specs.model.Values.{value_of, with_value};
 ghost use Rattle.instruction_set.specs.declared.insn.Source.TheVariants.{Imm, Reg};
 ghost use Rattle.abstract_value.specs.declared.states.Span.{Span};
 ghost use Rattle.abstract_value.specs.declared.states.RegState.TheVariants.{Stack};
@@ -16,15 +16,6 @@ use crate::memory_access::{bytes_of, stack_bytes};
 use crate::pointer_moves::sum_of;
 use abstract_value::{Domain, RegState, State};
 use instruction_set::{AluOp, EndKind, Insn, Register, Size, Source, Test, Width};
-
-/// The state with another register.
-fn with_register<D: Domain>(state: &State<D>, register: Register, value: RegState<D>) -> State<D>
-    ensures { view result ≡ with_register (view state.now) register.number value }
-{
-    let mut next = *state;
-    next.set_register(register, value);
-    next
-}
 
 fn alu_scalars<D: Domain>(width: Width, op: AluOp, a: &RegState<D>, b: &RegState<D>) -> RegState<D>
     ensures { result ≡ of_scalars (D.ops.alu width op) a.now b.now }
@@ -77,19 +68,18 @@ fn swap_of<D: Domain>(kind: EndKind, bits: u32, a: &RegState<D>) -> RegState<D>
     }
 }
 
-/// The state after a store: its bytes are written where its offset is known exactly.
-fn after_store<D: Domain>(state: &State<D>, base: Register, offset: i16, size: Size) -> State<D>
-    requires { (a : Span) → (view state.now).registers base.number ≡ Stack a → IsTrue (in_stack (reach_of a offset size)) }
-    ensures { view result ≡ after_store (view state.now) ((view state.now).registers base.number) offset size }
+/// Marks what a store writes: its bytes, where its offset is known exactly.
+fn after_store<D: Domain>(state: &mut State<D>, base: Register, offset: i16, size: Size)
+    requires { (a : Span) → (view state.old).registers base.number ≡ Stack a
+        → IsTrue (in_stack (reach_of a offset size)) }
+    ensures { view state.new ≡ after_store (view state.old) ((view state.old).registers base.number) offset size }
 {
-    let mut next = *state;
     if let RegState::Stack(span) = state.register(base) {
         if span.hi <= span.lo {
             let (first, _) = stack_bytes(span, offset, size);
-            next.mark(first, bytes_of(size));
+            state.mark(first, bytes_of(size));
         }
     }
-    next
 }
 
 /// The number of a test, cut to its width.
@@ -102,63 +92,66 @@ fn tested_number(width: Width, number: i32) -> u64
     }
 }
 
-/// The state on one edge of a test against a number, with the register cut; nothing on a dead edge.
+/// Makes a state the one on an edge of a test against a number, with the register cut, unless the edge is dead.
 fn on_edge_with_number<D: Domain>(
     width: Width,
     test: Test,
     taken: bool,
-    state: &State<D>,
+    state: &mut State<D>,
     register: Register,
     number: i32,
-) -> Option<State<D>>
-    ensures { view_of result ≡ on_edge D.ops width test taken (view state.now) register.number (Imm number) }
+) -> bool
+    ensures { if_live result (view state.new)
+        ≡ on_edge D.ops width test taken (view state.old) register.number (Imm number) }
 {
-    match state.register(register) {
-        RegState::Scalar(a) => {
-            let b = D::single(tested_number(width, number));
-            let (a, _) = D::refine(width, test, taken, &a, &b)?;
-            Some(with_register(state, register, RegState::Scalar(a)))
-        }
-        _ => None,
-    }
+    let RegState::Scalar(a) = state.register(register) else {
+        return false;
+    };
+    let b = D::single(tested_number(width, number));
+    let Some((a, _)) = D::refine(width, test, taken, &a, &b) else {
+        return false;
+    };
+    state.set_register(register, RegState::Scalar(a));
+    true
 }
 
-/// The state on one edge of a test of two registers, with both cut; nothing on a dead edge.
+/// Makes a state the one on an edge of a test of two registers, with both cut, unless the edge is dead.
 fn on_edge_with_register<D: Domain>(
     width: Width,
     test: Test,
     taken: bool,
-    state: &State<D>,
+    state: &mut State<D>,
     left: Register,
     right: Register,
-) -> Option<State<D>>
-    ensures { view_of result ≡ on_edge D.ops width test taken (view state.now) left.number (Reg right) }
+) -> bool
+    ensures { if_live result (view state.new)
+        ≡ on_edge D.ops width test taken (view state.old) left.number (Reg right) }
 {
     if left.number == right.number {
-        return Some(*state);
+        return true;
     }
-    match (state.register(left), state.register(right)) {
-        (RegState::Scalar(a), RegState::Scalar(b)) => {
-            let (a, b) = D::refine(width, test, taken, &a, &b)?;
-            let mut next = *state;
-            next.set_register(left, RegState::Scalar(a));
-            next.set_register(right, RegState::Scalar(b));
-            Some(next)
-        }
-        _ => None,
-    }
+    let (RegState::Scalar(a), RegState::Scalar(b)) = (state.register(left), state.register(right))
+    else {
+        return false;
+    };
+    let Some((a, b)) = D::refine(width, test, taken, &a, &b) else {
+        return false;
+    };
+    state.set_register(left, RegState::Scalar(a));
+    state.set_register(right, RegState::Scalar(b));
+    true
 }
 
-/// The state on one edge of a test; nothing on a dead edge.
+/// Makes a state the one on an edge of a test, unless the edge is dead.
 fn on_edge<D: Domain>(
     width: Width,
     test: Test,
     taken: bool,
-    state: &State<D>,
+    state: &mut State<D>,
     register: Register,
     source: Source,
-) -> Option<State<D>>
-    ensures { view_of result ≡ on_edge D.ops width test taken (view state.now) register.number source }
+) -> bool
+    ensures { if_live result (view state.new) ≡ on_edge D.ops width test taken (view state.old) register.number source }
 {
     match source {
         Source::Imm(number) => on_edge_with_number(width, test, taken, state, register, number),
@@ -193,11 +186,25 @@ fn value_of<D: Domain>(insn: Insn, state: &State<D>) -> RegState<D>
     }
 }
 
-/// The state that goes on to the next instruction, if one does.
-pub(crate) fn fall<D: Domain>(insn: Insn, state: &State<D>) -> Option<State<D>>
+/// Gives the destination what an instruction writes, if it writes a register.
+fn write_destination<D: Domain>(insn: Insn, state: &mut State<D>) -> bool
+    requires { IsSelected insn }
+    ensures { if_live result (view state.new) ≡ with_value D.ops insn (view state.old) (writes insn) }
+{
+    match destination(insn) {
+        Some(register) => {
+            state.set_register(register, value_of(insn, state));
+            true
+        }
+        None => false,
+    }
+}
+
+/// Makes a state the one that goes on to the next instruction, if one does.
+pub(crate) fn fall<D: Domain>(insn: Insn, state: &mut State<D>) -> bool
     requires selected { IsSelected insn }
-    requires passes { Passes D.ops insn (view state.now) }
-    ensures { view_of result ≡ fall D.ops insn (view state.now) }
+    requires passes { Passes D.ops insn (view state.old) }
+    ensures { if_live result (view state.new) ≡ fall D.ops insn (view state.old) }
 {
     insn.known();
     match insn {
@@ -213,27 +220,30 @@ pub(crate) fn fall<D: Domain>(insn: Insn, state: &State<D>) -> Option<State<D>>
             base,
             offset,
             ..
-        } => Some(after_store(state, base, offset, size)),
+        } => {
+            after_store(state, base, offset, size);
+            true
+        }
         Insn::StoreImm {
             size,
             base,
             offset,
             ..
-        } => Some(after_store(state, base, offset, size)),
-        _ => {
-            let register = destination(insn)?;
-            Some(with_register(state, register, value_of(insn, state)))
+        } => {
+            after_store(state, base, offset, size);
+            true
         }
+        _ => write_destination(insn, state),
     }
 }
 
-/// The state that goes along the jump, if one does.
-pub(crate) fn jump<D: Domain>(insn: Insn, state: &State<D>) -> Option<State<D>>
-    ensures { view_of result ≡ jump D.ops insn (view state.now) }
+/// Makes a state the one that goes along the jump, if one does.
+pub(crate) fn jump<D: Domain>(insn: Insn, state: &mut State<D>) -> bool
+    ensures { if_live result (view state.new) ≡ jump D.ops insn (view state.old) }
 {
     match insn {
-        Insn::Jump { .. } => Some(*state),
-        Insn::JumpLong { .. } => Some(*state),
+        Insn::Jump { .. } => true,
+        Insn::JumpLong { .. } => true,
         Insn::JumpIf {
             width,
             test,
@@ -241,6 +251,6 @@ pub(crate) fn jump<D: Domain>(insn: Insn, state: &State<D>) -> Option<State<D>>
             src,
             ..
         } => on_edge(width, test, true, state, dst, src),
-        _ => None,
+        _ => false,
     }
 }

@@ -1,11 +1,16 @@
 //! One forward pass over code.
-ghost use Rattle.std.specs.Prelude.{◌≡◌, ℕ, ◌<◌, ◌+◌, List, length, replicate, Some, None, IfOk, IfErr, MatchOption};
+ghost use Rattle.std.specs.Prelude.{◌≡◌, ℕ, ◌<◌, ◌≤◌, ◌+◌, max, List, Some, None, IfOk, IfErr, OnOk, MatchOption};
 ghost use Rattle.instruction_set.specs.declared.insn.Insn.{Insn};
 ghost use Rattle.instruction_set.specs.Machine.{insn_at, slot_count, slots_of};
+ghost use Rattle.instruction_set.specs.Slots.{IsSelected};
 ghost use Rattle.abstract_value.specs.States.{View, view};
+ghost use Rattle.abstract_value.specs.Pending.{boxed_view, held, room, size, peak_of, nothing};
 ghost use Rattle.verifier.specs.Structure.{IsStructured};
-ghost use Rattle.verifier.specs.Assignments.{IsLeast, FailsLeast, IsTypable};
-ghost use Rattle.verifier.specs.model.Flow.{view_of, look, flowed, flow, flow_edge};
+ghost use Rattle.verifier.specs.Rules.{Passes, fall, jump};
+ghost use Rattle.verifier.specs.Assignments.{FailsLeast, IsTypable};
+ghost use Rattle.verifier.specs.Width.{widest};
+ghost use Rattle.verifier.specs.model.Flow.{flow_edge};
+ghost use Rattle.verifier.specs.model.Pending.{IsPending};
 ghost use Rattle.verifier.specs.Refusals.{IsUnfulfilled, IsRefused, IsRefusedAt};
 ghost use Rattle.verifier.specs.declared.refusal.Refusal.{Refusal};
 
@@ -15,107 +20,161 @@ use crate::rule::Rule;
 use crate::structure::{check_structure, leads_to};
 use crate::transfer::{fall, jump};
 use crate::verified::Verified;
-use abstract_value::{Domain, State};
+use abstract_value::{Domain, Pending, State};
 use instruction_set::{Code, Insn};
 use std::alloc::{AllocError, Global};
 
-/// Joins a state to what a slot has.
-fn join_into<D: Domain>(slot: &mut Option<State<D>>, state: State<D>)
-    ensures { view_of slot.new ≡ Some (flowed D.ops (view_of slot.old) (view state)) }
+/// The state that goes along a jump, if one does, in a place of its own.
+fn jumping<D: Domain>(
+    alloc: Global,
+    insn: Insn,
+    state: &State<D>,
+) -> Result<Option<Box<State<D>>>, AllocError>
+    ensures { IfOk result (λ jumping. boxed_view jumping ≡ jump D.ops insn (view state.now)) }
 {
-    match slot {
-        Some(old) => old.join(&state),
-        None => *slot = Some(state),
+    match insn {
+        Insn::Jump { .. } | Insn::JumpLong { .. } | Insn::JumpIf { .. } => {}
+        _ => return Ok(None),
+    }
+    let mut next = Box::new(alloc, *state)?;
+    if jump(insn, &mut next) {
+        Ok(Some(next))
+    } else {
+        Ok(None)
     }
 }
 
-fn join_at<D: Domain>(states: &mut [Option<State<D>>], to: usize, state: State<D>)
-    requires { to < length states.old }
-    ensures { look states.new ≡ flow D.ops (look states.old) to (Some (view state)) }
+/// The state that goes on to the next instruction, if one does, in the place of the one before.
+fn falling<D: Domain>(insn: Insn, state: Box<State<D>>) -> Option<Box<State<D>>>
+    requires selected { IsSelected insn }
+    requires passes { Passes D.ops insn (view state.value) }
+    ensures { boxed_view result ≡ fall D.ops insn (view state.value) }
 {
-    join_into(&mut states[to], state);
+    let mut state = state;
+    if fall(insn, &mut state) {
+        Some(state)
+    } else {
+        None
+    }
 }
 
 /// Carries a state along an edge, where there are both.
-fn carry<D: Domain>(states: &mut [Option<State<D>>], to: Option<usize>, state: Option<State<D>>)
-    requires { (k : ℕ) (s : View D) → to ≡ Some k → view_of state ≡ Some s → k < length states.old }
-    ensures { look states.new ≡ flow_edge D.ops (look states.old) to (view_of state) }
+fn carry<D: Domain>(pending: &mut Pending<D>, to: Option<usize>, state: Option<Box<State<D>>>)
+    requires { (k : ℕ) (s : View D) → to ≡ Some k → boxed_view state ≡ Some s → k < room pending.old }
+    ensures states { held pending.new ≡ flow_edge D.ops (held pending.old) to (boxed_view state) }
+    ensures room { room pending.new ≡ room pending.old }
+    ensures kept { peak_of pending.old ≤ peak_of pending.new }
+    ensures peak { peak_of pending.new ≤ max (peak_of pending.old) (size pending.new) }
 {
     if let Some(to) = to {
         if let Some(state) = state {
-            join_at(states, to, state);
+            pending.put(to, state);
         }
     }
 }
 
-/// Checks the instruction at a slot in its state, if it has one, and carries the state on.
+/// Checks the instruction at a slot in its state, if it has one, gives that state up, and carries on what comes of it.
 fn visit<D: Domain>(
+    alloc: Global,
     code: &Code,
     at: usize,
     insn: Insn,
-    states: &mut [Option<State<D>>],
-) -> Option<Rule>
+    pending: &mut Pending<D>,
+) -> Result<Option<Rule>, AllocError>
     requires place { at < slot_count code.now }
     requires is_at { insn_at code.now at ≡ Some insn }
-    requires long { length states.old ≡ slot_count code.now }
     requires structured { IsStructured code.now }
-    requires least { IsLeast D.ops code.now at (look states.old) }
-    ensures { MatchOption result (IsLeast D.ops code.now (at + slots_of insn) (look states.new)) (λ rule. FailsLeast D.ops code.now at rule) }
+    requires room { room pending.old ≡ slot_count code.now }
+    requires least { IsPending D.ops code.now at (held pending.old) }
+    ensures least { IfOk result (λ failed. MatchOption failed
+        (IsPending D.ops code.now (at + slots_of insn) (held pending.new))
+        (λ rule. FailsLeast D.ops code.now at rule)) }
+    ensures room { room pending.new ≡ room pending.old }
+    ensures kept { peak_of pending.old ≤ peak_of pending.new }
+    ensures peak { peak_of pending.new ≤ max (peak_of pending.old) (1 + widest code.now) }
 {
     // Its instructions are listed.
     code.known();
-    let state = match &states[at] {
+    let state = match pending.take(at) {
         Some(state) => state,
-        None => return None,
+        None => return Ok(None),
     };
-    if let Some(rule) = check(insn, state) {
-        return Some(rule);
+    if let Some(rule) = check(insn, &state) {
+        return Ok(Some(rule));
     }
-    let falling = fall(insn, state);
-    let jumping = jump(insn, state);
-    carry(states, Some(at + insn.slots()), falling);
-    carry(states, leads_to(at, &insn), jumping);
-    None
-}
-
-/// No state yet, for each of so many slots.
-fn no_states<D: Domain>(alloc: Global, count: usize) -> Result<Vec<Option<State<D>>>, AllocError>
-    ensures { IfOk result (λ states. states.items ≡ replicate count None) }
-{
-    let mut states = Vec::with_capacity(alloc, count)?;
-    for _ in 0..count {
-        states.push(None)?;
-    }
-    Ok(states)
+    let jumping = jumping(alloc, insn, &state)?;
+    carry(pending, Some(at + insn.slots()), falling(insn, state));
+    carry(pending, leads_to(at, &insn), jumping);
+    Ok(None)
 }
 
 /// Goes over the instructions once, from first to last.
-fn pass<D: Domain>(code: &Code, states: &mut [Option<State<D>>]) -> Option<Refusal>
+fn pass<D: Domain>(
+    alloc: Global,
+    code: &Code,
+    pending: &mut Pending<D>,
+) -> Result<Option<Refusal>, AllocError>
     requires structured { IsStructured code.now }
-    requires states { states.old ≡ replicate (slot_count code.now) None }
-    ensures { MatchOption result (IsTypable D.ops code.now) (λ r. IsUnfulfilled D.ops code.now r.slot r.rule) }
+    requires room { room pending.old ≡ slot_count code.now }
+    requires none { held pending.old ≡ nothing }
+    requires peak { peak_of pending.old ≡ 0 }
+    ensures answer { IfOk result (λ refusal. MatchOption refusal
+        (IsTypable D.ops code.now) (λ r. IsUnfulfilled D.ops code.now r.slot r.rule)) }
+    ensures some { OnOk result (1 ≤ peak_of pending.new) }
+    ensures peak { peak_of pending.new ≤ 1 + widest code.now }
 {
     // It has few slots, and at least one.
     code.known();
-    carry(states, Some(0), Some(State::entry()));
+    pending.put(0, Box::new(alloc, State::entry())?);
     let insns = code.insns();
     let mut at = 0;
     for &insn in insns {
-        if let Some(rule) = visit(code, at, insn, states) {
-            return Some(Refusal {
+        if let Some(rule) = visit(alloc, code, at, insn, pending)? {
+            return Ok(Some(Refusal {
                 slot: at as u32,
                 rule,
-            });
+            }));
         }
         at += insn.slots();
     }
-    None
+    Ok(None)
+}
+
+/// Answers as `verify` does, with the greatest number of states that it held at a time.
+pub fn verify_peak<D: Domain>(alloc: Global, code: Code) -> (Result<Verified, VerifyFault>, u32)
+    // What is accepted is the code that was handed in. That it is safe stands in its type.
+    ensures accepted { IfOk result.0 (λ verified. verified ≡ code) }
+    ensures structured { IfOk result.0 (λ _. IsStructured code) }
+    ensures typable { IfOk result.0 (λ _. IsTypable D.ops code) }
+    // A refusal says where and why, and no assignment fulfils the rules up to there.
+    ensures refused { IfErr result.0 (λ fault. IsRefused D.ops code fault) }
+    // Some state was held where code is accepted, and never more than so many.
+    ensures held { IfOk result.0 (λ _. 1 ≤ result.1) }
+    ensures peak { result.1 ≤ 1 + widest code }
+{
+    if let Some(refusal) = check_structure(&code) {
+        return (Err(VerifyFault::Refused(refusal)), 0);
+    }
+    // It has few slots, and its instructions are listed.
+    code.known();
+    let mut pending: Pending<D> = match Pending::new(alloc, code.slot_count()) {
+        Ok(pending) => pending,
+        Err(AllocError) => return (Err(VerifyFault::OutOfMemory), 0),
+    };
+    let answer = pass(alloc, &code, &mut pending);
+    let peak = pending.peak();
+    match answer {
+        Ok(None) => (Ok(Verified::new(code)), peak),
+        Ok(Some(refusal)) => (Err(VerifyFault::Refused(refusal)), peak),
+        Err(AllocError) => (Err(VerifyFault::OutOfMemory), peak),
+    }
 }
 
 /// Accepts code that is safe, or names the first slot that fails and the least rule that fails there.
 ///
 /// The rules of structure, 10 to 14, are looked at first, over the whole code; then the rules 15 to 26, in the least
-/// state that each slot can have. Takes memory for one state a slot, and for nothing else.
+/// state that each slot can have. Takes eight bytes a slot, and memory for the states of slots that are still to come:
+/// the next one, and those to which jumps so far lead.
 pub fn verify<D: Domain>(alloc: Global, code: Code) -> Result<Verified, VerifyFault>
     // What is accepted is the code that was handed in. That it is safe stands in its type.
     ensures accepted { IfOk result (λ verified. verified ≡ code) }
@@ -124,25 +183,15 @@ pub fn verify<D: Domain>(alloc: Global, code: Code) -> Result<Verified, VerifyFa
     // A refusal says where and why, and no assignment fulfils the rules up to there.
     ensures refused { IfErr result (λ fault. IsRefused D.ops code fault) }
 {
-    if let Some(refusal) = check_structure(&code) {
-        return Err(VerifyFault::Refused(refusal));
-    }
-    let mut states: Vec<Option<State<D>>> = match no_states(alloc, code.slot_count()) {
-        Ok(states) => states,
-        Err(AllocError) => return Err(VerifyFault::OutOfMemory),
-    };
-    if let Some(refusal) = pass(&code, &mut states) {
-        return Err(VerifyFault::Refused(refusal));
-    }
-    // Its instructions are listed.
-    code.known();
-    Ok(Verified::new(code))
+    verify_peak::<D>(alloc, code).0
 }
 
 /// Code is judged in one way: it fulfils the rules, or it is refused by one rule at one slot, and never both.
 pub fn one_verdict_theorem<D: Domain>()
     // Code that fulfils the rules isn't refused; so `verify` accepts it, unless memory runs out.
-    ensures either { (code : List Insn) (refusal : Refusal) → IsStructured code → IsTypable D.ops code → IsRefusedAt D.ops code refusal.slot refusal.rule → ⊥ }
+    ensures either { (code : List Insn) (refusal : Refusal) → IsStructured code → IsTypable D.ops code
+        → IsRefusedAt D.ops code refusal.slot refusal.rule → ⊥ }
     // Two refusals of code are the same; so `verify` names the only one that there is.
-    ensures one_refusal { (code : List Insn) (a b : Refusal) → IsRefusedAt D.ops code a.slot a.rule → IsRefusedAt D.ops code b.slot b.rule → a ≡ b }
+    ensures one_refusal { (code : List Insn) (a b : Refusal) → IsRefusedAt D.ops code a.slot a.rule
+        → IsRefusedAt D.ops code b.slot b.rule → a ≡ b }
 {}

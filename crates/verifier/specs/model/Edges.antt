@@ -33,6 +33,8 @@ mark reached (Some to) = slice_set reached to true
 
 -- the instructions before a slot meet the rules of structure, and the slots marked are those to which they lead
 pub record IsSeen (code : List Insn) (end : ℕ) (reached : List Bool) : Type 0 where
-  pub meets : (slot : ℕ) (i : Insn) (rule : Rule) → slot < end → insn_at code slot ≡ Some i → MeetsStructure code slot i rule
+  pub meets : (slot : ℕ) (i : Insn) (rule : Rule) → slot < end → insn_at code slot ≡ Some i
+      → MeetsStructure code slot i rule
   pub sound : (to : ℕ) → slice_index_or reached to false ≡ true → (to ≡ 0) ⊎ HasEdge code to
-  pub complete : (to : ℕ) → to < slot_count code → (to ≡ 0) ⊎ HasEdgeBefore code end to → slice_index_or reached to false ≡ true
+  pub complete : (to : ℕ) → to < slot_count code → (to ≡ 0) ⊎ HasEdgeBefore code end to
+      → slice_index_or reached to false ≡ true

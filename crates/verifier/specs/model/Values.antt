@@ -4,7 +4,7 @@ use Rattle.instruction_set.specs.declared.insn.Register.{Register}
 use Rattle.instruction_set.specs.declared.insn.Insn.{Insn}
 use Rattle.instruction_set.specs.declared.insn.Insn.TheVariants.{Alu, Neg, MovSx, End, LoadWide, Load, LoadSx}
 use Rattle.abstract_value.specs.Domain.{Ops}
-use Rattle.abstract_value.specs.States.{View}
+use Rattle.abstract_value.specs.States.{View, with_register}
 use Rattle.abstract_value.specs.declared.states.RegState.{RegState}
 use Rattle.abstract_value.specs.declared.states.RegState.TheVariants.{Scalar, Unreadable}
 use Rattle.verifier.specs.Rules.{operand, result_of, of_scalar}
@@ -24,3 +24,8 @@ value_of o (LoadWide dst value) s = Scalar (o.single value)
 value_of o (Load size dst base offset) s = Scalar (o.load size false)
 value_of o (LoadSx size dst base offset) s = Scalar (o.load size true)
 value_of o _ s = Unreadable
+
+-- the state once a register, if there is one, holds it
+abbrev pub with_value : {D : Type 0} → Ops D → Insn → View D → Option ℕ → Option (View D)
+with_value o i s None = None
+with_value o i s (Some r) = Some (with_register s r (value_of o i s))

@@ -1,7 +1,10 @@
-use Rattle.std.proofs.Common.{rules, ap}
+use Rattle.std.proofs.Common.{ap}
 use Rattle.abstract_value.specs.States.{view}
-use Rattle.verifier.specs.model.Flow.{view_of}
+use Rattle.abstract_value.specs.Pending.{boxed_view}
 use Rattle.verifier.proofs.verify_code.carry.Goals as goal
 
-pub join_at-requires : goal.join_at-requires
-join_at-requires g c = (search rules, c.requires c.in-Some.to (view c.in-Some-state.state) c.in-Some.is (ap view_of c.in-Some-state.is))
+pub put-requires : goal.put-requires
+put-requires g c = (
+  g.met.D.Domain.fits,
+  c.requires c.in-Some.to (view c.in-Some-state.state.value) c.in-Some.is (ap boxed_view c.in-Some-state.is),
+)

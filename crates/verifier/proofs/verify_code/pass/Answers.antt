@@ -1,57 +1,51 @@
-use Rattle.std.proofs.Common.{◌≡◌, ◌≤◌, ◌+◌, ap, sym, subst, refl, ◌∙◌, length, take, replicate, Some, None, arith}
-use Rattle.std.proofs.lemmas.List.{length-replicate}
-use Rattle.instruction_set.specs.Machine.{slot_count, slots_of}
-use Rattle.instruction_set.specs.laws.Places.{insn_within, slots_more, slots_all}
+use Rattle.std.proofs.Common.{◌≡◌, ◌≤◌, max, ap, sym, subst, refl, ◌∙◌, Some, arith}
+use Rattle.instruction_set.specs.Machine.{slot_count}
+use Rattle.instruction_set.specs.laws.Places.{insn_within}
 use Rattle.abstract_value.specs.States.{view, entry}
-use Rattle.verifier.specs.Assignments.{IsLeast}
-use Rattle.verifier.specs.model.Flow.{look, flow}
-use Rattle.verifier.proofs.Pass.{begun, refused, fulfils_upto}
+use Rattle.abstract_value.specs.Pending.{held, room, size, count_held, peak_of, nothing}
+use Rattle.verifier.specs.model.Flow.{flow}
+use Rattle.verifier.specs.model.Pending.{IsPending}
+use Rattle.verifier.proofs.Pass.{refused}
 use Rattle.verifier.proofs.Places.{insn_here}
+use Rattle.verifier.proofs.Waits.{waits_first, one_at_first}
 use Rattle.verifier.proofs.verify_code.pass.Goals as goal
 
 pub loop-insn-init : goal.loop-insn-init
 loop-insn-init g c =
     let o = g.D.Domain.ops in
-    let n = slot_count c.args.code.now in
-    let e : look c.carry.new.states ≡ flow o (look (replicate n None)) 0 (Some entry) =
-    c.carry.ensures ∙ ap (λ x. flow o (look x) 0 (Some (view c.entry.result))) c.requires.states ∙ ap (λ s. flow o (look (replicate n None)) 0 (Some s)) c.entry.ensures in
+    let e : held c.put.new.self ≡ flow o nothing 0 (Some entry) =
+    c.put.ensures.states ∙ ap (λ x. flow o x 0 (Some (view c.in_ok-new.field-0.value))) c.requires.none
+    ∙ ap (λ s. flow o nothing 0 (Some s)) (ap view c.in_ok-new.ensures.ok ∙ c.entry.ensures) in
+    let some : 1 ≤ slot_count c.args.code.now = c.known.ensures.some in
+    let n : room c.put.new.self ≡ slot_count c.args.code.now = c.put.ensures.room ∙ c.requires.room in
+    let one : size c.put.new.self ≡ 1 =
+    ap (λ x. count_held x (room c.put.new.self)) e ∙ one_at_first o (room c.put.new.self) (omega arith) in
+    let old : peak_of c.args.pending.now ≡ 0 = c.requires.peak in
+    let p : peak_of c.put.new.self ≡ max (peak_of c.args.pending.now) (size c.put.new.self) = c.put.ensures.peak in
     record {
       place = refl;
-      long = c.carry.auto.states ∙ ap length c.requires.states ∙ length-replicate n None;
-      least = rw e (begun g.met.D.Domain.laws c.args.code.now n c.known.ensures);
+      room = n;
+      least = subst (IsPending o c.args.code.now 0) (sym e)
+          (waits_first g.met.D.Domain.laws c.args.code.now c.known.ensures);
+      some = omega arith;
+      peak = omega arith;
     }
 
-pub visit-requires : goal.visit-requires
-visit-requires g c =
-    let here = insn_here c.args.code.now c.insns-insns.result.now c.loop-insn.insn-index c.loop-insn.at c.insn-item.result c.insns-insns.ensures c.loop-insn.invariant.place c.loop-insn-test.true c.insn-item.is in (
-      g.met.D.Domain.fits,
-      (
-        insn_within c.args.code.now c.loop-insn.at c.insn-item.result here,
-        (here, (c.loop-insn.invariant.long, (c.requires.structured, c.loop-insn.invariant.least))),
-      ),
-    )
+pub visit-requires-clause-place : goal.visit-requires-clause-place
+visit-requires-clause-place g c =
+    insn_within c.args.code.now c.loop-insn.at c.insn-item.result
+    (insn_here c.args.code.now c.insns-insns.result.now c.loop-insn.insn-index c.loop-insn.at c.insn-item.result
+    c.insns-insns.ensures c.loop-insn.invariant.place c.loop-insn-test.true c.insn-item.is)
 
-pub loop-insn-preserved : goal.loop-insn-preserved
-loop-insn-preserved g c =
-    let wide : c.slots-at.result ≡ slots_of c.insn-item.result = c.slots-at.ensures in
-    let place : c.loop-insn.at ≡ slot_count (take c.loop-insn.insn-index c.insns-insns.result.now) = c.loop-insn.invariant.place in
-    let more = slots_more c.insns-insns.result.now c.loop-insn.insn-index c.insn-item.result c.loop-insn-test.true c.insn-item.is in
+pub visit-requires-clause-is_at : goal.visit-requires-clause-is_at
+visit-requires-clause-is_at g c =
+    insn_here c.args.code.now c.insns-insns.result.now c.loop-insn.insn-index c.loop-insn.at c.insn-item.result
+    c.insns-insns.ensures c.loop-insn.invariant.place c.loop-insn-test.true c.insn-item.is
+
+pub returns-in-Some-clause-answer : goal.returns-in-Some-clause-answer
+returns-in-Some-clause-answer g c =
+    let f = rw c.in-Some.is at c.in_ok-rule.ensures.least in
     record {
-      place = omega arith;
-      long = c.visit.auto.states ∙ c.loop-insn.invariant.long;
-      least = subst (λ n. IsLeast g.D.Domain.ops c.args.code.now (c.loop-insn.at + n) (look c.visit.new.states)) (sym wide) c.in_default.ensures;
+      fails = f;
+      unfulfilled = refused g.met.D.Domain.laws c.args.code.now c.loop-insn.at c.in-Some.rule f;
     }
-
-pub returns-in-Some : goal.returns-in-Some
-returns-in-Some g c = record {
-  fails = c.in-Some.ensures;
-  unfulfilled = refused g.met.D.Domain.laws c.args.code.now c.loop-insn.at c.in-Some.rule c.in-Some.ensures;
-}
-
-pub returns : goal.returns
-returns g c =
-    let all = slots_all c.insns-insns.result.now c.loop-insn.insn-index c.loop-insn-test.false in
-    let place : c.loop-insn.at ≡ slot_count (take c.loop-insn.insn-index c.insns-insns.result.now) = c.loop-insn.invariant.place in
-    let same : slot_count c.insns-insns.result.now ≡ slot_count c.args.code.now = ap slot_count c.insns-insns.ensures in
-    let past : slot_count c.args.code.now ≤ c.loop-insn.at = omega arith in
-    (look c.loop-insn.states, fulfils_upto g.met.D.Domain.laws c.args.code.now (slot_count c.args.code.now) c.loop-insn.at (look c.loop-insn.states) past c.loop-insn.invariant.least.fulfils)

@@ -1,13 +1,16 @@
-use Rattle.std.proofs.Common.{◌≡◌, length, take}
+use Rattle.std.proofs.Common.{◌≡◌, ◌≤◌, ◌+◌, take}
 use Rattle.instruction_set.specs.Machine.{slot_count}
-use Rattle.verifier.specs.Assignments.{IsLeast}
-use Rattle.verifier.specs.model.Flow.{look}
+use Rattle.abstract_value.specs.Pending.{held, room, peak_of}
+use Rattle.verifier.specs.Width.{widest}
+use Rattle.verifier.specs.model.Pending.{IsPending}
 use Rattle.verifier.proofs.verify_code.pass.Given as goal
 
--- the assignment so far is the least that fulfils the rules before this slot
+-- what is held is the least assignment from this instruction on
 abbrev pub invariant-loop-insn : goal.invariant-loop-insn
 invariant-loop-insn g l = record {
   place : l.at ≡ slot_count (take l.insn-index l.insns);
-  long : length l.states ≡ slot_count l.code;
-  least : IsLeast g.D.Domain.ops l.code l.at (look l.states);
+  room : room l.pending ≡ slot_count l.code;
+  least : IsPending g.D.Domain.ops l.code l.at (held l.pending);
+  some : 1 ≤ peak_of l.pending;
+  peak : peak_of l.pending ≤ 1 + widest l.code;
 }

@@ -1,0 +1,42 @@
+//! What a worker did.
+ghost use Rattle.std.specs.Prelude.{◌≡◌, ◌+◌, ◌<◌, ◌^◌};
+ghost use Rattle.judge_pool.specs.Work.{posts};
+
+use verdict_board::{Posted, Seat};
+
+/// A worker's seat, and how many of its posts were answered by each of `Posted`.
+#[derive(Drop)]
+pub struct Done {
+    pub seat: Seat,
+    pub kept: u32,
+    pub earlier: u32,
+    pub refused: u32,
+}
+
+impl Done {
+    // Nothing was posted yet.
+    pub(crate) fn new(seat: Seat) -> Done
+        ensures seat { result.seat ≡ seat }
+        ensures none { posts result ≡ 0 }
+    {
+        Done {
+            seat,
+            kept: 0,
+            earlier: 0,
+            refused: 0,
+        }
+    }
+
+    // One post more.
+    pub(crate) fn count(&mut self, posted: Posted<'_>)
+        requires { posts self.old + 1 < 2 ^ 32 }
+        ensures seat { self.new.seat ≡ self.old.seat }
+        ensures one_more { posts self.new ≡ posts self.old + 1 }
+    {
+        match posted {
+            Posted::Kept => self.kept += 1,
+            Posted::Earlier => self.earlier += 1,
+            Posted::Refused(_) => self.refused += 1,
+        }
+    }
+}

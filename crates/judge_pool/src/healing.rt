@@ -1,0 +1,104 @@
+//! A round of healing, by a worker a seat.
+ghost use Rattle.std.specs.Prelude.{◌≡◌, ◌≤◌, ◌<◌, ◌+◌, All, vec_len, vec_capacity};
+ghost use Rattle.judge_pool.specs.Work.{round_posts};
+
+use crate::done::Done;
+use crate::hooks::{Ear, Gate};
+use crate::round::Round;
+use crate::scoped::{Worker, run_all};
+use std::alloc::Global;
+use std::sync::Wait;
+use std::thread::Threads;
+use verdict_board::{Board, Seat};
+
+/// What the workers of one round did: the seats that came back, how many workers were started, and how many of their
+/// posts were answered by each of `Posted`.
+#[derive(Drop)]
+pub struct RoundDone {
+    pub seats: Vec<Seat>,
+    pub started: u32,
+    pub kept: u32,
+    pub earlier: u32,
+    pub refused: u32,
+}
+
+impl<'a, 'p, G: Gate, E: Ear> Worker for Round<'a, 'p, G, E> {
+    ghost draws = { λ w. w.board.now.draws };
+
+    fn run<R: Wait>(&self, rt: &R, seat: Seat) -> Done {
+        self.work_alone(rt, seat)
+    }
+}
+
+/// Starts one worker a seat, and ends once all have ended.
+///
+/// It asks for seats of this board, and for a round from 0 to 3. A worker that can't be started, or gets no pass,
+/// leaves its share to the others. The seat of one that couldn't be started is lost, unless memory for all is refused:
+/// then none is started, and all seats come back.
+pub fn heal_round<'p, G: Gate + Sync, E: Ear + Sync, R: Threads + Wait + Sync>(
+    rt: &R,
+    alloc: Global,
+    board: &Board<'p>,
+    seats: Vec<Seat>,
+    round: u32,
+    gate: &G,
+    left: &E,
+    right: &E,
+) -> RoundDone
+    requires seats { All (λ s. s.draws ≡ board.now.draws) seats.items }
+    requires round { round < 4 }
+    ensures seats { All (λ s. s.draws ≡ board.entry.now.draws) result.seats.items }
+    // The seat of each worker that was started comes back.
+    ensures back { result.started ≤ vec_len result.seats }
+    // Where none was started nothing is judged.
+    ensures none { result.started ≡ 0 → round_posts result ≡ 0 }
+{
+    let shared = Round {
+        board,
+        number: round,
+        gate,
+        left,
+        right,
+    };
+    run_all(rt, alloc, &shared, seats)
+}
+
+impl RoundDone {
+    // No worker was started.
+    pub(crate) fn new(seats: Vec<Seat>) -> RoundDone
+        ensures seats { result.seats ≡ seats }
+        ensures none { (result.started ≡ 0) × (round_posts result ≡ 0) }
+    {
+        RoundDone {
+            seats,
+            started: 0,
+            kept: 0,
+            earlier: 0,
+            refused: 0,
+        }
+    }
+
+    // One worker more has ended.
+    pub(crate) fn add(&mut self, done: Done)
+        requires { vec_len self.old.seats < vec_capacity self.old.seats }
+        ensures same { All (λ s. s.draws ≡ done.seat.draws) self.old.seats.items
+            → All (λ s. s.draws ≡ done.seat.draws) self.new.seats.items }
+        ensures seats { vec_len self.new.seats ≡ vec_len self.old.seats + 1 }
+        ensures room { vec_capacity self.old.seats ≤ vec_capacity self.new.seats }
+        ensures started { (0 < self.new.started) × (self.new.started ≤ self.old.started + 1) }
+    {
+        let Done {
+            seat,
+            kept,
+            earlier,
+            refused,
+        } = done;
+        self.started = self.started.saturating_add(1);
+        self.kept = self.kept.saturating_add(kept);
+        self.earlier = self.earlier.saturating_add(earlier);
+        self.refused = self.refused.saturating_add(refused);
+        let Ok(()) = self.seats.push(seat) else {
+            unreachable!()
+        };
+    }
+}

@@ -1,0 +1,20 @@
+//! What is called by the workers of a round.
+ghost use Rattle.std.specs.Prelude.{◌≡◌, Some};
+ghost use Rattle.verdict_board.specs.Boards.{as_ruling, seen};
+
+use partition_table::Ruling;
+use std::sync::Wait;
+use verdict_board::Pass;
+
+/// Who is asked before each post.
+pub trait Gate {
+    /// A worker is about to post its verdict of clash `k` in this round.
+    fn before_post<R: Wait>(&self, rt: &R, round: u32, k: u32);
+}
+
+/// Who is told rulings.
+pub trait Ear {
+    /// A ruling that the pass has seen.
+    fn told<'p, R: Wait>(&self, rt: &R, ruling: Ruling<'p>, pass: &Pass<'p>)
+        requires { seen pass.now ruling.k ≡ Some (as_ruling ruling) };
+}

@@ -1,0 +1,19 @@
+//! Workers that draw the clashes of a board, judge them, post the verdicts, and tell what the board shows.
+#![tactic(auto)]
+
+mod done;
+mod healing;
+mod hooks;
+mod judging;
+mod round;
+mod scoped;
+mod serving;
+#[cfg(test)]
+mod tests;
+
+pub use done::Done;
+pub use healing::{RoundDone, heal_round};
+pub use hooks::{Ear, Gate};
+pub use judging::judge;
+pub use partition_table::word;
+pub use serving::work;

@@ -1,0 +1,15 @@
+//! What the workers of a round share.
+ghost use Rattle.std.specs.Prelude.{◌<◌};
+
+use verdict_board::Board;
+
+// The board and the number of a round, who is asked before a post, and who is told rulings.
+#[derive(Drop)]
+pub(crate) struct Round<'a, 'p, G, E> {
+    pub board: &'a Board<'p>,
+    pub number: u32,
+    pub gate: &'a G,
+    pub left: &'a E,
+    pub right: &'a E,
+    pub ghost in_range: { number < 4 },
+}

@@ -1,0 +1,113 @@
+//! The work of one worker.
+ghost use Rattle.std.specs.Prelude.{◌≡◌, ◌+◌, ◌<◌, Some, length, slice_get};
+ghost use Rattle.partition_table.specs.Tables.{word_of};
+ghost use Rattle.partition_table.specs.Judged.{clash_of_verdict, word_of_verdict};
+ghost use Rattle.judge_pool.specs.Work.{posts, clashes_drawn, DrewIn, IsSpent};
+
+use crate::done::Done;
+use crate::hooks::{Ear, Gate};
+use crate::judging::judge;
+use crate::round::Round;
+use partition_table::{Verdict, word};
+use std::sync::Wait;
+use verdict_board::{Board, Draw, Pass, Posted, Seat};
+
+// The most numbers that a seat draws in a round.
+const MOST_DRAWN: u32 = 4097;
+
+/// Draws clashes of a round until none is left. It judges each, calls the gate, posts the verdict, and tells both ears
+/// the ruling that it then reads, where there is one.
+///
+/// It asks for a seat and a pass of this board, and for a round from 0 to 3. Each post takes memory for a word.
+pub fn work<'p, G: Gate, E: Ear, R: Wait>(
+    rt: &R,
+    board: &Board<'p>,
+    seat: Seat,
+    pass: Pass<'p>,
+    round: u32,
+    gate: &G,
+    left: &E,
+    right: &E,
+) -> Done
+    requires seat { seat.draws ≡ board.now.draws }
+    requires pass { pass.place ≡ board.now.place }
+    requires round { round < 4 }
+    ensures board { result.seat.draws ≡ board.entry.now.draws }
+    // It drew in this round alone, until none was left, and posted once for each clash that it drew.
+    ensures round { DrewIn round seat.drawn result.seat.drawn }
+    ensures spent { IsSpent (length board.entry.now.place.clashes) round result.seat.drawn }
+    ensures posts { let n = length board.entry.now.place.clashes in
+        posts result + clashes_drawn n round seat.drawn ≡ clashes_drawn n round result.seat.drawn }
+{
+    let shared = Round {
+        board,
+        number: round,
+        gate,
+        left,
+        right,
+    };
+    shared.work(rt, seat, pass)
+}
+
+impl<'a, 'p, G: Gate, E: Ear> Round<'a, 'p, G, E> {
+    // The same with a pass of its own. Without one it draws nothing.
+    pub(crate) fn work_alone<R: Wait>(&self, rt: &R, seat: Seat) -> Done
+        requires { seat.draws ≡ self.now.board.now.draws }
+        ensures { result.seat.draws ≡ self.entry.now.board.now.draws }
+    {
+        match self.board.pass() {
+            Ok(pass) => self.work(rt, seat, pass),
+            Err(_) => Done::new(seat),
+        }
+    }
+
+    fn work<R: Wait>(&self, rt: &R, seat: Seat, pass: Pass<'p>) -> Done
+        requires seat { seat.draws ≡ self.now.board.now.draws }
+        requires pass { pass.place ≡ self.now.board.now.place }
+        ensures board { result.seat.draws ≡ self.entry.now.board.now.draws }
+        ensures round { DrewIn self.entry.now.number seat.drawn result.seat.drawn }
+        ensures spent { IsSpent (length self.entry.now.board.now.place.clashes) self.entry.now.number
+            result.seat.drawn }
+        ensures posts { let n = length self.entry.now.board.now.place.clashes in
+            posts result + clashes_drawn n self.entry.now.number seat.drawn
+            ≡ clashes_drawn n self.entry.now.number result.seat.drawn }
+    {
+        let mut pass = pass;
+        let mut done = Done::new(seat);
+        for _turn in 0..MOST_DRAWN {
+            match self.board.draw(&mut done.seat, self.number) {
+                Draw::Clash(k) => done.count(self.serve(rt, &mut pass, k)),
+                Draw::Spent => return done,
+            }
+        }
+        done
+    }
+
+    // Judges clash k, posts the verdict, and tells what the board shows.
+    fn serve<R: Wait>(&self, rt: &R, pass: &mut Pass<'p>, k: u32) -> Posted<'p>
+        requires pass { pass.old.place ≡ self.now.board.now.place }
+        requires clash { k < length self.now.board.now.place.clashes }
+        ensures { pass.new.place ≡ pass.old.place }
+    {
+        let verdict = self.verdict(k);
+        self.gate.before_post(rt, self.number, k);
+        let posted = self.board.post(k, verdict, pass);
+        if let Some(ruling) = self.board.read(k, pass) {
+            self.left.told(rt, ruling, pass);
+            self.right.told(rt, ruling, pass);
+        }
+        posted
+    }
+
+    // The verdict of clash k at its word in this round.
+    fn verdict(&self, k: u32) -> Verdict<'p>
+        requires { k < length self.now.board.now.place.clashes }
+        ensures clash { slice_get self.entry.now.board.now.place.clashes k ≡ Some (clash_of_verdict result) }
+        ensures word { word_of_verdict result ≡ word_of self.entry.now.board.now.place.seed self.entry.now.number
+            (length self.entry.now.board.now.place.clashes) k }
+    {
+        let clashes = self.board.clashes();
+        let count = clashes.len() as u32;
+        judge(clashes, k, word(self.board.seed(), self.number, count, k))
+    }
+}

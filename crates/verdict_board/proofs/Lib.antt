@@ -1,0 +1,4 @@
+mod Totals
+mod Steps
+mod Looking
+mod Rulings

@@ -1,0 +1,100 @@
+-- What a pass sees at a word that it has found.
+use Rattle.std.proofs.Common.{◌≡◌, ◌≢◌, ℕ, zero, suc, ◌<◌, Bool, true, false, ◌||◌, ◌==◌, if◌then◌else◌, List, length, Option, Some, None, slice_get, eqb-true, eq-eqb, refl, sym, ap, ◌∙◌, subst, arith}
+use Rattle.std.specs.Option.{option_and_then}
+use Rattle.partition_table.specs.Tables.{Clash, IsOneOfFour, word_of, answer}
+use Rattle.partition_table.specs.Judged.{clash_of_verdict, word_of_verdict, answer_of_verdict}
+use Rattle.partition_table.specs.declared.verdict.Verdict.{Verdict}
+use Rattle.exchange_core.specs.Sides.{is_one_of_four}
+use Rattle.exchange_core.specs.Worlds.{Ruling, ruling_of}
+use Rattle.verdict_board.specs.Boards.{Pass, Place, as_ruling_of, word_seen, seen, ruling_if, ruling_at}
+
+-- ---- the test of a word
+
+by_either : (p q : Bool) {P : Type 0} → (p || q) ≡ true → (p ≡ true → P) → (q ≡ true → P) → P
+by_either true q e f g = f refl
+by_either false q e f g = g e
+
+one_of_four : (word seed n k : ℕ) → is_one_of_four word seed n k ≡ true → IsOneOfFour word seed n k
+one_of_four word seed n k e =
+    by_either _ _ e (λ t. (0, omega arith, eqb-true _ _ t)) (λ e.
+    by_either _ _ e (λ t. (1, omega arith, eqb-true _ _ t)) (λ e.
+    by_either _ _ e (λ t. (2, omega arith, eqb-true _ _ t)) (λ e.
+    by_either _ _ e (λ t. (3, omega arith, eqb-true _ _ t)) (λ e. absurd (cc)))))
+
+or_left : (p q : Bool) → p ≡ true → (p || q) ≡ true
+or_left p q e = ap (λ b. b || q) e
+
+or_right : (p q : Bool) → q ≡ true → (p || q) ≡ true
+or_right true q e = refl
+or_right false q e = e
+
+four_pass : (word seed n k round : ℕ) → round < 4 → word ≡ word_of seed round n k → is_one_of_four word seed n k ≡ true
+four_pass word seed n k zero early e = or_left _ _ (eq-eqb _ _ e)
+four_pass word seed n k (suc zero) early e = or_right (word == word_of seed 0 n k) _ (or_left _ _ (eq-eqb _ _ e))
+four_pass word seed n k (suc (suc zero)) early e =
+    or_right (word == word_of seed 0 n k) _ (or_right (word == word_of seed 1 n k) _ (or_left _ _ (eq-eqb _ _ e)))
+four_pass word seed n k (suc (suc (suc zero))) early e =
+    or_right (word == word_of seed 0 n k) _ (or_right (word == word_of seed 1 n k) _
+    (or_right (word == word_of seed 2 n k) _ (or_left _ _ (eq-eqb _ _ e))))
+four_pass word seed n k (suc (suc (suc (suc round)))) early e = absurd (omega arith)
+
+-- ---- the ruling at a word
+
+if_passes : (number seed : ℕ) (clashes : List Clash) (k word : ℕ) (clash : Clash)
+    (b : Bool) → is_one_of_four word seed (length clashes) k ≡ b → b ≡ true →
+    ruling_if number seed clashes k word clash ≡ Some (ruling_of number k word clash)
+if_passes number seed clashes k word clash b is t =
+    ap (λ (x : Bool). if x then Some (ruling_of number k word clash) else None) (is ∙ t)
+
+-- at one of the four words it is the ruling of the clash there
+pub ruling_is : (number seed : ℕ) (clashes : List Clash) (k word : ℕ)
+    (clash : Clash) → slice_get clashes k ≡ Some clash → IsOneOfFour word seed (length clashes) k →
+    ruling_at number seed clashes k word ≡ Some (ruling_of number k word clash)
+ruling_is number seed clashes k word clash at four =
+    ap (option_and_then (ruling_if number seed clashes k word)) at
+    ∙ if_passes number seed clashes k word clash _ refl (four_pass word seed (length clashes) k four.0 four.1 four.2)
+
+-- what is seen of a word that was found
+abbrev pub at_place : Place → ℕ → Option ℕ → Option Ruling
+at_place p k word = option_and_then (ruling_at p.number p.seed p.clashes k) word
+
+seen_at : (pass : Pass) (p : Place) (k : ℕ)
+    (word : Option ℕ) → pass.place ≡ p → word_seen pass k ≡ word → seen pass k ≡ at_place p k word
+seen_at pass p k word e h = λ i. at_place (e i) k (h i)
+
+judged_so : (number k word : ℕ) (verdict : Verdict) → word ≡ word_of_verdict verdict →
+    ruling_of number k word (clash_of_verdict verdict) ≡ as_ruling_of number k verdict
+judged_so number k word verdict e =
+    let same : answer (clash_of_verdict verdict) word ≡ answer_of_verdict verdict =
+    ap (answer (clash_of_verdict verdict)) e ∙ sym verdict.judged in
+    λ i. record {
+      number = number;
+      k = k;
+      clash = clash_of_verdict verdict;
+      judged =
+          record { word = e i; answer = same i };
+    }
+
+-- a pass that finds the word of a verdict has seen this verdict
+pub seen_verdict : (pass : Pass) (p : Place) (k word : ℕ)
+    (verdict : Verdict) → pass.place ≡ p → Some word ≡ word_seen pass k → word ≡ word_of_verdict verdict →
+    slice_get p.clashes k ≡ Some (clash_of_verdict verdict) →
+    IsOneOfFour (word_of_verdict verdict) p.seed (length p.clashes) k →
+    seen pass k ≡ Some (as_ruling_of p.number k verdict)
+seen_verdict pass p k word verdict same found e at four =
+    seen_at pass p k (Some word) same (sym found)
+    ∙ ruling_is p.number p.seed p.clashes k word (clash_of_verdict verdict) at
+    (subst (λ (w : ℕ). IsOneOfFour w p.seed (length p.clashes) k) (sym e) four)
+    ∙ ap Some (judged_so p.number k word verdict e)
+
+-- a pass that finds another of the four words has seen another ruling
+pub seen_other : (pass : Pass) (p : Place) (k word other : ℕ)
+    (clash : Clash) → pass.place ≡ p → Some word ≡ word_seen pass k → slice_get p.clashes k ≡ Some clash →
+    is_one_of_four word p.seed (length p.clashes) k ≡ true → word ≢ other →
+    (ruling : Ruling) × (seen pass k ≡ Some ruling) × (ruling.judged.word ≢ other)
+seen_other pass p k word other clash same found at passes apart = (
+  ruling_of p.number k word clash,
+  seen_at pass p k (Some word) same (sym found)
+      ∙ ruling_is p.number p.seed p.clashes k word clash at (one_of_four _ _ _ _ passes),
+  apart,
+)

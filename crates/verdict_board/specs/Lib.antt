@@ -1,0 +1,4 @@
+pub mod Draws
+pub mod Boards
+pub mod model
+pub mod laws

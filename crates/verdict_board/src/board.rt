@@ -1,0 +1,210 @@
+//! The board of one exchange.
+ghost use Rattle.std.specs.Prelude.{◌≡◌, ℕ, ◌<◌, ◌≤◌, [], All, length, IfOk, Some, None, vec_len, slice_get, slice_index};
+ghost use Rattle.std.specs.Option.{option_map};
+ghost use Rattle.partition_table.specs.Tables.{IsOneOfFour};
+ghost use Rattle.partition_table.specs.Judged.{clash_of_verdict, word_of_verdict};
+ghost use Rattle.exchange_core.specs.Worlds.{ruling_of};
+ghost use Rattle.verdict_board.specs.Boards.{as_ruling, seen, LooksAt, IsAnswer};
+ghost use Rattle.verdict_board.specs.Draws.{Draws, EachOnce};
+ghost use Rattle.verdict_board.specs.model.Given.{hand};
+
+use crate::draw::Draw;
+use crate::draw_words::{deal, drawn_in, join_all};
+use crate::given::{GivenOnce, Hand, Took};
+use crate::pass::Pass;
+use crate::posted::Posted;
+use crate::seat::Seat;
+use crate::site::Site;
+use atomic_table::Table;
+use once_cell::race::OnceBox;
+use partition_table::{ClashList, Ruling, Verdict};
+use std::alloc::{AllocError, Global};
+use std::marker::Model;
+
+// The most numbers that a seat draws in a round. One of them is past the count of clashes.
+const MOST_DRAWN: u32 = 4097;
+
+/// The draws and the verdicts of one exchange.
+///
+/// The cell of a clash holds the word of the verdict that was posted first. The ruling is made again from that word,
+/// by a run of the resolver.
+#[derive(Drop)]
+pub struct Board<'p> {
+    site: Site<'p>,
+    cells: Vec<OnceBox<u64>>,
+    words: Table<(), Hand, u64, GivenOnce, Global>,
+    seats: u32,
+    alloc: Global,
+}
+
+impl<'p> Model for Board<'p> {
+    ghost use Rattle.std.specs.Prelude.{◌≡◌, ◌<◌, ◌≤◌, map, length};
+    ghost use Rattle.once_cell.specs.Once.{cell_name};
+    ghost use Rattle.partition_table.specs.Tables.{max_names};
+    ghost use Rattle.verdict_board.specs.Boards.{Board};
+    ghost use Rattle.verdict_board.specs.model.Places.{place_of};
+
+    ghost Value = { Board };
+
+    ghost view = { λ b. record {
+      place = place_of b.site.number b.site.seed b.site.clashes.now (map cell_name b.cells.items);
+      seats = b.seats;
+      draws = b.words.shared.table_id;
+    } };
+
+    ghost invariant = { λ b. (length b.cells.items ≡ length b.site.clashes.now)
+        × (length b.site.clashes.now ≤ max_names)
+        × (0 < b.seats) × (b.seats ≤ 16) × (b.words.shared.key ≡ b.seats)
+        × (b.words.shared.table_id.words ≡ 4) × (b.words.shared.table_id.slots ≡ 0) };
+}
+
+/// The board of an exchange with this number, this seed and these clashes, and its seats, which have drawn nothing.
+///
+/// It asks for 1 to 16 seats. Takes memory for one cell a clash.
+pub fn open<'p>(
+    alloc: Global,
+    number: u64,
+    seed: u64,
+    clashes: &'p ClashList,
+    seats: u32,
+) -> Result<(Board<'p>, Vec<Seat>), AllocError>
+    requires { (0 < seats) × (seats ≤ 16) }
+    ensures number { IfOk result (λ opened. opened.0.place.number ≡ number) }
+    ensures seed { IfOk result (λ opened. opened.0.place.seed ≡ seed) }
+    ensures clashes { IfOk result (λ opened. opened.0.place.clashes ≡ clashes.now) }
+    ensures count { IfOk result (λ opened. (opened.0.seats ≡ seats) × (vec_len opened.1 ≡ seats)) }
+    ensures seats { IfOk result (λ opened.
+        All (λ seat. (seat.draws ≡ opened.0.draws) × (seat.drawn ≡ [])) opened.1.items) }
+{
+    let site = Site {
+        number,
+        seed,
+        clashes,
+    };
+    let mut cells = Vec::new(alloc);
+    while cells.len() < clashes.len() {
+        cells.push(OnceBox::new(alloc))?;
+    }
+    let (words, token) = Table::of_words(alloc, &[0, 0, 0, 0], &u64::from(seats))?;
+    let all = deal(alloc, &words.shared, token, seats)?;
+    let board = Board {
+        site,
+        cells,
+        words,
+        seats,
+        alloc,
+    };
+    Ok((board, all))
+}
+
+impl<'p> Board<'p> {
+    /// The number of the exchange.
+    pub fn number(&self) -> u64
+        ensures { result ≡ self.now.place.number }
+    {
+        self.site.number
+    }
+
+    /// The seed of the exchange.
+    pub fn seed(&self) -> u64
+        ensures { result ≡ self.now.place.seed }
+    {
+        self.site.seed
+    }
+
+    /// The clashes of the exchange.
+    pub fn clashes(&self) -> &'p ClashList
+        ensures { result.now ≡ self.entry.now.place.clashes }
+    {
+        self.site.clashes
+    }
+
+    /// A pass that has seen nothing.
+    pub fn pass(&self) -> Result<Pass<'p>, AllocError>
+        ensures board { IfOk result (λ pass. pass.place ≡ self.now.place) }
+        ensures nothing { IfOk result (λ pass. (k : ℕ) → seen pass k ≡ None) }
+    {
+        let mut notes = Vec::new(self.alloc);
+        for cell in &self.cells {
+            notes.push(cell.note())?;
+        }
+        Ok(Pass::new(self.site, notes))
+    }
+
+    /// Draws the next number of a round, counted from 0. Below the count of clashes it is a clash's place.
+    ///
+    /// It asks for a seat of this board, and for a round from 0 to 3. It waits for nobody.
+    pub fn draw(&self, seat: &mut Seat, round: u32) -> Draw
+        requires board { seat.old.draws ≡ self.now.draws }
+        requires round { round < 4 }
+        ensures board { seat.new.draws ≡ seat.old.draws }
+        ensures draws { Draws (length self.now.place.clashes) round seat.old.drawn seat.new.drawn result }
+    {
+        let used = seat.used[round as usize];
+        if used == MOST_DRAWN {
+            return Draw::Spent;
+        }
+        let n = self
+            .words
+            .shared
+            .fetch_add::<Took>(&mut seat.token, round as usize, 1);
+        seat.used[round as usize] = used + 1;
+        if n < self.site.clashes.len() as u64 {
+            Draw::Clash(n as u32)
+        } else {
+            Draw::Spent
+        }
+    }
+
+    /// Posts a verdict of clash `k`, and says what the pass has then seen of that clash.
+    ///
+    /// It asks for a pass of this board, and for a verdict of clash `k` at one of its four words. Where no verdict was
+    /// posted before, this one is kept, and where memory is refused, none is. It waits for nobody.
+    pub fn post(&self, k: u32, verdict: Verdict<'p>, pass: &mut Pass<'p>) -> Posted<'p>
+        requires board { pass.old.place ≡ self.now.place }
+        requires clash { slice_get self.now.place.clashes k ≡ Some (clash_of_verdict verdict) }
+        requires word { IsOneOfFour (word_of_verdict verdict) self.now.place.seed (length self.now.place.clashes) k }
+        ensures answer { IsAnswer (seen pass.new k) self.now.place.number k verdict.entry result }
+        ensures looks { LooksAt k pass.old pass.new }
+    {
+        let place = k as usize;
+        let word = verdict.word();
+        match pass.offer(self.alloc, &self.cells[place], place, word) {
+            Some(first) if first == word => Posted::Kept,
+            Some(first) if self.site.is_word(k, first) => Posted::Earlier,
+            _ => Posted::Refused(verdict),
+        }
+    }
+
+    /// The ruling of clash `k`, if there is one. What a pass has seen it sees again. Past the count there is none.
+    ///
+    /// It asks for a pass of this board. It runs the resolver of the clash, takes no memory and waits for nobody.
+    pub fn read(&self, k: u32, pass: &mut Pass<'p>) -> Option<Ruling<'p>>
+        requires board { pass.old.place ≡ self.now.place }
+        ensures answer { option_map as_ruling result ≡ seen pass.new k }
+        ensures looks { LooksAt k pass.old pass.new }
+    {
+        let cell = self.cells.get(k as usize)?;
+        let word = pass.look(cell, k as usize)?;
+        self.site.ruling(k, word)
+    }
+
+    /// Takes all seats back, and tells how many numbers were drawn in each round. What was drawn in a round are the
+    /// numbers below its count, each once.
+    ///
+    /// It asks for all seats of this board.
+    pub fn gather(&self, seats: Vec<Seat>) -> [u64; 4]
+        requires all { vec_len seats ≡ self.now.seats }
+        requires board { All (λ seat. seat.draws ≡ self.now.draws) seats.items }
+        ensures { (round : ℕ) → round < 4 → EachOnce round seats.items (slice_index result round) }
+    {
+        let words = &self.words.shared;
+        let mut all = join_all(words, seats);
+        [
+            drawn_in(words, &mut all, 0),
+            drawn_in(words, &mut all, 1),
+            drawn_in(words, &mut all, 2),
+            drawn_in(words, &mut all, 3),
+        ]
+    }
+}

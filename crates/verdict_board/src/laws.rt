@@ -1,0 +1,23 @@
+//! The law of what is seen of a board.
+ghost use Rattle.std.specs.Prelude.{◌≡◌, ℕ, ◌<◌, Some, IsTrue, slice_get};
+ghost use Rattle.exchange_core.specs.Sides.{Offer, is_lawful};
+ghost use Rattle.exchange_core.specs.Worlds.{Ruling, clashes_between, ruling_on};
+ghost use Rattle.verdict_board.specs.Boards.{Pass, seen, IsBoardOf};
+
+/// What a pass has seen of a clash is a ruling that a judging step of the exchange adds.
+///
+/// It does nothing when it runs: its contract is the law.
+pub fn seen_theorem()
+    // Where the board was opened with the number, the seed and the clashes of two offers, it is what some judging step
+    // adds.
+    ensures judged { (pass : Pass) (k : ℕ) (ruling : Ruling) (a b : Offer) → IsBoardOf a b pass.place
+        → seen pass k ≡ Some ruling
+        → (round : ℕ) × (round < 4) × (ruling_on pass.place.number k round (Some a) (Some b) ≡ Some ruling) }
+    // Its word is one of the clash's four, and its answer the resolver's there.
+    ensures lawful { (pass : Pass) (k : ℕ) (ruling : Ruling) → seen pass k ≡ Some ruling
+        → IsTrue (is_lawful pass.place.clashes pass.place.seed k ruling.judged) }
+    // It is of this exchange and of this clash.
+    ensures own { (pass : Pass) (k : ℕ) (ruling : Ruling) → seen pass k ≡ Some ruling
+        → (ruling.number ≡ pass.place.number) × (ruling.k ≡ k)
+        × (slice_get pass.place.clashes k ≡ Some ruling.clash) }
+{}

@@ -1,0 +1,21 @@
+//! A board of verdicts: seats that draw the clashes of an exchange, and passes that post verdicts and read rulings.
+//!
+//! Drawing, posting and reading wait for nobody.
+#![tactic(auto)]
+
+mod board;
+mod draw;
+mod draw_words;
+mod given;
+mod laws;
+mod pass;
+mod posted;
+mod seat;
+mod site;
+
+pub use board::{Board, open};
+pub use draw::Draw;
+pub use laws::seen_theorem;
+pub use pass::Pass;
+pub use posted::Posted;
+pub use seat::Seat;

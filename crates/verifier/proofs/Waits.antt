@@ -1,0 +1,325 @@
+-- One step of the pass keeps what waits.
+use Rattle.std.proofs.Common.{◌≡◌, ◌≢◌, ℕ, zero, suc, ◌+◌, ◌-◌, ◌<◌, ◌≤◌, max, ◌==◌, ◌&&◌, ◌||◌, Bool, true, false, ◌⊎◌, inl, inr, refl, ap, ◌∙◌, sym, subst, arith, List, Option, Some, None}
+use Rattle.std.specs.Prelude.{IsTrue, IsSome, is_some, nat_lt}
+use Rattle.std.proofs.lemmas.Bool.Decides.{nat_tests}
+use Rattle.instruction_set.specs.Slots.{IsCode}
+use Rattle.instruction_set.specs.Machine.{slots_of, slot_count, insn_at}
+use Rattle.instruction_set.specs.declared.insn.Insn.{Insn}
+use Rattle.instruction_set.specs.declared.insn.Insn.TheVariants.{Jump, JumpLong, JumpIf}
+use Rattle.instruction_set.specs.laws.Places.{some_slots, none_within, end_within}
+use Rattle.abstract_value.specs.Counts.{count_below}
+use Rattle.abstract_value.specs.Domain.{Ops, Laws}
+use Rattle.abstract_value.specs.States.{View, entry, put}
+use Rattle.abstract_value.specs.Pending.{held, room, size, nothing, count_held, with_joined}
+use Rattle.abstract_value.specs.declared.pending.Pending.{Pending}
+use Rattle.abstract_value.specs.laws.Counting.{same_tells, count_one_more, count_none, count_some}
+use Rattle.verifier.specs.declared.rule.Rule.{Rule}
+use Rattle.verifier.specs.declared.rule.Rule.TheVariants.{FallsOff}
+use Rattle.verifier.specs.Structure.{leads_to, IsStructured}
+use Rattle.verifier.specs.Rules.{Passes, FailsFirst, fall, jump}
+use Rattle.verifier.specs.Assignments.{Assignment, FailsLeast}
+use Rattle.verifier.specs.Width.{most_below, is_slot, jumps_to, is_target, targets_above, widest}
+use Rattle.verifier.specs.model.Flow.{flow, flow_edge}
+use Rattle.verifier.specs.model.Pending.{IsDue, IsPending}
+use Rattle.verifier.proofs.Tags.{tells}
+use Rattle.verifier.proofs.Pass.{fall_goes, leads_past, begun, skipped, passed, over_insn}
+
+-- ---- targets of jumps
+
+-- each value is at most the greatest
+most_above : (f : ℕ → ℕ) (n k : ℕ) → k < n → f k ≤ most_below f n
+most_above f zero k h = absurd (omega arith)
+most_above f (suc n) k h =
+    elim (same_tells k n) [
+      | inl same ↦ rw same (omega arith)
+      | inr other ↦ let o : k ≢ n = other in let r = most_above f n k (omega arith) in omega arith
+    ]
+
+or_right : (a b : Bool) → IsTrue b → IsTrue (a || b)
+or_right true b h = refl
+or_right false b h = h
+
+or_left : (a b : Bool) → IsTrue a → IsTrue (a || b)
+or_left true b h = refl
+or_left false b h = absurd (cc)
+
+more : (n : ℕ) → n + 1 ≡ suc n
+more n = omega arith
+
+still_target : (code : List Insn) (n to : ℕ) → IsTrue (is_target code n to) → IsTrue (is_target code (n + 1) to)
+still_target code n to h = rw (more n) (or_right (jumps_to n (insn_at code n) to) (is_target code n to) h)
+
+later_target : (code : List Insn) (n d to : ℕ) → IsTrue (is_target code n to) → IsTrue (is_target code (n + d) to)
+later_target code n zero to h = let e : n + 0 ≡ n = omega arith in rw e h
+later_target code n (suc d) to h =
+    let e : n + suc d ≡ n + d + 1 = omega arith in
+    rw e (still_target code (n + d) to (later_target code n d to h))
+
+target_from : (code : List Insn) (n m to : ℕ) → n ≤ m → IsTrue (is_target code n to) → IsTrue (is_target code m to)
+target_from code n m to l h = let e : m ≡ n + (m - n) = omega arith in rw e (later_target code n (m - n) to h)
+
+same_slot : (n : ℕ) → IsTrue (n == n)
+same_slot n = grind (arith, nat_tests)
+
+slot_is : (x : Option ℕ) (to : ℕ) → x ≡ Some to → IsTrue (is_slot x to)
+slot_is x to e = rw e (same_slot to)
+
+-- where a jump leads is a target from then on
+jump_target : (code : List Insn) (n : ℕ) (i : Insn) (to : ℕ) → insn_at code n ≡ Some i → leads_to n i ≡ Some to
+    → IsTrue (is_target code (n + 1) to)
+jump_target code n i to at e =
+    let h : IsTrue (jumps_to n (insn_at code n) to) =
+    subst (λ x. IsTrue (jumps_to n x to)) (sym at) (slot_is (leads_to n i) to e) in
+    subst (λ m. IsTrue (is_target code m to)) (sym (more n))
+    (or_left (jumps_to n (insn_at code n) to) (is_target code n to) h)
+
+-- a jump takes one slot, so it leads past its instruction
+pub jump_past : (n : ℕ) (i : Insn) (to : ℕ) → leads_to n i ≡ Some to → n + slots_of i ≤ to
+jump_past n (Jump d) to e = leads_past n to (Some d) e
+jump_past n (JumpLong d) to e = leads_past n to (Some d) e
+jump_past n (JumpIf width test dst src d) to e = leads_past n to (Some d) e
+jump_past n i to e = absurd (cc)
+
+-- ---- what is due
+
+-- the states of an assignment stand at slots that are due before slot n
+abbrev pub AllDue : {D : Type 0} → List Insn → ℕ → Assignment D → Type 0
+AllDue {D} code n states = (slot : ℕ) (s : View D) → states slot ≡ Some s → IsDue code n slot
+
+-- two assignments have the same states from slot n on
+abbrev SameFrom : {D : Type 0} → ℕ → Assignment D → Assignment D → Type 0
+SameFrom n states others = (slot : ℕ) → n ≤ slot → states slot ≡ others slot
+
+jump_due : (code : List Insn) (n : ℕ) (i : Insn) (to : ℕ) → insn_at code n ≡ Some i → leads_to n i ≡ Some to
+    → IsDue code (n + slots_of i) to
+jump_due code n i to at e =
+    let some = some_slots i in
+    let from = jump_target code n i to at e in
+    (jump_past n i to e, inr (target_from code (n + 1) (n + slots_of i) to (omega arith) from))
+
+order : (k n : ℕ) → (k < n) ⊎ (n ≤ k)
+order k n = grind (arith, nat_tests)
+
+nowhere : (x : Option Insn) → x ≡ None → IsSome x → ⊥
+nowhere x e h = absurd (cc)
+
+-- once the state of a slot is taken, the others are due before the next instruction
+due_taken : {D : Type 0} (code : List Insn) (n : ℕ) (i : Insn) (states : Assignment D) → insn_at code n ≡ Some i
+    → AllDue code n states → ((slot : ℕ) (s : View D) → states slot ≡ Some s → IsSome (insn_at code slot))
+    → AllDue code (n + slots_of i) (put states n None)
+due_taken code n i states at h inside slot s e =
+    let some = some_slots i in
+    elim (tells slot n) [
+      | inl p ↦ let f : None ≡ Some s = rw p.0 at e in absurd (cc)
+      | inr p ↦
+          let ne : slot ≢ n = p.1 in
+          let f : states slot ≡ Some s = rw p.0 at e in
+          let d = h slot s f in
+          let l : n ≤ slot = d.0 in (
+            elim (order slot (n + slots_of i)) [
+              | inl w ↦
+                  let none = none_within code n slot i at (omega arith) w in
+                  absurd (nowhere (insn_at code slot) none (inside slot s f))
+              | inr w ↦ w
+            ],
+            elim (d.1) [
+              | inl q ↦ absurd (ne q)
+              | inr q ↦ inr (target_from code n (n + slots_of i) slot (omega arith) q)
+            ],
+          )
+    ]
+
+due_flow : {D : Type 0} (o : Ops D) (code : List Insn) (n : ℕ) (states : Assignment D) (to : ℕ) (t : Option (View D))
+    → AllDue code n states → ((u : View D) → t ≡ Some u → IsDue code n to) → AllDue code n (flow o states to t)
+due_flow o code n states to None h k slot s e = h slot s e
+due_flow o code n states to (Some t) h k slot s e =
+    elim (tells slot to) [
+      | inl p ↦ subst (IsDue code n) (sym p.1) (k t refl)
+      | inr p ↦ h slot s (rw p.0 at e)
+    ]
+
+due_edge : {D : Type 0} (o : Ops D) (code : List Insn) (n : ℕ) (states : Assignment D) (x : Option ℕ)
+    (t : Option (View D)) → AllDue code n states → ((to : ℕ) → x ≡ Some to → IsDue code n to)
+        → AllDue code n (flow_edge o states x t)
+due_edge o code n states None t h k = h
+due_edge o code n states (Some to) t h k = due_flow o code n states to t h (λ u e. k to refl)
+
+same_taken : {D : Type 0} (n m : ℕ) (states others : Assignment D) → n < m → SameFrom n states others
+    → SameFrom m (put states n None) others
+same_taken n m states others w h slot l =
+    elim (tells slot n) [
+      | inl p ↦ let q : slot ≡ n = p.1 in absurd (omega arith)
+      | inr p ↦ rw p.0 (h slot (omega arith))
+    ]
+
+same_flow : {D : Type 0} (o : Ops D) (n : ℕ) (states others : Assignment D) (to : ℕ) (t : Option (View D))
+    → SameFrom n states others → n ≤ to → SameFrom n (flow o states to t) (flow o others to t)
+same_flow o n states others to None h k slot l = h slot l
+same_flow o n states others to (Some t) h k slot l =
+    elim (tells slot to) [
+      | inl p ↦ rw p.0 (ap (λ x. Some (with_joined o x t)) (h to k))
+      | inr p ↦ rw p.0 (h slot l)
+    ]
+
+same_edge : {D : Type 0} (o : Ops D) (n : ℕ) (states others : Assignment D) (x : Option ℕ) (t : Option (View D))
+    → SameFrom n states others → ((to : ℕ) → x ≡ Some to → n ≤ to)
+    → SameFrom n (flow_edge o states x t) (flow_edge o others x t)
+same_edge o n states others None t h k = h
+same_edge o n states others (Some to) t h k = same_flow o n states others to t h (k to refl)
+
+-- ---- how many are due
+
+some_is : {X : Type 0} (x : Option X) → is_some x ≡ true → (y : X) × (x ≡ Some y)
+some_is None h = absurd (cc)
+some_is (Some x) h = (x, refl)
+
+both_true : (a b : Bool) → IsTrue a → IsTrue b → (a && b) ≡ true
+both_true true b h k = k
+both_true false b h k = absurd (cc)
+
+ahead : (m n : ℕ) → m < n → IsTrue (nat_lt m n)
+ahead m n h = grind (arith, nat_tests)
+
+-- of the states that are due after a slot at most one isn't at the target of a jump
+few_due_after : {D : Type 0} (code : List Insn) (n : ℕ) (states : Assignment D) → AllDue code (n + 1) states
+    → count_held states (slot_count code) ≤ 1 + targets_above code n
+few_due_after code n states h =
+    let c = count_one_more (λ slot. is_some (states slot)) (λ to. nat_lt n to && is_target code (n + 1) to)
+    (slot_count code) (n + 1)
+    (λ slot e.
+    let s = some_is (states slot) e in
+    let d = h slot s.0 s.1 in
+    let l : n + 1 ≤ slot = d.0 in
+    elim (d.1) [
+      | inl q ↦ inl q
+      | inr q ↦ inr (both_true (nat_lt n slot) (is_target code (n + 1) slot) (ahead n slot (omega arith)) q)
+    ]) in
+    let c0 : count_held states (slot_count code) ≤ targets_above code n + 1 = c.0 in
+    omega arith
+
+pub few_due : {D : Type 0} (code : List Insn) (n : ℕ) (i : Insn) (states : Assignment D) → insn_at code n ≡ Some i
+    → AllDue code (n + slots_of i) states → count_held states (slot_count code) ≤ 1 + widest code
+few_due code n i states at h =
+    let some = some_slots i in
+    let e : n + slots_of i ≡ (n + slots_of i - 1) + 1 = omega arith in
+    let c = few_due_after code (n + slots_of i - 1) states (subst (λ m. AllDue code m states) e h) in
+    let l = end_within code n i at in
+    let w : targets_above code (n + slots_of i - 1) ≤ widest code =
+    most_above (targets_above code) (slot_count code) (n + slots_of i - 1) (omega arith) in
+    omega arith
+
+-- where a state goes on to the next instruction there is one
+pub next_inside : {D : Type 0} (o : Ops D) (code : List Insn) (n : ℕ) (i : Insn) (s t : View D) → IsStructured code
+    → insn_at code n ≡ Some i → fall o i s ≡ Some t → n + slots_of i < slot_count code
+next_inside o code n i s t structured is e = structured.meets n i FallsOff is (fall_goes o i s t e)
+
+-- what is held once a state is taken, and what comes of it falls through
+pub fallen_is : {D : Type 0} (o : Ops D) (states taken fallen : Assignment D) (n slots : ℕ) (i : Insn) (s : View D)
+    (t : Option (View D)) → taken ≡ put states n None → fallen ≡ flow o taken (n + slots) t → slots ≡ slots_of i
+        → t ≡ fall o i s
+    → fallen ≡ flow o (put states n None) (n + slots_of i) (fall o i s)
+fallen_is o states taken fallen n slots i s t is_taken is_fallen wide is_fall =
+    is_fallen ∙ ap (λ x. flow o x (n + slots) t) is_taken ∙ ap (λ k. flow o (put states n None) (n + k) t) wide
+    ∙ ap (flow o (put states n None) (n + slots_of i)) is_fall
+
+-- and once it has gone along the jump too
+pub jumped_is : {D : Type 0} (o : Ops D) (fallen last states : Assignment D) (n : ℕ) (i : Insn) (s : View D)
+    (to : Option ℕ) (t : Option (View D)) → fallen ≡ states → last ≡ flow_edge o fallen to t → to ≡ leads_to n i
+        → t ≡ jump o i s
+    → last ≡ flow_edge o states (leads_to n i) (jump o i s)
+jumped_is o fallen last states n i s to t is_fallen is_last leads is_jump =
+    is_last ∙ ap (λ x. flow_edge o x to t) is_fallen ∙ ap (λ x. flow_edge o states x t) leads
+    ∙ ap (flow_edge o states (leads_to n i)) is_jump
+
+pub size_within : {D : Type 0} (p : Pending D) (states : Assignment D) (n most : ℕ) → held p ≡ states → room p ≡ n
+    → count_held states n ≤ most → size p ≤ most
+size_within p states n most is_held is_room h =
+    subst (λ k. count_held (held p) k ≤ most) (sym is_room) (subst (λ x. count_held x n ≤ most) (sym is_held) h)
+
+-- the peak after a state is taken and two are carried
+pub peaks : (old taken one both size_one size_both most : ℕ) → taken ≡ old → one ≤ max taken size_one
+    → both ≤ max one size_both → size_one ≤ most → size_both ≤ most → both ≤ max old most
+peaks old taken one both size_one size_both most h i j k l = omega arith
+
+-- at first one slot has a state
+pub one_at_first : {D : Type 0} (o : Ops D) (n : ℕ) → 0 < n → count_held (flow o nothing 0 (Some (entry {D = D}))) n ≡ 1
+one_at_first o n h =
+    let p = λ (slot : ℕ). is_some (flow o nothing 0 (Some entry) slot) in
+    let c = count_one_more p (λ slot. false) n 0
+    (λ slot e. elim (tells slot 0) [ inl p ↦ inl p.1 | inr p ↦ inr (rw p.0 at e) ]) in
+    let z = count_none (λ slot. false) n (λ k. refl) in
+    let c0 : count_held (flow o nothing 0 (Some entry)) n ≤ count_below (λ slot. false) n + 1 = c.0 in
+    let d : 1 ≤ count_held (flow o nothing 0 (Some entry)) n = count_some p n 0 h refl in
+    omega arith
+
+module _ {D : Type 0} {o : Ops D} (laws : Laws o) where
+  -- at first the entry state waits for slot 0
+  pub waits_first : (code : List Insn) → IsCode code → IsPending o code 0 (flow o nothing 0 (Some entry))
+  waits_first code is_code = record {
+    whole = flow o nothing 0 (Some entry);
+    least = begun laws code is_code;
+    same = λ slot l. refl;
+    due = due_flow o code 0 nothing 0 (Some entry) (λ slot s e. absurd (cc)) (λ u e. (omega arith, inl refl));
+  }
+
+  -- what is held stands where an instruction begins
+  inside : (code : List Insn) (n : ℕ) (states : Assignment D) → IsPending o code n states → (slot : ℕ) (s : View D)
+      → states slot ≡ Some s → IsSome (insn_at code slot)
+  inside code n states w slot s e = w.least.fulfils.inside slot s (sym (w.same slot (w.due slot s e).0) ∙ e)
+
+  -- an instruction that no state reaches
+  pub waits_skipped : (code : List Insn) (n : ℕ) (i : Insn) (states : Assignment D) → IsPending o code n states
+      → insn_at code n ≡ Some i → states n ≡ None → IsPending o code (n + slots_of i) (put states n None)
+  waits_skipped code n i states w at e =
+      let some = some_slots i in
+      record {
+        whole = w.whole;
+        least = over_insn laws code n i w.whole at
+            (skipped laws code n w.whole w.least (sym (w.same n (omega arith)) ∙ e));
+        same = same_taken n (n + slots_of i) states w.whole (omega arith) w.same;
+        due = due_taken code n i states at w.due (inside code n states w);
+      }
+
+  pub fallen_due : (code : List Insn) (n : ℕ) (i : Insn) (states : Assignment D) (s : View D)
+      → IsPending o code n states → insn_at code n ≡ Some i
+      → AllDue code (n + slots_of i) (flow o (put states n None) (n + slots_of i) (fall o i s))
+  fallen_due code n i states s w at =
+      due_flow o code (n + slots_of i) (put states n None) (n + slots_of i) (fall o i s)
+      (due_taken code n i states at w.due (inside code n states w)) (λ u e. (omega arith, inl refl))
+
+  -- an instruction that passes: its state is taken, and what comes of it waits
+  pub waits_passed : (code : List Insn) (n : ℕ) (i : Insn) (states : Assignment D) (s : View D) → IsCode code
+      → IsStructured code → IsPending o code n states → insn_at code n ≡ Some i → states n ≡ Some s → Passes o i s
+      → IsPending o code (n + slots_of i)
+      (flow_edge o (flow o (put states n None) (n + slots_of i) (fall o i s)) (leads_to n i) (jump o i s))
+  waits_passed code n i states s is_code structured w at is p =
+      let some = some_slots i in
+      let next = n + slots_of i in
+      let fallen = flow o (put states n None) next (fall o i s) in
+      let whole_fallen = flow o w.whole next (fall o i s) in
+      let after = flow_edge o whole_fallen (leads_to n i) (jump o i s) in
+      record {
+        whole = after;
+        least = over_insn laws code n i after at
+            (passed laws code n i w.whole s is_code structured w.least at (sym (w.same n (omega arith)) ∙ is) p);
+        same = same_edge o next fallen whole_fallen (leads_to n i) (jump o i s)
+            (same_flow o next (put states n None) w.whole next (fall o i s)
+            (same_taken n next states w.whole (omega arith) w.same) (omega arith)) (jump_past n i);
+        due = due_edge o code next fallen (leads_to n i) (jump o i s) (fallen_due code n i states s w at)
+            (λ to e. jump_due code n i to at e);
+      }
+
+  -- a refusal of what waits is one of the least assignment
+  pub waits_refused : (code : List Insn) (n : ℕ) (i : Insn) (states : Assignment D) (s : View D) (rule : Rule)
+      → IsStructured code → IsPending o code n states → insn_at code n ≡ Some i → states n ≡ Some s
+      → FailsFirst o i s rule → FailsLeast o code n rule
+  waits_refused code n i states s rule structured w at is f = record {
+    structured = structured;
+    states = w.whole;
+    least = w.least;
+    insn = i;
+    is_at = at;
+    state = s;
+    is_state = sym (w.same n (omega arith)) ∙ is;
+    fails = f;
+  }

@@ -1,0 +1,18 @@
+-- What the pass holds before a slot.
+use Rattle.std.specs.Prelude.{◌≡◌, ℕ, ◌≤◌, ◌⊎◌, IsTrue, Some, List}
+use Rattle.instruction_set.specs.declared.insn.Insn.{Insn}
+use Rattle.abstract_value.specs.Domain.{Ops}
+use Rattle.abstract_value.specs.States.{View}
+use Rattle.verifier.specs.Assignments.{Assignment, IsLeast}
+use Rattle.verifier.specs.Width.{is_target}
+
+-- before a slot: that slot itself, or one further on that is the target of a jump before
+abbrev pub IsDue : List Insn → ℕ → ℕ → Type 0
+IsDue code at slot = (at ≤ slot) × ((slot ≡ at) ⊎ IsTrue (is_target code at slot))
+
+-- what is held is what the least assignment has from a slot on, and no other slot is held but those that are due
+pub record IsPending {D : Type 0} (o : Ops D) (code : List Insn) (at : ℕ) (states : Assignment D) : Type 0 where
+  pub whole : Assignment D
+  pub least : IsLeast o code at whole
+  pub same : (slot : ℕ) → at ≤ slot → states slot ≡ whole slot
+  pub due : (slot : ℕ) (s : View D) → states slot ≡ Some s → IsDue code at slot
