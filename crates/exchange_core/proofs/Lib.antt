@@ -10,3 +10,9 @@ pub mod Theorem
 pub mod Once
 pub mod Replays
 pub mod Told
+pub mod Taking
+pub mod Showing
+pub mod Ending
+pub mod Ready
+pub mod Due
+pub mod Journaled

@@ -1,4 +1,11 @@
-pub mod Sides
 pub mod Calls
-pub mod Worlds
+pub mod Faults
+pub mod Finished
 pub mod History
+pub mod Journal
+pub mod Refusals
+pub mod Rows
+pub mod Shown
+pub mod Sides
+pub mod Worlds
+pub mod model

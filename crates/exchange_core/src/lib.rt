@@ -1,10 +1,28 @@
 //! One side of an exchange of tables, and the theorem over every history of two sides.
 #![tactic(auto)]
 
+mod calls;
+mod exchange;
+mod fault;
+mod finished;
+mod finishing;
 mod history;
+mod journal;
 mod judged;
+mod messages;
+mod pairing;
+mod refusing;
+mod shown_rows;
+mod side;
 mod side_id;
+mod state;
 
+pub use calls::MAX_EVENTS;
+pub use fault::{MissingPart, SideFault};
+pub use finished::Finished;
 pub use history::history_theorem;
 pub use judged::Judged;
+pub use messages::{Offer, Withdrawals};
+pub use shown_rows::ShownRows;
+pub use side::Side;
 pub use side_id::SideId;

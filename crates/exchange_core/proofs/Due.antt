@@ -1,0 +1,117 @@
+-- Where no refusal is due the journal has room.
+use Rattle.std.proofs.Common.{◌≡◌, ◌==◌, ◌&&◌, ℕ, Bool, true, false, not, nat_lt, nat_le, if◌then◌else◌, Option, Some, None, is_some, is_none, refl}
+use Rattle.std.specs.Option.{option_map_or}
+use Rattle.std.specs.FinMap.{contains_key, len}
+use Rattle.partition_table.specs.Tables.{Name, Clash, max_names}
+use Rattle.exchange_core.specs.declared.fault.SideFault.{SideFault}
+use Rattle.exchange_core.specs.declared.fault.SideFault.TheVariants.{NameTaken, NoSuchName, Full, Healing, NotHealing, StaleNumber, SeedDiffers, TooManyNames, StrangeRuling, JournalFull}
+use Rattle.exchange_core.specs.declared.fault.MissingPart.{MissingPart}
+use Rattle.exchange_core.specs.Sides.{Offer, Withdrawals, Exchange, Side, is_above}
+use Rattle.exchange_core.specs.Refusals.{unregister_fault, begin_fault, union_for, first_offer_fault, is_first_offer, hear_fault_in, hear_fault, is_strange, take_fault_in, take_fault, withdraw_fault_in, withdraw_fault, close_list_fault_in, close_list_fault, sent_fault, hear_list_fault, missing_of, missing_or_full, finish_fault, abandon_fault}
+use Rattle.exchange_core.specs.model.Early.{early_register_fault}
+
+-- one of three refusals
+third : (a b : Bool) (f g h : SideFault) → (if a then Some f else (if b then Some g else Some h)) ≡ None → true ≡ false
+third true b f g h e = cc
+third false true f g h e = cc
+third false false f g h e = cc
+
+fourth : (a b c : Bool) (f g h i : SideFault) →
+    (if a then Some f else (if b then Some g else (if c then Some h else Some i))) ≡ None → true ≡ false
+fourth true b c f g h i e = cc
+fourth false b c f g h i e = third b c g h i e
+
+second : (a : Bool) (f g : SideFault) → (if a then Some f else Some g) ≡ None → true ≡ false
+second true f g e = cc
+second false f g e = cc
+
+pub room_register : (full : Bool) (side : Side) (name : Name) → early_register_fault full side name ≡ None →
+    full ≡ false
+room_register false side name e = refl
+room_register true side name e =
+    fourth (contains_key side.table name) (not (nat_lt (len side.table) max_names)) (is_some side.exchange) NameTaken
+    Full Healing JournalFull e
+
+pub room_unregister : (full : Bool) (side : Side) (name : Name) → unregister_fault full side name ≡ None →
+    full ≡ false
+room_unregister false side name e = refl
+room_unregister true side name e =
+    third (not (contains_key side.table name)) (is_some side.exchange) NoSuchName Healing JournalFull e
+
+pub room_begin : (full : Bool) (side : Side) (number : ℕ) → begin_fault full side number ≡ None → full ≡ false
+room_begin false side number e = refl
+room_begin true side number e =
+    third (is_some side.exchange) (not (is_above number side.latest)) Healing StaleNumber JournalFull e
+
+pub room_hear : (full : Bool) (side : Side) (offer : Offer) → hear_fault full side offer ≡ None → full ≡ false
+room_hear false side offer e = refl
+room_hear true side offer e = by_open side.exchange e
+  where
+    by_test : (x : Exchange) (b : Bool) → (if b then first_offer_fault true side x offer else Some JournalFull) ≡ None →
+        true ≡ false
+    by_test x true e =
+        third (not (x.seed == offer.seed)) (not (nat_le (union_for side.id side.table offer.table) max_names)) SeedDiffers
+        TooManyNames JournalFull e
+    by_test x false e = cc
+
+    by_open : (o : Option Exchange) → option_map_or (hear_fault_in true side offer) o (Some NotHealing) ≡ None →
+        true ≡ false
+    by_open None e = cc
+    by_open (Some x) e = by_test x (is_first_offer side.id x offer) e
+
+pub room_take : (full : Bool) (side : Side) (number k : ℕ) (clash : Clash) (word : ℕ) →
+    take_fault full side number k clash word ≡ None → full ≡ false
+room_take false side number k clash word e = refl
+room_take true side number k clash word e = by_open side.exchange e
+  where
+    by_open : (o : Option Exchange) →
+        option_map_or (take_fault_in true side number k clash word) o (Some NotHealing) ≡ None → true ≡ false
+    by_open None e = cc
+    by_open (Some x) e = second (x.number == number && is_strange side x k clash word) StrangeRuling JournalFull e
+
+pub room_withdraw : (full : Bool) (side : Side) (name : Name) → withdraw_fault full side name ≡ None → full ≡ false
+room_withdraw false side name e = refl
+room_withdraw true side name e = by_open (not (contains_key side.table name)) side.exchange e
+  where
+    by_open : (b : Bool) (o : Option Exchange) →
+        (if b then Some NoSuchName else option_map_or (withdraw_fault_in true name) o (Some NotHealing)) ≡ None →
+        true ≡ false
+    by_open true o e = cc
+    by_open false None e = cc
+    by_open false (Some x) e = cc
+
+pub room_close_list : (full : Bool) (side : Side) → close_list_fault full side ≡ None → full ≡ false
+room_close_list false side e = refl
+room_close_list true side e = by_open side.exchange e
+  where
+    by_open : (o : Option Exchange) → option_map_or (close_list_fault_in true) o (Some NotHealing) ≡ None → true ≡ false
+    by_open None e = cc
+    by_open (Some x) e = cc
+
+pub room_hear_list : (full : Bool) (side : Side) (sent : Withdrawals) → hear_list_fault full side sent ≡ None →
+    full ≡ false
+room_hear_list false side sent e = refl
+room_hear_list true side sent e = by_open side.exchange e
+  where
+    by_open : (o : Option Exchange) →
+        option_map_or (λ exchange. sent_fault true side.id exchange sent.side sent.number) o (Some NotHealing) ≡ None →
+        true ≡ false
+    by_open None e = cc
+    by_open (Some x) e = cc
+
+pub room_finish : (full : Bool) (side : Side) → finish_fault full side ≡ None → full ≡ false
+room_finish false side e = refl
+room_finish true side e = by_open side.exchange e
+  where
+    by_part : (part : Option MissingPart) → missing_or_full true part ≡ None → true ≡ false
+    by_part None e = cc
+    by_part (Some part) e = cc
+
+    by_open : (o : Option Exchange) →
+        option_map_or (λ exchange. missing_or_full true (missing_of exchange)) o (Some NotHealing) ≡ None → true ≡ false
+    by_open None e = cc
+    by_open (Some x) e = by_part (missing_of x) e
+
+pub room_abandon : (full : Bool) (side : Side) → abandon_fault full side ≡ None → full ≡ false
+room_abandon false side e = refl
+room_abandon true side e = second (is_none side.exchange) NotHealing JournalFull e

@@ -1,0 +1,23 @@
+use Rattle.std.proofs.Common.{◌≡◌, ℕ, Option, Some, List, ap, sym, subst, ◌∙◌}
+use Rattle.std.specs.Option.{option_map}
+use Rattle.partition_table.specs.Tables.{Table}
+use Rattle.exchange_core.specs.Sides.{Exchange}
+use Rattle.exchange_core.specs.Finished.{IsFinished, finished_by}
+use Rattle.exchange_core.specs.model.Sharing.{names_of}
+use Rattle.exchange_core.specs.model.Finishing.{IsMergeable, IsMergeOf}
+use Rattle.exchange_core.proofs.Ending.{finished_so}
+use Rattle.exchange_core.proofs.finishing.finished_with.Goals as goal
+
+pub invariant_of-result : goal.invariant_of-result
+invariant_of-result c =
+    let rulings = c.args.merged.rulings.items in
+    let ready = subst (λ (x : Exchange). IsMergeable c.args.id c.args.own x) (sym c.exchange.view_is) c.requires.ready in
+    let merged =
+    subst (λ (x : Exchange). IsMergeOf c.args.id c.args.own x rulings c.args.merged.table) (sym c.exchange.view_is) c.requires.merged in
+    subst (λ (p : Table × ℕ). IsFinished
+    (finished_by c.args.id c.exchange.inside.number c.exchange.inside.seed
+    (record { table = c.args.own; uptime = c.exchange.inside.uptime; gone = c.exchange.inside.withdrawn.items })
+    (record { table = p.0; uptime = p.1; gone = names_of c.in-Some-Some.other_gone }) rulings c.args.merged.table))
+    (λ i. (sym c.into_table-other.ensures.table i, sym c.into_table-other.ensures.uptime i))
+    (finished_so ready rulings c.args.merged.table merged c.in-Some-Some.heard (names_of c.in-Some-Some.other_gone)
+    c.in-Some-Some.is-0 (ap (option_map names_of) c.in-Some-Some.is-1))

@@ -1,0 +1,67 @@
+use Rattle.std.proofs.Common.{◌≡◌, Option, Some, None, ap, sym, subst, ◌∙◌}
+use Rattle.partition_table.specs.Tables.{Table}
+use Rattle.exchange_core.specs.Sides.{Exchange, Side, finish}
+use Rattle.exchange_core.specs.Finished.{finished_at, finished_from}
+use Rattle.exchange_core.specs.model.Keeping.{side_of}
+use Rattle.exchange_core.specs.model.Finishing.{IsMergeable, IsMergeOf}
+use Rattle.exchange_core.proofs.Rulings.{some_inj}
+use Rattle.exchange_core.proofs.Ending.{finishes, gives}
+use Rattle.exchange_core.proofs.state.State.finish.Goals.{After-replace-own}
+use Rattle.exchange_core.proofs.state.State.finish.Goals as goal
+
+opened : (c : After-replace-own) → c.self.inside.exchange ≡ Some c.in-Some-take.exchange
+opened c = sym c.take.ensures.value ∙ c.in-Some-take.is
+
+ready : (c : After-replace-own) → IsMergeable c.self.inside.id c.self.inside.table c.in-Some-take.exchange
+ready c =
+    subst (λ (s : Side). (x : Exchange) → s.exchange ≡ Some x → IsMergeable s.id s.table x) (sym c.self.view_is)
+    c.requires.ready c.in-Some-take.exchange (opened c)
+
+made : (c : After-replace-own) →
+    IsMergeOf c.self.inside.id c.self.inside.table c.in-Some-take.exchange c.in_ok-merged.merged.rulings.items
+    c.in_ok-merged.merged.table
+made c =
+    let same : c.in-Some.exchange ≡ c.in-Some-take.exchange = some_inj (sym c.in-Some.is ∙ opened c) in
+    subst (λ (x : Exchange). IsMergeOf c.self.inside.id c.self.inside.table x c.in_ok-merged.merged.rulings.items
+    c.in_ok-merged.merged.table) same c.in_ok-merged.ensures
+
+pub merge_exchange-requires : goal.merge_exchange-requires
+merge_exchange-requires c =
+    subst (λ (s : Side). (x : Exchange) → s.exchange ≡ Some x → IsMergeable s.id s.table x) (sym c.self.view_is)
+    c.requires.ready c.in-Some.exchange c.in-Some.is
+
+pub finished_with-requires-clause-ready : goal.finished_with-requires-clause-ready
+finished_with-requires-clause-ready c =
+    subst (λ (t : Table). IsMergeable c.self.inside.id t c.in-Some-take.exchange) (sym c.replace-own.ensures.value) (ready c.before)
+
+pub finished_with-requires-clause-merged : goal.finished_with-requires-clause-merged
+finished_with-requires-clause-merged c =
+    subst (λ (t : Table). IsMergeOf c.self.inside.id t c.in-Some-take.exchange c.in_ok-merged.merged.rulings.items
+    c.in_ok-merged.merged.table) (sym c.replace-own.ensures.value) (made c.before)
+
+pub returns-clause-done : goal.returns-clause-done
+returns-clause-done c =
+    let b = c.before.before in
+    let m = ready b in
+    let merged = made b m.heard m.theirs m.was_heard m.list_heard in
+    let table = c.replace-own.ensures.after ∙ (c.in_ok-table.ensures ∙ merged.1) in
+    ap finish (sym c.self.view_is)
+    ∙ (finishes (side_of c.self.inside) c.in-Some-take.exchange m (opened b)
+    ∙ (λ i. Some (record {
+      id = c.self.inside.id;
+      table = sym table i;
+      exchange = sym c.take.ensures.after i;
+      latest = c.self.inside.latest;
+    })))
+
+pub returns-clause-given : goal.returns-clause-given
+returns-clause-given c =
+    let b = c.before.before in
+    let m = ready b in
+    let merged = made b m.heard m.theirs m.was_heard m.list_heard in
+    let id = c.self.inside.id in
+    let x = c.in-Some-take.exchange in
+    ap finished_from (sym c.self.view_is)
+    ∙ (gives (side_of c.self.inside) x m (opened b)
+    ∙ sym (ap Some (c.finished_with.ensures m.heard m.theirs m.was_heard m.list_heard
+    ∙ (λ i. finished_at id (c.replace-own.ensures.value i) x m.heard m.theirs (merged.0 i) (merged.1 i)))))

@@ -1,0 +1,35 @@
+-- What the events of a journal record, and where a journal leads.
+use Rattle.std.specs.Prelude.{◌≡◌, ℕ, List, [], ◌∷◌}
+use Rattle.std.specs.Option.{option_map}
+use Rattle.std.specs.List.{fold}
+use Rattle.std.specs.Arc.{arc_value}
+use Rattle.exchange_core.specs.declared.journal.Event.{Event}
+use Rattle.exchange_core.specs.declared.journal.Event.TheVariants as event
+use Rattle.exchange_core.specs.Sides.{Side}
+use Rattle.exchange_core.specs.Calls.{Call, Register, Unregister, Begin, Hear, Take, Withdraw, Close_list, Hear_list, Finish, Abandon, replay}
+
+-- the most events that a journal holds
+abbrev pub max_events : ℕ
+max_events = 65536
+
+-- the call that an event records
+abbrev pub call_of : Event → Call
+call_of (event.Register name registration program) =
+    Register name (record { registration = registration; code = option_map arc_value program })
+call_of (event.Unregister name) = Unregister name
+call_of (event.Begin number seed uptime) = Begin number seed uptime
+call_of (event.Hear offer) = Hear offer
+call_of (event.Take number k judged) = Take number k judged
+call_of (event.Withdraw name) = Withdraw name
+call_of event.CloseList = Close_list
+call_of (event.HearList sent) = Hear_list sent
+call_of event.Finish = Finish
+call_of event.Abandon = Abandon
+
+-- the calls of a journal, the latest first
+abbrev pub calls_of : List Event → List Call
+calls_of events = fold (λ calls event. call_of event ∷ calls) [] events
+
+-- the journal leads to the side
+abbrev pub IsJournal : List Event → Side → Type 0
+IsJournal events side = replay side.id (calls_of events) ≡ side

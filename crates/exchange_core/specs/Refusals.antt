@@ -1,0 +1,150 @@
+-- The refusal that is due at each call of a side: the least number that stands.
+use Rattle.std.specs.Prelude.{◌≡◌, ◌⊎◌, ℕ, ◌+◌, Bool, true, false, not, ◌&&◌, ◌==◌, nat_lt, nat_le, if◌then◌else◌, List, [], ◌∷◌, length, Option, Some, None, is_some, is_none, Result, Ok, Err}
+use Rattle.std.specs.Option.{option_map_or}
+use Rattle.std.specs.FinMap.{len, contains_key}
+use Rattle.clash_record.specs.declared.registrations.Registration.{Registration}
+use Rattle.upload_store.specs.Programs.{Programs}
+use Rattle.partition_table.specs.Tables.{Name, Table, Clash, max_names, row_for, agrees_with, union_len, tables_agree, is_in}
+use Rattle.partition_table.specs.Faults.{is_known}
+use Rattle.exchange_core.specs.declared.side_id.SideId.{SideId}
+use Rattle.exchange_core.specs.declared.side_id.SideId.TheVariants.{A, B}
+use Rattle.exchange_core.specs.declared.fault.MissingPart.{MissingPart}
+use Rattle.exchange_core.specs.declared.fault.MissingPart.TheVariants.{TheirOffer, Ruling, OwnList, OtherList}
+use Rattle.exchange_core.specs.declared.fault.SideFault.{SideFault}
+use Rattle.exchange_core.specs.declared.fault.SideFault.TheVariants.{NameTaken, NoSuchName, Full, Healing, NotHealing, StaleNumber, SeedDiffers, TooManyNames, StrangeRuling, Missing, JournalFull, UnknownProgram, OtherCode, OtherNumber, OwnOffer, Withdrawn, ListClosed, OutOfMemory}
+use Rattle.exchange_core.specs.Sides.{Offer, Withdrawals, Judged, Heard, Exchange, Side, is_one_of_four, is_side, is_above, clashes_of, has_clash}
+
+-- a call answers Ok just where no refusal is due, and else refuses so; or memory ran out
+abbrev pub IsAnswered : {A : Type 0} → Option SideFault → Result A SideFault → Type 0
+IsAnswered due (Ok x) = due ≡ None
+IsAnswered due (Err fault) = (due ≡ Some fault) ⊎ (fault ≡ OutOfMemory)
+
+-- In each of these, `full` says that the journal has as many events as it holds.
+
+abbrev pub register_fault : Bool → Side → Name → Registration → Programs → Option SideFault
+register_fault full side name r store =
+    if contains_key side.table name then Some NameTaken
+    else (if not (nat_lt (len side.table) max_names) then Some Full
+    else (if is_some side.exchange then Some Healing
+    else (if full then Some JournalFull
+    else (if not (is_known store r.resolver) then Some UnknownProgram
+    else (if not (agrees_with side.table (row_for store r)) then Some OtherCode else None)))))
+
+abbrev pub unregister_fault : Bool → Side → Name → Option SideFault
+unregister_fault full side name =
+    if not (contains_key side.table name) then Some NoSuchName
+    else (if is_some side.exchange then Some Healing
+    else (if full then Some JournalFull else None))
+
+abbrev pub begin_fault : Bool → Side → ℕ → Option SideFault
+begin_fault full side number =
+    if is_some side.exchange then Some Healing
+    else (if not (is_above number side.latest) then Some StaleNumber
+    else (if full then Some JournalFull else None))
+
+-- how many names the two tables have together, and whether they agree on the code of each program. A's goes first
+abbrev pub union_for : SideId → Table → Table → ℕ
+union_for A own other = union_len own other
+union_for B own other = union_len other own
+
+abbrev pub agree_for : SideId → Table → Table → Bool
+agree_for A own other = tables_agree own other
+agree_for B own other = tables_agree other own
+
+-- what is due to the other side's first offer of the open number
+abbrev pub first_offer_fault : Bool → Side → Exchange → Offer → Option SideFault
+first_offer_fault full side exchange offer =
+    if not (exchange.seed == offer.seed) then Some SeedDiffers
+    else (if not (nat_le (union_for side.id side.table offer.table) max_names) then Some TooManyNames
+    else (if full then Some JournalFull
+    else (if not (agree_for side.id side.table offer.table) then Some OtherCode else None)))
+
+-- what is due to what a side sent, of this number
+abbrev pub sent_fault : Bool → SideId → Exchange → SideId → ℕ → Option SideFault
+sent_fault full id exchange sender number =
+    if full then Some JournalFull
+    else (if not (exchange.number == number) then Some OtherNumber
+    else (if is_side id sender then Some OwnOffer else None))
+
+abbrev pub is_first_offer : SideId → Exchange → Offer → Bool
+is_first_offer id exchange offer =
+    is_none exchange.heard && (exchange.number == offer.number && not (is_side id offer.side))
+
+abbrev pub hear_fault_in : Bool → Side → Offer → Exchange → Option SideFault
+hear_fault_in full side offer exchange =
+    if is_first_offer side.id exchange offer
+    then first_offer_fault full side exchange offer
+    else sent_fault full side.id exchange offer.side offer.number
+
+abbrev pub hear_fault : Bool → Side → Offer → Option SideFault
+hear_fault full side offer = option_map_or (hear_fault_in full side offer) side.exchange (Some NotHealing)
+
+-- the ruling isn't of clash k of the open exchange, or its word is none of the clash's four
+abbrev pub is_strange : Side → Exchange → ℕ → Clash → ℕ → Bool
+is_strange side exchange k clash word =
+    not (has_clash side k clash && is_one_of_four word exchange.seed (length (clashes_of side)) k)
+
+abbrev pub take_fault_in : Bool → Side → ℕ → ℕ → Clash → ℕ → Exchange → Option SideFault
+take_fault_in full side number k clash word exchange =
+    if exchange.number == number && is_strange side exchange k clash word then Some StrangeRuling
+    else (if full then Some JournalFull
+    else (if not (exchange.number == number) then Some OtherNumber else None))
+
+-- of a ruling of this number, clash and word
+abbrev pub take_fault : Bool → Side → ℕ → ℕ → Clash → ℕ → Option SideFault
+take_fault full side number k clash word =
+    option_map_or (take_fault_in full side number k clash word) side.exchange (Some NotHealing)
+
+abbrev pub withdraw_fault_in : Bool → Name → Exchange → Option SideFault
+withdraw_fault_in full name exchange =
+    if full then Some JournalFull
+    else (if is_in name exchange.withdrawn then Some Withdrawn
+    else (if exchange.closed then Some ListClosed else None))
+
+abbrev pub withdraw_fault : Bool → Side → Name → Option SideFault
+withdraw_fault full side name =
+    if not (contains_key side.table name) then Some NoSuchName
+    else option_map_or (withdraw_fault_in full name) side.exchange (Some NotHealing)
+
+abbrev pub close_list_fault_in : Bool → Exchange → Option SideFault
+close_list_fault_in full exchange =
+    if full then Some JournalFull else (if exchange.closed then Some ListClosed else None)
+
+abbrev pub close_list_fault : Bool → Side → Option SideFault
+close_list_fault full side = option_map_or (close_list_fault_in full) side.exchange (Some NotHealing)
+
+abbrev pub hear_list_fault : Bool → Side → Withdrawals → Option SideFault
+hear_list_fault full side sent =
+    option_map_or (λ exchange. sent_fault full side.id exchange sent.side sent.number) side.exchange (Some NotHealing)
+
+-- the first place without a ruling, where the list begins at place k
+abbrev pub first_without : ℕ → List (Option Judged) → Option ℕ
+first_without k [] = None
+first_without k (None ∷ rulings) = Some k
+first_without k (Some judged ∷ rulings) = first_without (k + 1) rulings
+
+-- what is missing once the offer was heard: a ruling, else the own list, else the other's
+abbrev pub missing_after : Option ℕ → Bool → Bool → Option MissingPart
+missing_after (Some k) closed list_heard = Some (Ruling k)
+missing_after None closed list_heard =
+    if not closed then Some OwnList else (if not list_heard then Some OtherList else None)
+
+abbrev pub missing_by : Option Heard → Bool → Bool → Option MissingPart
+missing_by None closed list_heard = Some TheirOffer
+missing_by (Some heard) closed list_heard = missing_after (first_without 0 heard.rulings) closed list_heard
+
+-- the first thing that an exchange lacks before it can be finished
+abbrev pub missing_of : Exchange → Option MissingPart
+missing_of exchange = missing_by exchange.heard exchange.closed (is_some exchange.their_list)
+
+abbrev pub missing_or_full : Bool → Option MissingPart → Option SideFault
+missing_or_full full (Some part) = Some (Missing part)
+missing_or_full full None = if full then Some JournalFull else None
+
+abbrev pub finish_fault : Bool → Side → Option SideFault
+finish_fault full side =
+    option_map_or (λ exchange. missing_or_full full (missing_of exchange)) side.exchange (Some NotHealing)
+
+abbrev pub abandon_fault : Bool → Side → Option SideFault
+abandon_fault full side =
+    if is_none side.exchange then Some NotHealing else (if full then Some JournalFull else None)

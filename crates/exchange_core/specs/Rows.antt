@@ -1,0 +1,12 @@
+-- The rows that are still to be shown.
+use Rattle.std.specs.Prelude.{List, not, filter}
+use Rattle.clash_record.specs.declared.registrations.Registration.{Registration}
+use Rattle.partition_table.specs.Tables.{Name, is_in}
+use Rattle.exchange_core.specs.declared.shown_rows.ShownRows.{ShownRows}
+
+-- those of names that aren't among the withdrawn
+abbrev pub not_withdrawn : List Name → List (Name × Registration) → List (Name × Registration)
+not_withdrawn withdrawn rows = filter (λ row. not (is_in row.0 withdrawn)) rows
+
+abbrev pub rows_left : ShownRows → List (Name × Registration)
+rows_left r = not_withdrawn r.withdrawn.now r.rows

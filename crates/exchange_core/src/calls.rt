@@ -1,0 +1,323 @@
+//! The calls of a side.
+ghost use Rattle.std.specs.Prelude.{◌≡◌, ◌≤◌, [], ◌∷◌, Some, None, Ok, Err, IfOk, IfErr, OnOk, OnErr, length};
+ghost use Rattle.std.specs.Option.{option_map};
+ghost use Rattle.std.specs.Arc.{arc_value};
+ghost use Rattle.std.specs.FinMap.{get};
+ghost use Rattle.partition_table.specs.Tables.{row_for, code_for, rows_of};
+ghost use Rattle.exchange_core.specs.Rows.{rows_left};
+ghost use Rattle.partition_table.specs.Judged.{clash_of_verdict, word_of_verdict, answer_of_verdict};
+ghost use Rattle.exchange_core.specs.Sides.{new_side, shown_table};
+ghost use Rattle.exchange_core.specs.Calls.{Call};
+ghost use Rattle.exchange_core.specs.Calls as call;
+ghost use Rattle.exchange_core.specs.Worlds.{offer_of, list_of};
+ghost use Rattle.exchange_core.specs.Journal.{max_events};
+ghost use Rattle.exchange_core.specs.Finished.{finished_from};
+ghost use Rattle.exchange_core.specs.Refusals.{IsAnswered};
+ghost use Rattle.exchange_core.specs.Refusals as due;
+ghost use Rattle.exchange_core.specs.Shown.{shown, calls, is_full, IsDone, IsUntouched};
+
+use crate::fault::SideFault;
+use crate::finished::Finished;
+use crate::journal::Event;
+use crate::judged::Judged;
+use crate::messages::{Offer, Withdrawals};
+use crate::shown_rows::ShownRows;
+use crate::side::Side;
+use crate::side_id::SideId;
+use crate::state::State;
+use clash_record::{Name, Registration, ResolverId};
+use partition_table::Ruling;
+use std::alloc::{AllocError, Global};
+use std::sync::Arc;
+use upload_store::UploadStore;
+use verifier::Verified;
+
+/// The most events that a side's journal holds.
+pub const MAX_EVENTS: usize = 65_536;
+
+impl Side {
+    /// An idle side without names. Takes no memory.
+    pub fn new(alloc: Global, id: SideId) -> Side
+        ensures state { shown result ≡ new_side id }
+        ensures journal { calls result ≡ [] }
+    {
+        Side {
+            state: State::new(alloc, id),
+            journal: Vec::new(alloc),
+        }
+    }
+
+    /// Which of the two sides it is.
+    pub fn id(&self) -> SideId
+        ensures { result ≡ (shown self.now).id }
+    {
+        self.state.id()
+    }
+
+    /// How many calls it answered Ok, aside from `whereis` and `rows`; at most 65,536. Takes no memory.
+    pub fn events(&self) -> usize
+        ensures count { result ≡ length (calls self.now) }
+        ensures few { result ≤ max_events }
+    {
+        self.journal.len()
+    }
+
+    /// What the name is registered with, if it is; an open side leaves out the names that it withdrew. Takes no memory.
+    pub fn whereis(&self, name: &Name) -> Option<&Registration>
+        ensures { option_map (λ r. r.now) result
+            ≡ option_map (λ row. row.registration) (get (shown_table (shown self.now)) name.now) }
+    {
+        self.state.whereis(name)
+    }
+
+    /// The names with their registrations, in the order of names; an open side leaves out the names that it withdrew.
+    /// Takes no memory.
+    pub fn rows(&self) -> ShownRows<'_>
+        ensures { rows_left result ≡ rows_of (shown_table (shown self.entry.now)) }
+    {
+        self.state.rows()
+    }
+
+    // Whether the journal has as many events as it holds.
+    fn is_full(&self) -> bool
+        ensures { result ≡ is_full self.now }
+    {
+        self.events() >= MAX_EVENTS
+    }
+
+    /// Registers the name on an idle side, and keeps the program that the registration names, as the store has it.
+    ///
+    /// Refusals are 30 for a name that is registered, 32 where the table is full, 33 where an exchange is open, 40 where
+    /// the journal is full, 41 where the store has no such program, and 42 where the table keeps other code under its
+    /// id; the least that stands is answered. 90 is answered where memory runs out.
+    pub fn register(
+        &mut self,
+        name: Name,
+        registration: Registration,
+        store: &UploadStore,
+    ) -> Result<(), SideFault>
+        ensures answer { IsAnswered (due.register_fault (is_full self.old) (shown self.old) name registration store.now) result }
+        ensures done { OnOk result (IsDone self.old (call.Register name (row_for store.now registration)) self.new) }
+        ensures untouched { OnErr result (IsUntouched self.old self.new) }
+    {
+        if let Some(fault) = self.state.early_register_fault(self.is_full(), &name) {
+            return Err(fault);
+        }
+        let program = named_program(store, registration.resolver)?;
+        self.journal.reserve(1)?;
+        self.state.register(name, registration, store)?;
+        self.journal
+            .push_reserved(Event::Register(name, registration, program));
+        Ok(())
+    }
+
+    /// Takes the name out on an idle side, and answers what it was registered with.
+    ///
+    /// Refusals are 31 for a name that isn't registered, 33 where an exchange is open, and 40 where the journal is full;
+    /// the least that stands is answered. 90 is answered where memory runs out.
+    pub fn unregister(&mut self, name: &Name) -> Result<Registration, SideFault>
+        ensures answer { IsAnswered (due.unregister_fault (is_full self.old) (shown self.old) name.now) result }
+        ensures given { IfOk result (λ registration. option_map (λ row. row.registration)
+            (get (shown self.old).table name.now) ≡ Some registration) }
+        ensures done { OnOk result (IsDone self.old (call.Unregister name.now) self.new) }
+        ensures untouched { OnErr result (IsUntouched self.old self.new) }
+    {
+        if let Some(fault) = self.state.unregister_fault(self.is_full(), name) {
+            return Err(fault);
+        }
+        self.journal.reserve(1)?;
+        let registration = self.state.unregister(name)?;
+        self.journal.push_reserved(Event::Unregister(*name));
+        Ok(registration)
+    }
+
+    /// Opens an exchange of this number, and gives the offer to be sent. The table then stays as it is until `finish` or
+    /// `abandon`.
+    ///
+    /// Refusals are 33 where an exchange is open, 35 for a number that isn't above every number that this side began,
+    /// and 40 where the journal is full; the least that stands is answered. 90 is answered where memory runs out: it
+    /// takes some for the offer's table and the event.
+    pub fn begin(
+        &mut self,
+        alloc: Global,
+        number: u64,
+        seed: u64,
+        uptime: u64,
+    ) -> Result<Offer, SideFault>
+        ensures answer { IsAnswered (due.begin_fault (is_full self.old) (shown self.old) number) result }
+        ensures offer { IfOk result (λ offer. offer ≡ offer_of (shown self.old) number seed uptime) }
+        ensures done { OnOk result (IsDone self.old (call.Begin number seed uptime) self.new) }
+        ensures untouched { OnErr result (IsUntouched self.old self.new) }
+    {
+        if let Some(fault) = self.state.begin_fault(self.is_full(), number) {
+            return Err(fault);
+        }
+        self.journal.reserve(1)?;
+        let offer = self.state.begin(alloc, number, seed, uptime)?;
+        self.journal
+            .push_reserved(Event::Begin(number, seed, uptime));
+        Ok(offer)
+    }
+
+    /// Hears the other side's offer. One that comes after the first, of the open number, changes nothing but the journal.
+    ///
+    /// Refusals are 34 where no exchange is open, 36 where the seeds differ, 37 where the two tables have more than 4,096
+    /// names together, 40 where the journal is full, 42 where the tables have two codes under one id, 45 for another
+    /// number, and 46 for an own offer; the least that stands is answered. 36, 37 and 42 are looked for only where it is
+    /// the other side's first offer of the open number. 90 is answered where memory runs out: it takes some for the list
+    /// of clashes, one more owner of each program that judges, a place for each ruling, and two owners of the table.
+    pub fn hear(&mut self, alloc: Global, offer: &Offer) -> Result<(), SideFault>
+        ensures answer { IsAnswered (due.hear_fault (is_full self.old) (shown self.old) offer.now) result }
+        ensures done { OnOk result (IsDone self.old (call.Hear offer.now) self.new) }
+        ensures untouched { OnErr result (IsUntouched self.old self.new) }
+    {
+        if let Some(fault) = self.state.hear_fault(self.is_full(), offer) {
+            return Err(fault);
+        }
+        let copy = offer.share()?;
+        self.journal.reserve(1)?;
+        self.state.hear(alloc, offer)?;
+        self.journal.push_reserved(Event::Hear(copy));
+        Ok(())
+    }
+
+    /// Takes a ruling of a clash. A second one of the same clash changes nothing but the journal.
+    ///
+    /// Refusals are 34 where no exchange is open, 38 for a ruling of the open number that isn't of clash `k` of the
+    /// exchange at one of its four words, 40 where the journal is full, and 45 for another number; the least that stands
+    /// is answered. 90 is answered where memory runs out.
+    pub fn take(&mut self, ruling: Ruling<'_>) -> Result<(), SideFault>
+        ensures answer { IsAnswered (due.take_fault (is_full self.old) (shown self.old) ruling.entry.number ruling.entry.k
+            (clash_of_verdict ruling.entry.verdict) (word_of_verdict ruling.entry.verdict)) result }
+        ensures done { OnOk result (IsDone self.old (call.Take ruling.entry.number ruling.entry.k record {
+          word = word_of_verdict ruling.entry.verdict;
+          answer = answer_of_verdict ruling.entry.verdict;
+        }) self.new) }
+        ensures untouched { OnErr result (IsUntouched self.old self.new) }
+    {
+        if let Some(fault) = self.state.take_fault(self.is_full(), ruling) {
+            return Err(fault);
+        }
+        let judged = Judged {
+            word: ruling.verdict.word(),
+            answer: ruling.verdict.answer(),
+        };
+        self.journal.reserve(1)?;
+        self.state.take(ruling.number, ruling.k, judged);
+        self.journal
+            .push_reserved(Event::Take(ruling.number, ruling.k, judged));
+        Ok(())
+    }
+
+    /// Withdraws the name in the open exchange: its owner on this side is gone.
+    ///
+    /// Refusals are 31 for a name that isn't in the side's table, 34 where no exchange is open, 40 where the journal is
+    /// full, 47 for a name that was withdrawn already, and 48 where the list is closed; the least that stands is
+    /// answered. 90 is answered where memory runs out.
+    pub fn withdraw(&mut self, name: &Name) -> Result<(), SideFault>
+        ensures answer { IsAnswered (due.withdraw_fault (is_full self.old) (shown self.old) name.now) result }
+        ensures done { OnOk result (IsDone self.old (call.Withdraw name.now) self.new) }
+        ensures untouched { OnErr result (IsUntouched self.old self.new) }
+    {
+        if let Some(fault) = self.state.withdraw_fault(self.is_full(), name) {
+            return Err(fault);
+        }
+        self.journal.reserve(1)?;
+        self.state.withdraw(name)?;
+        self.journal.push_reserved(Event::Withdraw(*name));
+        Ok(())
+    }
+
+    /// Closes the list of withdrawn names, and gives it to be sent. From then on the side withdraws no more in this
+    /// exchange.
+    ///
+    /// Refusals are 34 where no exchange is open, 40 where the journal is full, and 48 where the list is closed already;
+    /// the least that stands is answered. 90 is answered where memory runs out.
+    pub fn close_list(&mut self, alloc: Global) -> Result<Withdrawals, SideFault>
+        ensures answer { IsAnswered (due.close_list_fault (is_full self.old) (shown self.old)) result }
+        ensures list { IfOk result (λ list. list ≡ list_of (shown self.old)) }
+        ensures done { OnOk result (IsDone self.old call.Close_list self.new) }
+        ensures untouched { OnErr result (IsUntouched self.old self.new) }
+    {
+        if let Some(fault) = self.state.close_list_fault(self.is_full()) {
+            return Err(fault);
+        }
+        self.journal.reserve(1)?;
+        let list = self.state.close_list(alloc)?;
+        self.journal.push_reserved(Event::CloseList);
+        Ok(list)
+    }
+
+    /// Hears the other side's list of withdrawn names. One that comes after the first changes nothing but the journal.
+    ///
+    /// Refusals are 34 where no exchange is open, 40 where the journal is full, 45 for another number, and 46 for an own
+    /// list; the least that stands is answered. 90 is answered where memory runs out.
+    pub fn hear_list(&mut self, sent: &Withdrawals) -> Result<(), SideFault>
+        ensures answer { IsAnswered (due.hear_list_fault (is_full self.old) (shown self.old) sent.now) result }
+        ensures done { OnOk result (IsDone self.old (call.Hear_list sent.now) self.new) }
+        ensures untouched { OnErr result (IsUntouched self.old self.new) }
+    {
+        if let Some(fault) = self.state.hear_list_fault(self.is_full(), sent) {
+            return Err(fault);
+        }
+        let copy = sent.share()?;
+        self.journal.reserve(1)?;
+        self.state.hear_list(sent)?;
+        self.journal.push_reserved(Event::HearList(copy));
+        Ok(())
+    }
+
+    /// Makes the table the merge of the two by the rulings taken, and closes the exchange.
+    ///
+    /// Refusals are 34 where no exchange is open, 39 with what is missing (the other's offer, else the first clash without
+    /// a ruling, else the own list, else the other's), and 40 where the journal is full; the least that stands is
+    /// answered. 90 is answered where memory runs out: it takes some for the merge, its copy, the rulings and the answers.
+    pub fn finish(&mut self, alloc: Global) -> Result<Finished, SideFault>
+        ensures answer { IsAnswered (due.finish_fault (is_full self.old) (shown self.old)) result }
+        ensures given { IfOk result (λ finished. finished_from (shown self.old) ≡ Some finished) }
+        ensures done { OnOk result (IsDone self.old call.Finish self.new) }
+        ensures untouched { OnErr result (IsUntouched self.old self.new) }
+    {
+        if let Some(fault) = self.state.finish_fault(self.is_full()) {
+            return Err(fault);
+        }
+        self.journal.reserve(1)?;
+        let finished = self.state.finish(alloc)?;
+        self.journal.push_reserved(Event::Finish);
+        Ok(finished)
+    }
+
+    /// Closes the exchange and leaves the table, without the names that were withdrawn.
+    ///
+    /// Refusals are 34 where no exchange is open, and 40 where the journal is full; the least that stands is answered.
+    /// 90 is answered where memory runs out.
+    pub fn abandon(&mut self) -> Result<(), SideFault>
+        ensures answer { IsAnswered (due.abandon_fault (is_full self.old) (shown self.old)) result }
+        ensures done { OnOk result (IsDone self.old call.Abandon self.new) }
+        ensures untouched { OnErr result (IsUntouched self.old self.new) }
+    {
+        if let Some(fault) = self.state.abandon_fault(self.is_full()) {
+            return Err(fault);
+        }
+        self.journal.reserve(1)?;
+        self.state.abandon();
+        self.journal.push_reserved(Event::Abandon);
+        Ok(())
+    }
+}
+
+// The program in the store that the resolver names, with one more owner.
+fn named_program(
+    store: &UploadStore,
+    resolver: ResolverId,
+) -> Result<Option<Arc<Verified>>, AllocError>
+    ensures { IfOk result (λ program. option_map arc_value program ≡ code_for store.now resolver) }
+{
+    let ResolverId::Program(id) = resolver else {
+        return Ok(None);
+    };
+    match store.get(&id) {
+        Some(program) => Ok(Some(program.clone()?)),
+        None => Ok(None),
+    }
+}

@@ -1,0 +1,147 @@
+//! What a finish gives.
+ghost use Rattle.std.specs.Prelude.{◌≡◌};
+ghost use Rattle.std.specs.Arc.{arc_value};
+ghost use Rattle.exchange_core.specs.Finished.{IsFinished, finished_by};
+ghost use Rattle.exchange_core.specs.model.Sharing.{names_of};
+
+use crate::judged::Judged;
+use crate::side_id::SideId;
+use clash_record::Name;
+use partition_table::Table;
+use std::marker::Model;
+use std::sync::Arc;
+
+/// An exchange that a side finished: the two tables that it merged, A's and B's, with the uptimes of their halves and the
+/// names that each side withdrew, the ruling of each clash, and the merged table.
+///
+/// That the table is the merge of the two under these rulings and lists, that each word is one of its clash's four, and
+/// each answer its resolver's at that word, stands in the type. Only a side's `finish` makes one.
+#[derive(Drop)]
+pub struct Finished {
+    pub(crate) id: SideId,
+    pub(crate) number: u64,
+    pub(crate) seed: u64,
+    pub(crate) own: Table,
+    pub(crate) own_uptime: u64,
+    pub(crate) own_gone: Vec<Name>,
+    pub(crate) other: Arc<Table>,
+    pub(crate) other_uptime: u64,
+    pub(crate) other_gone: Arc<Vec<Name>>,
+    pub(crate) rulings: Vec<Judged>,
+    pub(crate) table: Table,
+}
+
+impl Model for Finished {
+    ghost use Rattle.exchange_core.specs.Finished.{Finished};
+    ghost use Rattle.exchange_core.specs.model.Coding.{coded_finished};
+
+    ghost Value = { Finished };
+
+    ghost coded = { coded_finished };
+
+    ghost use Rattle.exchange_core.specs.Finished.{IsFinished};
+    ghost use Rattle.exchange_core.specs.model.Finishing.{finished_inside};
+
+    ghost view = { finished_inside };
+
+    ghost invariant = { λ f. IsFinished (finished_inside f) };
+}
+
+impl Finished {
+    /// The number of the exchange.
+    pub fn number(&self) -> u64
+        ensures { result ≡ self.now.number }
+    {
+        self.number
+    }
+
+    /// The seed of the words.
+    pub fn seed(&self) -> u64
+        ensures { result ≡ self.now.seed }
+    {
+        self.seed
+    }
+
+    /// The table of side A that was merged.
+    pub fn a(&self) -> &Table
+        ensures { result.now ≡ self.now.a }
+    {
+        match self.id {
+            SideId::A => &self.own,
+            SideId::B => &self.other,
+        }
+    }
+
+    /// The table of side B that was merged.
+    pub fn b(&self) -> &Table
+        ensures { result.now ≡ self.now.b }
+    {
+        match self.id {
+            SideId::A => &self.other,
+            SideId::B => &self.own,
+        }
+    }
+
+    /// How long side A had been up.
+    pub fn uptime_a(&self) -> u64
+        ensures { result ≡ self.now.uptime_a }
+    {
+        match self.id {
+            SideId::A => self.own_uptime,
+            SideId::B => self.other_uptime,
+        }
+    }
+
+    /// How long side B had been up.
+    pub fn uptime_b(&self) -> u64
+        ensures { result ≡ self.now.uptime_b }
+    {
+        match self.id {
+            SideId::A => self.other_uptime,
+            SideId::B => self.own_uptime,
+        }
+    }
+
+    /// The names that side A withdrew, the earliest first.
+    pub fn gone_a(&self) -> &[Name]
+        ensures { result.now ≡ self.now.gone.of_a }
+    {
+        match self.id {
+            SideId::A => &self.own_gone,
+            SideId::B => &self.other_gone,
+        }
+    }
+
+    /// The names that side B withdrew, the earliest first.
+    pub fn gone_b(&self) -> &[Name]
+        ensures { result.now ≡ self.now.gone.of_b }
+    {
+        match self.id {
+            SideId::A => &self.other_gone,
+            SideId::B => &self.own_gone,
+        }
+    }
+
+    /// The ruling of each clash, in the order of clashes.
+    pub fn rulings(&self) -> &[Judged]
+        ensures rulings { result.now ≡ self.now.rulings }
+        // The table is the merge under these rulings, and each is lawful.
+        ensures kept { IsFinished self.now }
+    {
+        &self.rulings
+    }
+
+    /// The merged table.
+    pub fn table(&self) -> &Table
+        ensures { result.now ≡ self.now.table }
+    {
+        &self.table
+    }
+
+    /// The merged table itself.
+    pub fn into_table(self) -> Table
+        ensures { result ≡ self.table }
+    {
+        self.table
+    }
+}

@@ -1,0 +1,125 @@
+//! How an exchange is finished.
+ghost use Rattle.std.specs.Prelude.{◌≡◌, Some, IsTrue, IfOk, OnOk, OnErr, List, is_some, map};
+ghost use Rattle.std.specs.Arc.{arc_value};
+ghost use Rattle.exchange_core.specs.Sides as sides;
+ghost use Rattle.exchange_core.specs.Finished.{all_held, finished_at, finished_from};
+ghost use Rattle.exchange_core.specs.model.Finishing.{IsMergeable, IsMergeOf};
+ghost use Rattle.partition_table.specs.Tables.{Name};
+
+use crate::exchange::Exchange;
+use crate::finished::Finished;
+use crate::judged::Judged;
+use crate::pairing::merge_for;
+use crate::side_id::SideId;
+use crate::state::State;
+use builtin_resolvers::Verdict3;
+use partition_table::Table;
+use std::alloc::{AllocError, Global};
+use std::mem;
+
+// The rulings of an exchange, and its merged table.
+#[derive(Drop)]
+struct Merged {
+    rulings: Vec<Judged>,
+    table: Table,
+}
+
+impl State {
+    /// Makes the table the merge of the two, and closes the exchange.
+    pub(crate) fn finish(&mut self, alloc: Global) -> Result<Finished, AllocError>
+        requires open { IsTrue (is_some self.old.exchange) }
+        requires ready { (x : sides.Exchange) → self.old.exchange ≡ Some x → IsMergeable self.old.id self.old.table x }
+        ensures done { OnOk result (sides.finish self.old ≡ Some self.new) }
+        ensures given { IfOk result (λ finished. finished_from self.old ≡ Some finished) }
+        ensures unchanged { OnErr result (self.new ≡ self.old) }
+    {
+        let Some(exchange) = &self.exchange else {
+            unreachable!()
+        };
+        let merged = merge_exchange(alloc, self.id, &self.table, exchange)?;
+        let table = merged.table.try_clone()?;
+        let Some(exchange) = self.exchange.take() else {
+            unreachable!()
+        };
+        self.clashes = None;
+        let own = mem::replace(&mut self.table, table);
+        Ok(finished_with(self.id, own, exchange, merged))
+    }
+}
+
+// What the exchange of a side with this table is merged to.
+fn merge_exchange(
+    alloc: Global,
+    id: SideId,
+    own: &Table,
+    exchange: &Exchange,
+) -> Result<Merged, AllocError>
+    requires { IsMergeable id own.now exchange.now }
+    ensures { IfOk result (λ merged. IsMergeOf id own.now exchange.now merged.rulings.items merged.table) }
+{
+    let (Some(heard), Some(theirs)) = (&exchange.heard, &exchange.their_list) else {
+        unreachable!()
+    };
+    let rulings = held_rulings(alloc, heard.rulings())?;
+    let answers = answers_of(alloc, &rulings)?;
+    let table = merge_for(
+        alloc,
+        id,
+        own,
+        heard.table(),
+        &answers,
+        exchange.withdrawn(),
+        theirs,
+    )?;
+    Ok(Merged { rulings, table })
+}
+
+// The finished exchange of a side that had this table.
+fn finished_with(id: SideId, own: Table, exchange: Exchange, merged: Merged) -> Finished
+    requires ready { IsMergeable id own exchange }
+    requires merged { IsMergeOf id own exchange merged.rulings.items merged.table }
+    ensures { (heard : sides.Heard) (theirs : List Name) → exchange.heard ≡ Some heard → exchange.their_list ≡ Some theirs
+        → result ≡ finished_at id own exchange heard theirs merged.rulings.items merged.table }
+{
+    let (Some(heard), Some(other_gone)) = (exchange.heard, exchange.their_list) else {
+        unreachable!()
+    };
+    let (other, other_uptime) = heard.into_table();
+    Finished {
+        id,
+        number: exchange.number,
+        seed: exchange.seed,
+        own,
+        own_uptime: exchange.uptime,
+        own_gone: exchange.withdrawn,
+        other,
+        other_uptime,
+        other_gone,
+        rulings: merged.rulings,
+        table: merged.table,
+    }
+}
+
+// The rulings that are there.
+fn held_rulings(alloc: Global, rulings: &[Option<Judged>]) -> Result<Vec<Judged>, AllocError>
+    ensures { IfOk result (λ held. held.items ≡ all_held rulings.now) }
+{
+    let mut held = Vec::new(alloc);
+    for ruling in rulings {
+        if let Some(judged) = ruling {
+            held.push(*judged)?;
+        }
+    }
+    Ok(held)
+}
+
+// The answers of these rulings.
+fn answers_of(alloc: Global, rulings: &[Judged]) -> Result<Vec<Verdict3>, AllocError>
+    ensures { IfOk result (λ answers. answers.items ≡ map (λ judged. judged.answer) rulings.now) }
+{
+    let mut answers = Vec::new(alloc);
+    for judged in rulings {
+        answers.push(judged.answer)?;
+    }
+    Ok(answers)
+}

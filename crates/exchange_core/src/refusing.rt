@@ -1,0 +1,276 @@
+//! The refusals that are due, beside want of memory.
+ghost use Rattle.std.specs.Prelude.{◌≡◌, ◌&&◌, ◌==◌, ◌<◌, ◌≤◌, ◌^◌, Some, None, MatchOption, not, nat_lt, true, false, is_some, length, if◌then◌else◌};
+ghost use Rattle.std.specs.FinMap.{len, contains_key};
+ghost use Rattle.clash_record.specs.declared.registrations.Registration.{Registration};
+ghost use Rattle.upload_store.specs.Programs.{Programs};
+ghost use Rattle.partition_table.specs.Judged.{clash_of_verdict, word_of_verdict};
+ghost use Rattle.partition_table.specs.Tables.{max_names, same_clash};
+ghost use Rattle.exchange_core.specs.Sides.{is_above, is_side, is_one_of_four};
+ghost use Rattle.exchange_core.specs.Sides as sides;
+ghost use Rattle.exchange_core.specs.Refusals as due;
+ghost use Rattle.exchange_core.specs.model.Early.{early_register_fault};
+
+use crate::exchange::Exchange;
+use crate::fault::SideFault;
+use crate::messages::{Offer, Withdrawals};
+use crate::pairing::fit_for;
+use crate::side_id::SideId;
+use crate::state::State;
+use clash_record::Name;
+use partition_table::{Clash, MAX_NAMES, Ruling, TableFault, word};
+
+impl State {
+    /// What refuses to register the name before its program is looked up.
+    pub(crate) fn early_register_fault(&self, full: bool, name: &Name) -> Option<SideFault>
+        ensures { result ≡ early_register_fault full self.now name.now }
+    {
+        if self.table.whereis(name).is_some() {
+            return Some(SideFault::NameTaken);
+        }
+        if self.table.len() == MAX_NAMES {
+            return Some(SideFault::Full);
+        }
+        if self.exchange.is_some() {
+            return Some(SideFault::Healing);
+        }
+        if full {
+            return Some(SideFault::JournalFull);
+        }
+        None
+    }
+
+    /// What refuses to take the name out.
+    pub(crate) fn unregister_fault(&self, full: bool, name: &Name) -> Option<SideFault>
+        ensures { result ≡ due.unregister_fault full self.now name.now }
+    {
+        if self.table.whereis(name).is_none() {
+            return Some(SideFault::NoSuchName);
+        }
+        if self.exchange.is_some() {
+            return Some(SideFault::Healing);
+        }
+        if full {
+            return Some(SideFault::JournalFull);
+        }
+        None
+    }
+
+    /// What refuses to open an exchange of this number.
+    pub(crate) fn begin_fault(&self, full: bool, number: u64) -> Option<SideFault>
+        ensures { result ≡ due.begin_fault full self.now number }
+    {
+        if self.exchange.is_some() {
+            return Some(SideFault::Healing);
+        }
+        if !is_above(number, self.latest) {
+            return Some(SideFault::StaleNumber);
+        }
+        if full {
+            return Some(SideFault::JournalFull);
+        }
+        None
+    }
+
+    /// What refuses to hear the offer.
+    pub(crate) fn hear_fault(&self, full: bool, offer: &Offer) -> Option<SideFault>
+        ensures { result ≡ due.hear_fault full self.now offer.now }
+    {
+        let Some(exchange) = &self.exchange else {
+            return Some(SideFault::NotHealing);
+        };
+        let theirs = exchange.number() == offer.number() && !is_side(self.id, offer.side());
+        if !exchange.has_heard() && theirs {
+            return self.first_offer_fault(full, exchange, offer);
+        }
+        sent_fault(full, self.id, exchange, offer.side(), offer.number())
+    }
+
+    // What refuses the other side's first offer of the open number.
+    fn first_offer_fault(&self, full: bool, exchange: &Exchange, offer: &Offer) -> Option<SideFault>
+        ensures { result ≡ due.first_offer_fault full self.now exchange.now offer.now }
+    {
+        if exchange.seed() != offer.seed() {
+            return Some(SideFault::SeedDiffers);
+        }
+        let fit = fit_for(self.id, &self.table, offer.table());
+        if let Err(TableFault::TooManyNames) = fit {
+            return Some(SideFault::TooManyNames);
+        }
+        if full {
+            return Some(SideFault::JournalFull);
+        }
+        if fit.is_err() {
+            return Some(SideFault::OtherCode);
+        }
+        None
+    }
+
+    /// What refuses to take the ruling.
+    pub(crate) fn take_fault(&self, full: bool, ruling: Ruling<'_>) -> Option<SideFault>
+        ensures { result ≡ due.take_fault full self.now ruling.entry.number ruling.entry.k
+            (clash_of_verdict ruling.entry.verdict) (word_of_verdict ruling.entry.verdict) }
+    {
+        let Some(exchange) = &self.exchange else {
+            return Some(SideFault::NotHealing);
+        };
+        let is_open = exchange.number() == ruling.number;
+        let verdict = ruling.verdict;
+        if is_open && self.is_strange(exchange, ruling.k, verdict.clash(), verdict.word()) {
+            return Some(SideFault::StrangeRuling);
+        }
+        if full {
+            return Some(SideFault::JournalFull);
+        }
+        if !is_open {
+            return Some(SideFault::OtherNumber);
+        }
+        None
+    }
+
+    // Whether the clash isn't clash `k` of the open exchange, or the word is none of its four.
+    fn is_strange(&self, exchange: &Exchange, k: u32, clash: &Clash, at: u64) -> bool
+        ensures { result ≡ due.is_strange self.now exchange.now k clash.now at }
+    {
+        let Some(clashes) = &self.clashes else {
+            return true;
+        };
+        let Some(own) = clashes.get(k) else {
+            return true;
+        };
+        !(is_same_clash(clash, own) && is_one_of_four(at, exchange.seed(), clashes.len() as u32, k))
+    }
+
+    /// What refuses to withdraw the name.
+    pub(crate) fn withdraw_fault(&self, full: bool, name: &Name) -> Option<SideFault>
+        ensures { result ≡ due.withdraw_fault full self.now name.now }
+    {
+        if self.table.whereis(name).is_none() {
+            return Some(SideFault::NoSuchName);
+        }
+        let Some(exchange) = &self.exchange else {
+            return Some(SideFault::NotHealing);
+        };
+        if full {
+            return Some(SideFault::JournalFull);
+        }
+        if exchange.has_withdrawn(name) {
+            return Some(SideFault::Withdrawn);
+        }
+        if exchange.is_closed() {
+            return Some(SideFault::ListClosed);
+        }
+        None
+    }
+
+    /// What refuses to close the list of withdrawn names.
+    pub(crate) fn close_list_fault(&self, full: bool) -> Option<SideFault>
+        ensures { result ≡ due.close_list_fault full self.now }
+    {
+        let Some(exchange) = &self.exchange else {
+            return Some(SideFault::NotHealing);
+        };
+        if full {
+            return Some(SideFault::JournalFull);
+        }
+        if exchange.is_closed() {
+            return Some(SideFault::ListClosed);
+        }
+        None
+    }
+
+    /// What refuses to hear the list.
+    pub(crate) fn hear_list_fault(&self, full: bool, sent: &Withdrawals) -> Option<SideFault>
+        ensures { result ≡ due.hear_list_fault full self.now sent.now }
+    {
+        let Some(exchange) = &self.exchange else {
+            return Some(SideFault::NotHealing);
+        };
+        sent_fault(full, self.id, exchange, sent.side(), sent.number())
+    }
+
+    /// What refuses to finish.
+    pub(crate) fn finish_fault(&self, full: bool) -> Option<SideFault>
+        ensures { result ≡ due.finish_fault full self.now }
+    {
+        let Some(exchange) = &self.exchange else {
+            return Some(SideFault::NotHealing);
+        };
+        if let Some(part) = exchange.missing() {
+            return Some(SideFault::Missing(part));
+        }
+        if full {
+            return Some(SideFault::JournalFull);
+        }
+        None
+    }
+
+    /// What refuses to abandon.
+    pub(crate) fn abandon_fault(&self, full: bool) -> Option<SideFault>
+        ensures { result ≡ due.abandon_fault full self.now }
+    {
+        if self.exchange.is_none() {
+            return Some(SideFault::NotHealing);
+        }
+        if full {
+            return Some(SideFault::JournalFull);
+        }
+        None
+    }
+}
+
+// What refuses something that a side sent, of this number.
+fn sent_fault(
+    full: bool,
+    id: SideId,
+    exchange: &Exchange,
+    sender: SideId,
+    number: u64,
+) -> Option<SideFault>
+    ensures { result ≡ due.sent_fault full id exchange.now sender number }
+{
+    if full {
+        return Some(SideFault::JournalFull);
+    }
+    if exchange.number() != number {
+        return Some(SideFault::OtherNumber);
+    }
+    if is_side(id, sender) {
+        return Some(SideFault::OwnOffer);
+    }
+    None
+}
+
+// Whether the number is above every number so far.
+fn is_above(number: u64, latest: Option<u64>) -> bool
+    ensures { result ≡ is_above number latest }
+{
+    match latest {
+        None => true,
+        Some(latest) => latest < number,
+    }
+}
+
+// Whether the two are one side.
+fn is_side(id: SideId, sender: SideId) -> bool
+    ensures { result ≡ is_side id sender }
+{
+    match (id, sender) {
+        (SideId::A, SideId::A) | (SideId::B, SideId::B) => true,
+        _ => false,
+    }
+}
+
+// Whether the two clashes are alike in all that judging reads.
+fn is_same_clash(a: &Clash, b: &Clash) -> bool
+    ensures { result ≡ same_clash a.now b.now }
+{
+    a == b
+}
+
+// Whether the word is one of the four of clash `k` of `n`.
+fn is_one_of_four(at: u64, seed: u64, n: u32, k: u32) -> bool
+    ensures { result ≡ is_one_of_four at seed n k }
+{
+    at == word(seed, 0, n, k)
+        || (at == word(seed, 1, n, k) || (at == word(seed, 2, n, k) || at == word(seed, 3, n, k)))
+}

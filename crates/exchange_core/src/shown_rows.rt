@@ -1,0 +1,32 @@
+//! The rows that a side shows.
+use crate::exchange::has_name;
+use clash_record::{Name, Registration};
+use partition_table::Rows;
+
+/// Gives the rows of a side's table in the order of names, without the names that the side withdrew in the open exchange.
+#[derive(Drop)]
+pub struct ShownRows<'a> {
+    pub(crate) rows: Rows<'a>,
+    pub(crate) withdrawn: &'a [Name],
+}
+
+impl<'a> Iterator for ShownRows<'a> {
+    type Item = (&'a Name, &'a Registration);
+
+    ghost use Rattle.std.specs.Iterator.{YieldsFirstBy, item_count};
+    ghost use Rattle.std.specs.Map.Iter.{deref_pair};
+    ghost use Rattle.exchange_core.specs.Rows.{rows_left};
+
+    ghost next_gives = { YieldsFirstBy deref_pair rows_left };
+
+    ghost remaining = { item_count rows_left };
+
+    fn next(&mut self) -> Option<(&'a Name, &'a Registration)> {
+        while let Some((name, registration)) = self.rows.next() {
+            if !has_name(self.withdrawn, name) {
+                return Some((name, registration));
+            }
+        }
+        None
+    }
+}

@@ -1,0 +1,16 @@
+//! One side of an exchange.
+ghost use Rattle.std.specs.Prelude.{◌≤◌, length};
+ghost use Rattle.exchange_core.specs.Journal.{IsJournal, max_events};
+
+use crate::journal::Event;
+use crate::state::State;
+
+/// One side of an exchange: its table, the open exchange if there is one, and the journal of the calls that it answered
+/// Ok, at most 65,536. That it is where its journal leads stands in its type.
+#[derive(Drop)]
+pub struct Side {
+    pub(crate) state: State,
+    pub(crate) journal: Vec<Event>,
+    pub ghost replayed: { IsJournal journal.items state },
+    pub ghost few: { length journal.items ≤ max_events },
+}

@@ -1,0 +1,246 @@
+//! The state of a side, and what each call leaves of it.
+ghost use Rattle.std.specs.Prelude.{◌≡◌, Some, None, IsTrue, IfOk, OnOk, OnErr, is_some};
+ghost use Rattle.std.specs.FinMap.{get};
+ghost use Rattle.partition_table.specs.Tables.{row_for, rows_of};
+ghost use Rattle.partition_table.specs.Faults as table;
+ghost use Rattle.exchange_core.specs.Sides.{new_side, without, shown_table};
+ghost use Rattle.exchange_core.specs.Rows.{rows_left};
+ghost use Rattle.std.specs.Option.{option_map};
+ghost use Rattle.exchange_core.specs.Sides as sides;
+ghost use Rattle.exchange_core.specs.Worlds.{offer_of, list_of};
+
+use crate::exchange::{Exchange, Heard};
+use crate::judged::Judged;
+use crate::messages::{Offer, Withdrawals};
+use crate::pairing::clashes_for;
+use crate::shown_rows::ShownRows;
+use crate::side_id::SideId;
+use clash_record::{Name, Registration};
+use partition_table::{ClashList, Table, TableFault};
+use std::alloc::{AllocError, Global};
+use std::marker::Model;
+use std::sync::Arc;
+use upload_store::UploadStore;
+
+/// What a side keeps beside its journal, and the clashes of the open exchange.
+#[derive(Drop)]
+pub(crate) struct State {
+    pub(crate) id: SideId,
+    pub(crate) table: Table,
+    pub(crate) exchange: Option<Exchange>,
+    pub(crate) clashes: Option<ClashList>,
+    pub(crate) latest: Option<u64>,
+}
+
+impl Model for State {
+    ghost use Rattle.exchange_core.specs.Sides.{Side};
+    ghost use Rattle.exchange_core.specs.model.Coding.{coded_side};
+
+    ghost Value = { Side };
+
+    ghost coded = { coded_side };
+
+    ghost use Rattle.exchange_core.specs.model.Keeping.{side_of, HasClashes};
+
+    ghost view = { side_of };
+
+    ghost invariant = { HasClashes };
+}
+
+impl State {
+    /// An idle side without names. Takes no memory.
+    pub(crate) fn new(alloc: Global, id: SideId) -> State
+        ensures { result ≡ new_side id }
+    {
+        State {
+            id,
+            table: Table::new(alloc),
+            exchange: None,
+            clashes: None,
+            latest: None,
+        }
+    }
+
+    /// Which of the two sides it is.
+    pub(crate) fn id(&self) -> SideId
+        ensures { result ≡ self.now.id }
+    {
+        self.id
+    }
+
+    /// What the name is registered with, unless it was withdrawn.
+    pub(crate) fn whereis(&self, name: &Name) -> Option<&Registration>
+        ensures { option_map (λ r. r.now) result
+            ≡ option_map (λ row. row.registration) (get (shown_table self.now) name.now) }
+    {
+        let Some(exchange) = &self.exchange else {
+            return self.table.whereis(name);
+        };
+        if exchange.has_withdrawn(name) {
+            return None;
+        }
+        self.table.whereis(name)
+    }
+
+    /// The rows of the table, without the names that were withdrawn.
+    pub(crate) fn rows(&self) -> ShownRows<'_>
+        ensures { rows_left result ≡ rows_of (shown_table self.entry.now) }
+    {
+        let Some(exchange) = &self.exchange else {
+            return ShownRows {
+                rows: self.table.rows(),
+                withdrawn: &[],
+            };
+        };
+        ShownRows {
+            rows: self.table.rows(),
+            withdrawn: exchange.withdrawn(),
+        }
+    }
+
+    /// Registers the name on an idle side.
+    pub(crate) fn register(
+        &mut self,
+        name: Name,
+        registration: Registration,
+        store: &UploadStore,
+    ) -> Result<(), TableFault>
+        requires { self.old.exchange ≡ None }
+        ensures answer { table.IsAnswered (table.register_fault self.old.table name registration store.now) result }
+        ensures done { OnOk result (sides.register self.old name (row_for store.now registration) ≡ Some self.new) }
+        ensures unchanged { OnErr result (self.new ≡ self.old) }
+    {
+        self.table.register(name, registration, store)
+    }
+
+    /// Takes the name out.
+    pub(crate) fn unregister(&mut self, name: &Name) -> Result<Registration, TableFault>
+        requires { IsTrue (is_some (sides.unregister self.old name.now)) }
+        ensures answer { result ≡ table.unregister_answer (get self.old.table name.now) }
+        ensures done { sides.unregister self.old name.now ≡ Some self.new }
+    {
+        self.table.unregister(name)
+    }
+
+    /// Opens an exchange.
+    pub(crate) fn begin(
+        &mut self,
+        alloc: Global,
+        number: u64,
+        seed: u64,
+        uptime: u64,
+    ) -> Result<Offer, AllocError>
+        requires { IsTrue (is_some (sides.begin self.old number seed uptime)) }
+        ensures done { OnOk result (sides.begin self.old number seed uptime ≡ Some self.new) }
+        ensures offer { IfOk result (λ offer. offer ≡ offer_of self.old number seed uptime) }
+        ensures unchanged { OnErr result (self.new ≡ self.old) }
+    {
+        let table = Arc::new(alloc, self.table.try_clone()?)?;
+        self.exchange = Some(Exchange::new(alloc, number, seed, uptime));
+        self.clashes = None;
+        self.latest = Some(number);
+        Ok(Offer::new(self.id, number, seed, uptime, table))
+    }
+
+    /// Hears the other side's offer.
+    pub(crate) fn hear(&mut self, alloc: Global, offer: &Offer) -> Result<(), AllocError>
+        requires { IsTrue (is_some (sides.hear self.old offer.now)) }
+        ensures done { OnOk result (sides.hear self.old offer.now ≡ Some self.new) }
+        ensures unchanged { OnErr result (self.new ≡ self.old) }
+    {
+        let Some(exchange) = &mut self.exchange else {
+            unreachable!()
+        };
+        if exchange.has_heard() {
+            return Ok(());
+        }
+        let clashes = clashes_for(
+            alloc,
+            self.id,
+            &self.table,
+            exchange.uptime(),
+            offer.table(),
+            offer.uptime(),
+        )?;
+        let heard = Heard::new(alloc, offer.share_table()?, offer.uptime(), clashes.len())?;
+        exchange.keep_heard(heard);
+        self.clashes = Some(clashes);
+        Ok(())
+    }
+
+    /// Takes the ruling of clash `k`.
+    pub(crate) fn take(&mut self, number: u64, k: u32, judged: Judged)
+        requires { IsTrue (is_some (sides.take self.old number k judged)) }
+        ensures { sides.take self.old number k judged ≡ Some self.new }
+    {
+        let Some(exchange) = &mut self.exchange else {
+            unreachable!()
+        };
+        exchange.put(k, judged);
+    }
+
+    /// Withdraws the name.
+    pub(crate) fn withdraw(&mut self, name: &Name) -> Result<(), AllocError>
+        requires { IsTrue (is_some (sides.withdraw self.old name.now)) }
+        ensures done { OnOk result (sides.withdraw self.old name.now ≡ Some self.new) }
+        ensures unchanged { OnErr result (self.new ≡ self.old) }
+    {
+        let Some(exchange) = &mut self.exchange else {
+            unreachable!()
+        };
+        exchange.withdraw(*name)
+    }
+
+    /// Closes the list of withdrawn names.
+    pub(crate) fn close_list(&mut self, alloc: Global) -> Result<Withdrawals, AllocError>
+        requires { IsTrue (is_some (sides.close_list self.old)) }
+        ensures done { OnOk result (sides.close_list self.old ≡ Some self.new) }
+        ensures list { IfOk result (λ list. list ≡ list_of self.old) }
+        ensures unchanged { OnErr result (self.new ≡ self.old) }
+    {
+        let Some(exchange) = &mut self.exchange else {
+            unreachable!()
+        };
+        let names = exchange.copy_names(alloc)?;
+        let number = exchange.number();
+        exchange.close();
+        Ok(Withdrawals::new(self.id, number, names))
+    }
+
+    /// Hears the other side's list.
+    pub(crate) fn hear_list(&mut self, sent: &Withdrawals) -> Result<(), AllocError>
+        requires { IsTrue (is_some (sides.hear_list self.old sent.now)) }
+        ensures done { OnOk result (sides.hear_list self.old sent.now ≡ Some self.new) }
+        ensures unchanged { OnErr result (self.new ≡ self.old) }
+    {
+        let Some(exchange) = &mut self.exchange else {
+            unreachable!()
+        };
+        if exchange.has_list() {
+            return Ok(());
+        }
+        exchange.keep_list(sent.share_names()?);
+        Ok(())
+    }
+
+    /// Closes the exchange, and takes out the names that were withdrawn.
+    pub(crate) fn abandon(&mut self)
+        requires { IsTrue (is_some (sides.abandon self.old)) }
+        ensures { sides.abandon self.old ≡ Some self.new }
+    {
+        let Some(exchange) = self.exchange.take() else {
+            unreachable!()
+        };
+        take_out(&mut self.table, exchange.withdrawn());
+        self.clashes = None;
+    }
+}
+
+// Takes these names out of the table.
+fn take_out(table: &mut Table, names: &[Name])
+    ensures { table.new ≡ without names.now table.old }
+{
+    for name in names {
+        let _ = table.unregister(name);
+    }
+}
