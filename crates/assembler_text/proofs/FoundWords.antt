@@ -119,9 +119,9 @@ begins_in text o t b f h =
     among class.Instruction in_instruction b.word (word_plain b.word (operand_word o b.word b.is_operand f)) in
     let inside : AreIn class.Instruction (((b.before ++ b.word) ++ b.behind) ++ t) =
     joined class.Instruction ((b.before ++ b.word) ++ b.behind) t
-        (joined class.Instruction (b.before ++ b.word) b.behind
-        (joined class.Instruction b.before b.word (blanks_among b.before b.before_blank) w)
-        (blanks_among b.behind b.behind_blank)) h in
+    (joined class.Instruction (b.before ++ b.word) b.behind
+    (joined class.Instruction b.before b.word (blanks_among b.before b.before_blank) w)
+    (blanks_among b.behind b.behind_blank)) h in
     subst (AreIn class.Instruction) (sym b.spelled) inside
 
 separated_in : (text : List ℕ) (os : List Operand) → AreSeparated text os → AllFit os → AreIn class.Instruction text

@@ -81,8 +81,10 @@ parts_of (LoadWide dst value) l = IsMadeOf mnemonic.LoadWide (dst, (value, tt)) 
 parts_of (Load size dst base offset) l =
     IsMadeOf (mnemonic.Load size) (dst, ((base, offset), tt)) tt (tt, (l.numbers, tt))
 parts_of (LoadSx size dst base offset) l =
-    IsMadeOf (mnemonic.LoadSx size) (dst, ((base, offset), tt)) (sx_known size dst base offset l.selected) (tt,
-        (l.numbers, tt))
+    IsMadeOf (mnemonic.LoadSx size) (dst, ((base, offset), tt)) (sx_known size dst base offset l.selected) (
+      tt,
+      (l.numbers, tt),
+    )
 parts_of (Store size base offset src) l =
     IsMadeOf (mnemonic.Store size) ((base, offset), (src, tt)) tt (l.numbers, (tt, tt))
 parts_of (StoreImm size base offset imm) l =
@@ -90,6 +92,8 @@ parts_of (StoreImm size base offset imm) l =
 parts_of (Jump distance) l = IsMadeOf mnemonic.Jump (distance, tt) tt (l.numbers, tt)
 parts_of (JumpLong distance) l = IsMadeOf mnemonic.JumpLong (distance, tt) tt (l.numbers, tt)
 parts_of (JumpIf width test dst src distance) l =
-    IsMadeOf (mnemonic.JumpIf width test) (dst, (src, (distance, tt))) tt (tt,
-        (source_taken src l.numbers.0, (l.numbers.1, tt)))
+    IsMadeOf (mnemonic.JumpIf width test) (dst, (src, (distance, tt))) tt (
+      tt,
+      (source_taken src l.numbers.0, (l.numbers.1, tt)),
+    )
 parts_of Exit l = IsMadeOf mnemonic.Exit tt tt tt

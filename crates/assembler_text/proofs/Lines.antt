@@ -67,7 +67,7 @@ insn_reads : (i : Insn) (p : IsMade i) (text : List ℕ) → AreOperands text (o
 unfolding insn_at
 insn_reads i p text h =
     ap (λ r. r >>= λ a. Ok (made p.name a)) (operands_read (kinds p.name) text p.parts
-        (subst (AreOperands text) (sym (own_operands i p)) h) p.taken) ∙ ap done p.is
+    (subst (AreOperands text) (sym (own_operands i p)) h) p.taken) ∙ ap done p.is
 
 insn_fault : (m : Mnemonic) (text : List ℕ) (f : Fault) → insn_at m text ≡ Err f → IsFaultIn (kinds m) text f
 unfolding insn_at
@@ -79,7 +79,7 @@ unfolding insn_at
 insn_told i p text f x =
     let own : kinds_of i ≡ kinds p.name = ap kinds_of (sym p.is) ∙ made_kinds p.name p.parts in
     ap (λ r. r >>= λ a. Ok (made p.name a)) (operands_told (kinds p.name) text f
-        (subst (λ ks. IsFaultIn ks text f) own x))
+    (subst (λ ks. IsFaultIn ks text f) own x))
 
 -- an instruction of this mnemonic
 sample : Mnemonic → Insn
@@ -134,7 +134,7 @@ line_is line o h = from_body (body line) refl h
           comment = last;
           spelled = whole ∙ ap (λ (x : List ℕ). start ++ (x ++ last)) text
               ∙ sym (ap (λ (x : List ℕ). x ++ last) (append_assoc start (mnemonic_of p.0) (rest class.Mnemonic b))
-                  ∙ append_assoc start (mnemonic_of p.0 ++ rest class.Mnemonic b) last);
+              ∙ append_assoc start (mnemonic_of p.0 ++ rest class.Mnemonic b) last);
           are_blanks = front_among class.Blank (front class.Instruction line);
           are_operands = q.operands;
           is_comment = comment_is last (rest_stops class.Instruction line);
@@ -148,13 +148,13 @@ line_is line o h = from_body (body line) refl h
           comment = rest class.Instruction line;
           spelled = whole
               ∙ ap (λ (x : List ℕ). front class.Blank (front class.Instruction line)
-                  ++ (x ++ rest class.Instruction line)) e;
+              ++ (x ++ rest class.Instruction line)) e;
           are_blanks = front_among class.Blank (front class.Instruction line);
           is_comment = comment_is (rest class.Instruction line) (rest_stops class.Instruction line);
         })
     from_body (c ∷ cs) e f =
         from_insn (c ∷ cs) e (mnemonic_at (front class.Mnemonic (c ∷ cs))) refl
-            (known_mnemonic (front class.Mnemonic (c ∷ cs))) f
+        (known_mnemonic (front class.Mnemonic (c ∷ cs))) f
 
 -- ---- each line of the grammar is read
 
@@ -177,7 +177,7 @@ body_reads (c ∷ cs) t n h s =
 name_reads : (line start name t comment : List ℕ) → line ≡ (start ++ (name ++ t)) ++ comment
     → AreIn class.Blank start → AreIn class.Instruction (start ++ (name ++ t)) → IsComment comment
     → (name ≡ [] → ⊥) → AreIn class.Mnemonic name → StopsAt class.Mnemonic t
-        → line_at line ≡ insn_from (mnemonic_at name) t
+    → line_at line ≡ insn_from (mnemonic_at name) t
 unfolding line_at
 name_reads line start name t comment spelled are_blanks inside is_comment some is_name stops =
     let before : front class.Instruction line ≡ start ++ (name ++ t) =
@@ -197,7 +197,7 @@ empty_reads line h =
     let before : front class.Instruction line ≡ h.blanks =
     ap (front class.Instruction) h.spelled
     ∙ front_is class.Instruction h.blanks h.comment (blanks_among h.blanks h.are_blanks)
-        (comment_stops h.comment h.is_comment) in
+    (comment_stops h.comment h.is_comment) in
     ap body_at (ap (rest class.Blank) before ∙ only_blanks h.blanks h.are_blanks)
 
 insn_line_reads : (line : List ℕ) (i : Insn) → IsInsnLine line i → line_at line ≡ Ok (Some i)
@@ -208,12 +208,12 @@ insn_line_reads line i h =
     let plain = word_plain name w in
     let inside : AreIn class.Instruction (h.blanks ++ (name ++ h.operands)) =
     joined class.Instruction h.blanks (name ++ h.operands) (blanks_among h.blanks h.are_blanks)
-        (joined class.Instruction name h.operands (among class.Instruction in_instruction name plain)
-        (operands_in h.operands (operands_of i) h.are_operands (operands_fit i h.listed))) in
+    (joined class.Instruction name h.operands (among class.Instruction in_instruction name plain)
+    (operands_in h.operands (operands_of i) h.are_operands (operands_fit i h.listed))) in
     name_reads line h.blanks name h.operands h.comment (h.spelled
-        ∙ ap (λ (t : List ℕ). t ++ h.comment) (append_assoc h.blanks name h.operands)) h.are_blanks inside h.is_comment
+    ∙ ap (λ (t : List ℕ). t ++ h.comment) (append_assoc h.blanks name h.operands)) h.are_blanks inside h.is_comment
     (word_some name w) (among class.Mnemonic in_mnemonic name plain)
-        (operands_stop h.operands (operands_of i) h.are_operands)
+    (operands_stop h.operands (operands_of i) h.are_operands)
     ∙ ap (λ m. insn_from m h.operands) (found i p)
     ∙ ap (λ (r : Result Insn Fault). r >>= λ x. Ok (Some x)) (insn_reads i p h.operands h.are_operands)
 
@@ -249,11 +249,11 @@ line_fault line f e = from_body (body line) refl e
         → insn_from m (rest class.Mnemonic b) ≡ Err f → IsFaultOf (front class.Mnemonic b) (rest class.Mnemonic b) f
     fault_of b None n k g =
         subst (IsFaultOf (front class.Mnemonic b) (rest class.Mnemonic b)) (err_is fault.Mnemonic f g)
-            (no_mnemonic (unnamed (front class.Mnemonic b) n))
+        (no_mnemonic (unnamed (front class.Mnemonic b) n))
     fault_of b (Some m) n k g =
         in_operands (sample m) (sample_listed m k) (sample_named m
-            ∙ sym (mnemonic_is (front class.Mnemonic b) m n))
-            (sample_fault m (rest class.Mnemonic b) f (only_first (insn_at m (rest class.Mnemonic b)) Some f g))
+        ∙ sym (mnemonic_is (front class.Mnemonic b) m n))
+        (sample_fault m (rest class.Mnemonic b) f (only_first (insn_at m (rest class.Mnemonic b)) Some f g))
 
     from_body : (b : List ℕ) → body line ≡ b → body_at b ≡ Err f → IsLineFault line f
     from_body [] h g = absurd (clash None f g)
@@ -295,7 +295,7 @@ fault_told name t f (in_operands i l e x) =
 pub line_told : (line : List ℕ) (f : Fault) → IsLineFault line f → line_at line ≡ Err f
 line_told line f h =
     name_reads line h.blanks h.name h.text h.comment h.spelled h.are_blanks h.before_comment h.is_comment h.some_name
-        h.is_name h.name_stops ∙ fault_told h.name h.text f h.is_fault
+    h.is_name h.name_stops ∙ fault_told h.name h.text f h.is_fault
 
 -- ---- an instruction that is read is one of the standard's
 

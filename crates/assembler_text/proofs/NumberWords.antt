@@ -44,10 +44,10 @@ all_digits radix n (c ∷ cs) m e = by_test (nat_lt (digit_value c) radix)
     (λ h. let below : digit_value c < radix = grind (arith, nat_tests) in
     let more : Digits radix (n * radix + digit_value c) cs m =
     all_digits radix (n * radix + digit_value c) cs m (sym (ap
-        (λ b. cond b (number_after radix (n * radix + digit_value c) cs) None) h) ∙ e) in
+    (λ b. cond b (number_after radix (n * radix + digit_value c) cs) None) h) ∙ e) in
     record { all = (below, more.all); value = more.value })
     (λ h. let none : None ≡ Some m = sym (ap (λ b. cond b (number_after radix (n * radix + digit_value c) cs) None) h)
-        ∙ e in absurd cc)
+    ∙ e in absurd cc)
 
 -- a number in its range
 record Number (radix most : ℕ) (ds : List ℕ) (n : ℕ) : Type 0 where
@@ -74,7 +74,7 @@ number_gives radix most (c ∷ cs) = from_digits (number_after radix 0 (c ∷ cs
         let d : Digits radix 0 (c ∷ cs) n = all_digits radix 0 (c ∷ cs) n h in
         let numeral : IsNumeral radix (c ∷ cs) = (search (rules, arith), d.all) in
         gives_if (Number radix most (c ∷ cs)) (IsAbove radix most (c ∷ cs)) (nat_le n most) (Ok n)
-            (Err fault.NumberRange)
+        (Err fault.NumberRange)
         (λ t. let le : n ≤ most = grind (arith, nat_tests) in record { numeral = numeral; value = d.value; fits = le })
         (λ t. let past : most < n = above n most t in
         let more : most < digits_value radix (c ∷ cs) = omega (arith, d.value) in
@@ -97,9 +97,13 @@ decimal_gives : (most : ℕ) (ds : List ℕ) → most < 2 ^ 64
 unfolding decimal_at
 decimal_gives most ds small =
     gives_if (IsWritten most ds) (IsPast most ds) (has_leading_zero ds) (Err fault.Operand) (number_at 10 most ds)
-        (λ h. other)
-    (λ h. gives_map (number_at 10 most ds) (number_gives 10 most ds) (written h) (λ p. record { numeral =
-        p.0; no_leading_zero = no_zero ds h; past = p.1 }))
+    (λ h. other)
+    (λ h. gives_map (number_at 10 most ds) (number_gives 10 most ds) (written h) (λ p. record {
+      numeral =
+          p.0;
+      no_leading_zero = no_zero ds h;
+      past = p.1;
+    }))
   where
     written : has_leading_zero ds ≡ false → (n : ℕ) → Number 10 most ds n → IsWritten most ds n
     written h n m =
@@ -123,7 +127,7 @@ negative_gives most ds small =
     from_negated zero d = other
     from_negated (suc n) d =
         gives_if (IsBelow most ds) (IsPast most ds) (suc n == 0) (Err fault.Operand) (Ok (negsuc n)) (λ t. other)
-            (λ t. (n, refl, d.0, d.1))
+        (λ t. (n, refl, d.0, d.1))
 
 -- ---- the operands
 
@@ -144,8 +148,16 @@ imm_gives w = from_sign (strip 45 w) refl
         → IsRead AnImm w (cast_signed w32 n)
     of_bits ds h n m =
         let bits : cast_unsigned w32 (cast_signed w32 n) ≡ n = of_z-to_z w32 n (omega (arith, m.fits)) in
-        record { spelled = inr (record { digits = ds; spelled = hex_is w ds h; numeral = m.numeral; number = m.value
-            ∙ sym bits }); taken = omega (arith, ints, m.fits) }
+        record {
+          spelled = inr (record {
+            digits = ds;
+            spelled = hex_is w ds h;
+            numeral = m.numeral;
+            number = m.value
+                ∙ sym bits;
+          });
+          taken = omega (arith, ints, m.fits);
+        }
 
     below : (ds : List ℕ) → strip 45 w ≡ Some ds → (z : ℤ) → IsBelow 2147483648 ds z → IsRead AnImm w z
     below ds h z n = record {
@@ -156,11 +168,11 @@ imm_gives w = from_sign (strip 45 w) refl
     unsigned : (o : Option (List ℕ)) → hex_digits w ≡ o → Gives (IsRead AnImm w) (IsPastImm w) (unsigned_imm_at o w)
     unsigned (Some ds) h =
         gives_then (IsRead AnImm w) (number_at 16 4294967295 ds) (λ n. Ok (cast_signed w32 n))
-            (number_gives 16 4294967295 ds) (of_bits ds h)
+        (number_gives 16 4294967295 ds) (of_bits ds h)
         (λ p. inr (inr (record { digits = ds; spelled = hex_is w ds h; numeral = p.0; past = p.1 })))
     unsigned None h =
         gives_then (IsRead AnImm w) (decimal_at 2147483647 w) (λ n. Ok (pos n))
-            (decimal_gives 2147483647 w (omega arith))
+        (decimal_gives 2147483647 w (omega arith))
         (λ n d. record { spelled = inl d.0; taken = omega (arith, ints, d.1) }) (λ p. inl p)
 
     from_sign : (o : Option (List ℕ)) → strip 45 w ≡ o → Gives (IsRead AnImm w) (IsPastImm w) (imm_from o w)
@@ -176,8 +188,16 @@ value_gives w = from_hex (hex_digits w) refl
     from_hex : (o : Option (List ℕ)) → hex_digits w ≡ o → Gives (IsRead AValue w) (IsPastValue w) (value_from o w)
     from_hex (Some ds) h =
         gives_map (number_at 16 18446744073709551615 ds) (number_gives 16 18446744073709551615 ds)
-        (λ n m. record { spelled = inr (record { digits = ds; spelled = hex_is w ds h; numeral = m.numeral; number =
-            m.value }); taken = omega (arith, m.fits) })
+        (λ n m. record {
+          spelled = inr (record {
+            digits = ds;
+            spelled = hex_is w ds h;
+            numeral = m.numeral;
+            number =
+                m.value;
+          });
+          taken = omega (arith, m.fits);
+        })
         (λ p. inr (record { digits = ds; spelled = hex_is w ds h; numeral = p.0; past = p.1 }))
     from_hex None h =
         gives_map (decimal_at 18446744073709551615 w) (decimal_gives 18446744073709551615 w (omega arith))
@@ -197,9 +217,11 @@ step_gives most w small = from_plus (strip 43 w) refl
   where
     below : (ds : List ℕ) → strip 45 w ≡ Some ds → (z : ℤ) → IsBelow (most + 1) ds z → IsStep most w z
     below ds h z n =
-        let low : n.0 ≤ most = omega (arith, n.3) in
-        (stripped 45 w ds h ∙ ap (λ (t : List ℕ). 45 ∷ t) n.2
-            ∙ ap step_text (sym n.1), subst (StepFits most) (sym n.1) (down low))
+        let low : n.0 ≤ most = omega (arith, n.3) in (
+          stripped 45 w ds h ∙ ap (λ (t : List ℕ). 45 ∷ t) n.2
+              ∙ ap step_text (sym n.1),
+          subst (StepFits most) (sym n.1) (down low),
+        )
 
     from_minus : (o : Option (List ℕ)) → strip 45 w ≡ o → Gives (IsStep most w) (IsPastStep most w) (down_from most o)
     from_minus None h = other
@@ -224,10 +246,16 @@ long_fits z (down l) = omega (arith, ints, l)
 
 pub short_step_gives : (w : List ℕ) → Gives (IsRead AStep w) (IsPastStep 32767 w) (step_at 32767 w)
 short_step_gives w =
-    gives_map (step_at 32767 w) (step_gives 32767 w (omega arith)) (λ z s. record { spelled = s.0; taken =
-        short_fits z s.1 }) (λ p. p)
+    gives_map (step_at 32767 w) (step_gives 32767 w (omega arith)) (λ z s. record {
+      spelled = s.0;
+      taken =
+          short_fits z s.1;
+    }) (λ p. p)
 
 pub long_step_gives : (w : List ℕ) → Gives (IsRead ALongStep w) (IsPastStep 2147483647 w) (step_at 2147483647 w)
 long_step_gives w =
-    gives_map (step_at 2147483647 w) (step_gives 2147483647 w (omega arith)) (λ z s. record { spelled = s.0; taken =
-        long_fits z s.1 }) (λ p. p)
+    gives_map (step_at 2147483647 w) (step_gives 2147483647 w (omega arith)) (λ z s. record {
+      spelled = s.0;
+      taken =
+          long_fits z s.1;
+    }) (λ p. p)

@@ -18,8 +18,8 @@ past_range : (radix most : ℕ) (m n : ℕ) (cs : List ℕ) → 1 ≤ radix → 
 past_range radix most m n [] r p q = grind (arith, nat_tests)
 past_range radix most m n (c ∷ cs) r p q =
     elim (nat_lt (digit_value c) radix) as (λ b. within most
-        (cond b (number_after radix (m * radix + digit_value c) cs) None)
-        ≡ within most (cond b (number_after radix (n * radix + digit_value c) cs) None)) [
+    (cond b (number_after radix (m * radix + digit_value c) cs) None)
+    ≡ within most (cond b (number_after radix (n * radix + digit_value c) cs) None)) [
       | true ↦ past_range radix most (m * radix + digit_value c) (n * radix + digit_value c) cs r
           (omega (arith, grown radix m (digit_value c) r)) (omega (arith, grown radix n (digit_value c) r))
       | false ↦ refl
@@ -37,10 +37,10 @@ capped radix most cap m cs r p =
 pub next_digit : (radix most cap n i : ℕ) (ds : List ℕ) (total : Result ℕ Fault) → 1 ≤ radix → most < cap
     → i < length ds → digit_value (get_or ds i 0) < radix
     → within most (number_after radix n (drop i ds)) ≡ total
-        → within most (number_after radix (min (n * radix + digit_value (get_or ds i 0)) cap) (drop (i + 1) ds)) ≡ total
+    → within most (number_after radix (min (n * radix + digit_value (get_or ds i 0)) cap) (drop (i + 1) ds)) ≡ total
 next_digit radix most cap n i ds total r p lt below so_far =
     capped radix most cap _ _ r p
     ∙ ap (λ b. within most (cond b (number_after radix (n * radix + digit_value (get_or ds i 0)) (drop (i + 1) ds))
-        None)) (sym (lt-ltb _ _ below))
+    None)) (sym (lt-ltb _ _ below))
     ∙ sym (at_drop_more (λ cs. within most (number_after radix n cs)) ds i 0 lt)
     ∙ so_far

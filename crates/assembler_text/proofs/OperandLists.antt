@@ -56,7 +56,7 @@ only_blanks text h = ap (rest class.Blank) (sym (append-nil text)) ∙ rest_is c
 all_blank : (text : List ℕ) → rest class.Blank text ≡ [] → AreBlanks text
 all_blank text e =
     subst AreBlanks (sym (parts class.Blank text ∙ ap (λ (x : List ℕ). front class.Blank text ++ x) e
-        ∙ append-nil (front class.Blank text))) (front_among class.Blank text)
+    ∙ append-nil (front class.Blank text))) (front_among class.Blank text)
 
 split_of : (text : List ℕ) → IsSplit text (word text) (after text)
 split_of text =
@@ -69,7 +69,7 @@ split_of text =
       behind = front class.Blank u;
       spelled = parts class.Blank text ∙ ap (λ (x : List ℕ). front class.Blank text ++ x) inside
           ∙ sym (append_assoc (front class.Blank text ++ word text) (front class.Blank u) (after text)
-              ∙ append_assoc (front class.Blank text) (word text) (front class.Blank u ++ after text));
+          ∙ append_assoc (front class.Blank text) (word text) (front class.Blank u ++ after text));
       before_blank = front_among class.Blank text;
       is_word = front_among class.Operand t;
       behind_blank = front_among class.Blank u;
@@ -81,8 +81,16 @@ split_of text =
 begins : (text : List ℕ) (o : Operand) → IsOperand o (word text) → Begins text o (after text)
 begins text o h =
     let s : IsSplit text (word text) (after text) = split_of text in
-    record { before = s.before; word = word text; behind = s.behind; spelled = s.spelled; is_operand = h; before_blank =
-        s.before_blank; behind_blank = s.behind_blank }
+    record {
+      before = s.before;
+      word = word text;
+      behind = s.behind;
+      spelled = s.spelled;
+      is_operand = h;
+      before_blank =
+          s.before_blank;
+      behind_blank = s.behind_blank;
+    }
 
 split_is : (text w r : List ℕ) → IsSplit text w r → (word text ≡ w) × (after text ≡ r)
 split_is text w r s =
@@ -139,8 +147,11 @@ separated_are k [] text a e =
     let q = bind_ok (end_at (after text)) _ a p.2 in
     let i : IsRead k (word text) p.0 = operand_is k (word text) p.0 p.1 in
     let P : AllRead (k ∷ []) → Type 0 = λ x. AreSeparated text (operands (k ∷ []) x) × AllTaken (k ∷ []) x in
-    subst P (ok_is _ a q.2) (subst (Begins text (operand_of k p.0)) (ended (after text) q.1)
-        (begins text (operand_of k p.0) i.spelled), (i.taken, tt))
+    subst P (ok_is _ a q.2) (
+      subst (Begins text (operand_of k p.0)) (ended (after text) q.1)
+          (begins text (operand_of k p.0) i.spelled),
+      (i.taken, tt),
+    )
 separated_are k (l ∷ ks) text a e =
     let p = bind_ok (operand_at k (word text)) _ a e in
     let t = bind_ok (comma (after text)) _ a p.2 in
@@ -149,8 +160,15 @@ separated_are k (l ∷ ks) text a e =
     let more = separated_are l ks t.0 q.0 q.1 in
     let P : AllRead (k ∷ l ∷ ks) → Type 0 =
     λ x. AreSeparated text (operands (k ∷ l ∷ ks) x) × AllTaken (k ∷ l ∷ ks) x in
-    subst P (ok_is _ a q.2) ((t.0, subst (Begins text (operand_of k p.0)) (after_comma (after text) t.0 t.1)
-        (begins text (operand_of k p.0) i.spelled), more.0), (i.taken, more.1))
+    subst P (ok_is _ a q.2) (
+      (
+        t.0,
+        subst (Begins text (operand_of k p.0)) (after_comma (after text) t.0 t.1)
+            (begins text (operand_of k p.0) i.spelled),
+        more.0,
+      ),
+      (i.taken, more.1),
+    )
 
 separated_read : (k : OperandKind) (ks : List OperandKind) (text : List ℕ) (a : AllRead (k ∷ ks))
     → AreSeparated text (operands (k ∷ ks) a) → AllTaken (k ∷ ks) a → operands_at (k ∷ ks) text ≡ Ok a
@@ -164,7 +182,7 @@ separated_read k (l ∷ ks) text a h t =
     let f : Found text (operand_of k a.0) (44 ∷ h.0) =
     found text (operand_of k a.0) (44 ∷ h.0) h.1 (taken_fits k (operand_of k a.0) t.0) refl in
     ap (λ r. r >>= λ x. comma (after text) >>= λ u. operands_at (l ∷ ks) u >>= λ xs. Ok (x, xs))
-        (operand_reads k (word text) a.0 f.is_operand t.0)
+    (operand_reads k (word text) a.0 f.is_operand t.0)
     ∙ ap (λ v. comma v >>= λ u. operands_at (l ∷ ks) u >>= λ xs. Ok (a.0, xs)) f.next
     ∙ ap (λ r. r >>= λ xs. Ok (a.0, xs)) (separated_read l ks h.0 a.1 h.2 t.1)
 
@@ -179,10 +197,10 @@ skip_blank : (k : OperandKind) (ks : List OperandKind) (c : ℕ) (cs : List ℕ)
 unfolding operands_at
 skip_blank k [] c cs b =
     ap (λ t. operand_at k (front class.Operand t) >>= λ x. end_at (rest class.Blank (rest class.Operand t)) >>= λ n. Ok
-        (x, tt)) (rest_in class.Blank c cs b)
+    (x, tt)) (rest_in class.Blank c cs b)
 skip_blank k (l ∷ ks) c cs b =
     ap (λ t. operand_at k (front class.Operand t) >>= λ x. comma (rest class.Blank (rest class.Operand t))
-        >>= λ u. operands_at (l ∷ ks) u >>= λ xs. Ok (x, xs)) (rest_in class.Blank c cs b)
+    >>= λ u. operands_at (l ∷ ks) u >>= λ xs. Ok (x, xs)) (rest_in class.Blank c cs b)
 
 -- no operand is spelled by nothing
 not_nothing : (k : OperandKind) (x : Read k) → operand_at k [] ≡ Ok x → ⊥
@@ -241,15 +259,15 @@ operands_fault (k ∷ l ∷ ks) text f e =
   where
     from_comma : (a : Read k) → operand_at k (word text) ≡ Ok a
         → (comma (after text) ≡ Err f) ⊎ ((t : List ℕ) × (comma (after text) ≡ Ok t)
-            × ((operands_at (l ∷ ks) t >>= λ xs. Ok (with_more k (l ∷ ks) a xs)) ≡ Err f))
+        × ((operands_at (l ∷ ks) t >>= λ xs. Ok (with_more k (l ∷ ks) a xs)) ≡ Err f))
         → ((t : List ℕ) → operands_at (l ∷ ks) t ≡ Err f → IsFaultIn (l ∷ ks) t f) → IsFaultIn (k ∷ l ∷ ks) text f
     from_comma a h (inl g) others =
         let x = comma_fault (after text) f g in
         subst (IsFaultIn (k ∷ l ∷ ks) text) x.1 (no_comma (split_of text) (is_good k (word text) a h) x.0)
     from_comma a h (inr g) others =
         behind_comma (subst (IsSplit text (word text)) (after_comma (after text) g.0 g.1) (split_of text))
-            (is_good k (word text) a h) (others g.0 (only_first (operands_at (l ∷ ks) g.0) (with_more k (l ∷ ks) a) f
-            g.2))
+        (is_good k (word text) a h) (others g.0 (only_first (operands_at (l ∷ ks) g.0) (with_more k (l ∷ ks) a) f
+        g.2))
 
     from_word : (operand_at k (word text) ≡ Err f) ⊎ ((a : Read k) × (operand_at k (word text) ≡ Ok a)
         × ((comma (after text) >>= λ t. operands_at (l ∷ ks) t >>= λ xs. Ok (with_more k (l ∷ ks) a xs)) ≡ Err f))
@@ -264,23 +282,23 @@ operands_told [] text f (none_asked n) =
     ap (λ r. r >>= λ n. Ok tt) (not_ended (rest class.Blank text) (λ e. n (all_blank text e)))
 operands_told (k ∷ []) text f (wrong_word s x) =
     ap (λ r. r >>= λ a. end_at (after text) >>= λ n. Ok (a, tt)) (ap (operand_at k) (split_is text _ _ s).0
-        ∙ wrong_reads k _ f x)
+    ∙ wrong_reads k _ f x)
 operands_told (k ∷ []) text f (line_end s g n) =
     let r = good_reads k _ g in
     ap (λ r. r >>= λ a. end_at (after text) >>= λ n. Ok (a, tt)) (ap (operand_at k) (split_is text _ _ s).0 ∙ r.1)
     ∙ ap (λ e. e >>= λ n. Ok (r.0, tt)) (ap end_at (split_is text _ _ s).1 ∙ not_ended _ n)
 operands_told (k ∷ l ∷ ks) text f (wrong_word s x) =
     ap (λ r. r >>= λ a. comma (after text) >>= λ t. operands_at (l ∷ ks) t >>= λ xs. Ok (a, xs))
-        (ap (operand_at k) (split_is text _ _ s).0 ∙ wrong_reads k _ f x)
+    (ap (operand_at k) (split_is text _ _ s).0 ∙ wrong_reads k _ f x)
 operands_told (k ∷ l ∷ ks) text f (no_comma s g n) =
     let r = good_reads k _ g in
     ap (λ r. r >>= λ a. comma (after text) >>= λ t. operands_at (l ∷ ks) t >>= λ xs. Ok (a, xs))
-        (ap (operand_at k) (split_is text _ _ s).0 ∙ r.1)
+    (ap (operand_at k) (split_is text _ _ s).0 ∙ r.1)
     ∙ ap (λ c. c >>= λ t. operands_at (l ∷ ks) t >>= λ xs. Ok (r.0, xs)) (ap comma (split_is text _ _ s).1
-        ∙ not_comma _ n)
+    ∙ not_comma _ n)
 operands_told (k ∷ l ∷ ks) text f (behind_comma s g x) =
     let r = good_reads k _ g in
     ap (λ r. r >>= λ a. comma (after text) >>= λ t. operands_at (l ∷ ks) t >>= λ xs. Ok (a, xs))
-        (ap (operand_at k) (split_is text _ _ s).0 ∙ r.1)
+    (ap (operand_at k) (split_is text _ _ s).0 ∙ r.1)
     ∙ ap (λ t. comma t >>= λ u. operands_at (l ∷ ks) u >>= λ xs. Ok (r.0, xs)) (split_is text _ _ s).1
     ∙ ap (λ o. o >>= λ xs. Ok (r.0, xs)) (operands_told (l ∷ ks) _ f x)

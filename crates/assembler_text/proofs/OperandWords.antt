@@ -27,8 +27,11 @@ register_gives w = from_number (register_number w) refl (known_register w)
         → Gives (IsRead ARegister w) ⊥ (asked (option_and_then (slice_get registers) o))
     from_number None e k = other
     from_number (Some n) e k =
-        subst (λ r. Gives (IsRead ARegister w) ⊥ (asked r)) (sym (register_of n k)) (record { spelled =
-            number_name w n e; taken = tt })
+        subst (λ r. Gives (IsRead ARegister w) ⊥ (asked r)) (sym (register_of n k)) (record {
+          spelled =
+              number_name w n e;
+          taken = tt;
+        })
 
 pub register_is : (w : List ℕ) (r : Register) → register_at w ≡ Ok r → w ≡ register_text r
 register_is w r e =
@@ -43,8 +46,11 @@ source_gives w = from_register (register_at w) (register_gives w)
         → Gives (IsRead ASource w) (IsPastImm w) (source_from r w)
     from_register (Ok r) h = record { spelled = h.spelled; taken = tt }
     from_register (Err f) h =
-        gives_then (IsRead ASource w) (imm_at w) (λ n. Ok (Imm n)) (imm_gives w) (λ n i. record { spelled =
-            i.spelled; taken = i.taken }) (λ p. p)
+        gives_then (IsRead ASource w) (imm_at w) (λ n. Ok (Imm n)) (imm_gives w) (λ n i. record {
+          spelled =
+              i.spelled;
+          taken = i.taken;
+        }) (λ p. p)
 
 inner_is : (w text : List ℕ) → inner w ≡ Some text → w ≡ 91 ∷ text ++ 93 ∷ []
 unfolding inner
@@ -60,12 +66,12 @@ inner_is w text h = from_strip (strip 91 w) refl h
     from_strip None e f = absurd cc
     from_strip (Some t) e f = by_test (bytes_eq (rest class.Bracketed t) (93 ∷ []))
         (λ b. let is : some (front class.Bracketed t) ≡ Some text =
-            sym (ap (λ x. cond x (Some (front class.Bracketed t)) None) b) ∙ f in
+        sym (ap (λ x. cond x (Some (front class.Bracketed t)) None) b) ∙ f in
         stripped 91 w t e ∙ ap (λ (x : List ℕ). 91 ∷ x) (parts class.Bracketed t
         ∙ (λ i. some_is (front class.Bracketed t) text is i ++ (bytes_eq-Decides (rest class.Bracketed t) (93 ∷ [])).0 b
-            i)))
+        i)))
         (λ b. let is : None ≡ some text = sym (ap (λ x. cond x (Some (front class.Bracketed t)) None) b) ∙ f in
-            absurd cc)
+        absurd cc)
 
 address_gives : (w : List ℕ) → Gives (IsRead AnAddress w) (IsPastAddress w) (address_at w)
 unfolding address_at
@@ -77,15 +83,18 @@ address_gives w = from_inner (inner w) refl
     spelled t e r i =
         inner_is w t e
         ∙ ap (λ (x : List ℕ). 91 ∷ x ++ 93 ∷ []) (parts class.Base t
-            ∙ ap (λ (x : List ℕ). x ++ rest class.Base t) i.spelled)
+        ∙ ap (λ (x : List ℕ). x ++ rest class.Base t) i.spelled)
 
     from_base : (t : List ℕ) → inner w ≡ Some t → (r : Register) → IsRead ARegister (front class.Base t) r
         → Gives (IsRead AnAddress w) (IsPastAddress w) (step_at 32767 (rest class.Base t) >>= λ n. Ok (r, n))
     from_base t e r i =
         gives_then (IsRead AnAddress w) (step_at 32767 (rest class.Base t)) (λ n. Ok (r, n))
-            (short_step_gives (rest class.Base t))
-        (λ n s. record { spelled = spelled t e r i ∙ ap (λ (x : List ℕ). 91 ∷ (register_text r ++ x) ++ 93 ∷ [])
-            s.spelled; taken = s.taken })
+        (short_step_gives (rest class.Base t))
+        (λ n s. record {
+          spelled = spelled t e r i ∙ ap (λ (x : List ℕ). 91 ∷ (register_text r ++ x) ++ 93 ∷ [])
+              s.spelled;
+          taken = s.taken;
+        })
         (λ p. record { base = r; offset = rest class.Base t; spelled = spelled t e r i; is_past = p })
 
     from_inner : (o : Option (List ℕ)) → inner w ≡ o
@@ -93,7 +102,7 @@ address_gives w = from_inner (inner w) refl
     from_inner None e = other
     from_inner (Some t) e =
         gives_then (IsRead AnAddress w) (register_at (front class.Base t)) _ (register_gives (front class.Base t))
-            (from_base t e) (λ p. absurd p)
+        (from_base t e) (λ p. absurd p)
 
 pub operand_gives : (k : OperandKind) (w : List ℕ) → Gives (IsRead k w) (IsOutOfRange k w) (operand_at k w)
 operand_gives ARegister w = register_gives w

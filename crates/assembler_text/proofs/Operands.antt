@@ -76,9 +76,10 @@ pub is_wrong : (k : OperandKind) (w : List ℕ) (f : Fault) → operand_at k w �
 is_wrong k w f e = from_kind f (kind_of_fault k w f e) e
   where
     from_kind : (g : Fault) → Kind (IsOutOfRange k w) g → operand_at k w ≡ Err g → IsWrong k w g
-    from_kind fault.Operand other h =
-        ((λ g. let r = good_reads k w g in clash r.0 fault.Operand (sym r.1 ∙ h)),
-            (λ o. two_faults (sym (out_of_range k w o) ∙ h)))
+    from_kind fault.Operand other h = (
+      (λ g. let r = good_reads k w g in clash r.0 fault.Operand (sym r.1 ∙ h)),
+      (λ o. two_faults (sym (out_of_range k w o) ∙ h)),
+    )
     from_kind fault.NumberRange (range o) h = o
     from_kind fault.Mnemonic x h = elim x [ ]
     from_kind fault.LineEnd x h = elim x [ ]

@@ -94,7 +94,7 @@ unlike k c h g = by_test (c == k)
 pub plain_digit : (c : ℕ) → digit_value c < 16 → is_plain c ≡ true
 plain_digit c h =
     (λ i. not (unlike 32 c h (lit≤ tt) i || unlike 9 c h (lit≤ tt) i)
-        && (not (unlike 44 c h (lit≤ tt) i) && (not (unlike 59 c h (lit≤ tt) i) && not (unlike 10 c h (lit≤ tt) i))))
+    && (not (unlike 44 c h (lit≤ tt) i) && (not (unlike 59 c h (lit≤ tt) i) && not (unlike 10 c h (lit≤ tt) i))))
 
 pub digits_in : (k : Class) → ((c : ℕ) → digit_value c < 16 → is_in k c ≡ true) → (ds : List ℕ) → AllDigits 16 ds
     → AreIn k ds

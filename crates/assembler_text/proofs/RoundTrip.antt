@@ -20,7 +20,7 @@ use Rattle.assembler_text.proofs.Canonical.{own_operand, own_line}
 operand_in : (o : Operand) → Fits o → AreIn class.Line (operand_text o)
 operand_in o f =
     among class.Line in_line (operand_text o) (word_plain (operand_text o)
-        (operand_word o (operand_text o) (own_operand o) f))
+    (operand_word o (operand_text o) (own_operand o) f))
 
 others_in : (os : List Operand) → AllFit os → AreIn class.Line (others_text os)
 others_in [] f = tt
@@ -37,8 +37,8 @@ unfolding text_of
 text_in i l =
     let w : IsWord (mnemonic_of i) = name_is_word i l in
     joined class.Line (mnemonic_of i) (operands_text (operands_of i))
-        (among class.Line in_line (mnemonic_of i) (word_plain (mnemonic_of i) w))
-        (operands_in (operands_of i) (operands_fit i l))
+    (among class.Line in_line (mnemonic_of i) (word_plain (mnemonic_of i) w))
+    (operands_in (operands_of i) (operands_fit i l))
 
 -- ---- the lines of a text
 
@@ -46,7 +46,7 @@ first_line : (t text : List ℕ) → AreIn class.Line t → lines_of (t ++ 10 �
 first_line [] text h = refl
 first_line (c ∷ cs) text h =
     ap (λ b. cond b ([] ∷ lines_of (cs ++ 10 ∷ text)) (with_first c (lines_of (cs ++ 10 ∷ text))))
-        (opposite (c == 10) h.0)
+    (opposite (c == 10) h.0)
     ∙ ap (with_first c) (first_line cs text h.1)
 
 written_lines : (code : List Insn) → AllByRecursion IsListed code → AreLines (lines_of (code_text code)) code
@@ -56,7 +56,7 @@ written_lines (i ∷ code) h =
     ap lines_of (append_assoc (text_of i) (10 ∷ []) (code_text code))
     ∙ first_line (text_of i) (code_text code) (text_in i h.0) in
     subst (λ (lines : List (List ℕ)). AreLines lines (i ∷ code)) (sym first)
-        (inr (own_line i h.0, written_lines code h.1))
+    (inr (own_line i h.0, written_lines code h.1))
 
 pub text_written : (code : List Insn) → IsCode code → IsTextOf (code_text code) code
 text_written code c =
@@ -65,7 +65,7 @@ text_written code c =
 -- what is written of code, if memory serves, is a text of it
 pub result_written : (r : Result (String Global) AllocError) (insns code : List Insn) → insns ≡ code → IsCode code
     → IfOk r (λ text. string_bytes text ≡ code_text insns) → IfOk r (λ text. (string_bytes text ≡ code_text code)
-        × IsTextOf (string_bytes text) code)
+    × IsTextOf (string_bytes text) code)
 result_written (Ok text) insns code same c e =
     let all : string_bytes text ≡ code_text code = e ∙ ap code_text same in
     (all, subst (λ t. IsTextOf t code) (sym all) (text_written code c))

@@ -93,7 +93,7 @@ named spelling (e ∷ es) all name x h = by_test (bytes_eq e.0 name)
     sym ((bytes_eq-Decides e.0 name).0 t) ∙ (bytes_eq-Decides e.0 (spelling e.1)).0 ((both _ _ all).0)
     ∙ ap spelling (some_is e.1 x is))
     (λ t. named spelling es ((both (bytes_eq e.0 (spelling e.1)) _ all).1) name x
-        (sym (ap (λ b. cond b (Some e.1) (lookup es name)) t) ∙ h))
+    (sym (ap (λ b. cond b (Some e.1) (lookup es name)) t) ∙ h))
 
 abbrev pub name_of : Mnemonic → List ℕ
 name_of (mnemonic.Alu width op) = alu_name op ++ width_name width

@@ -65,9 +65,9 @@ at_end lines (i ∷ done) l few =
 at_line : (line : List ℕ) (lines before : List (List ℕ)) (done : List Insn) → AreLines before done
     → sum_by slots_of done ≤ max_slots → (number : ℕ) → number ≡ length before
     → ((more : List Insn) → AreLines (before ++ line ∷ []) more → sum_by slots_of more ≤ max_slots
-        → LinesGive (before ++ line ∷ lines) (code_after (number + 1) more lines))
+    → LinesGive (before ++ line ∷ lines) (code_after (number + 1) more lines))
     → LinesGive (before ++ line ∷ lines) (with_line (number + 1) done (line_at line) >>= λ more. code_after (number + 1)
-        more lines)
+    more lines)
 at_line line lines before done l few number n goes_on = from_line (line_at line) refl
   where
     here : IsBefore (before ++ line ∷ lines) (number + 1) line done
@@ -76,7 +76,7 @@ at_line line lines before done l few number n goes_on = from_line (line_at line)
     from_test : (i : Insn) → IsLine line (Some i) → (b : Bool)
         → nat_le (sum_by slots_of done + slots_of i) max_slots ≡ b
         → LinesGive (before ++ line ∷ lines) (cond b (Ok (done ++ i ∷ [])) (Err (fault.TooLong (number + 1)))
-            >>= λ more. code_after (number + 1) more lines)
+        >>= λ more. code_after (number + 1) more lines)
     from_test i h true t =
         let le : sum_by slots_of done + slots_of i ≤ max_slots = grind (arith, nat_tests) in
         let sum : sum_by slots_of (done ++ i ∷ []) ≤ max_slots =
@@ -88,7 +88,7 @@ at_line line lines before done l few number n goes_on = from_line (line_at line)
 
     from_line : (r : Result (Option Insn) Fault) → line_at line ≡ r
         → LinesGive (before ++ line ∷ lines) (with_line (number + 1) done r >>= λ more. code_after (number + 1) more
-            lines)
+        lines)
     from_line (Err f) h = record { line = line; code = done; before = here; is_fault = line_fault line f h }
     from_line (Ok None) h = goes_on done (none_more line (line_is line None h) before done l) few
     from_line (Ok (Some i)) h =
@@ -104,7 +104,7 @@ lines_give (line ∷ lines) before done l few number n =
     let longer : number + 1 ≡ length (before ++ line ∷ []) = omega (arith, n, length-append before (line ∷ [])) in
     at_line line lines before done l few number n
     (λ more m s. subst (λ (ls : List (List ℕ)). LinesGive ls (code_after (number + 1) more lines))
-        (append_assoc before (line ∷ []) lines) (lines_give lines (before ++ line ∷ []) more m s (number + 1) longer))
+    (append_assoc before (line ∷ []) lines) (lines_give lines (before ++ line ∷ []) more m s (number + 1) longer))
 
 all_lines_give : (lines : List (List ℕ)) → LinesGive lines (code_of lines)
 all_lines_give lines = lines_give lines [] [] tt (omega arith) 0 refl
@@ -115,8 +115,11 @@ text_is text code h =
     of_ok (AreWhole (lines_of text)) (IsFirstOf (lines_of text)) _ code (all_lines_give (lines_of text)) h in
     record {
       lines_give = w.lines_give;
-      is_code = record { listed = All-from_recursion IsListed code (all_listed (lines_of text) code w.lines_give);
-          some = w.some; few = w.few };
+      is_code = record {
+        listed = All-from_recursion IsListed code (all_listed (lines_of text) code w.lines_give);
+        some = w.some;
+        few = w.few;
+      };
     }
 
 pub fault_is : (text : List ℕ) (f : LineFault) → code_of (lines_of text) ≡ Err f → IsFirstFault text f

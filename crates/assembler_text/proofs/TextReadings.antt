@@ -37,7 +37,7 @@ shifted number line lines = omega arith
 pub read_before : (lines : List (List ℕ)) (code : List Insn) → AreLines lines code → (number : ℕ) (done : List Insn)
     → sum_by slots_of done + sum_by slots_of code ≤ max_slots
     → (more : List (List ℕ)) → code_after number done (lines ++ more)
-        ≡ code_after (number + length lines) (done ++ code) more
+    ≡ code_after (number + length lines) (done ++ code) more
 unfolding code_after
 read_before [] [] h number done f more = (λ i. code_after (sym (add-zero number) i) (sym (append-nil done) i) more)
 read_before [] (i ∷ code) h number done f more = absurd h
@@ -93,15 +93,15 @@ first_read lines fault.OutOfMemory h = absurd h
 first_read lines (fault.Line g number) h =
     up_to lines number h.line h.code h.before
     ∙ ap (λ r. with_line (0 + length h.before.before + 1) h.code r >>= λ more. code_after (0 + length h.before.before
-        + 1) more h.before.behind) (line_told h.line g h.is_fault)
+    + 1) more h.before.behind) (line_told h.line g h.is_fault)
     ∙ ap (told_at g) (line_number lines number h.line h.code h.before)
 first_read lines (fault.TooLong number) h =
     let t : nat_le (sum_by slots_of h.code + slots_of h.insn) max_slots ≡ false = not_le _ _ h.past in
     up_to lines number h.line h.code h.before
     ∙ ap (λ r. with_line (0 + length h.before.before + 1) h.code r >>= λ more. code_after (0 + length h.before.before
-        + 1) more h.before.behind) (line_reads h.line (Some h.insn) h.gives)
+    + 1) more h.before.behind) (line_reads h.line (Some h.insn) h.gives)
     ∙ ap (λ b. cond b (Ok (h.code ++ h.insn ∷ [])) (too_long_at (0 + length h.before.before + 1)) >>= λ more. code_after
-        (0 + length h.before.before + 1) more h.before.behind) t
+    (0 + length h.before.before + 1) more h.before.behind) t
     ∙ ap too_long_at (line_number lines number h.line h.code h.before)
 first_read lines fault.Empty h =
     ap (code_after 0 []) (sym (append-nil lines)) ∙ read_before lines [] h 0 [] (omega arith) []

@@ -47,9 +47,9 @@ first_line c [] = by_test (c == 10)
     (λ h. ap (λ b. cond b ([] ∷ lines_of []) (with_first c (lines_of []))) h ∙ last_with c (not_newline c false h))
 first_line c (d ∷ ds) = by_test (c == 10)
     (λ h. ap (λ b. cond b ([] ∷ lines_of (d ∷ ds)) (with_first c (lines_of (d ∷ ds)))) h
-        ∙ ends_here c (d ∷ ds) (not_newline c true h))
+    ∙ ends_here c (d ∷ ds) (not_newline c true h))
     (λ h. ap (λ b. cond b ([] ∷ lines_of (d ∷ ds)) (with_first c (lines_of (d ∷ ds)))) h
-        ∙ goes_with c (d ∷ ds) (first_line d ds) (not_newline c false h))
+    ∙ goes_with c (d ∷ ds) (first_line d ds) (not_newline c false h))
 
 pub first_line_of : (text : List ℕ) → 0 < length text
     → lines_of text ≡ front class.Line text ∷ lines_of (drop 1 (rest class.Line text))
@@ -65,14 +65,14 @@ pub goes_on : (number : ℕ) (code more : List Insn) (text : List ℕ) (total : 
     → 0 < length text
     → with_line (number + 1) code (line_at (front class.Line text)) ≡ Ok more
     → code_after number code (lines_of text) ≡ total → code_after (number + 1) more
-        (lines_of (drop 1 (rest class.Line text))) ≡ total
+    (lines_of (drop 1 (rest class.Line text))) ≡ total
 unfolding code_after
 goes_on number code more text total some h so_far =
     let one : code_after number code (lines_of text) ≡ code_after (number + 1) more
-            (lines_of (drop 1 (rest class.Line text))) =
+    (lines_of (drop 1 (rest class.Line text))) =
     ap (code_after number code) (first_line_of text some)
     ∙ ap (λ (r : Result (List Insn) LineFault). r >>= λ c. code_after (number + 1) c
-        (lines_of (drop 1 (rest class.Line text)))) h in
+    (lines_of (drop 1 (rest class.Line text)))) h in
     sym one ∙ so_far
 
 -- a faulty line is met

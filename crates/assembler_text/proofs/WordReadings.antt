@@ -149,7 +149,7 @@ unfolding imm_at hex_digits
 bits_read z ds h v f =
     let small : cast_unsigned w32 z ≤ 4294967295 = omega (arith, ints) in
     ap (λ (r : Result ℕ Fault). r >>= λ k. Ok (cast_signed w32 k))
-        (numeral_reads 16 4294967295 ds (cast_unsigned w32 z) h v small)
+    (numeral_reads 16 4294967295 ds (cast_unsigned w32 z) h v small)
     ∙ ap ok (to_z-of_z w32 z f)
   where
     ok : ℤ → Result ℤ Fault
@@ -169,7 +169,7 @@ imm_past w (inr (inl p)) = ap imm_at p.spelled ∙ negative_past 2147483648 p.di
 imm_past w (inr (inr p)) =
     ap imm_at p.spelled
     ∙ ap (λ (r : Result ℕ Fault). r >>= λ k. Ok (cast_signed w32 k))
-        (number_past 16 4294967295 p.digits p.numeral p.past)
+    (number_past 16 4294967295 p.digits p.numeral p.past)
 
 pub value_reads : (n : ℕ) (w : List ℕ) → IsOperand (OfValue n) w → n < 18446744073709551616 → value_at w ≡ Ok n
 unfolding value_at hex_digits
@@ -305,7 +305,7 @@ inner_reads : (text : List ℕ) → AreIn class.Bracketed text → inner (91 ∷
 unfolding inner
 inner_reads text h =
     ap (λ (t : List ℕ). cond (bytes_eq t (93 ∷ [])) (Some (front class.Bracketed (text ++ 93 ∷ []))) None)
-        (rest_is class.Bracketed text (93 ∷ []) h refl)
+    (rest_is class.Bracketed text (93 ∷ []) h refl)
     ∙ ap some (front_is class.Bracketed text (93 ∷ []) h refl)
   where
     some : List ℕ → Option (List ℕ)
@@ -316,18 +316,20 @@ from_inner r z f =
     let base : AreIn class.Base (register_text r) =
     (refl, digits_in class.Base unlike_sign (decimal r.number) (register_digits r)) in
     ap (λ (o : Result Register Fault). o >>= λ b. step_at 32767 (rest class.Base (register_text r ++ step_text z))
-        >>= λ k. Ok (b, k)) (register_reads r _ (front_is class.Base (register_text r) (step_text z) base
-        (sign_first z)))
+    >>= λ k. Ok (b, k)) (register_reads r _ (front_is class.Base (register_text r) (step_text z) base
+    (sign_first z)))
     ∙ ap (λ (o : Result ℤ Fault). o >>= λ k. Ok (r, k)) (short_reads z _
-        (rest_is class.Base (register_text r) (step_text z) base (sign_first z)) f)
+    (rest_is class.Base (register_text r) (step_text z) base (sign_first z)) f)
 
 pub address_reads : (r : Register) (z : ℤ) (w : List ℕ) → IsOperand (OfAddress r z) w → FitsSigned w16 z
     → address_at w ≡ Ok (r, z)
 unfolding address_at
 address_reads r z w e f =
     let inside : AreIn class.Bracketed (register_text r ++ step_text z) =
-    joined class.Bracketed (register_text r) (step_text z) (refl,
-        digits_in class.Bracketed unlike_bracket (decimal r.number) (register_digits r)) (step_in z f) in
+    joined class.Bracketed (register_text r) (step_text z) (
+      refl,
+      digits_in class.Bracketed unlike_bracket (decimal r.number) (register_digits r),
+    ) (step_in z f) in
     ap address_at e
     ∙ ap (λ o. asked o >>= address_from) (inner_reads (register_text r ++ step_text z) inside)
     ∙ from_inner r z f
@@ -340,11 +342,17 @@ with_base r k = (r, k)
 
 past_step_in : (s : List ℕ) → IsPastStep 32767 s → AreIn class.Bracketed s
 past_step_in s (inl p) =
-    subst (AreIn class.Bracketed) (sym p.spelled) (refl, digits_in class.Bracketed unlike_bracket p.digits
-        (past_digits 32767 p.digits p.is_past))
+    subst (AreIn class.Bracketed) (sym p.spelled) (
+      refl,
+      digits_in class.Bracketed unlike_bracket p.digits
+          (past_digits 32767 p.digits p.is_past),
+    )
 past_step_in s (inr p) =
-    subst (AreIn class.Bracketed) (sym p.spelled) (refl, digits_in class.Bracketed unlike_bracket p.digits
-        (past_digits 32768 p.digits p.is_past))
+    subst (AreIn class.Bracketed) (sym p.spelled) (
+      refl,
+      digits_in class.Bracketed unlike_bracket p.digits
+          (past_digits 32768 p.digits p.is_past),
+    )
 
 past_sign_first : (s : List ℕ) → IsPastStep 32767 s → StopsAt class.Base s
 past_sign_first s (inl p) = subst (StopsAt class.Base) (sym p.spelled) refl
@@ -364,6 +372,6 @@ address_past w p =
     ap address_at p.spelled
     ∙ ap (λ o. asked o >>= address_from) (inner_reads (register_text r ++ s) inside)
     ∙ ap (λ (o : Result Register Fault). o >>= λ b. with_step b (rest class.Base (register_text r ++ s)))
-        (register_reads r _ (front_is class.Base (register_text r) s base first))
+    (register_reads r _ (front_is class.Base (register_text r) s base first))
     ∙ ap (λ (o : Result ℤ Fault). o >>= λ k. Ok (with_base r k))
-        (ap (step_at 32767) (rest_is class.Base (register_text r) s base first) ∙ step_past 32767 s p.is_past)
+    (ap (step_at 32767) (rest_is class.Base (register_text r) s base first) ∙ step_past 32767 s p.is_past)

@@ -139,7 +139,7 @@ pub data IsFaultIn : List OperandKind → List ℕ → Fault → Type 0 where
   -- the first operand is good, but no comma follows it, and so no second one
   no_comma : {p q : OperandKind} {ps : List OperandKind} {text word rest : List ℕ}
       → IsSplit text word rest → IsGood p word → ((t : List ℕ) → rest ≡ 44 ∷ t → ⊥)
-          → IsFaultIn (p ∷ q ∷ ps) text fault.Operand
+      → IsFaultIn (p ∷ q ∷ ps) text fault.Operand
   -- the first operand is good, and the fault stands after the comma that follows it
   behind_comma : {p q : OperandKind} {ps : List OperandKind} {text word t : List ℕ} {f : Fault}
       → IsSplit text word (44 ∷ t) → IsGood p word → IsFaultIn (q ∷ ps) t f → IsFaultIn (p ∷ q ∷ ps) text f

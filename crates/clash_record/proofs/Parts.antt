@@ -36,7 +36,7 @@ pub three_parts : (old front a b : List ℕ) → length front ≡ 128 → length
 three_parts old front a b lf la =
     let rest : List ℕ = drop 16 (drop 128 old) in
     let up_to_first : put_mid 128 16 (front ++ drop 128 old) a ≡ (front ++ a) ++ rest =
-            after front (drop 128 old) a 128 16 lf in
+    after front (drop 128 old) a 128 16 lf in
     let two : length (front ++ a) ≡ 144 = omega (arith, length-append front a) in
     let short : length rest ≤ length ((front ++ a) ++ rest) - 144 = omega (arith, length-append (front ++ a) rest) in
     ap (λ (x : List ℕ). put_mid 144 (length x - 144) x b) up_to_first

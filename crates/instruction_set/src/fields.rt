@@ -143,8 +143,14 @@ fn jump_fields(width: Width, test: Test, dst: Register, src: Source, distance: i
 }
 
 fn memory_fields(opcode: u8, dst: Register, src: Register, offset: i16) -> Fields
-    ensures fields { result ≡ record { opcode = opcode; dst = dst.number; src = src.number; offset =
-        cast_unsigned w16 offset; imm = 0 } }
+    ensures fields { result ≡ record {
+      opcode = opcode;
+      dst = dst.number;
+      src = src.number;
+      offset =
+          cast_unsigned w16 offset;
+      imm = 0;
+    } }
     ensures registers { (result.dst ≤ 10) × (result.src ≤ 10) }
 {
     Fields {

@@ -44,7 +44,7 @@ module _ {P : Type 0} (code_of : P → List Insn) (entries : List (ProgramId × 
           let same : p ≡ x = cc in
           let ids : k ≡ id = sym (ids_exact id k ((Equal-is (id_cmp id k)).0 t)) in
           inl (subst (λ i. has_room_for other (Program i) (Some (code_of x))) ids
-              (subst (λ x. has_room_for other (Program k) (Some (code_of x))) same room))
+          (subst (λ x. has_room_for other (Program k) (Some (code_of x))) same room))
       by_head id x false t e = inr e
 
       by : (id : ProgramId) (x : P) → has_room_for other (Program id) (Some (code_of x))
@@ -69,7 +69,7 @@ module _ {P : Type 0} (code_of : P → List Insn) (entries : List (ProgramId × 
 
   pub one_differs : (id : ProgramId) (p : P) → lookup (is_at (id_cmp id)) entries ≡ Some p
       → (has_room_for other (Program id) (Some (code_of p)) → ⊥) → programs_agree (programs_by code_of entries) other
-          → ⊥
+      → ⊥
   one_differs id p found differs agree = differs (agree id (code_of p) (get_code code_of entries id
       ∙ ap (option_map code_of) found))
 
@@ -98,10 +98,10 @@ module _ (programs others : Programs) (table other : Table) (held : IsHeld progr
       let named = held.named id c found in
       let row = named.1 in
       let room = room_from_agrees others other held_other looked_other row
-              (all_values_at names_total table (agrees_with other) agree named.0 row named.2) in
+      (all_values_at names_total table (agrees_with other) agree named.0 row named.2) in
       let code : row.code ≡ Some c = code_at programs table held looked named.0 row named.2 id named.3 ∙ found in
       subst (has_room_for others (Program id)) code (subst (λ r. has_room_for others r row.code)
-          (named_program row.registration.resolver id named.3) room)
+      (named_program row.registration.resolver id named.3) room)
 
   -- the tables agree just where the programs do
   pub agree_is : (b : Bool) → IsTrue b ↔ programs_agree programs others → b ≡ tables_agree table other

@@ -74,7 +74,7 @@ module _ (programs : Programs) (table : Table) (held : IsHeld programs table) (l
           let ids = same_id_is (program_of row.registration.resolver) (Some p) e in
           let is : ids.0 ≡ p = let h = ids.2 in cc in
           let named : row.registration.resolver ≡ Program p =
-                  named_program row.registration.resolver p (ids.1 ∙ ap Some is) in
+          named_program row.registration.resolver p (ids.1 ∙ ap Some is) in
           own (subst (λ r. has_room_for programs r row.code) named fits)
       by false e = refl
 
@@ -108,8 +108,11 @@ module _ (programs : Programs) (table : Table) (held : IsHeld programs table) (l
 
   pub held_more : IsHeld after (insert table name row)
   held_more = record {
-    few = omega (arith, len-insert names_total table name row
-        ∙ ap (λ b. cond b (len table) (len table + 1)) (ap is_some new));
+    few = omega (
+      arith,
+      len-insert names_total table name row
+          ∙ ap (λ b. cond b (len table) (len table + 1)) (ap is_some new),
+    );
     coded = λ q r h. by q r (eq_by_cmp name_cmp q name) (sym (get-insert names_total table name row q) ∙ h);
     named = λ id c h.
         named_by id c (same_id (program_of row.registration.resolver) (Some id)) refl
@@ -193,7 +196,7 @@ module _ (programs : Programs) (table : Table) (held : IsHeld programs table) (l
   -- no other row names its program, which goes
   module _ (id : ProgramId) (named : program_of row.registration.resolver ≡ Some id)
       (alone : (q : Name) (r : Row) → get (remove table name) q ≡ Some r → program_of r.registration.resolver ≡ Some id
-          → ⊥) where
+      → ⊥) where
     same_code_for_left : (r : ResolverId) → (program_of r ≡ Some id → ⊥)
         → code_for (remove programs id) r ≡ code_for programs r
     same_code_for_left (Builtin b) apart = refl
@@ -213,10 +216,10 @@ module _ (programs : Programs) (table : Table) (held : IsHeld programs table) (l
         by_name : (i : ProgramId) (q : Name) (r : Row) → get table q ≡ Some r
             → program_of r.registration.resolver ≡ Some i
             → (eq_by_cmp id_cmp i id ≡ false) → (b : Bool) → eq_by_cmp name_cmp q name ≡ b
-                → IsNamed (remove table name) i
+            → IsNamed (remove table name) i
         by_name i q r h p apart true e =
             let same : Some i ≡ Some id = sym p ∙ ap (λ (x : Row). program_of x.registration.resolver) (own q r h e)
-                    ∙ named in
+            ∙ named in
             let is : i ≡ id = cc in
             let tied = (Equal-is (id_cmp i id)).1 (ap (id_cmp i) (sym is) ∙ tied_itself ids_total i) in
             let both : true ≡ false = sym tied ∙ apart in absurd (cc)

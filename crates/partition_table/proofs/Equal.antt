@@ -32,16 +32,16 @@ module _ (a b : Table) (kept_a : IsTable a) (kept_b : IsTable b) where
       by q None h None k = refl
       by q None h (Some s) k =
           let both : None ≡ Some s.registration = sym (ap (option_map (λ (row : Row). row.registration)) h)
-                  ∙ back q s k in absurd (cc)
+          ∙ back q s k in absurd (cc)
       by q (Some r) h None k =
           let both : None ≡ Some r.registration = sym (ap (option_map (λ (row : Row). row.registration)) k)
-                  ∙ within q r h in absurd (cc)
+          ∙ within q r h in absurd (cc)
       by q (Some r) h (Some s) k =
           let both : Some s.registration ≡ Some r.registration =
-                  sym (ap (option_map (λ (row : Row). row.registration)) k) ∙ within q r h in
+          sym (ap (option_map (λ (row : Row). row.registration)) k) ∙ within q r h in
           let is : r.registration ≡ s.registration = cc in
           ap Some (one_row a b kept_a kept_b agree q r s h k
-              ((registration_decides r.registration s.registration).1 is))
+          ((registration_decides r.registration s.registration).1 is))
 
   -- where each has the other's registrations, they are equal just where they agree
   pub equal_by_codes : IsWithin a b → IsWithin b a → tables_agree a b ≡ same_table a b
@@ -64,7 +64,7 @@ abbrev pub WithinSoFar : Table → Table → List Name → Type 0
 WithinSoFar a b left =
     (name : Name) (row : Row) → get a name ≡ Some row
     → (option_map (λ row. row.registration) (get b name) ≡ Some row.registration)
-        ⊎ (list_any (is_name name) left ≡ true)
+    ⊎ (list_any (is_name name) left ≡ true)
 
 pub all_left : (a b : Table) → WithinSoFar a b (keys a)
 all_left a b q row h = inr (sym (contains_key-keys a q) ∙ ap is_some h)
@@ -79,7 +79,7 @@ one_more_within a b n left mine other so_far met is q row h = by (so_far q row h
         let at = same_name q n e in
         inl (ap (λ m. option_map (λ (row : Row). row.registration) (get b m)) at ∙ met.1 ∙ is ∙ sym met.0
         ∙ ap (λ m. option_map (λ (row : Row). row.registration) (get a m)) (sym at)
-            ∙ ap (option_map (λ (row : Row). row.registration)) h)
+        ∙ ap (option_map (λ (row : Row). row.registration)) h)
     by_name false e any = inr any
 
     by : (option_map (λ row. row.registration) (get b q) ≡ Some row.registration)

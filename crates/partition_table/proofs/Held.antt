@@ -50,7 +50,7 @@ module _ (programs : Programs) (rows : List (Name × Registration)) where
   pub rows_made : IsStrictlySortedBy name_cmp (keys_of rows) → rows ≡ rows_of (table_by programs rows)
   rows_made ordered =
       sym (back rows) ∙ ap (map (λ e. (e.0, e.1.registration)))
-          (sym (entries-mapped names_total (row_for programs) names_exact rows ordered))
+      (sym (entries-mapped names_total (row_for programs) names_exact rows ordered))
 
   -- what is held of a table that the entries make
   pub held_now : (table : Table) → table_by programs rows ≡ table → IsHeld programs (table_by programs rows)
@@ -68,7 +68,7 @@ module _ (programs : Programs) (rows : List (Name × Registration)) where
     where
       by : (lent : Option (Bor Registration))
           → option_map (λ r. r.now) lent ≡ option_map (λ (row : Row). row.registration)
-              (option_map (row_for programs) (option_copied lent))
+          (option_map (row_for programs) (option_copied lent))
       by None = refl
       by (Some r) = refl
 
@@ -127,7 +127,7 @@ named_program (Program p) id h = let is : p ≡ id = cc in ap Program is
 -- rows agree where each id that both name has the same code
 pub agree_from : (r s : Row)
     → ((id : ProgramId) → program_of r.registration.resolver ≡ Some id → program_of s.registration.resolver ≡ Some id
-        → r.code ≡ s.code)
+    → r.code ≡ s.code)
     → rows_agree r s ≡ true
 agree_from r s h = by (same_id (program_of r.registration.resolver) (program_of s.registration.resolver)) refl
   where
@@ -165,9 +165,14 @@ module _ (programs : Programs) (table : Table) (held : IsHeld programs table) (l
       → get programs id ≡ option_map (λ p. code_of p.now) lent → IfSome lent (λ p. IsKeptFor table r (code_of p.now))
   kept_for code_of r id is None there = tt
   kept_for code_of r id is (Some p) there =
-      let named = held.named id (code_of p.now) there in
-      (named.0, named.1, named.2, named_program named.1.registration.resolver id named.3
-          ∙ sym is, code_at named.0 named.1 named.2 id named.3 ∙ there)
+      let named = held.named id (code_of p.now) there in (
+        named.0,
+        named.1,
+        named.2,
+        named_program named.1.registration.resolver id named.3
+            ∙ sym is,
+        code_at named.0 named.1 named.2 id named.3 ∙ there,
+      )
 
   pub is_table : IsTable table
   is_table = record {
@@ -183,7 +188,7 @@ module _ (programs : Programs) (table : Table) (held : IsHeld programs table) (l
       → agrees_with table row ≡ true
   agrees_from_room row room = all_values_from names_total table (rows_agree row) (λ q s h.
       agree_from row s (λ id a b. by q s h id a b (subst (λ r. has_room_for programs r row.code)
-          (named_program row.registration.resolver id a) room)))
+      (named_program row.registration.resolver id a) room)))
     where
       none_coded : (r : ResolverId) (id : ProgramId) → program_of r ≡ Some id → (c : Option (List Insn)) → IsCodeOf r c
           → c ≡ None → ⊥
@@ -209,7 +214,7 @@ module _ (programs : Programs) (table : Table) (held : IsHeld programs table) (l
       by_id id is (Some c) e =
           let some = held.named id c e in
           let same = agree_at row some.1 (all_values_at names_total table (rows_agree row) agrees some.0 some.1 some.2)
-                  id (ap program_of is) some.3 in
+          id (ap program_of is) some.3 in
           inr (sym e ∙ sym (code_at some.0 some.1 some.2 id some.3) ∙ sym same)
 
       by : (r : ResolverId) → row.registration.resolver ≡ r → has_room_for programs r row.code

@@ -52,7 +52,7 @@ module _ {P : Type 0} (code_of : P → List Insn) where
   -- a look-up that lends the program
   pub code_lent : (es : List (ProgramId × P)) (id : ProgramId) (lent : Option (Bor P))
       → option_copied lent ≡ lookup (is_at (id_cmp id)) es → get (programs_by code_of es) id
-          ≡ option_map (λ p. code_of p.now) lent
+      ≡ option_map (λ p. code_of p.now) lent
   code_lent es id lent h = get_code es id ∙ ap (option_map code_of) (sym h) ∙ by lent
     where
       by : (lent : Option (Bor P)) → option_map code_of (option_copied lent) ≡ option_map (λ p. code_of p.now) lent
@@ -93,4 +93,4 @@ shared_clone f [] (e ∷ fs) h = absurd h
 shared_clone f (e ∷ es) [] h = absurd h
 shared_clone f (e ∷ es) (g ∷ fs) h =
     ap (λ k. (k, f g.1) ∷ mapped f fs) h.0.0 ∙ ap (λ x. (e.0, x) ∷ mapped f fs) h.0.1
-        ∙ ap (λ xs. (e.0, f e.1) ∷ xs) (shared_clone f es fs h.1)
+    ∙ ap (λ xs. (e.0, f e.1) ∷ xs) (shared_clone f es fs h.1)

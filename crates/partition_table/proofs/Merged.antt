@@ -118,14 +118,14 @@ module _ (a b : Table) (gone_a gone_b : Name → Bool) where
     where
       by : (d : Bool) → differ (get a n) (get b n) ≡ d
           → settled a b gone_a gone_b ns (answers_left (get a n) (get b n) xs)
-              ≡ each_kept (at_answers (clashing ns) (answers_left (get a n) (get b n) xs)) ns
+          ≡ each_kept (at_answers (clashing ns) (answers_left (get a n) (get b n) xs)) ns
           → settled a b gone_a gone_b (n ∷ ns) xs ≡ each_kept (at_answers (cond d (n ∷ clashing ns) (clashing ns)) xs)
-              (n ∷ ns)
+          (n ∷ ns)
       by true d ih =
           let left : answers_left (get a n) (get b n) xs ≡ answers_behind xs =
-                  ap (λ b. if b then answers_behind xs else xs) d in
+          ap (λ b. if b then answers_behind xs else xs) d in
           ap (λ x. (n, kept_with a b gone_a gone_b n x) ∷ settled a b gone_a gone_b ns
-              (answers_left (get a n) (get b n) xs)) (head_answer n (clashing ns) xs)
+          (answers_left (get a n) (get b n) xs)) (head_answer n (clashing ns) xs)
           ∙ ap (λ es. (n, at_answers (n ∷ clashing ns) xs n) ∷ es)
           (ih ∙ ap (λ ys. each_kept (at_answers (clashing ns) ys) ns) left
           ∙ each_alike (at_answers (clashing ns) (answers_behind xs)) (at_answers (n ∷ clashing ns) xs) ns
@@ -133,10 +133,10 @@ module _ (a b : Table) (gone_a gone_b : Name → Bool) where
       by false d ih =
           let left : answers_left (get a n) (get b n) xs ≡ xs = ap (λ b. if b then answers_behind xs else xs) d in
           ap (λ row. (n, unless_gone (get a n) (get b n) (gone_a n) (gone_b n) row)
-              ∷ settled a b gone_a gone_b ns (answers_left (get a n) (get b n) xs))
+          ∷ settled a b gone_a gone_b ns (answers_left (get a n) (get b n) xs))
           (merged_alike (get a n) (get b n) (first_answer xs) (answer_at (clashing ns) xs n) d)
           ∙ ap (λ es. (n, at_answers (clashing ns) xs n) ∷ es) (ih
-              ∙ ap (λ ys. each_kept (at_answers (clashing ns) ys) ns) left)
+          ∙ ap (λ ys. each_kept (at_answers (clashing ns) ys) ns) left)
 
 -- ---- the two passes
 
@@ -172,7 +172,7 @@ one_of_others a (n ∷ ns) q lacks = by (contains_key a n) refl (one_of_others a
   where
     by : (b : Bool) → contains_key a n ≡ b → list_any (is_name q) (names_without a ns) ≡ list_any (is_name q) ns
         → list_any (is_name q) (cond (not b) (n ∷ names_without a ns) (names_without a ns))
-            ≡ (is_name q n || list_any (is_name q) ns)
+        ≡ (is_name q n || list_any (is_name q) ns)
     by true e ih = ih ∙ differs (is_name q n) refl
       where
         differs : (b : Bool) → is_name q n ≡ b → list_any (is_name q) ns ≡ (b || list_any (is_name q) ns)
@@ -250,7 +250,7 @@ module _ (a b : Table) (gone_a gone_b : Name → Bool) (answers : List Verdict3)
       by_b true e lacks = alone (get a q) (get b q) (answer_at (clash_names a b) answers q) lacks
       by_b false e lacks =
           sym (ap (unless_gone (get a q) (get b q) (gone_a q) (gone_b q))
-              (nothing (get a q) (get b q) (answer_at (clash_names a b) answers q) lacks (no_row b q e))
+          (nothing (get a q) (get b q) (answer_at (clash_names a b) answers q) lacks (no_row b q e))
           ∙ none_gone (get a q) (get b q) (gone_a q) (gone_b q))
 
       by : (has : Bool) → contains_key a q ≡ has
@@ -318,14 +318,14 @@ is_the_merge a b answers gone table is =
 pub passes_merge : (a b : Table) (gone_a gone_b : Name → Bool) (answers : List Verdict3) (gone : Gone)
     → ((q : Name) → gone_a q ≡ is_in q gone.of_a) → ((q : Name) → gone_b q ≡ is_in q gone.of_b)
     → put_all (each_kept (alone_in_b a b gone_a gone_b answers) (names_without a (keys b)))
-        (first_pass a b gone_a gone_b answers) ≡ merge a b answers gone
+    (first_pass a b gone_a gone_b answers) ≡ merge a b answers gone
 passes_merge a b gone_a gone_b answers gone first second =
     is_the_merge a b answers gone _ (λ q.
     second_get a b gone_a gone_b answers q
     ∙ ap (λ p. unless_gone (get a q) (get b q) p (gone_b q) (merged_at (get a q) (get b q)
-        (answer_at (clash_names a b) answers q))) (first q)
+    (answer_at (clash_names a b) answers q))) (first q)
     ∙ ap (λ p. unless_gone (get a q) (get b q) (is_in q gone.of_a) p
-        (merged_at (get a q) (get b q) (answer_at (clash_names a b) answers q))) (second q))
+    (merged_at (get a q) (get b q) (answer_at (clash_names a b) answers q))) (second q))
 
 -- tables that fit together have few names
 pub fit_few : (a b : Table) → fit_together a b ≡ true → union_len a b ≤ max_names

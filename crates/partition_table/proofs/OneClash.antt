@@ -91,5 +91,11 @@ few_filtered p (x ∷ xs) = by (p x) (few_filtered p xs)
 -- two tables have few names together
 pub union_few : (a b : Table) → IsTable a → IsTable b → union_len a b ≤ 8192
 union_few a b kept_a kept_b =
-    omega (arith, few_filtered (λ name. not (contains_key a name)) (keys b), keys_length a, keys_length b, kept_a.few,
-        kept_b.few)
+    omega (
+      arith,
+      few_filtered (λ name. not (contains_key a name)) (keys b),
+      keys_length a,
+      keys_length b,
+      kept_a.few,
+      kept_b.few,
+    )

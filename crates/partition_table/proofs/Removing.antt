@@ -20,7 +20,7 @@ use Rattle.partition_table.proofs.Changes.{held_less, held_released, made_releas
 
 any_row : (programs : Programs) (p : Registration → Bool) (rows : List (Name × Registration))
     → list_any p (values_of rows) ≡ list_any (λ row. p row.registration)
-        (map (λ e. e.1) (mapped (row_for programs) rows))
+    (map (λ e. e.1) (mapped (row_for programs) rows))
 any_row programs p [] = refl
 any_row programs p (e ∷ es) = ap (λ b. p e.1 || b) (any_row programs p es)
 
@@ -55,7 +55,7 @@ module _ (programs : Programs) (table : Table) (held : IsHeld programs table) (l
       → (q : Name) (r : Row) → get (remove table name) q ≡ Some r → program_of r.registration.resolver ≡ Some id → ⊥
   alone id h q r found is =
       let no = none_value_at names_total (remove table name) (λ r. names id r.registration) (sym (named_in id)
-              ∙ h) q r found in
+      ∙ h) q r found in
       let yes : names id r.registration ≡ true = ap (λ o. same_id o (Some id)) is ∙ same_id_from id in
       let both : true ≡ false = sym yes ∙ no in absurd (cc)
 
@@ -80,7 +80,7 @@ module _ (programs : Programs) (table : Table) (held : IsHeld programs table) (l
       by_id id is false h =
           let named : program_of row.registration.resolver ≡ Some id = ap program_of is in
           let same = made_released programs table held looked name row there id named (alone id h) n.entries
-                  made_less in (
+          made_less in (
             subst (IsHeld (without_code (Some id) programs)) (sym same)
                 (held_released programs table held looked name row there id named (alone id h)),
             same,

@@ -20,7 +20,7 @@ module _ (c : Clash) (word : ℕ) where
   unfolding answer
   by_resolver r code is coded =
       ap (λ r. answer_by r code bytes word) (sym is) ∙ ap (λ code. answer_by c.first.resolver code bytes word)
-          (sym coded)
+      (sym coded)
 
   pub builtin_answer : (resolver : b.Builtin) → c.first.resolver ≡ Builtin resolver
       → builtin_verdict resolver word ≡ answer c word

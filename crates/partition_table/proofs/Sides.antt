@@ -36,10 +36,24 @@ head_name of_a of_b n (Some r) (Some s) cs ns h =
     by : (same less : Bool)
         → map (λ c. c.name) (cons_option (if same then None else Some (
         if less
-        then record { name = n; first = r.registration; second = s.registration; of_first = of_a; of_second =
-            of_b; code = r.code }
-        else record { name = n; first = s.registration; second = r.registration; of_first = of_b; of_second =
-            of_a; code = s.code })) cs)
+        then record {
+          name = n;
+          first = r.registration;
+          second = s.registration;
+          of_first = of_a;
+          of_second =
+              of_b;
+          code = r.code;
+        }
+        else record {
+          name = n;
+          first = s.registration;
+          second = r.registration;
+          of_first = of_b;
+          of_second =
+              of_a;
+          code = s.code;
+        })) cs)
         ≡ cond (not same) (n ∷ ns) ns
     by true less = h
     by false true = ap (λ ms. n ∷ ms) h
@@ -91,8 +105,10 @@ any_kept p q (n ∷ ns) = by (p n) refl (is_name q n) refl (any_kept p q ns)
 same_names : (ns ms : List Name) → IsStrictlySortedBy name_cmp ns → IsStrictlySortedBy name_cmp ms
     → ((q : Name) → list_any (is_name q) ns ≡ list_any (is_name q) ms) → ns ≡ ms
 same_names ns ms sorted_ns sorted_ms same =
-    btree_set_from_contains names_total (record { keys = ns }) (record { keys =
-        ms }) sorted_ns sorted_ms same names_exact
+    btree_set_from_contains names_total (record { keys = ns }) (record {
+      keys =
+          ms;
+    }) sorted_ns sorted_ms same names_exact
 
 differ_back : (r s : Option Row) → differ r s ≡ differ s r
 differ_back None None = refl
@@ -186,7 +202,7 @@ clashes_back a b uptime_a uptime_b =
     by_clash_names of_a of_b a b
     ∙ ap (filter_map (λ name. clash_at of_a of_b name (get a name) (get b name))) (clash_names_back a b)
     ∙ each_back (λ name. clash_at of_a of_b name (get a name) (get b name))
-        (λ name. clash_at of_b of_a name (get b name) (get a name))
+    (λ name. clash_at of_b of_a name (get b name) (get a name))
     (λ n. clash_back of_a of_b n (get a n) (get b n)) (clash_names b a)
     ∙ sym (by_clash_names of_b of_a b a)
 
@@ -217,7 +233,7 @@ module _ (a b : Table) (kept_a : IsTable a) (kept_b : IsTable b) (agree : tables
       → same_registration r.registration s.registration ≡ true → r ≡ s
   one_row n r s h k same =
       let is : r.registration ≡ s.registration = registrations_exact r.registration s.registration
-              ((Equal-is (registration_cmp r.registration s.registration)).0 same) in
+      ((Equal-is (registration_cmp r.registration s.registration)).0 same) in
       let code = coded (program_of r.registration.resolver) refl is in
       ap (λ (x : Registration). record { registration = x; code = r.code }) is
       ∙ ap (λ (c : Option (List Insn)). record { registration = s.registration; code = c }) code
@@ -226,10 +242,10 @@ module _ (a b : Table) (kept_a : IsTable a) (kept_b : IsTable b) (agree : tables
       coded None e is =
           no_code r.registration.resolver r.code (kept_a.coded n r h) e
           ∙ sym (no_code s.registration.resolver s.code (kept_b.coded n s k)
-              (ap (λ (x : Registration). program_of x.resolver) (sym is) ∙ e))
+          (ap (λ (x : Registration). program_of x.resolver) (sym is) ∙ e))
       coded (Some id) e is =
           two_agree a b kept_a kept_b agree n n r s (inl h) (inr k) id e
-              (ap (λ (x : Registration). program_of x.resolver) (sym is) ∙ e)
+          (ap (λ (x : Registration). program_of x.resolver) (sym is) ∙ e)
 
   merged_back : (n : Name) (r s : Option Row) (x : Verdict3) → get a n ≡ r → get b n ≡ s
       → merged_at r s x ≡ merged_at s r x
@@ -261,13 +277,16 @@ module _ (a b : Table) (kept_a : IsTable a) (kept_b : IsTable b) (agree : tables
   -- the merge is the same from either side
   pub merge_back : (answers : List Verdict3) (gone_a gone_b : List Name)
       → merge a b answers (record { of_a = gone_a; of_b = gone_b })
-          ≡ merge b a answers (record { of_a = gone_b; of_b = gone_a })
+      ≡ merge b a answers (record { of_a = gone_b; of_b = gone_a })
   merge_back answers gone_a gone_b =
-      is_the_merge b a answers (record { of_a = gone_b; of_b =
-          gone_a }) (merge a b answers (record { of_a = gone_a; of_b = gone_b })) (λ q.
+      is_the_merge b a answers (record {
+        of_a = gone_b;
+        of_b =
+            gone_a;
+      }) (merge a b answers (record { of_a = gone_a; of_b = gone_b })) (λ q.
       merge_is a b answers (record { of_a = gone_a; of_b = gone_b }) q
       ∙ gone_back (get a q) (get b q) (is_in q gone_a) (is_in q gone_b)
-          (merged_at (get a q) (get b q) (answer_at (clash_names a b) answers q))
+      (merged_at (get a q) (get b q) (answer_at (clash_names a b) answers q))
       ∙ ap (unless_gone (get b q) (get a q) (is_in q gone_b) (is_in q gone_a))
       (merged_back q (get a q) (get b q) (answer_at (clash_names a b) answers q) refl refl
       ∙ ap (λ names. merged_at (get b q) (get a q) (answer_at names answers q)) (clash_names_back a b)))

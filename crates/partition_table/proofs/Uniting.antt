@@ -24,16 +24,16 @@ module _ (a b : Table) (kept_a : IsTable a) (kept_b : IsTable b) (agree : tables
       → program_of r.registration.resolver ≡ Some id → program_of s.registration.resolver ≡ Some id → r.code ≡ s.code
   two_agree n m r s (inl h) (inl k) id p q =
       agree_at r s (all_values_at names_total a (rows_agree r)
-          (all_values_at names_total a (agrees_with a) kept_a.one_code n r h) m s k) id p q
+      (all_values_at names_total a (agrees_with a) kept_a.one_code n r h) m s k) id p q
   two_agree n m r s (inl h) (inr k) id p q =
       agree_at r s (all_values_at names_total b (rows_agree r) (all_values_at names_total a (agrees_with b) agree n r h)
-          m s k) id p q
+      m s k) id p q
   two_agree n m r s (inr h) (inl k) id p q =
       sym (agree_at s r (all_values_at names_total b (rows_agree s)
-          (all_values_at names_total a (agrees_with b) agree m s k) n r h) id q p)
+      (all_values_at names_total a (agrees_with b) agree m s k) n r h) id q p)
   two_agree n m r s (inr h) (inr k) id p q =
       agree_at r s (all_values_at names_total b (rows_agree r)
-          (all_values_at names_total b (agrees_with b) kept_b.one_code n r h) m s k) id p q
+      (all_values_at names_total b (agrees_with b) kept_b.one_code n r h) m s k) id p q
 
   pub coded_row_of : (n : Name) (row : Row) → IsRowOf a b n row → IsCodeOf row.registration.resolver row.code
   coded_row_of n row (inl h) = kept_a.coded n row h
@@ -44,7 +44,7 @@ module _ (a b : Table) (kept_a : IsTable a) (kept_b : IsTable b) (agree : tables
       → (n : Name) (row : Row) → IsRowOf a b n row → row.registration.resolver ≡ r → Some c ≡ row.code
   kept_code m s of_s r is c coded n row of_row same =
       let named = named_by_code s.registration.resolver c (subst (IsCodeOf s.registration.resolver) coded
-              (coded_row_of m s of_s)) in
+      (coded_row_of m s of_s)) in
       sym coded ∙ two_agree m n s row of_s of_row named.0 named.1 (ap program_of (same ∙ sym is) ∙ named.1)
 
   -- a program that the first keeps is that of each row with its resolver
@@ -76,7 +76,7 @@ holds_is None row = refl
 pub stays_put : (r s : Option Row) (gone_r gone_s : Bool) (row : Row) (kept : Registration) → row.registration ≡ kept
     → (b : Bool)
     → b ≡ ((gone_r && holds_as r kept) || (gone_s && holds_as s kept))
-        → unless_gone r s gone_r gone_s (Some row) ≡ (if b then None else Some row)
+    → unless_gone r s gone_r gone_s (Some row) ≡ (if b then None else Some row)
 stays_put r s gone_r gone_s row kept is b tested =
     ap (λ x. if x then None else Some row)
     (ap (λ x. (gone_r && x) || (gone_s && holds s (Some row))) (holds_is r row ∙ ap (holds_as r) is)

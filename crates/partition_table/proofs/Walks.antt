@@ -44,7 +44,7 @@ module _ {Y : Type 0} where
     where
       by : first_at n (drop_before n es) ≡ find name_cmp n es → (o : Ordering) → name_cmp e.0 n ≡ o
           → first_at n (if is_lt (name_cmp e.0 n) then drop_before n es else e ∷ es)
-              ≡ cond (eq_by_cmp name_cmp n e.0) (Some e.1) (find name_cmp n es)
+          ≡ cond (eq_by_cmp name_cmp n e.0) (Some e.1) (find name_cmp n es)
       by rest Less is = let turned = flipped e.0 n Less is in rw (is, turned) rest
       by rest Equal is = let turned = flipped e.0 n Equal is in rw (is, turned, is) refl
       by rest Greater is =
@@ -59,7 +59,7 @@ module _ {Y : Type 0} where
     where
       by : find name_cmp q (drop_before n es) ≡ find name_cmp q es → (o : Ordering) → name_cmp e.0 n ≡ o
           → find name_cmp q (if is_lt (name_cmp e.0 n) then drop_before n es else e ∷ es)
-              ≡ cond (eq_by_cmp name_cmp q e.0) (Some e.1) (find name_cmp q es)
+          ≡ cond (eq_by_cmp name_cmp q e.0) (Some e.1) (find name_cmp q es)
       by rest Less is =
           let turned = flipped e.0 q Less (names_total.trans e.0 n q is less) in rw (is, turned) rest
       by rest Equal is = rw is refl
@@ -132,7 +132,7 @@ find_shown (e ∷ es) q = by (eq_by_cmp name_cmp q e.0) (find_shown es q)
     by : (b : Bool) → find name_cmp q (mapped (λ row. row.registration) es)
         ≡ option_map (λ row. row.registration) (find name_cmp q es)
         → cond b (Some e.1.registration) (find name_cmp q (mapped (λ row. row.registration) es))
-            ≡ option_map (λ row. row.registration) (cond b (Some e.1) (find name_cmp q es))
+        ≡ option_map (λ row. row.registration) (cond b (Some e.1) (find name_cmp q es))
     by true h = refl
     by false h = h
 

@@ -138,10 +138,24 @@ same_clash c d =
 abbrev pub clash_of : Name → Row → Facts → Row → Facts → Clash
 clash_of name r of_r s of_s =
     if is_lt (registration_cmp r.registration s.registration)
-    then record { name = name; first = r.registration; second = s.registration; of_first = of_r; of_second =
-        of_s; code = r.code }
-    else record { name = name; first = s.registration; second = r.registration; of_first = of_s; of_second =
-        of_r; code = s.code }
+    then record {
+      name = name;
+      first = r.registration;
+      second = s.registration;
+      of_first = of_r;
+      of_second =
+          of_s;
+      code = r.code;
+    }
+    else record {
+      name = name;
+      first = s.registration;
+      second = r.registration;
+      of_first = of_s;
+      of_second =
+          of_r;
+      code = s.code;
+    }
 
 abbrev pub clash_at : Facts → Facts → Name → Option Row → Option Row → Option Clash
 clash_at of_a of_b name (Some r) (Some s) =

@@ -30,7 +30,7 @@ pub(crate) fn hold_program(
     requires coded { IsCodeOf resolver (option_map (λ p. arc_value p.now) program) }
     ensures held { OnOk result (programs_by arc_value programs.new.entries
         ≡ with_code resolver (option_map (λ p. arc_value p.now) program.entry)
-            (programs_by arc_value programs.old.entries)) }
+        (programs_by arc_value programs.old.entries)) }
     ensures kept { IfOk result (λ added. added ≡ None → programs.new.entries ≡ programs.old.entries) }
     ensures added { IfOk result (λ added. IfSome added (λ id.
         (program_of resolver ≡ Some id) × (map.get (programs_by arc_value programs.old.entries) id ≡ None))) }
@@ -51,8 +51,7 @@ pub(crate) fn release_program(
     programs: &mut BTreeMap<ProgramId, Arc<Verified>>,
     id: Option<ProgramId>,
 )
-    ensures { programs_by arc_value programs.new.entries ≡ without_code id (programs_by arc_value programs.old.entries)
-        }
+    ensures { programs_by arc_value programs.new.entries ≡ without_code id (programs_by arc_value programs.old.entries) }
 {
     if let Some(id) = id {
         programs.remove(&id);

@@ -44,10 +44,14 @@ reads_some m at (suc n) h =
     let first = h 0 (omega arith) in
     let there : m at ≡ Some first.byte = ap m (sym e) ∙ first.is_there in
     let rest = reads_some m (at + 1) n (λ j l. let f : at + (1 + j) ≡ at + 1 + j = omega arith in
-            subst (λ k. Byte m k) f (h (1 + j) (omega arith))) in
+    subst (λ k. Byte m k) f (h (1 + j) (omega arith))) in
     let rest_there : read_bytes m (at + 1) n ≡ Some rest.word = rest.is_there in
-    record { word = first.byte + 256 * rest.word; is_there = rw (there, rest_there) refl; small =
-        longer n first.byte rest.word first.small rest.small }
+    record {
+      word = first.byte + 256 * rest.word;
+      is_there = rw (there, rest_there) refl;
+      small =
+          longer n first.byte rest.word first.small rest.small;
+    }
 
 -- ---- addresses
 
@@ -106,7 +110,7 @@ stack_written p bytes placed stack i n word h a =
           let f : a - (p.stack_at + i) ≡ j - i = omega arith in
           let there : written stack i n word j ≡ Some (word / 256 ^ (j - i) % 256) = rw t refl in
           rw (q.0, f) (sym (ap (memory_at p bytes (written stack i n word)) (sym e)
-              ∙ stack_byte p bytes placed (written stack i n word) j l ∙ there))
+          ∙ stack_byte p bytes placed (written stack i n word) j l ∙ there))
       | inr q ↦ rw q.0 (unwritten p bytes stack i n word a q.1)
     ]
   where
@@ -150,7 +154,7 @@ each_written w from (suc n) zero h l = let e : from + 0 ≡ from = omega arith i
 each_written w from (suc n) (suc j) h l =
     let e : from + 1 + j ≡ from + suc j = omega arith in
     subst (λ k. IsTrue (w k)) e (each_written w (from + 1) n j (both (w from) (all_written w (from + 1) n) h).1
-        (omega arith))
+    (omega arith))
 
 -- what a write leaves: bytes that are there, each small
 pub written_there : (stack : Memory) (i n word k : ℕ) → ((b : ℕ) × (stack k ≡ Some b))

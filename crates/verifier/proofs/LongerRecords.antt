@@ -37,8 +37,10 @@ access_still : {D : Type 0} (short long : ℕ) (i : Insn) (s : View D) → short
     → IsTrue (of_access i s (inside_record short)) → IsTrue (of_access i s (inside_record long))
 access_still short long i s h = by_access (access_of i)
   where
-    by_access : (x : Option Access) → IsTrue (elim x [ None ↦ true | Some r ↦ inside_record short (s.registers r.base) r
-        ]) → IsTrue (elim x [ None ↦ true | Some r ↦ inside_record long (s.registers r.base) r ])
+    by_access : (x : Option Access) → IsTrue (elim x [
+      | None ↦ true
+      | Some r ↦ inside_record short (s.registers r.base) r
+    ]) → IsTrue (elim x [ None ↦ true | Some r ↦ inside_record long (s.registers r.base) r ])
     by_access None k = refl
     by_access (Some r) k = inside_still short long (s.registers r.base) r h k
 
@@ -119,8 +121,12 @@ too_set : (s : State) (m : Memory) (r : Register) (word slots : ℕ) → Within 
 too_set s m r word slots h = by_test (r.number == 10)
   where
     next : Memory → State
-    next memory = record { slot = s.slot + slots; registers = slice_set s.registers r.number (Some word); memory =
-        memory }
+    next memory = record {
+      slot = s.slot + slots;
+      registers = slice_set s.registers r.number (Some word);
+      memory =
+          memory;
+    }
 
     by_test : (q : Bool) → GoesToo (cond q None (Some (next s.memory))) (cond q None (Some (next m)))
     by_test true t e = absurd (cc)
@@ -136,8 +142,11 @@ too_store stack_at s m at n word h = by_test (nat_le stack_at at && nat_le (at +
 
     by_test : (q : Bool) → GoesToo (cond q (Some (next s.memory)) None) (cond q (Some (next m)) None)
     by_test true t e = let f : next s.memory ≡ t = cc in subst (λ u. (k : Memory)
-        × (Some (next m) ≡ Some (with_memory u k)) × Within u.memory k) f (written m at n word, refl,
-        written_within s.memory m at n word h)
+        × (Some (next m) ≡ Some (with_memory u k)) × Within u.memory k) f (
+          written m at n word,
+          refl,
+          written_within s.memory m at n word h,
+        )
     by_test false t e = absurd (cc)
 
 too_go : (s : State) (m : Memory) (slot : ℕ) → Within s.memory m
@@ -155,28 +164,28 @@ too_of s m x dst f h = too_bind x (λ a. set_register s dst (f a) 1) (λ a. set_
 
 too_of_both : (s : State) (m : Memory) (x y : Option ℕ) (dst : Register) (f : ℕ → ℕ → ℕ) → Within s.memory m
     → GoesToo (x >>= λ a. y >>= λ b. set_register s dst (f a b) 1)
-        (x >>= λ a. y >>= λ b. set_register (with_memory s m) dst (f a b) 1)
+    (x >>= λ a. y >>= λ b. set_register (with_memory s m) dst (f a b) 1)
 too_of_both s m x y dst f h =
     too_bind x (λ a. y >>= λ b. set_register s dst (f a b) 1)
-        (λ a. y >>= λ b. set_register (with_memory s m) dst (f a b) 1) (λ a. too_of s m y dst (f a) h)
+    (λ a. y >>= λ b. set_register (with_memory s m) dst (f a b) 1) (λ a. too_of s m y dst (f a) h)
 
 too_load : (s : State) (m : Memory) (x : Option ℕ) (offset : ℤ) (n : ℕ) (dst : Register) (f : ℕ → ℕ) → Within s.memory m
     → GoesToo (x >>= λ at. read_bytes s.memory (address_of at offset) n >>= λ w. set_register s dst (f w) 1)
-        (x >>= λ at. read_bytes m (address_of at offset) n >>= λ w. set_register (with_memory s m) dst (f w) 1)
+    (x >>= λ at. read_bytes m (address_of at offset) n >>= λ w. set_register (with_memory s m) dst (f w) 1)
 too_load s m x offset n dst f h =
     too_bind x (λ at. read_bytes s.memory (address_of at offset) n >>= λ w. set_register s dst (f w) 1)
-        (λ at. read_bytes m (address_of at offset) n >>= λ w. set_register (with_memory s m) dst (f w) 1)
+    (λ at. read_bytes m (address_of at offset) n >>= λ w. set_register (with_memory s m) dst (f w) 1)
     (λ at. too_read (read_bytes s.memory (address_of at offset) n) (read_bytes m (address_of at offset) n)
-        (λ w. set_register s dst (f w) 1) (λ w. set_register (with_memory s m) dst (f w) 1)
+    (λ w. set_register s dst (f w) 1) (λ w. set_register (with_memory s m) dst (f w) 1)
     (λ w. read_within s.memory m (address_of at offset) n w h) (λ w. too_set s m dst (f w) 1 h))
 
 too_put : (stack_at : ℕ) (s : State) (m : Memory) (x : Option ℕ) (offset : ℤ) (n word : ℕ) → Within s.memory m
     → GoesToo (x >>= λ at. store_at stack_at s (address_of at offset) n word)
-        (x >>= λ at. store_at stack_at (with_memory s m) (address_of at offset) n word)
+    (x >>= λ at. store_at stack_at (with_memory s m) (address_of at offset) n word)
 too_put stack_at s m x offset n word h =
     too_bind x (λ at. store_at stack_at s (address_of at offset) n word)
-        (λ at. store_at stack_at (with_memory s m) (address_of at offset) n word)
-        (λ at. too_store stack_at s m (address_of at offset) n word h)
+    (λ at. store_at stack_at (with_memory s m) (address_of at offset) n word)
+    (λ at. too_store stack_at s m (address_of at offset) n word h)
 
 too_test : (s : State) (m : Memory) (x y : Option ℕ) (to : ℕ → ℕ → ℕ) → Within s.memory m
     → GoesToo (x >>= λ a. y >>= λ b. go_to s (to a b)) (x >>= λ a. y >>= λ b. go_to (with_memory s m) (to a b))
@@ -199,10 +208,10 @@ too_after stack_at (LoadSx size dst base offset) s m h = too_load s m (word_in s
     (mov_sx_of W64 (8 * bytes_of size)) h
 too_after stack_at (Store size base offset src) s m h =
     too_bind (word_in s base) (λ at. word_in s src >>= λ word. store_at stack_at s (address_of at offset)
-        (bytes_of size) word) (λ at. word_in s src >>= λ word. store_at stack_at (with_memory s m)
-        (address_of at offset) (bytes_of size) word)
+    (bytes_of size) word) (λ at. word_in s src >>= λ word. store_at stack_at (with_memory s m)
+    (address_of at offset) (bytes_of size) word)
     (λ at. too_bind (word_in s src) (λ word. store_at stack_at s (address_of at offset) (bytes_of size) word)
-        (λ word. store_at stack_at (with_memory s m) (address_of at offset) (bytes_of size) word)
+    (λ word. store_at stack_at (with_memory s m) (address_of at offset) (bytes_of size) word)
     (λ word. too_store stack_at s m (address_of at offset) (bytes_of size) word h))
 too_after stack_at (StoreImm size base offset imm) s m h = too_put stack_at s m (word_in s base) offset (bytes_of size)
     (cast_unsigned w64 imm) h
@@ -210,7 +219,7 @@ too_after stack_at (Jump distance) s m h = too_go s m (target s.slot distance) h
 too_after stack_at (JumpLong distance) s m h = too_go s m (target s.slot distance) h
 too_after stack_at (JumpIf width test dst src distance) s m h =
     too_test s m (word_in s dst) (operand s src) (λ a b. cond (is_taken width test a b) (target s.slot distance) (s.slot
-        + 1)) h
+    + 1)) h
 too_after stack_at Exit s m h = λ t e. absurd (cc)
 
 too_step : (stack_at : ℕ) (code : List Insn) (s : State) (m : Memory) → Within s.memory m
@@ -222,13 +231,16 @@ too_more : (n stack_at : ℕ) (code : List Insn) (s : State) (m : Memory) → Wi
     → ((u : State) (k : Memory) → Within u.memory k → GoesToo (steps n stack_at code u)
     (steps n stack_at code (with_memory u k)))
     → (x : Option State) → step stack_at code s ≡ x → GoesToo (x >>= steps n stack_at code)
-        (steps (suc n) stack_at code (with_memory s m))
+    (steps (suc n) stack_at code (with_memory s m))
 too_more n stack_at code s m h more None is t e = absurd (cc)
 too_more n stack_at code s m h more (Some u) is t e =
     let one = too_step stack_at code s m h u is in
-    let rest = more u one.0 one.2 t e in
-    (rest.0, bind (step stack_at code (with_memory s m)) (with_memory u one.0) (steps n stack_at code)
-        (Some (with_memory t rest.0)) one.1 rest.1, rest.2)
+    let rest = more u one.0 one.2 t e in (
+      rest.0,
+      bind (step stack_at code (with_memory s m)) (with_memory u one.0) (steps n stack_at code)
+          (Some (with_memory t rest.0)) one.1 rest.1,
+      rest.2,
+    )
 
 too_steps : (n stack_at : ℕ) (code : List Insn) (s : State) (m : Memory) → Within s.memory m
     → GoesToo (steps n stack_at code s) (steps n stack_at code (with_memory s m))
@@ -258,7 +270,7 @@ entry_within short long p bytes h a b = by_test (nat_le p.record_at a && nat_lt 
     by_test : (q : Bool) → (nat_le p.record_at a && nat_lt a (p.record_at + short)) ≡ q
         → cond q (Some (slice_index (take short bytes) (a - p.record_at))) None ≡ Some b
         → cond (nat_le p.record_at a && nat_lt a (p.record_at + long)) (Some (slice_index bytes (a - p.record_at))) None
-            ≡ Some b
+        ≡ Some b
     by_test false is e = absurd (cc)
     by_test true is e =
         let there : (nat_le p.record_at a && nat_lt a (p.record_at + long)) ≡ true = grind (arith, nat_tests) in
@@ -270,7 +282,7 @@ ends_too : (short long : ℕ) (code : List Insn) (bytes : List ℕ) (p : Placeme
 unfolding entry_for
 ends_too short long code bytes p v n h e =
     let q = too_steps (n - 1) p.stack_at code (entry_for short p (take short bytes)) (entry_for long p bytes).memory
-            (entry_within short long p bytes h) e.last e.reached in
+    (entry_within short long p bytes h) e.last e.reached in
     record { last = with_memory e.last q.0; counted = e.counted; reached = q.1; at_exit = e.at_exit; answer = e.answer }
 
 pub ends_alike : {D : Type 0} {o : Ops D} (laws : Laws o) (code : List Insn) (bytes : List ℕ) → IsCode code
@@ -278,7 +290,7 @@ pub ends_alike : {D : Type 0} {o : Ops D} (laws : Laws o) (code : List Insn) (by
 ends_alike laws code bytes is_code structured typable whole =
     let long : length bytes ≡ record_len = whole.0 in
     let front : IsRecordOf shorter_len (take shorter_len bytes) =
-            (length-take-le shorter_len bytes (omega arith), All-take (λ byte. byte < 256) shorter_len bytes whole.1) in
+    (length-take-le shorter_len bytes (omega arith), All-take (λ byte. byte < 256) shorter_len bytes whole.1) in
     let q = safe laws shorter_len (omega arith) code is_code structured typable (take shorter_len bytes) front in
     record {
       value = q.0;

@@ -72,8 +72,11 @@ reached_by code n reached seen h e (inr edge) = let t : get_or reached n false �
 unmarked : (n q : ℕ) → get_or (replicate n false) q false ≡ false
 unmarked n q =
     let l : length (replicate n false) ≡ n = length-replicate n false in
-    elim (cases_lt q n) [ inl h ↦ get_or-replicate n q false false h | inr h ↦ get_or_past (replicate n false) q false
-        (omega arith) ]
+    elim (cases_lt q n) [
+      | inl h ↦ get_or-replicate n q false false h
+      | inr h ↦ get_or_past (replicate n false) q false
+          (omega arith)
+    ]
 
 -- before the first slot only that slot is marked
 pub seen_none : (code : List Insn) (n : ℕ) → slot_count code ≤ n → IsSeen code 0 (mark (replicate n false) (Some 0))
@@ -105,8 +108,14 @@ seen_skipped code n reached seen none = record {
   complete = λ to h e. seen.complete to h (elim e [
     | inl z ↦ inl z
     | inr edge ↦ elim (earlier edge.slot n edge.is_before) [
-      | inl b ↦ inr (record { slot = edge.slot; is_before = b; insn = edge.insn; is_at = edge.is_at; leads =
-          edge.leads })
+      | inl b ↦ inr (record {
+        slot = edge.slot;
+        is_before = b;
+        insn = edge.insn;
+        is_at = edge.is_at;
+        leads =
+            edge.leads;
+      })
       | inr e ↦ let f : insn_at code edge.slot ≡ None = ap (insn_at code) e ∙ none in
           let g : insn_at code edge.slot ≡ Some edge.insn = edge.is_at in absurd (cc)
     ]
@@ -131,7 +140,7 @@ leading : (reached : List Bool) (n : ℕ) (i : Insn) (q : ℕ) → q < length re
 leading reached n i q l (inl p) =
     let m : length (mark reached (falls_to n i)) ≡ length reached = marked_length reached (falls_to n i) in
     marked_old (mark reached (falls_to n i)) (leads_to n i) q (omega arith)
-        (marked_new reached (falls_to n i) q (falls_some n i q p.0 p.1) l)
+    (marked_new reached (falls_to n i) q (falls_some n i q p.0 p.1) l)
 leading reached n i q l (inr e) =
     let m : length (mark reached (falls_to n i)) ≡ length reached = marked_length reached (falls_to n i) in
     marked_new (mark reached (falls_to n i)) (leads_to n i) q e (omega arith)
@@ -143,8 +152,13 @@ seen_more code n i reached long seen is meets =
     let falls = falls_to n i in
     let leads = leads_to n i in
     let m : length (mark reached falls) ≡ length reached = marked_length reached falls in
-    let edge : (q : ℕ) → LeadsTo n i q → HasEdge code q = λ q to. record { slot = n; insn = i; is_at = is; leads =
-            to } in
+    let edge : (q : ℕ) → LeadsTo n i q → HasEdge code q = λ q to. record {
+      slot = n;
+      insn = i;
+      is_at = is;
+      leads =
+          to;
+    } in
     record {
       meets = λ slot j rule h at. elim (earlier slot n h) [
         | inl b ↦ seen.meets slot j rule b at
@@ -163,18 +177,24 @@ seen_more code n i reached long seen is meets =
       complete = λ to h e.
           let old : get_or reached to false ≡ true → get_or (mark (mark reached falls) leads) to false ≡ true =
           λ (t : get_or reached to false ≡ true). marked_old (mark reached falls) leads to (omega arith)
-              (marked_old reached falls to (omega arith) t) in
+          (marked_old reached falls to (omega arith) t) in
           elim e [
             | inl z ↦ old (seen.complete to h (inl z))
             | inr k ↦ elim (earlier k.slot n k.is_before) [
-              | inl b ↦ old (seen.complete to h (inr (record { slot = k.slot; is_before = b; insn = k.insn; is_at =
-                  k.is_at; leads = k.leads })))
+              | inl b ↦ old (seen.complete to h (inr (record {
+                slot = k.slot;
+                is_before = b;
+                insn = k.insn;
+                is_at =
+                    k.is_at;
+                leads = k.leads;
+              })))
               | inr b ↦
                   let s : insn_at code k.slot ≡ Some i = ap (insn_at code) b ∙ is in
                   let t : insn_at code k.slot ≡ Some k.insn = k.is_at in
                   let f : k.insn ≡ i = (cc) in
                   leading reached n i to (omega arith) (subst (λ x. LeadsTo x i to) b
-                      (subst (λ x. LeadsTo k.slot x to) f k.leads))
+                  (subst (λ x. LeadsTo k.slot x to) f k.leads))
             ]
           ];
     }
@@ -192,7 +212,7 @@ seen_insn code n i reached long seen is meets =
       | inr e ↦
           let two : n + 1 + 1 ≡ n + slots_of i = omega arith in
           subst (λ m. IsSeen code m after) two (seen_skipped code (n + 1) after one
-              (none_within code n (n + 1) i is (omega arith) (omega arith)))
+          (none_within code n (n + 1) i is (omega arith) (omega arith)))
     ]
 
 pub ill : (code : List Insn) (n : ℕ) (i : Insn) (reached : List Bool) (rule : Rule) → IsSeen code n reached
@@ -207,5 +227,7 @@ ill code n i reached rule seen is fails = record {
 
 pub structured : (code : List Insn) (n : ℕ) (reached : List Bool) → slot_count code ≤ n → IsSeen code n reached
     → IsStructured code
-structured code n reached h seen = record { meets = λ slot i rule is. let w = insn_within code slot i is in
-    seen.meets slot i rule (omega arith) is }
+structured code n reached h seen = record {
+  meets = λ slot i rule is. let w = insn_within code slot i is in
+      seen.meets slot i rule (omega arith) is;
+}

@@ -61,11 +61,25 @@ Stepped (Some steps) u = Step steps.0 steps.1 u
 
 step_of : (low high u : ℕ) (q : Option (ℤ × ℤ)) → Steps low high q → low ≤ u → u ≤ high → high < 2 ^ 64 → Stepped q u
 step_of low high u q (small l h s) a b f =
-    record { by = pos u; above = omega (arith, ints); below = omega (arith, ints); word =
-        omega (arith, ints); near_below = omega (arith, ints); near_above = omega (arith, ints) }
+    record {
+      by = pos u;
+      above = omega (arith, ints);
+      below = omega (arith, ints);
+      word =
+          omega (arith, ints);
+      near_below = omega (arith, ints);
+      near_above = omega (arith, ints);
+    }
 step_of low high u q (below_zero l h s) a b f =
-    record { by = pos u -ℤ pos (2 ^ 64); above = omega (arith, ints); below = omega (arith, ints); word =
-        omega (arith, ints); near_below = omega (arith, ints); near_above = omega (arith, ints) }
+    record {
+      by = pos u -ℤ pos (2 ^ 64);
+      above = omega (arith, ints);
+      below = omega (arith, ints);
+      word =
+          omega (arith, ints);
+      near_below = omega (arith, ints);
+      near_above = omega (arith, ints);
+    }
 step_of low high u q (none l h) a b f = tt
 
 -- ---- moving an address
@@ -188,32 +202,56 @@ module _ {D : Type 0} {o : Ops D} (laws : Laws o) where
   pub binary : (w : Width) (op : AluOp) (a b : RegState D) (x y : Tag) → is_mov op ≡ false → IsTrue (is_readable a)
       → IsTrue (is_readable b) → Covers o a (Some x) → Covers o b (Some y)
       → IsTrue (pointers_fit w op a b) → IsTrue (operation_in_range o w op a b)
-          → Result o w op (result_of o w op a b) x y
+      → Result o w op (result_of o w op a b) x y
   binary w Mov a b x y n r s h k f g = absurd (cc)
   binary W64 Add (Record a) (Scalar b) (ptr the_record k) (num u) n r s h c f g =
       let m = add_moved a k u (steps_of o b) h.0 h.1 (stepped b u c) g in
-      record { tag = ptr the_record m.to; covers = to_record_covers o (moved_span o Add a b) m.span m.to m.is m.above
-          m.below; word = λ p. m.word p.record_at }
+      record {
+        tag = ptr the_record m.to;
+        covers = to_record_covers o (moved_span o Add a b) m.span m.to m.is m.above
+            m.below;
+        word = λ p. m.word p.record_at;
+      }
   binary W64 Add (Stack a) (Scalar b) (ptr the_stack k) (num u) n r s h c f g =
       let m = add_moved a k u (steps_of o b) h.0 h.1 (stepped b u c) g in
-      record { tag = ptr the_stack m.to; covers = to_stack_covers o (moved_span o Add a b) m.span m.to m.is m.above
-          m.below; word = λ p. m.word (base_of p the_stack) }
+      record {
+        tag = ptr the_stack m.to;
+        covers = to_stack_covers o (moved_span o Add a b) m.span m.to m.is m.above
+            m.below;
+        word = λ p. m.word (base_of p the_stack);
+      }
   binary W64 Add (Scalar b) (Record a) (num u) (ptr the_record k) n r s c h f g =
       let m = add_moved a k u (steps_of o b) h.0 h.1 (stepped b u c) g in
-      record { tag = ptr the_record m.to; covers = to_record_covers o (moved_span o Add a b) m.span m.to m.is m.above
-          m.below; word = λ p. add_swapped u (raw p (ptr the_record k)) ∙ m.word p.record_at }
+      record {
+        tag = ptr the_record m.to;
+        covers = to_record_covers o (moved_span o Add a b) m.span m.to m.is m.above
+            m.below;
+        word = λ p. add_swapped u (raw p (ptr the_record k)) ∙ m.word p.record_at;
+      }
   binary W64 Add (Scalar b) (Stack a) (num u) (ptr the_stack k) n r s c h f g =
       let m = add_moved a k u (steps_of o b) h.0 h.1 (stepped b u c) g in
-      record { tag = ptr the_stack m.to; covers = to_stack_covers o (moved_span o Add a b) m.span m.to m.is m.above
-          m.below; word = λ p. add_swapped u (raw p (ptr the_stack k)) ∙ m.word (base_of p the_stack) }
+      record {
+        tag = ptr the_stack m.to;
+        covers = to_stack_covers o (moved_span o Add a b) m.span m.to m.is m.above
+            m.below;
+        word = λ p. add_swapped u (raw p (ptr the_stack k)) ∙ m.word (base_of p the_stack);
+      }
   binary W64 Sub (Record a) (Scalar b) (ptr the_record k) (num u) n r s h c f g =
       let m = sub_moved a k u (steps_of o b) h.0 h.1 (stepped b u c) g in
-      record { tag = ptr the_record m.to; covers = to_record_covers o (moved_span o Sub a b) m.span m.to m.is m.above
-          m.below; word = λ p. m.word p.record_at }
+      record {
+        tag = ptr the_record m.to;
+        covers = to_record_covers o (moved_span o Sub a b) m.span m.to m.is m.above
+            m.below;
+        word = λ p. m.word p.record_at;
+      }
   binary W64 Sub (Stack a) (Scalar b) (ptr the_stack k) (num u) n r s h c f g =
       let m = sub_moved a k u (steps_of o b) h.0 h.1 (stepped b u c) g in
-      record { tag = ptr the_stack m.to; covers = to_stack_covers o (moved_span o Sub a b) m.span m.to m.is m.above
-          m.below; word = λ p. m.word (base_of p the_stack) }
+      record {
+        tag = ptr the_stack m.to;
+        covers = to_stack_covers o (moved_span o Sub a b) m.span m.to m.is m.above
+            m.below;
+        word = λ p. m.word (base_of p the_stack);
+      }
   binary w op (Scalar a) (Scalar b) (num v) (num u) n r s h c f g =
       record { tag = num (alu_of w op v u); covers = scalars w op a b v u n h c; word = λ p. refl }
     where

@@ -23,9 +23,9 @@ abbrev numbered : ℕ → Rule
 numbered n = if n == 10 then Backward else (if n == 11 then Outside
     else (if n == 12 then IntoWide else (if n == 13 then FallsOff else (if n == 14 then NoEdge
     else (if n == 15 then Unreadable else (if n == 16 then WritesR10
-        else (if n == 17 then PointerOperation else (if n == 18 then PointerRange else (if n == 19 then PointerCompared
+    else (if n == 17 then PointerOperation else (if n == 18 then PointerRange else (if n == 19 then PointerCompared
     else (if n == 20 then PointerStored else (if n == 21 then OutsideRecord
-        else (if n == 22 then WritesRecord else (if n == 23 then OutsideStack else (if n == 24 then UnwrittenStack
+    else (if n == 22 then WritesRecord else (if n == 23 then OutsideStack else (if n == 24 then UnwrittenStack
     else (if n == 25 then ScalarAddress else PointerResult)))))))))))))))
 
 numbered_back : (r : Rule) → numbered (rule_number r) ≡ r
@@ -129,7 +129,7 @@ module _ {D : Type 0} {o : Ops D} (laws : Laws o) (code : List Insn) where
       let same_insn : b.insn ≡ a.insn = cc in
       let same_state : b.state ≡ a.state = view_both b.state a.state (state_below s q r b a) (state_below s r q a b) in
       let met : IsTrue (meets o a.insn a.state r) = subst (λ v. IsTrue (meets o a.insn v r)) same_state
-              (subst (λ i. IsTrue (meets o i b.state r)) same_insn (b.fails.first r less)) in
+      (subst (λ i. IsTrue (meets o i b.state r)) same_insn (b.fails.first r less)) in
       absurd (cc)
 
   unfulfilled_once : (s t : ℕ) (r q : Rule) → IsUnfulfilled o code s r → IsUnfulfilled o code t q → (s ≡ t) × (r ≡ q)

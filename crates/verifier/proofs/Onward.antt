@@ -48,7 +48,7 @@ Goes bytes i t t' = (p : Placement) → IsPlacementFor (length bytes) p → (u :
 
 after_alu : (stack_at : ℕ) (w : Width) (op : AluOp) (dst : Register) (src : Source) (u : State) → is_mov op ≡ false
     → after stack_at (Alu w op dst src) u ≡ (word_in u dst >>= λ a. word_of u src >>= λ b. set_register u dst
-        (alu_of w op a b) 1)
+    (alu_of w op a b) 1)
 after_alu stack_at w Add dst src u n = refl
 after_alu stack_at w Sub dst src u n = refl
 after_alu stack_at w Mul dst src u n = refl
@@ -68,8 +68,8 @@ after_alu stack_at w Arsh dst src u n = refl
 pub goes_alu : (bytes : List ℕ) (w : Width) (op : AluOp) (dst : Register) (src : Source) (t : Tagged) (x y z : Tag)
     → is_mov op ≡ false → (dst.number == 10) ≡ false
     → t.registers dst.number ≡ Some x → source_tag t src ≡ Some y
-        → ((p : Placement) → alu_of w op (raw p x) (raw p y) ≡ raw p z)
-        → Goes bytes (Alu w op dst src) t (with_tag t dst.number z 1)
+    → ((p : Placement) → alu_of w op (raw p x) (raw p y) ≡ raw p z)
+    → Goes bytes (Alu w op dst src) t (with_tag t dst.number z 1)
 goes_alu bytes w op dst src t x y z n f dx sy word p placed u m =
     let a : word_in u dst ≡ Some (raw p x) = word_at p bytes t u m dst ∙ ap (raw_option p) dx in
     let b : word_of u src ≡ Some (raw p y) = source_at p bytes t u m src ∙ ap (raw_option p) sy in
@@ -85,7 +85,7 @@ goes_alu bytes w op dst src t x y z n f dx sy word p placed u m =
 pub goes_mov : (bytes : List ℕ) (w : Width) (dst : Register) (src : Source) (t : Tagged) (y z : Tag)
     → (dst.number == 10) ≡ false
     → source_tag t src ≡ Some y → ((p : Placement) → alu_of w Mov (raw p y) (raw p y) ≡ raw p z)
-        → Goes bytes (Alu w Mov dst src) t (with_tag t dst.number z 1)
+    → Goes bytes (Alu w Mov dst src) t (with_tag t dst.number z 1)
 goes_mov bytes w dst src t y z f sy word p placed u m =
     let b : word_of u src ≡ Some (raw p y) = source_at p bytes t u m src ∙ ap (raw_option p) sy in
     let s = set_on p bytes t u m dst f z (alu_of w Mov (raw p y) (raw p y)) (sym (word p)) 1 in
@@ -95,7 +95,7 @@ goes_mov bytes w dst src t y z f sy word p placed u m =
 pub goes_unary : (bytes : List ℕ) (i : Insn) (dst from : Register) (t : Tagged) (v : ℕ) (f : ℕ → ℕ)
     → ((stack_at : ℕ) (u : State) → after stack_at i u ≡ (word_in u from >>= λ a. set_register u dst (f a) 1))
     → (dst.number == 10) ≡ false → t.registers from.number ≡ Some (num v)
-        → Goes bytes i t (with_tag t dst.number (num (f v)) 1)
+    → Goes bytes i t (with_tag t dst.number (num (f v)) 1)
 goes_unary bytes i dst from t v f is free_dst fx p placed u m =
     let a : word_in u from ≡ Some v = word_at p bytes t u m from ∙ ap (raw_option p) fx in
     let s = set_on p bytes t u m dst free_dst (num (f v)) (f v) refl 1 in
@@ -109,17 +109,17 @@ goes_wide bytes dst value t f p placed u m = set_on p bytes t u m dst f (num val
 pub goes_load : (bytes : List ℕ) (i : Insn) (dst base : Register) (size : Size) (offset : ℤ) (t : Tagged) (x : Tag)
     (word : ℕ) (f : ℕ → ℕ)
     → ((stack_at : ℕ) (u : State) → after stack_at i u ≡ (word_in u base >>= λ at. read_bytes u.memory
-        (address_of at offset) (bytes_of size) >>= λ v. set_register u dst (f v) 1))
+    (address_of at offset) (bytes_of size) >>= λ v. set_register u dst (f v) 1))
     → (dst.number == 10) ≡ false → t.registers base.number ≡ Some x
     → ((p : Placement) → IsPlacementFor (length bytes) p → read_bytes (memory_at p bytes t.stack)
-        (address_of (raw p x) offset) (bytes_of size) ≡ Some word)
+    (address_of (raw p x) offset) (bytes_of size) ≡ Some word)
     → Goes bytes i t (with_tag t dst.number (num (f word)) 1)
 goes_load bytes i dst base size offset t x word f is free_dst bx there p placed u m =
     let a : word_in u base ≡ Some (raw p x) = word_at p bytes t u m base ∙ ap (raw_option p) bx in
     let at = address_of (raw p x) offset in
     let r : read_bytes u.memory at (bytes_of size) ≡ Some word =
-            read_same u.memory (memory_at p bytes t.stack) at at (bytes_of size) (λ j l. m.memory (at + j))
-            ∙ there p placed in
+    read_same u.memory (memory_at p bytes t.stack) at at (bytes_of size) (λ j l. m.memory (at + j))
+    ∙ there p placed in
     let s = set_on p bytes t u m dst free_dst (num (f word)) (f word) refl 1 in (
       s.0,
       is p.stack_at u ∙ bind (word_in u base) (raw p x) (λ at'. read_bytes u.memory (address_of at' offset)
@@ -139,7 +139,7 @@ written_same m m' at n word a e = ap (λ x. cond (nat_le at a && nat_lt a (at + 
 pub store_on : (p : Placement) (bytes : List ℕ) → IsPlacementFor (length bytes) p → (t : Tagged) (u : State)
     → Matches p bytes t u → (at index n word : ℕ) → at ≡ p.stack_at + index → index + n ≤ stack_len
     → (u' : State) × (store_at p.stack_at u at n word ≡ Some u')
-        × Matches p bytes (with_stack t (written t.stack index n word)) u'
+    × Matches p bytes (with_stack t (written t.stack index n word)) u'
 store_on p bytes placed t u m at index n word e h =
     let lo : nat_le p.stack_at at ≡ true = grind (arith, nat_tests) in
     let hi : nat_le (at + n) (p.stack_at + stack_len) ≡ true = grind (arith, nat_tests) in (

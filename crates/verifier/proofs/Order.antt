@@ -125,8 +125,8 @@ made lo hi lo' hi' l h o m n =
     let c = make_lo lo' hi' (omega (arith, ints)) m n in
     let d = make_hi lo' hi' (omega (arith, ints)) m n in
     within_span (make_span lo hi) (make_span lo' hi') (subst (λ z. z ≤ℤ (make_span lo hi).lo) (sym c)
-        (subst (λ z. lo' ≤ℤ z) (sym a) l)) (subst (λ z. z ≤ℤ (make_span lo' hi').hi) (sym b)
-        (subst (λ z. hi ≤ℤ z) (sym d) h))
+    (subst (λ z. lo' ≤ℤ z) (sym a) l)) (subst (λ z. z ≤ℤ (make_span lo' hi').hi) (sym b)
+    (subst (λ z. hi ≤ℤ z) (sym d) h))
 
 add_down : (a b : Span) (r s : ℤ × ℤ) → IsTrue (span_below a b) → s.0 ≤ℤ r.0 → r.1 ≤ℤ s.1 → r.0 ≤ℤ r.1
     → SpanBelow (span_moved Add a r) (span_moved Add b s)
@@ -137,7 +137,7 @@ add_down a b r s h l u o =
       | inl p ↦
           let t = near (a.lo +ℤ r.0) (a.hi +ℤ r.1) (omega (arith, ints)) (omega (arith, ints)) in
           rw (p.0, t) (made (a.lo +ℤ r.0) (a.hi +ℤ r.1) (b.lo +ℤ s.0) (b.hi +ℤ s.1) (omega (arith, ints))
-              (omega (arith, ints)) (omega (arith, ints)) p.1 p.2)
+          (omega (arith, ints)) (omega (arith, ints)) p.1 p.2)
       | inr f ↦ rw f tt
     ]
 
@@ -150,7 +150,7 @@ sub_down a b r s h l u o =
       | inl p ↦
           let t = near (a.lo -ℤ r.1) (a.hi -ℤ r.0) (omega (arith, ints)) (omega (arith, ints)) in
           rw (p.0, t) (made (a.lo -ℤ r.1) (a.hi -ℤ r.0) (b.lo -ℤ s.1) (b.hi -ℤ s.0) (omega (arith, ints))
-              (omega (arith, ints)) (omega (arith, ints)) p.1 p.2)
+          (omega (arith, ints)) (omega (arith, ints)) p.1 p.2)
       | inr f ↦ rw f tt
     ]
 
@@ -180,7 +180,7 @@ within_all w v from n from' (suc n') up l h each =
     let j = from' - from in
     let e : from + j ≡ from' = omega arith in
     and (w from') (all_written w (from' + 1) n') (up from' (subst (λ k. IsTrue (v k)) e (each j (omega arith))))
-        (within_all w v from n (from' + 1) n' up (omega arith) (omega arith) each)
+    (within_all w v from n (from' + 1) n' up (omega arith) (omega arith) each)
 
 each_of : (w : ℕ → Bool) (from n j : ℕ) → IsTrue (all_written w from n) → j < n → IsTrue (w (from + j))
 each_of w from zero j h l = absurd (omega arith)
@@ -189,7 +189,7 @@ each_of w from (suc n) zero h l = let e : from + 0 ≡ from = omega arith in
 each_of w from (suc n) (suc j) h l =
     let e : from + 1 + j ≡ from + suc j = omega arith in
     subst (λ k. IsTrue (w k)) e (each_of w (from + 1) n j (both (w from) (all_written w (from + 1) n) h).1
-        (omega arith))
+    (omega arith))
 
 -- fewer bytes of more that are written
 pub all_written_down : (w v : ℕ → Bool) (from n from' n' : ℕ) → ((k : ℕ) → IsTrue (v k) → IsTrue (w k)) → from ≤ from'

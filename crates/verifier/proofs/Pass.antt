@@ -105,8 +105,12 @@ module _ {D : Type 0} {o : Ops D} (laws : Laws o) where
   flow_keeps states j k None s c = c
   flow_keeps states j k (Some t) s c =
       elim (tells k j) [
-        | inl p ↦ (with_joined o (states j) t, rw p.0 refl, view_through laws s c.0 (with_joined o (states j) t) c.2
-            (above_old (states j) t c.0 (ap states (sym p.1) ∙ c.1)))
+        | inl p ↦ (
+          with_joined o (states j) t,
+          rw p.0 refl,
+          view_through laws s c.0 (with_joined o (states j) t) c.2
+              (above_old (states j) t c.0 (ap states (sym p.1) ∙ c.1)),
+        )
         | inr p ↦ (c.0, rw p.0 c.1, c.2)
       ]
 
@@ -228,18 +232,18 @@ module _ {D : Type 0} {o : Ops D} (laws : Laws o) where
       let listed : IsListed i = insn_all IsListed code n i is_code.listed at in
       let past : (j : ℕ) → leads_to n i ≡ Some j → n + 1 ≤ j = λ j e. leads_past n j (distance_of i) e in
       let keeps : (k : ℕ) (t : View D) → Carries o states k t → Carries o after k t =
-              λ k t c. edge_keeps falling (leads_to n i) k (jump o i s) t (flow_keeps states next k (fall o i s) t c) in
+      λ k t c. edge_keeps falling (leads_to n i) k (jump o i s) t (flow_keeps states next k (fall o i s) t c) in
       let more : (k : ℕ) (t : View D) → Carries o falling k t → Carries o after k t =
-              λ k t c. edge_keeps falling (leads_to n i) k (jump o i s) t c in
+      λ k t c. edge_keeps falling (leads_to n i) k (jump o i s) t c in
       let same : (k : ℕ) → k < n + 1 → after k ≡ states k = λ k h.
       edge_other falling (leads_to n i) k (jump o i s) (λ j e. let q = past j e in omega arith)
-          ∙ flow_other states next k (fall o i s) (omega arith) in
+      ∙ flow_other states next k (fall o i s) (omega arith) in
       let falls_to : (u : View D) → fall o i s ≡ Some u → IsSome (insn_at code next) = λ u e.
       insn_next code n i at (structured.meets n i FallsOff at (fall_goes o i s u e)) in
       let jumps_to : (j : ℕ) → leads_to n i ≡ Some j → IsSome (insn_at code j) = λ j e.
       at_target (λ k. k < slot_count code → IsSome (insn_at code k)) (leads_to n i) j e
-          (structured.meets n i IntoWide at) (at_target (λ k. k
-          < slot_count code) (leads_to n i) j e (structured.meets n i Outside at)) in
+      (structured.meets n i IntoWide at) (at_target (λ k. k
+      < slot_count code) (leads_to n i) j e (structured.meets n i Outside at)) in
       let f = m.fulfils in
       record {
         fulfils = record {
@@ -252,12 +256,12 @@ module _ {D : Type 0} {o : Ops D} (laws : Laws o) where
               (λ k' j' t'. EdgeCarries o after (Some (k' + slots_of j')) (fall o j' t')) n i s at is
               (edge_more falling after more (Some next) (fall o i s) (flow_carries states next (fall o i s)))
               (λ k' j' t' h' a' b'. edge_more states after keeps (Some (k' + slots_of j')) (fall o j' t')
-                  (f.falls k' j' t' h' a' b')) k j t h a (sym (same k h) ∙ b);
+              (f.falls k' j' t' h' a' b')) k j t h a (sym (same k h) ∙ b);
           jumps = λ k j t h a b. each_more (insn_at code) states
               (λ k' j' t'. EdgeCarries o after (leads_to k' j') (jump o j' t')) n i s at is
               (edge_carries falling (leads_to n i) (jump o i s))
               (λ k' j' t' h' a' b'. edge_more states after keeps (leads_to k' j') (jump o j' t')
-                  (f.jumps k' j' t' h' a' b')) k j t h a (sym (same k h) ∙ b);
+              (f.jumps k' j' t' h' a' b')) k j t h a (sym (same k h) ∙ b);
         };
         least = λ others g.
             let below = m.least others (fulfils_upto code n (n + 1) others (omega arith) g) in
@@ -267,9 +271,9 @@ module _ {D : Type 0} {o : Ops D} (laws : Laws o) where
             edge_least falling others (leads_to n i) (jump o i s)
             (flow_least states others next (fall o i s) below
             (edge_below others (Some next) (fall o i s) (fall o i here.0) (fall_up laws s here.0 here.2 i listed q)
-                (g.falls n i here.0 h at here.1)))
+            (g.falls n i here.0 h at here.1)))
             (edge_below others (leads_to n i) (jump o i s) (jump o i here.0) (jump_up laws s here.0 here.2 i q)
-                (g.jumps n i here.0 h at here.1));
+            (g.jumps n i here.0 h at here.1));
       }
 
   -- a slot that no state reaches
@@ -302,8 +306,8 @@ module _ {D : Type 0} {o : Ops D} (laws : Laws o) where
             let two : n + 1 + 1 ≡ n + slots_of i = omega arith in
             let none : insn_at code (n + 1) ≡ None = none_within code n (n + 1) i is (omega arith) (omega arith) in
             subst (λ w. IsLeast o code w states) two (skipped code (n + 1) states m
-                (stateless (states (n + 1)) (λ s g. nowhere (insn_at code (n + 1)) none
-                (m.fulfils.inside (n + 1) s g))))
+            (stateless (states (n + 1)) (λ s g. nowhere (insn_at code (n + 1)) none
+            (m.fulfils.inside (n + 1) s g))))
       ]
     where
       nowhere : (x : Option Insn) → x ≡ None → IsSome x → ⊥
@@ -318,7 +322,7 @@ module _ {D : Type 0} {o : Ops D} (laws : Laws o) where
       → FulfilsBefore o code (slot + 1) states → ⊥
   refused code slot rule r states f =
       let here = r.least.least states (fulfils_upto code slot (slot + 1) states (omega arith) f) slot r.state
-              r.is_state in
+      r.is_state in
       let k : slot < slot + 1 = omega arith in
       let p = passes_down laws r.state here.0 here.2 r.insn (f.passes slot r.insn here.0 k r.is_at here.1) rule in
       let q = r.fails.fails in

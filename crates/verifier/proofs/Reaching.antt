@@ -45,7 +45,7 @@ pub record ReadAt (bytes : List ℕ) (stack : Memory) (x : Option Tag) (offset :
 read_record : (bytes : List ℕ) (stack : Memory) (a : Span) (k offset : ℤ) (size : Size) → All (λ byte. byte < 256) bytes
     → a.lo ≤ℤ k → k ≤ℤ a.hi → FitsSigned w16 offset
     → IsTrue (in_record (length bytes) (reach_of a offset size))
-        → ReadAt bytes stack (Some (ptr the_record k)) offset (bytes_of size)
+    → ReadAt bytes stack (Some (ptr the_record k)) offset (bytes_of size)
 read_record bytes stack a k offset size each l h f inside =
     let n = bytes_of size in
     let some = some_bytes size in
@@ -58,8 +58,12 @@ read_record bytes stack a k offset size each l h f inside =
     let e : (k +ℤ offset) ≡ pos i.0 = i.1 in
     let room : i.0 + n ≤ length bytes = omega (arith, ints) in
     let there : Memory = λ j. Some (slice_index bytes j) in
-    let w = reads_some there i.0 n (λ j s. record { byte = slice_index bytes (i.0 + j); is_there = refl; small =
-            each (i.0 + j) 0 (omega arith) }) in
+    let w = reads_some there i.0 n (λ j s. record {
+      byte = slice_index bytes (i.0 + j);
+      is_there = refl;
+      small =
+          each (i.0 + j) 0 (omega arith);
+    }) in
     record {
       tag = ptr the_record k;
       is_tag = refl;
@@ -67,7 +71,7 @@ read_record bytes stack a k offset size each l h f inside =
       small = w.small;
       reads = λ p placed.
           ap (λ at. read_bytes (memory_at p bytes stack) at n)
-              (record_address p placed k offset i.0 (omega (arith, ints)) (omega (arith, ints)) f e (omega arith))
+          (record_address p placed k offset i.0 (omega (arith, ints)) (omega (arith, ints)) f e (omega arith))
           ∙ read_same (memory_at p bytes stack) there (p.record_at + i.0) i.0 n (λ j s.
           let g : p.record_at + i.0 + j ≡ p.record_at + (i.0 + j) = omega arith in
           ap (memory_at p bytes stack) g ∙ record_byte p bytes stack (i.0 + j) (omega arith))
@@ -92,7 +96,7 @@ place : (a : Span) (k offset : ℤ) (n : ℕ) → a.lo ≤ℤ k → k ≤ℤ a.h
     → Place a.lo a.hi k offset n
 place a k offset n l h inside =
     let q = both (int_le (pos 0 -ℤ pos stack_len) (a.lo +ℤ offset)) (int_le ((a.hi +ℤ offset) +ℤ pos n) (pos 0))
-            inside in
+    inside in
     let lo = le_tells (pos 0 -ℤ pos stack_len) (a.lo +ℤ offset) q.0 in
     let hi = le_tells ((a.hi +ℤ offset) +ℤ pos n) (pos 0) q.1 in
     let f = whole_of ((a.lo +ℤ offset) +ℤ pos stack_len) (omega (arith, ints)) in
@@ -122,8 +126,8 @@ written_to w a from wide e f h = subst (λ n. IsTrue (all_written w from (n + a.
 read_stack : (bytes : List ℕ) (stack : Memory) (w : ℕ → Bool) (a : Span) (k offset : ℤ) (size : Size)
     → ((j : ℕ) → IsTrue (w j) → (b : ℕ) × (stack j ≡ Some b)) → ((j b : ℕ) → stack j ≡ Some b → b < 256)
     → a.lo ≤ℤ k → k ≤ℤ a.hi → FitsSigned w16 offset → IsTrue (in_stack (reach_of a offset size))
-        → IsTrue (is_written_at w (reach_of a offset size)) → ReadAt bytes stack (Some (ptr the_stack k)) offset
-        (bytes_of size)
+    → IsTrue (is_written_at w (reach_of a offset size)) → ReadAt bytes stack (Some (ptr the_stack k)) offset
+    (bytes_of size)
 read_stack bytes stack w a k offset size there small l h f inside all =
     let n = bytes_of size in
     let some = some_bytes size in
@@ -138,7 +142,7 @@ read_stack bytes stack w a k offset size there small l h f inside all =
     let i = q.index + j - q.from in
     let e : q.from + i ≡ q.index + j = omega arith in
     let t : IsTrue (w (q.index + j)) = subst (λ m. IsTrue (w m)) e
-            (each_written w q.from (q.wide + n) i each (omega arith)) in
+    (each_written w q.from (q.wide + n) i each (omega arith)) in
     let b = there (q.index + j) t in
     record { byte = b.0; is_there = b.1; small = small (q.index + j) b.0 b.1 }) in
     record {
@@ -148,8 +152,8 @@ read_stack bytes stack w a k offset size there small l h f inside all =
       small = word.small;
       reads = λ p placed.
           ap (λ at. read_bytes (memory_at p bytes stack) at n)
-              (stack_address p placed k offset q.index (omega (arith, ints)) (omega (arith, ints)) f q.index_is
-              (omega arith))
+          (stack_address p placed k offset q.index (omega (arith, ints)) (omega (arith, ints)) f q.index_is
+          (omega arith))
           ∙ read_same (memory_at p bytes stack) stack (p.stack_at + q.index) q.index n (λ j s.
           let g : p.stack_at + q.index + j ≡ p.stack_at + (q.index + j) = omega arith in
           ap (memory_at p bytes stack) g ∙ stack_byte p bytes placed stack (q.index + j) (omega arith))
@@ -161,8 +165,8 @@ pub load_there : {D : Type 0} (o : Ops D) (bytes : List ℕ) (s : View D) (t : T
     (offset : ℤ) (size : Size) (base : ℕ) → All (λ byte. byte < 256) bytes → Covered o s t → FitsSigned w16 offset
     → (let r : Access = record { base = base; offset = offset; size = size; is_store = false } in
     Covers o a x → IsTrue (is_readable a) → IsTrue (inside_record (length bytes) a r) → IsTrue (inside_stack a r)
-        → IsTrue (finds_written s.written a r) → IsTrue (not (is_scalar a))
-        → ReadAt bytes t.stack x offset (bytes_of size))
+    → IsTrue (finds_written s.written a r) → IsTrue (not (is_scalar a))
+    → ReadAt bytes t.stack x offset (bytes_of size))
 load_there o bytes s t (Record a) (Some (ptr the_record k)) offset size base each c f h r ir is w sc =
     read_record bytes t.stack a k offset size each h.0 h.1 f ir
 load_there o bytes s t (Stack a) (Some (ptr the_stack k)) offset size base each c f h r ir is w sc =
@@ -196,7 +200,7 @@ pub store_there : {D : Type 0} (o : Ops D) (s : View D) (t : Tagged) (a : RegSta
     (size : Size) (base : ℕ) → Covered o s t → FitsSigned w16 offset
     → (let r : Access = record { base = base; offset = offset; size = size; is_store = true } in
     Covers o a x → IsTrue (is_readable a) → IsTrue (spares_record a r) → IsTrue (inside_stack a r)
-        → IsTrue (not (is_scalar a)) → StoreAt o s t a x offset size)
+    → IsTrue (not (is_scalar a)) → StoreAt o s t a x offset size)
 store_there o s t (Stack a) (Some (ptr the_stack k)) offset size base c f h r lr is sc =
     let n = bytes_of size in
     let q = place a k offset n h.0 h.1 is in

@@ -49,8 +49,8 @@ inside_down first end a b offset n h k =
     let l = le_tells first (b.lo +ℤ offset) q.0 in
     let u = le_tells ((b.hi +ℤ offset) +ℤ pos n) end q.1 in
     and (int_le first (a.lo +ℤ offset)) (int_le ((a.hi +ℤ offset) +ℤ pos n) end)
-        (le_holds first (a.lo +ℤ offset) (omega (arith, ints)))
-        (le_holds ((a.hi +ℤ offset) +ℤ pos n) end (omega (arith, ints)))
+    (le_holds first (a.lo +ℤ offset) (omega (arith, ints)))
+    (le_holds ((a.hi +ℤ offset) +ℤ pos n) end (omega (arith, ints)))
 
 inside_record_down : {D : Type 0} {o : Ops D} {a b : RegState D} (r : Access) → Readable o a b
     → IsTrue (inside_record record_len b r) → IsTrue (inside_record record_len a r)
@@ -90,7 +90,7 @@ begins : (a b : Span) (offset : ℤ) (n : ℕ) → IsTrue (span_below a b)
 begins a b offset n h inside =
     let w = span_within a b h in
     let q = both (int_le (pos 0 -ℤ pos stack_len) (b.lo +ℤ offset)) (int_le ((b.hi +ℤ offset) +ℤ pos n) (pos 0))
-            inside in
+    inside in
     let l = le_tells (pos 0 -ℤ pos stack_len) (b.lo +ℤ offset) q.0 in
     let u = le_tells ((b.hi +ℤ offset) +ℤ pos n) (pos 0) q.1 in
     let ao : a.lo ≤ℤ a.hi = a.ordered in
@@ -125,11 +125,11 @@ written_at_down w v a b offset size up q h =
     let above : q.from ≤ q.from' = q.above in
     let below : q.from' + q.wide' ≤ q.from + q.wide = q.below in
     let h' : IsTrue (all_written v q.from (q.wide + n)) = subst (λ i. IsTrue (all_written v i (q.wide + n))) q.from_is
-            (subst (λ i. IsTrue (all_written v (stack_index (b.lo +ℤ offset)) (i + n))) q.wide_is h) in
+    (subst (λ i. IsTrue (all_written v (stack_index (b.lo +ℤ offset)) (i + n))) q.wide_is h) in
     let k : IsTrue (all_written w q.from' (q.wide' + n)) = all_written_down w v q.from (q.wide + n) q.from' (q.wide'
-            + n) up above (omega arith) h' in
+    + n) up above (omega arith) h' in
     subst (λ i. IsTrue (all_written w (stack_index (a.lo +ℤ offset)) (i + n))) (sym q.wide'_is)
-        (subst (λ i. IsTrue (all_written w i (q.wide' + n))) (sym q.from'_is) k)
+    (subst (λ i. IsTrue (all_written w i (q.wide' + n))) (sym q.from'_is) k)
 
 or_true : (a b c : Bool) → (IsTrue b → IsTrue c) → IsTrue (a || b) → IsTrue (a || c)
 or_true true b c f h = refl
@@ -142,7 +142,7 @@ finds_down w v r up (numbers a b h) is k = k
 finds_down w v r up (records a b h) is k = k
 finds_down w v r up (stacks a b h) is k =
     or_true r.is_store (is_written_at v (reach_of b r.offset r.size)) (is_written_at w (reach_of a r.offset r.size))
-        (written_at_down w v a b r.offset r.size up (begins a b r.offset (bytes_of r.size) h is)) k
+    (written_at_down w v a b r.offset r.size up (begins a b r.offset (bytes_of r.size) h is)) k
 
 -- ---- tests
 
@@ -191,20 +191,20 @@ module _ {D : Type 0} {o : Ops D} (laws : Laws o) (s t : View D) (below : ViewBe
             (p unreadable_rule)))
         | inr n ↦
             let h : IsTrue (list_all (λ r. is_readable (t.registers r)) (dst.number ∷ source_reads src)) =
-                    subst (λ rs. IsTrue (list_all (λ r. is_readable (t.registers r)) rs)) (reads_alu w op dst src n)
-                    (p unreadable_rule) in
+            subst (λ rs. IsTrue (list_all (λ r. is_readable (t.registers r)) rs)) (reads_alu w op dst src n)
+            (p unreadable_rule) in
             operand_at src (source_readable o t src (both (is_readable (t.registers dst.number))
-                (list_all (λ r. is_readable (t.registers r)) (source_reads src)) h).1)
+            (list_all (λ r. is_readable (t.registers r)) (source_reads src)) h).1)
       ]
 
   alu_target : (w : Width) (op : AluOp) (dst : Register) (src : Source) → is_mov op ≡ false
       → Passes o (Alu w op dst src) t → Readable o (s.registers dst.number) (t.registers dst.number)
   alu_target w op dst src n p =
       let h : IsTrue (list_all (λ r. is_readable (t.registers r)) (dst.number ∷ source_reads src)) =
-              subst (λ rs. IsTrue (list_all (λ r. is_readable (t.registers r)) rs)) (reads_alu w op dst src n)
-              (p unreadable_rule) in
+      subst (λ rs. IsTrue (list_all (λ r. is_readable (t.registers r)) rs)) (reads_alu w op dst src n)
+      (p unreadable_rule) in
       readable_at dst.number (both (is_readable (t.registers dst.number))
-          (list_all (λ r. is_readable (t.registers r)) (source_reads src)) h).0
+      (list_all (λ r. is_readable (t.registers r)) (source_reads src)) h).0
 
   -- the first register that is read, and the second
   first_at : (r : ℕ) (rs : List ℕ) → IsTrue (list_all (λ k. is_readable (t.registers k)) (r ∷ rs))
@@ -219,7 +219,7 @@ module _ {D : Type 0} {o : Ops D} (laws : Laws o) (s t : View D) (below : ViewBe
   operation_down : (i : Insn) → Passes o i t → IsTrue (meets o i s PointerOperation)
   operation_down (Alu w op dst src) p =
       let e = same_fit w op (s.registers dst.number) (t.registers dst.number) (operand o s src) (operand o t src)
-              (λ n. same_pointer (alu_target w op dst src n p)) (same_pointer (alu_source w op dst src p)) in
+      (λ n. same_pointer (alu_target w op dst src n p)) (same_pointer (alu_source w op dst src p)) in
       subst IsTrue (sym e) (p PointerOperation)
   operation_down (Neg w dst) p = same_not (is_pointer (s.registers dst.number)) (is_pointer (t.registers dst.number))
       (same_pointer (first_at dst.number [] (p unreadable_rule))) (p PointerOperation)
@@ -244,15 +244,15 @@ module _ {D : Type 0} {o : Ops D} (laws : Laws o) (s t : View D) (below : ViewBe
       let a = first_at dst.number (source_reads src) (p unreadable_rule) in
       let b = operand_at src (source_readable o t src (rest_at dst.number (source_reads src) (p unreadable_rule))) in
       same_not (is_pointer (s.registers dst.number) || is_pointer (operand o s src))
-          (is_pointer (t.registers dst.number) || is_pointer (operand o t src))
-          (ap₂ (λ x y. x || y) (same_pointer a) (same_pointer b)) (p PointerCompared)
+      (is_pointer (t.registers dst.number) || is_pointer (operand o t src))
+      (ap₂ (λ x y. x || y) (same_pointer a) (same_pointer b)) (p PointerCompared)
   comparison_down i p = refl
 
   stored_down : (i : Insn) → Passes o i t → IsTrue (meets o i s PointerStored)
   stored_down (Store size base offset src) p =
       let a = first_at src.number [] (rest_at base.number (src.number ∷ []) (p unreadable_rule)) in
       same_not (is_pointer (s.registers src.number)) (is_pointer (t.registers src.number)) (same_pointer a)
-          (p PointerStored)
+      (p PointerStored)
   stored_down i p = refl
 
   result_down : (i : Insn) → Passes o i t → IsTrue (meets o i s PointerResult)
@@ -266,14 +266,34 @@ module _ {D : Type 0} {o : Ops D} (laws : Laws o) (s t : View D) (below : ViewBe
       → IsTrue (inside_stack (t.registers r.base) r) → IsTrue (g (t.registers r.base) r)
       → IsTrue (f (s.registers r.base) r))
       → IsTrue (of_access i t g) → IsTrue (of_access i s f)
-  reach_down (Load size dst base offset) f g p k h = k (record { base = base.number; offset = offset; size =
-      size; is_store = false }) (first_at base.number [] (p unreadable_rule)) (p OutsideStack) h
-  reach_down (LoadSx size dst base offset) f g p k h = k (record { base = base.number; offset = offset; size =
-      size; is_store = false }) (first_at base.number [] (p unreadable_rule)) (p OutsideStack) h
-  reach_down (Store size base offset src) f g p k h = k (record { base = base.number; offset = offset; size =
-      size; is_store = true }) (first_at base.number (src.number ∷ []) (p unreadable_rule)) (p OutsideStack) h
-  reach_down (StoreImm size base offset imm) f g p k h = k (record { base = base.number; offset = offset; size =
-      size; is_store = true }) (first_at base.number [] (p unreadable_rule)) (p OutsideStack) h
+  reach_down (Load size dst base offset) f g p k h = k (record {
+    base = base.number;
+    offset = offset;
+    size =
+        size;
+    is_store = false;
+  }) (first_at base.number [] (p unreadable_rule)) (p OutsideStack) h
+  reach_down (LoadSx size dst base offset) f g p k h = k (record {
+    base = base.number;
+    offset = offset;
+    size =
+        size;
+    is_store = false;
+  }) (first_at base.number [] (p unreadable_rule)) (p OutsideStack) h
+  reach_down (Store size base offset src) f g p k h = k (record {
+    base = base.number;
+    offset = offset;
+    size =
+        size;
+    is_store = true;
+  }) (first_at base.number (src.number ∷ []) (p unreadable_rule)) (p OutsideStack) h
+  reach_down (StoreImm size base offset imm) f g p k h = k (record {
+    base = base.number;
+    offset = offset;
+    size =
+        size;
+    is_store = true;
+  }) (first_at base.number [] (p unreadable_rule)) (p OutsideStack) h
   reach_down i f g p k h = refl
 
   -- what passes passes in each state below
@@ -328,13 +348,13 @@ marks_down w v a b offset size up q k h =
       | inl t ↦
           let single = q.single (let g = le_tells (b.hi +ℤ offset) (b.lo +ℤ offset) t in omega (arith, ints)) in
           let t' : int_le (a.hi +ℤ offset) (a.lo +ℤ offset) ≡ true =
-                  le_holds (a.hi +ℤ offset) (a.lo +ℤ offset) (omega (arith, ints)) in
+          le_holds (a.hi +ℤ offset) (a.lo +ℤ offset) (omega (arith, ints)) in
           let e : stack_index (b.lo +ℤ offset) ≡ stack_index (a.lo +ℤ offset) = q.from_is ∙ single.1 ∙ sym q.from'_is in
           let m : IsTrue (with_marks v (stack_index (b.lo +ℤ offset)) n k) = rw t at h in
           let m' : IsTrue (with_marks v (stack_index (a.lo +ℤ offset)) n k) =
-                  subst (λ i. IsTrue (with_marks v i n k)) e m in
+          subst (λ i. IsTrue (with_marks v i n k)) e m in
           rw t' (or_true (nat_le (stack_index (a.lo +ℤ offset)) k && nat_lt k (stack_index (a.lo +ℤ offset) + n)) (v k)
-              (w k) (up k) m')
+          (w k) (up k) m')
       | inr f ↦
           let m : IsTrue (v k) = rw f at h in
           elim (truth (int_le (a.hi +ℤ offset) (a.lo +ℤ offset))) [
@@ -352,8 +372,11 @@ stored_up : {D : Type 0} {o : Ops D} (s t : View D) {a b : RegState D} (r : Acce
     → IsTrue (inside_stack b r) → ViewBelow o (after_store s a r.offset r.size) (after_store t b r.offset r.size)
 stored_up s t r h (numbers a b k) is = h
 stored_up s t r h (records a b k) is = h
-stored_up s t r h (stacks a b k) is = record { registers = h.registers; written =
-    marks_down s.written t.written a b r.offset r.size h.written (begins a b r.offset (bytes_of r.size) k is) }
+stored_up s t r h (stacks a b k) is = record {
+  registers = h.registers;
+  written =
+      marks_down s.written t.written a b r.offset r.size h.written (begins a b r.offset (bytes_of r.size) k is);
+}
 
 module _ {D : Type 0} {o : Ops D} (laws : Laws o) (s t : View D) (below : ViewBelow o s t) where
   cut_one_up : (d : ℕ) (p q : Option (D × D)) → BelowPair o p q → FlowBelow o (cut_one s d p) (cut_one t d q)
@@ -371,8 +394,8 @@ module _ {D : Type 0} {o : Ops D} (laws : Laws o) (s t : View D) (below : ViewBe
       → FlowBelow o (refined_imm o w test taken s d n a) (refined_imm o w test taken t d n b)
   refined_imm_up w test taken d n (numbers a b h) =
       cut_one_up d (o.refine w test taken a (o.single (low w n))) (o.refine w test taken b (o.single (low w n)))
-          (laws.refine_monotone w test taken a (o.single (low w n)) b (o.single (low w n)) h
-          (laws.below_same (o.single (low w n))))
+      (laws.refine_monotone w test taken a (o.single (low w n)) b (o.single (low w n)) h
+      (laws.below_same (o.single (low w n))))
   refined_imm_up w test taken d n (records a b h) = tt
   refined_imm_up w test taken d n (stacks a b h) = tt
 
@@ -399,10 +422,10 @@ module _ {D : Type 0} {o : Ops D} (laws : Laws o) (s t : View D) (below : ViewBe
   refined_up w test taken dst (Reg r) distance p =
       let a = first_at laws s t below dst.number (r.number ∷ []) (p unreadable_rule) in
       let b = first_at laws s t below r.number [] (rest_at laws s t below dst.number (r.number ∷ [])
-              (p unreadable_rule)) in
+      (p unreadable_rule)) in
       same_or_pair (dst.number == r.number) (refined_pair o w test taken s dst.number r.number (s.registers dst.number)
-          (s.registers r.number)) (refined_pair o w test taken t dst.number r.number (t.registers dst.number)
-          (t.registers r.number))
+      (s.registers r.number)) (refined_pair o w test taken t dst.number r.number (t.registers dst.number)
+      (t.registers r.number))
       (refined_pair_up w test taken dst.number r.number a b)
 
   alu_up : (w : Width) (op : AluOp) (dst : Register) (src : Source) → Passes o (Alu w op dst src) t
@@ -437,11 +460,21 @@ module _ {D : Type 0} {o : Ops D} (laws : Laws o) (s t : View D) (below : ViewBe
       (Scalar (o.load size false)) below (laws.below_same (o.load size false))
   fall_up (LoadSx size dst base offset) l p = put_below o s t dst.number (Scalar (o.load size true))
       (Scalar (o.load size true)) below (laws.below_same (o.load size true))
-  fall_up (Store size base offset src) l p = stored_up s t (record { base = base.number; offset = offset; size =
-      size; is_store = true }) below (first_at laws s t below base.number (src.number ∷ []) (p unreadable_rule))
+  fall_up (Store size base offset src) l p = stored_up s t (record {
+    base = base.number;
+    offset = offset;
+    size =
+        size;
+    is_store = true;
+  }) below (first_at laws s t below base.number (src.number ∷ []) (p unreadable_rule))
       (p OutsideStack)
-  fall_up (StoreImm size base offset imm) l p = stored_up s t (record { base = base.number; offset = offset; size =
-      size; is_store = true }) below (first_at laws s t below base.number [] (p unreadable_rule)) (p OutsideStack)
+  fall_up (StoreImm size base offset imm) l p = stored_up s t (record {
+    base = base.number;
+    offset = offset;
+    size =
+        size;
+    is_store = true;
+  }) below (first_at laws s t below base.number [] (p unreadable_rule)) (p OutsideStack)
   fall_up (Jump distance) l p = tt
   fall_up (JumpLong distance) l p = tt
   fall_up (JumpIf w test dst src distance) l p = refined_up w test false dst src distance p

@@ -11,7 +11,7 @@ use Rattle.std.proofs.Common.{refl}
 pub passes_each : {D : Type 0} (o : Ops D) (i : Insn) (s : View D) → IsTrue (meets o i s Unreadable)
     → IsTrue (meets o i s WritesR10) → IsTrue (meets o i s PointerOperation) → IsTrue (meets o i s PointerRange)
     → IsTrue (meets o i s PointerCompared) → IsTrue (meets o i s PointerStored) → InsnAccessPasses i s
-        → IsTrue (meets o i s PointerResult) → Passes o i s
+    → IsTrue (meets o i s PointerResult) → Passes o i s
 passes_each o i s a b c d e f g h Backward = refl
 passes_each o i s a b c d e f g h Outside = refl
 passes_each o i s a b c d e f g h IntoWide = refl

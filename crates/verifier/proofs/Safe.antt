@@ -63,7 +63,7 @@ one_step code p i u u' v n here e r =
     let c : 1 ≤ n = r.counted in
     let m : suc n - 1 ≡ suc (n - 1) = omega arith in
     let s : step p.stack_at code u ≡ Some u' = bind (insn_at code u.slot) i (λ j. after p.stack_at j u) (Some u') here
-            e in
+    e in
     record {
       last = r.last;
       counted = omega arith;
@@ -128,7 +128,7 @@ module _ {D : Type 0} {o : Ops D} (laws : Laws o) (code : List Insn) (is_code : 
         λ p placed u match.
             let g = goes p placed u match in
             one_step code p i u g.0 rest.0 rest.1 (ap (insn_at code) (match.slot ∙ slot)
-                ∙ here) g.1 (rest.3 p placed g.0 g.2),
+            ∙ here) g.1 (rest.3 p placed g.0 g.2),
       )
 
   listed : (at : ℕ) (i : Insn) → insn_at code at ≡ Some i → IsListed i
@@ -138,7 +138,7 @@ module _ {D : Type 0} {o : Ops D} (laws : Laws o) (code : List Insn) (is_code : 
   fits at to i here leads =
       let few = is_code.few in
       let h : to < slot_count code = target_within (leads_to at i) to (slot_count code)
-              (structured.meets at i Outside here) leads in
+      (structured.meets at i Outside here) leads in
       omega arith
 
   runs : (m at : ℕ) (s : View D) (t : Tagged) → left code at ≤ m → t.slot ≡ at → states at ≡ Some s → Covered o s t
@@ -156,24 +156,29 @@ module _ {D : Type 0} {o : Ops D} (laws : Laws o) (code : List Insn) (is_code : 
       let within : at < slot_count code = insn_within code at i here in
       let there : insn_at code t.slot ≡ Some i = ap (insn_at code) slot ∙ here in
       elim (onward laws bytes each i s t (listed at i here) c (fulfils.passes at i s within here e)
-          (λ to leads. fits t.slot to i there leads) (forward t.slot (distance_of i)
-          (structured.meets t.slot i Backward there))) [
-        | ends v is_exit r0 ↦ (v, 1, omega arith, λ p placed u match. ended code p bytes t u v match (there
-            ∙ ap Some is_exit) r0)
+      (λ to leads. fits t.slot to i there leads) (forward t.slot (distance_of i)
+      (structured.meets t.slot i Backward there))) [
+        | ends v is_exit r0 ↦ (
+          v,
+          1,
+          omega arith,
+          λ p placed u match. ended code p bytes t u v match (there
+              ∙ ap Some is_exit) r0,
+        )
         | falls_on s' t' f slot' c' goes ↦
             let next = edge o states (Some (at + slots_of i)) (fall o i s) (at + slots_of i) s' refl f
-                    (fulfils.falls at i s within here e) in
+            (fulfils.falls at i s within here e) in
             let some = some_slots i in
             let down = left_falls code (at + 1) (at + slots_of i) (omega arith) in
             go_further at m i t t' slot here goes (runs m (at + slots_of i) next.0 t' (omega arith) (slot'
-                ∙ ap (λ k. k + slots_of i) slot) next.1 (covered_up laws s' next.0 t' next.2 c'))
+            ∙ ap (λ k. k + slots_of i) slot) next.1 (covered_up laws s' next.0 t' next.2 c'))
         | jumps_on s' t' to f leads slot' c' goes ↦
             let leads' : leads_to at i ≡ Some to = ap (λ k. leads_to k i) (sym slot) ∙ leads in
             let next = edge o states (leads_to at i) (jump o i s) to s' leads' f (fulfils.jumps at i s within here e) in
             let past = after_jump at to (distance_of i) leads' in
             let down = left_falls code (at + 1) to past in
             go_further at m i t t' slot here goes (runs m to next.0 t' (omega arith) slot' next.1
-                (covered_up laws s' next.0 t' next.2 c'))
+            (covered_up laws s' next.0 t' next.2 c'))
       ]
 
 -- ---- the start
@@ -190,11 +195,11 @@ begins_covered {D = D} o = record {
   registers = λ r. elim (r == 1) as (λ b. Covers o (cond b (Record (make_span (pos 0) (pos 0)))
       (cond (r == 10) (Stack (make_span (pos 0) (pos 0))) Unreadable))
       (cond b (Some (ptr the_record (pos 0))) (cond (r == 10) (Some (ptr the_stack (pos 0))) None))) [
-    | true ↦ (omega (arith, ints, clamps), omega (arith, ints, clamps))
-    | false ↦ elim (r == 10) as (λ b. Covers o (cond b (Stack (make_span (pos 0) (pos 0))) (let x : RegState D =
-        Unreadable in x)) (cond b (Some (ptr the_stack (pos 0))) None))
-        [ true ↦ (omega (arith, ints, clamps), omega (arith, ints, clamps)) | false ↦ tt ]
-  ];
+        | true ↦ (omega (arith, ints, clamps), omega (arith, ints, clamps))
+        | false ↦ elim (r == 10) as (λ b. Covers o (cond b (Stack (make_span (pos 0) (pos 0))) (let x : RegState D =
+            Unreadable in x)) (cond b (Some (ptr the_stack (pos 0))) None))
+            [ true ↦ (omega (arith, ints, clamps), omega (arith, ints, clamps)) | false ↦ tt ]
+      ];
   written = λ k h. absurd (cc);
   small = λ k b e. absurd (cc);
 }
@@ -227,24 +232,24 @@ begins_matches p bytes some placed = record {
   memory = λ a. elim (is_in p.record_at (length bytes) a) as
       (λ b. cond b (Some (slice_index bytes (a - p.record_at))) None
       ≡ cond b (Some (slice_index bytes (a - p.record_at))) (cond (is_in p.stack_at stack_len a) None None)) [
-    | true ↦ refl
-    | false ↦ elim (is_in p.stack_at stack_len a) as (λ b. None ≡ cond b None (let x : Option ℕ = None in
-        x)) [ true ↦ refl | false ↦ refl ]
-  ];
+        | true ↦ refl
+        | false ↦ elim (is_in p.stack_at stack_len a) as (λ b. None ≡ cond b None (let x : Option ℕ = None in
+            x)) [ true ↦ refl | false ↦ refl ]
+      ];
 }
 
 -- code that an assignment fits ends with one answer on these bytes
 ends_on : {D : Type 0} {o : Ops D} (laws : Laws o) (code : List Insn) → IsCode code → IsStructured code
     → (states : Assignment D) (bytes : List ℕ) → 0 < length bytes → All (λ byte. byte < 256) bytes
     → FulfilsBeforeFor (length bytes) o code (slot_count code) states
-        → (v : ℕ) × (n : ℕ) × (n ≤ length code) × EndsFor (length bytes) code bytes v n
+    → (v : ℕ) × (n : ℕ) × (n ≤ length code) × EndsFor (length bytes) code bytes v n
 unfolding Reaches
 ends_on {o = o} laws code is_code structured states bytes some each f =
     let first = f.start in
     let c = covered_up laws entry_view first.0 begins first.2 (begins_covered o) in
     let all = left_all code in
     let r = runs laws code is_code structured states bytes each f (length code) 0 first.0 begins (omega arith) refl
-            first.1 c in (
+    first.1 c in (
       r.0,
       r.1,
       r.2,
@@ -260,4 +265,4 @@ safe {o = o} laws len some code is_code structured typable bytes rec =
     let long : length bytes ≡ len = rec.0 in
     subst (λ k. (v : ℕ) × (n : ℕ) × (n ≤ length code) × EndsFor k code bytes v n) long
     (ends_on laws code is_code structured typable.0 bytes (omega arith) rec.1
-        (subst (λ k. FulfilsBeforeFor k o code (slot_count code) typable.0) (sym long) typable.1))
+    (subst (λ k. FulfilsBeforeFor k o code (slot_count code) typable.0) (sym long) typable.1))

@@ -20,7 +20,7 @@ use Rattle.verifier.specs.Rules.{is_near, span_moved, reach_of, in_stack, whole,
 -- every operation but a difference adds the steps
 pub moved_otherwise : (op : AluOp) (a : Span) (steps : ℤ × ℤ) → (op ≡ Sub → ⊥)
     → (if is_near (a.lo +ℤ steps.0) (a.hi +ℤ steps.1) then Some (make_span (a.lo +ℤ steps.0) (a.hi +ℤ steps.1))
-        else None) ≡ span_moved op a steps
+    else None) ≡ span_moved op a steps
 moved_otherwise Add a steps n = refl
 moved_otherwise Sub a steps n = absurd (n refl)
 moved_otherwise Mul a steps n = refl
@@ -81,13 +81,13 @@ cut_small z h k = omega (arith, ints)
 pub cut_difference : (a b : ℤ) → Near a → Near b → cut (cut a -ℤ cut b) ≡ a -ℤ b
 cut_difference a b h k =
     ap₂ (λ (x y : ℤ). cut (x -ℤ y)) (cut_small a (omega (arith, ints)) (omega (arith, ints)))
-        (cut_small b (omega (arith, ints)) (omega (arith, ints)))
+    (cut_small b (omega (arith, ints)) (omega (arith, ints)))
     ∙ cut_small (a -ℤ b) (omega (arith, ints)) (omega (arith, ints))
 
 pub cut_sum : (a b : ℤ) → Near a → Near b → cut (cut a +ℤ cut b) ≡ a +ℤ b
 cut_sum a b h k =
     ap₂ (λ (x y : ℤ). cut (x +ℤ y)) (cut_small a (omega (arith, ints)) (omega (arith, ints)))
-        (cut_small b (omega (arith, ints)) (omega (arith, ints)))
+    (cut_small b (omega (arith, ints)) (omega (arith, ints)))
     ∙ cut_small (a +ℤ b) (omega (arith, ints)) (omega (arith, ints))
 
 -- both ends of a span, and the steps
@@ -96,8 +96,14 @@ span_near a = let l = a.near_below in let h = a.near_above in let o = a.ordered 
     (record { above = l; below = omega (arith, ints) }, record { above = omega (arith, ints); below = h })
 
 pub steps_near : (lo hi : ℤ) → (negsuc 65535 ≤ℤ lo) × (lo ≤ℤ hi) × (hi ≤ℤ pos 65535) → Near lo × Near hi
-steps_near lo hi h = (record { above = h.0; below = omega (arith, ints) }, record { above = omega (arith, ints); below =
-    omega (arith, ints) })
+steps_near lo hi h = (
+  record { above = h.0; below = omega (arith, ints) },
+  record {
+    above = omega (arith, ints);
+    below =
+        omega (arith, ints);
+  },
+)
 
 at_one : (lo hi : ℤ) → hi ≤ℤ lo → int_le hi lo ≡ true
 at_one lo hi h = grind (arith, ints)
@@ -106,10 +112,10 @@ at_one lo hi h = grind (arith, ints)
 pub stored_exact : {D : Type 0} (s : View D) (base : RegState D) (a : Span) (offset : ℤ) (size : Size) (first count : ℕ)
     → base ≡ Stack a → a.hi ≤ℤ a.lo
     → first ≡ stack_index (a.lo +ℤ offset) → count ≡ bytes_of size
-        → with_written s (with_marks s.written first count) ≡ after_store s base offset size
+    → with_written s (with_marks s.written first count) ≡ after_store s base offset size
 stored_exact s base a offset size first count is one from long =
     let e : int_le (a.hi +ℤ offset) (a.lo +ℤ offset) ≡ true =
-            at_one (a.lo +ℤ offset) (a.hi +ℤ offset) (omega (arith, ints)) in
+    at_one (a.lo +ℤ offset) (a.hi +ℤ offset) (omega (arith, ints)) in
     rw (is, e) (ap₂ (λ (f n : ℕ). with_written s (with_marks s.written f n)) from long)
 
 -- an access that passes lies inside the stack, where its address does
@@ -119,7 +125,7 @@ pub reach_inside : {D : Type 0} (o : Ops D) (i : Insn) (s : View D) (r : Access)
 reach_inside o i s r a fits is passes at =
     let h : IsTrue (of_access i s inside_stack) = passes OutsideStack in
     let k : IsTrue (inside_stack (s.registers r.base) r) = subst
-            (λ (x : Option Access). IsTrue (elim x [ None ↦ true | Some q ↦ inside_stack (s.registers q.base) q ])) is
-            h in
+    (λ (x : Option Access). IsTrue (elim x [ None ↦ true | Some q ↦ inside_stack (s.registers q.base) q ])) is
+    h in
     let e : r.offset ≡ to_z w16 (of_z w16 r.offset) = omega (arith, ints) in
     subst (λ (z : ℤ). IsTrue (in_stack (reach_of a z r.size))) e (subst (λ x. IsTrue (inside_stack x r)) at k)

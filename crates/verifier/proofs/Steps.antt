@@ -85,8 +85,11 @@ word_64 z f = omega (arith, ints)
 
 covered_with : {D : Type 0} (o : Ops D) (s : View D) (t : Tagged) (d : ℕ) (a : RegState D) (x : Tag) (slots : ℕ)
     → Covered o s t → Covers o a (Some x) → Covered o (with_register s d a) (with_tag t d x slots)
-covered_with o s t d a x slots c h = record { registers = covers_put o s.registers t.registers d a x c.registers h;
-    written = c.written; small = c.small }
+covered_with o s t d a x slots c h = record {
+  registers = covers_put o s.registers t.registers d a x c.registers h;
+  written = c.written;
+  small = c.small;
+}
 
 -- ---- jumps
 
@@ -99,9 +102,17 @@ covered_at o s t slot c = record { registers = c.registers; written = c.written;
 
 go_on : (p : Placement) (bytes : List ℕ) (t : Tagged) (u : State) → Matches p bytes t u → (raw_slot slot : ℕ)
     → raw_slot ≡ slot → (u' : State) × (go_to u raw_slot ≡ Some u') × Matches p bytes (at_slot t slot) u'
-go_on p bytes t u m raw_slot slot e =
-    (record { slot = raw_slot; registers = u.registers; memory = u.memory }, refl, record { slot = e; long =
-        m.long; registers = m.registers; memory = m.memory })
+go_on p bytes t u m raw_slot slot e = (
+  record { slot = raw_slot; registers = u.registers; memory = u.memory },
+  refl,
+  record {
+    slot = e;
+    long =
+        m.long;
+    registers = m.registers;
+    memory = m.memory;
+  },
+)
 
 -- a forward jump leads where it says
 target_is : (slot to : ℕ) (distance : ℤ) → forward_target slot (Some distance) ≡ Some to → to < 2 ^ 64
@@ -130,10 +141,10 @@ module _ {D : Type 0} {o : Ops D} (laws : Laws o) (bytes : List ℕ) (each : All
       → Onward o bytes (Alu w op dst src) s t
   alu_on w op dst src s t n f c p =
       let all : IsTrue (list_all (λ r. is_readable (s.registers r)) (dst.number ∷ source_reads src)) =
-              subst (λ rs. IsTrue (list_all (λ r. is_readable (s.registers r)) rs)) (reads_alu w op dst src n)
-              (p unreadable_rule) in
+      subst (λ rs. IsTrue (list_all (λ r. is_readable (s.registers r)) rs)) (reads_alu w op dst src n)
+      (p unreadable_rule) in
       let q = both (is_readable (s.registers dst.number)) (list_all (λ r. is_readable (s.registers r))
-              (source_reads src)) all in
+      (source_reads src)) all in
       let b_readable = source_readable o s src q.1 in
       let a = s.registers dst.number in
       let b = operand o s src in
@@ -142,7 +153,7 @@ module _ {D : Type 0} {o : Ops D} (laws : Laws o) (bytes : List ℕ) (each : All
       let x = tag_of o a (t.registers dst.number) q.0 ca in
       let y = tag_of o b (source_tag t src) b_readable cb in
       let r = binary laws w op a b x.0 y.0 n q.0 b_readable (subst (λ k. Covers o a k) x.1 ca)
-              (subst (λ k. Covers o b k) y.1 cb) (p PointerOperation) (p PointerRange) in
+      (subst (λ k. Covers o b k) y.1 cb) (p PointerOperation) (p PointerRange) in
       falls_on (with_register s dst.number (result_of o w op a b)) (with_tag t dst.number r.tag 1) refl refl
       (covered_with o s t dst.number (result_of o w op a b) r.tag 1 c r.covers)
       (goes_alu bytes w op dst src t x.0 y.0 r.tag n (free dst.number (p WritesR10)) x.1 y.1 r.word)
@@ -165,7 +176,7 @@ module _ {D : Type 0} {o : Ops D} (laws : Laws o) (bytes : List ℕ) (each : All
       let y = tag_of o b (source_tag t src) b_readable cb in
       let cy = subst (λ k. Covers o b k) y.1 cb in
       falls_on (with_register s dst.number b) (with_tag t dst.number y.0 1) refl refl
-          (covered_with o s t dst.number b y.0 1 c cy)
+      (covered_with o s t dst.number b y.0 1 c cy)
       (goes_mov bytes W64 dst src t y.0 y.0 (free dst.number (p WritesR10)) y.1 (copied b y.0 b_readable cy))
   mov_on W32 dst src s t f c p =
       let b_readable = source_readable o s src (p unreadable_rule) in
@@ -173,26 +184,26 @@ module _ {D : Type 0} {o : Ops D} (laws : Laws o) (bytes : List ℕ) (each : All
       let v = number_at o b (source_tag t src) b_readable (p PointerOperation) (covers_source s t c src f) in
       let z = num (alu_of W32 Mov v.word v.word) in
       let covers : Covers o (result_of o W32 Mov (s.registers dst.number) b) (Some z) =
-              subst (λ k. Covers o (of_scalars (o.alu W32 Mov) k k) (Some z)) (sym v.is)
-              (laws.alu_holds W32 Mov v.value v.value v.word v.word v.holds v.holds) in
+      subst (λ k. Covers o (of_scalars (o.alu W32 Mov) k k) (Some z)) (sym v.is)
+      (laws.alu_holds W32 Mov v.value v.value v.word v.word v.holds v.holds) in
       falls_on (with_register s dst.number (result_of o W32 Mov (s.registers dst.number) b)) (with_tag t dst.number z 1)
-          refl refl (covered_with o s t dst.number (result_of o W32 Mov (s.registers dst.number) b) z 1 c covers)
+      refl refl (covered_with o s t dst.number (result_of o W32 Mov (s.registers dst.number) b) z 1 c covers)
       (goes_mov bytes W32 dst src t (num v.word) z (free dst.number (p WritesR10)) v.is_tag (λ q. refl))
 
   unary_on : (i : Insn) (dst from : Register) (s : View D) (t : Tagged) (g : D → D) (f : ℕ → ℕ)
       → fall o i s ≡ Some (with_register s dst.number (of_scalar g (s.registers from.number))) → slots_of i ≡ 1
       → ((a : D) (v : ℕ) → o.holds a v → o.holds (g a) (f v))
-          → ((stack_at : ℕ) (u : State) → after stack_at i u ≡ (word_in u from >>= λ a. set_register u dst (f a) 1))
+      → ((stack_at : ℕ) (u : State) → after stack_at i u ≡ (word_in u from >>= λ a. set_register u dst (f a) 1))
       → IsTrue (not (dst.number == 10)) → IsTrue (is_readable (s.registers from.number))
-          → IsTrue (not (is_pointer (s.registers from.number))) → Covered o s t → Onward o bytes i s t
+      → IsTrue (not (is_pointer (s.registers from.number))) → Covered o s t → Onward o bytes i s t
   unary_on i dst from s t g f falls one holds is not_r10 readable number c =
       let v = number_at o (s.registers from.number) (t.registers from.number) readable number
-              (c.registers from.number) in
+      (c.registers from.number) in
       let a = of_scalar g (s.registers from.number) in
       let covers : Covers o a (Some (num (f v.word))) = subst (λ k. Covers o (of_scalar g k) (Some (num (f v.word))))
-              (sym v.is) (holds v.value v.word v.holds) in
+      (sym v.is) (holds v.value v.word v.holds) in
       falls_on (with_register s dst.number a) (with_tag t dst.number (num (f v.word)) 1) falls
-          (ap (λ n. t.slot + n) (sym one)) (covered_with o s t dst.number a (num (f v.word)) 1 c covers)
+      (ap (λ n. t.slot + n) (sym one)) (covered_with o s t dst.number a (num (f v.word)) 1 c covers)
       (goes_unary bytes i dst from t v.word f is (free dst.number not_r10) v.is_tag)
 
   -- ---- loads and stores
@@ -201,12 +212,12 @@ module _ {D : Type 0} {o : Ops D} (laws : Laws o) (bytes : List ℕ) (each : All
       → fall o i s ≡ Some (with_register s dst.number (Scalar a)) → slots_of i ≡ 1
       → ((v : ℕ) → v < 2 ^ (8 * bytes_of size) → o.holds a (f v))
       → ((stack_at : ℕ) (u : State) → after stack_at i u ≡ (word_in u base >>= λ at. read_bytes u.memory
-          (address_of at offset) (bytes_of size) >>= λ v. set_register u dst (f v) 1))
+      (address_of at offset) (bytes_of size) >>= λ v. set_register u dst (f v) 1))
       → IsTrue (not (dst.number == 10)) → Covered o s t → ReadAt bytes t.stack (t.registers base.number) offset
-          (bytes_of size) → Onward o bytes i s t
+      (bytes_of size) → Onward o bytes i s t
   load_on i dst base size offset s t a f falls one holds is not_r10 c r =
       falls_on (with_register s dst.number (Scalar a)) (with_tag t dst.number (num (f r.word)) 1) falls
-          (ap (λ n. t.slot + n) (sym one))
+      (ap (λ n. t.slot + n) (sym one))
       (covered_with o s t dst.number (Scalar a) (num (f r.word)) 1 c (holds r.word (size_bound size r.word r.small)))
       (goes_load bytes i dst base size offset t r.tag r.word f is (free dst.number not_r10) r.is_tag r.reads)
 
@@ -215,10 +226,17 @@ module _ {D : Type 0} {o : Ops D} (laws : Laws o) (bytes : List ℕ) (each : All
   cut_on_one : (s : View D) (t : Tagged) (d v w : ℕ) (q : Option (D × D)) → Covered o s t → t.registers d ≡ Some (num v)
       → Keeps o q v w → (s' : View D) × (cut_one s d q ≡ Some s') × Covered o s' t
   cut_on_one s t d v w None c e k = absurd k
-  cut_on_one s t d v w (Some p) c e k =
-      (with_register s d (Scalar p.0), refl, record { registers =
+  cut_on_one s t d v w (Some p) c e k = (
+    with_register s d (Scalar p.0),
+    refl,
+    record {
+      registers =
           covers_cut o s.registers t.registers d (Scalar p.0) c.registers
-          (subst (λ x. Covers o (Scalar p.0) x) (sym e) k.0); written = c.written; small = c.small })
+          (subst (λ x. Covers o (Scalar p.0) x) (sym e) k.0);
+      written = c.written;
+      small = c.small;
+    },
+  )
 
   cut_on_both : (s : View D) (t : Tagged) (d r v w : ℕ) (q : Option (D × D)) → Covered o s t
       → t.registers d ≡ Some (num v) → t.registers r ≡ Some (num w) → Keeps o q v w
@@ -226,11 +244,15 @@ module _ {D : Type 0} {o : Ops D} (laws : Laws o) (bytes : List ℕ) (each : All
   cut_on_both s t d r v w None c e f k = absurd k
   cut_on_both s t d r v w (Some p) c e f k =
       let first = covers_cut o s.registers t.registers d (Scalar p.0) c.registers
-              (subst (λ x. Covers o (Scalar p.0) x) (sym e) k.0) in (
+      (subst (λ x. Covers o (Scalar p.0) x) (sym e) k.0) in (
         with_register (with_register s d (Scalar p.0)) r (Scalar p.1),
         refl,
-        record { registers = covers_cut o (put s.registers d (Scalar p.0)) t.registers r (Scalar p.1) first
-            (subst (λ x. Covers o (Scalar p.1) x) (sym f) k.1); written = c.written; small = c.small },
+        record {
+          registers = covers_cut o (put s.registers d (Scalar p.0)) t.registers r (Scalar p.1) first
+              (subst (λ x. Covers o (Scalar p.1) x) (sym f) k.1);
+          written = c.written;
+          small = c.small;
+        },
       )
 
   -- the state that an edge carries covers what takes it
@@ -238,14 +260,14 @@ module _ {D : Type 0} {o : Ops D} (laws : Laws o) (bytes : List ℕ) (each : All
       → SourceFits src → Covered o s t → (a : NumberAt o (s.registers d) (t.registers d))
       → (b : NumberAt o (operand o s src) (source_tag t src))
       → is_taken w test a.word b.word ≡ taken → (s' : View D) × (on_edge o w test taken s d src ≡ Some s')
-          × Covered o s' t
+      × Covered o s' t
   refined_on w test taken s t d (Imm n) f c a b e =
       let u = cast_unsigned w64 n in
       let same : u ≡ b.word = word_is u b.word b.is_tag in
       let e' : is_taken w test a.word (low w u) ≡ taken = is_taken_low w test a.word u
-              ∙ ap (is_taken w test a.word) same ∙ e in
+      ∙ ap (is_taken w test a.word) same ∙ e in
       let k = laws.refine_keeps w test taken a.value (o.single (low w u)) a.word (low w u) a.holds
-              (laws.single_holds (low w u) (low_fits w u)) e' in
+      (laws.single_holds (low w u) (low_fits w u)) e' in
       let q = cut_on_one s t d a.word (low w u) (o.refine w test taken a.value (o.single (low w u))) c a.is_tag k in
       (q.0, ap (λ x. refined_imm o w test taken s d u x) a.is ∙ q.1, q.2)
     where
@@ -260,39 +282,42 @@ module _ {D : Type 0} {o : Ops D} (laws : Laws o) (bytes : List ℕ) (each : All
         | inr p ↦
             let k = laws.refine_keeps w test taken a.value b.value a.word b.word a.holds b.holds e in
             let q = cut_on_both s t d r.number a.word b.word (o.refine w test taken a.value b.value) c a.is_tag b.is_tag
-                    k in
-            (q.0, rw p.0 (ap (λ x. refined_pair o w test taken s d r.number x (s.registers r.number)) a.is
-                ∙ ap (λ y. refined_pair o w test taken s d r.number (Scalar a.value) y) b.is ∙ q.1), q.2)
+            k in (
+              q.0,
+              rw p.0 (ap (λ x. refined_pair o w test taken s d r.number x (s.registers r.number)) a.is
+                  ∙ ap (λ y. refined_pair o w test taken s d r.number (Scalar a.value) y) b.is ∙ q.1),
+              q.2,
+            )
       ]
 
   jump_if_on : (w : Width) (test : Test) (dst : Register) (src : Source) (distance : ℤ) (s : View D) (t : Tagged)
       → SourceFits src → Covered o s t → PassesFor (length bytes) o (JumpIf w test dst src distance) s
       → ((to : ℕ) → leads_to t.slot (JumpIf w test dst src distance) ≡ Some to → to < 2 ^ 64) → (to : ℕ)
-          → leads_to t.slot (JumpIf w test dst src distance) ≡ Some to
-          → Onward o bytes (JumpIf w test dst src distance) s t
+      → leads_to t.slot (JumpIf w test dst src distance) ≡ Some to
+      → Onward o bytes (JumpIf w test dst src distance) s t
   jump_if_on w test dst src distance s t f c p fits to leads =
       let q = both (is_readable (s.registers dst.number)) (list_all (λ r. is_readable (s.registers r))
-              (source_reads src)) (p unreadable_rule) in
+      (source_reads src)) (p unreadable_rule) in
       let n = neither (is_pointer (s.registers dst.number)) (is_pointer (operand o s src)) (p PointerCompared) in
       let a = number_at o (s.registers dst.number) (t.registers dst.number) q.0 n.0 (c.registers dst.number) in
       let b = number_at o (operand o s src) (source_tag t src) (source_readable o s src q.1) n.1
-              (covers_source s t c src f) in
+      (covers_source s t c src f) in
       let turn : (taken : Bool) → is_taken w test a.word b.word ≡ taken → (q : Placement) (u : State)
-              → Matches q bytes t u → after q.stack_at (JumpIf w test dst src distance) u
-              ≡ go_to u (cond taken (target u.slot distance) (u.slot + 1)) = λ taken e q u m.
+      → Matches q bytes t u → after q.stack_at (JumpIf w test dst src distance) u
+      ≡ go_to u (cond taken (target u.slot distance) (u.slot + 1)) = λ taken e q u m.
       bind (word_in u dst) a.word (λ x. word_of u src >>= λ y. go_to u
-          (cond (is_taken w test x y) (target u.slot distance) (u.slot + 1))) _ (word_at q bytes t u m dst
-          ∙ ap (raw_option q) a.is_tag)
+      (cond (is_taken w test x y) (target u.slot distance) (u.slot + 1))) _ (word_at q bytes t u m dst
+      ∙ ap (raw_option q) a.is_tag)
       (bind (word_of u src) b.word (λ y. go_to u (cond (is_taken w test a.word y) (target u.slot distance) (u.slot
-          + 1))) _ (source_at q bytes t u m src ∙ ap (raw_option q) b.is_tag)
-          (ap (λ x. go_to u (cond x (target u.slot distance) (u.slot + 1))) e)) in
+      + 1))) _ (source_at q bytes t u m src ∙ ap (raw_option q) b.is_tag)
+      (ap (λ x. go_to u (cond x (target u.slot distance) (u.slot + 1))) e)) in
       elim (truth (is_taken w test a.word b.word)) [
         | inl e ↦
             let r = refined_on w test true s t dst.number src f c a b e in
             jumps_on r.0 (at_slot t to) to r.1 leads refl (covered_at o r.0 t to r.2)
             (λ q placed u m.
             let g = go_on q bytes t u m (target u.slot distance) to (ap (λ k. target k distance) m.slot
-                    ∙ target_is t.slot to distance leads (fits to leads)) in
+            ∙ target_is t.slot to distance leads (fits to leads)) in
             (g.0, turn true e q u m ∙ g.1, g.2))
         | inr e ↦
             let r = refined_on w test false s t dst.number src f c a b e in
@@ -305,12 +330,12 @@ module _ {D : Type 0} {o : Ops D} (laws : Laws o) (bytes : List ℕ) (each : All
   jump_on : (i : Insn) (distance : ℤ) (s : View D) (t : Tagged) → jump o i s ≡ Some s
       → ((stack_at : ℕ) (u : State) → after stack_at i u ≡ go_to u (target u.slot distance))
       → leads_to t.slot i ≡ forward_target t.slot (Some distance) → Covered o s t → (to : ℕ)
-          → leads_to t.slot i ≡ Some to → to < 2 ^ 64 → Onward o bytes i s t
+      → leads_to t.slot i ≡ Some to → to < 2 ^ 64 → Onward o bytes i s t
   jump_on i distance s t jumps is at c to leads fits =
       jumps_on s (at_slot t to) to jumps leads refl (covered_at o s t to c)
       (λ q placed u m.
       let g = go_on q bytes t u m (target u.slot distance) to (ap (λ k. target k distance) m.slot
-              ∙ target_is t.slot to distance (sym at ∙ leads) fits) in
+      ∙ target_is t.slot to distance (sym at ∙ leads) fits) in
       (g.0, is q.stack_at u ∙ g.1, g.2))
 
   -- a store goes to the stack
@@ -320,36 +345,39 @@ module _ {D : Type 0} {o : Ops D} (laws : Laws o) (bytes : List ℕ) (each : All
   store_imm_on size base offset imm s t f c p =
       let q = both (is_readable (s.registers base.number)) true (p unreadable_rule) in
       let r = store_there o s t (s.registers base.number) (t.registers base.number) offset size base.number c f
-              (c.registers base.number) q.0 (p WritesRecord) (p OutsideStack) (p ScalarAddress) in
+      (c.registers base.number) q.0 (p WritesRecord) (p OutsideStack) (p ScalarAddress) in
       let word = cast_unsigned w64 imm in
       falls_on _ _ refl refl (r.covers word)
       (λ z placed u m.
       let g = store_on z bytes placed t u m (address_of (raw z r.tag) offset) r.index (bytes_of size) word
-              (r.address z placed) r.room in
-      (g.0, bind (word_in u base) (raw z r.tag) (λ at. store_at z.stack_at u (address_of at offset) (bytes_of size)
-          word) (Some g.0) (word_at z bytes t u m base ∙ ap (raw_option z) r.is_tag) g.1, g.2))
+      (r.address z placed) r.room in (
+        g.0,
+        bind (word_in u base) (raw z r.tag) (λ at. store_at z.stack_at u (address_of at offset) (bytes_of size)
+            word) (Some g.0) (word_at z bytes t u m base ∙ ap (raw_option z) r.is_tag) g.1,
+        g.2,
+      ))
 
   store_reg_on : (size : Size) (base : Register) (offset : ℤ) (src : Register) (s : View D) (t : Tagged)
       → FitsSigned w16 offset → Covered o s t → PassesFor (length bytes) o (Store size base offset src) s
       → Onward o bytes (Store size base offset src) s t
   store_reg_on size base offset src s t f c p =
       let q = both (is_readable (s.registers base.number)) (is_readable (s.registers src.number) && true)
-              (p unreadable_rule) in
+      (p unreadable_rule) in
       let q' = both (is_readable (s.registers src.number)) true q.1 in
       let v = number_at o (s.registers src.number) (t.registers src.number) q'.0 (p PointerStored)
-              (c.registers src.number) in
+      (c.registers src.number) in
       let r = store_there o s t (s.registers base.number) (t.registers base.number) offset size base.number c f
-              (c.registers base.number) q.0 (p WritesRecord) (p OutsideStack) (p ScalarAddress) in
+      (c.registers base.number) q.0 (p WritesRecord) (p OutsideStack) (p ScalarAddress) in
       falls_on _ _ refl refl (r.covers v.word)
       (λ z placed u m.
       let g = store_on z bytes placed t u m (address_of (raw z r.tag) offset) r.index (bytes_of size) v.word
-              (r.address z placed) r.room in (
+      (r.address z placed) r.room in (
         g.0,
         bind (word_in u base) (raw z r.tag) (λ at. word_in u src >>= λ word. store_at z.stack_at u
             (address_of at offset) (bytes_of size) word) (Some g.0) (word_at z bytes t u m base
             ∙ ap (raw_option z) r.is_tag)
             (bind (word_in u src) v.word (λ word. store_at z.stack_at u (address_of (raw z r.tag) offset)
-                (bytes_of size) word) (Some g.0) (word_at z bytes t u m src ∙ ap (raw_option z) v.is_tag) g.1),
+            (bytes_of size) word) (Some g.0) (word_at z bytes t u m src ∙ ap (raw_option z) v.is_tag) g.1),
         g.2,
       ))
 
@@ -368,33 +396,33 @@ module _ {D : Type 0} {o : Ops D} (laws : Laws o) (bytes : List ℕ) (each : All
   onward (Neg w dst) s t l c p fits forward =
       let q = both (is_readable (s.registers dst.number)) true (p unreadable_rule) in
       unary_on (Neg w dst) dst dst s t (o.neg w) (neg_of w) refl refl (laws.neg_holds w) (λ at u. refl) (p WritesR10)
-          q.0 (p PointerOperation) c
+      q.0 (p PointerOperation) c
   onward (MovSx w bits dst src) s t l c p fits forward =
       let q = both (is_readable (s.registers src.number)) true (p unreadable_rule) in
       unary_on (MovSx w bits dst src) dst src s t (o.mov_sx w bits) (mov_sx_of w bits) refl refl
-          (λ a v h. laws.mov_sx_holds w bits a v l.selected h) (λ at u. refl) (p WritesR10) q.0 (p PointerOperation) c
+      (λ a v h. laws.mov_sx_holds w bits a v l.selected h) (λ at u. refl) (p WritesR10) q.0 (p PointerOperation) c
   onward (End kind bits dst) s t l c p fits forward =
       let q = both (is_readable (s.registers dst.number)) true (p unreadable_rule) in
       unary_on (End kind bits dst) dst dst s t (o.end kind bits) (end_of kind bits) refl refl
-          (λ a v h. laws.end_holds kind bits a v l.selected h) (λ at u. refl) (p WritesR10) q.0 (p PointerOperation) c
+      (λ a v h. laws.end_holds kind bits a v l.selected h) (λ at u. refl) (p WritesR10) q.0 (p PointerOperation) c
   onward (LoadWide dst value) s t l c p fits forward =
       falls_on (with_register s dst.number (Scalar (o.single value))) (with_tag t dst.number (num value) 2) refl refl
       (covered_with o s t dst.number (Scalar (o.single value)) (num value) 2 c (laws.single_holds value l.numbers))
-          (goes_wide bytes dst value t (free dst.number (p WritesR10)))
+      (goes_wide bytes dst value t (free dst.number (p WritesR10)))
   onward (Load size dst base offset) s t l c p fits forward =
       let q = both (is_readable (s.registers base.number)) true (p unreadable_rule) in
       load_on (Load size dst base offset) dst base size offset s t (o.load size false) (λ v. v) refl refl
-          (laws.load_holds size) (λ at u. refl) (p WritesR10) c
+      (laws.load_holds size) (λ at u. refl) (p WritesR10) c
       (load_there o bytes s t (s.registers base.number) (t.registers base.number) offset size base.number each c
-          l.numbers (c.registers base.number) q.0 (p OutsideRecord) (p OutsideStack) (p UnwrittenStack)
-          (p ScalarAddress))
+      l.numbers (c.registers base.number) q.0 (p OutsideRecord) (p OutsideStack) (p UnwrittenStack)
+      (p ScalarAddress))
   onward (LoadSx size dst base offset) s t l c p fits forward =
       let q = both (is_readable (s.registers base.number)) true (p unreadable_rule) in
       load_on (LoadSx size dst base offset) dst base size offset s t (o.load size true)
-          (mov_sx_of W64 (8 * bytes_of size)) refl refl (laws.load_sx_holds size) (λ at u. refl) (p WritesR10) c
+      (mov_sx_of W64 (8 * bytes_of size)) refl refl (laws.load_sx_holds size) (λ at u. refl) (p WritesR10) c
       (load_there o bytes s t (s.registers base.number) (t.registers base.number) offset size base.number each c
-          l.numbers (c.registers base.number) q.0 (p OutsideRecord) (p OutsideStack) (p UnwrittenStack)
-          (p ScalarAddress))
+      l.numbers (c.registers base.number) q.0 (p OutsideRecord) (p OutsideStack) (p UnwrittenStack)
+      (p ScalarAddress))
   onward (Store size base offset src) s t l c p fits forward = store_reg_on size base offset src s t l.numbers c p
   onward (StoreImm size base offset imm) s t l c p fits forward = store_imm_on size base offset imm s t l.numbers.0 c p
   onward (Jump distance) s t l c p fits (inl none) = absurd (cc)

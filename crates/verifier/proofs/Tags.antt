@@ -66,7 +66,7 @@ word_at p bytes t u m r =
     let h : r.number ≤ 10 = r.in_range in
     let l : length u.registers ≡ 11 = m.long in
     let e : slice_get u.registers r.number ≡ Some (get_or u.registers r.number None) =
-            slice_get-get_or u.registers r.number None (omega arith) in
+    slice_get-get_or u.registers r.number None (omega arith) in
     rw e (m.registers r.number (omega arith))
 
 abbrev pub with_tag : Tagged → ℕ → Tag → ℕ → Tagged
@@ -75,7 +75,7 @@ with_tag t r x slots = record { slot = t.slot + slots; registers = put t.registe
 registers_put : (p : Placement) (xs : List (Option ℕ)) (tags : ℕ → Option Tag) (d word : ℕ) (x : Tag) → raw p x ≡ word
     → length xs ≡ 11 → d < 11
     → ((r : ℕ) → r < 11 → get_or xs r None ≡ raw_option p (tags r)) → (r : ℕ) → r < 11
-        → get_or (set xs d (Some word)) r None ≡ raw_option p (put tags d (Some x) r)
+    → get_or (set xs d (Some word)) r None ≡ raw_option p (put tags d (Some x) r)
 registers_put p xs tags d word x e l h before r k =
     elim (tells r d) [
       | inl same ↦ rw same.0 (ap (λ i. get_or (set xs d (Some word)) i None) same.1

@@ -140,7 +140,7 @@ due_flow o code n states to (Some t) h k slot s e =
 
 due_edge : {D : Type 0} (o : Ops D) (code : List Insn) (n : ℕ) (states : Assignment D) (x : Option ℕ)
     (t : Option (View D)) → AllDue code n states → ((to : ℕ) → x ≡ Some to → IsDue code n to)
-        → AllDue code n (flow_edge o states x t)
+    → AllDue code n (flow_edge o states x t)
 due_edge o code n states None t h k = h
 due_edge o code n states (Some to) t h k = due_flow o code n states to t h (λ u e. k to refl)
 
@@ -216,7 +216,7 @@ next_inside o code n i s t structured is e = structured.meets n i FallsOff is (f
 -- what is held once a state is taken, and what comes of it falls through
 pub fallen_is : {D : Type 0} (o : Ops D) (states taken fallen : Assignment D) (n slots : ℕ) (i : Insn) (s : View D)
     (t : Option (View D)) → taken ≡ put states n None → fallen ≡ flow o taken (n + slots) t → slots ≡ slots_of i
-        → t ≡ fall o i s
+    → t ≡ fall o i s
     → fallen ≡ flow o (put states n None) (n + slots_of i) (fall o i s)
 fallen_is o states taken fallen n slots i s t is_taken is_fallen wide is_fall =
     is_fallen ∙ ap (λ x. flow o x (n + slots) t) is_taken ∙ ap (λ k. flow o (put states n None) (n + k) t) wide
@@ -225,7 +225,7 @@ fallen_is o states taken fallen n slots i s t is_taken is_fallen wide is_fall =
 -- and once it has gone along the jump too
 pub jumped_is : {D : Type 0} (o : Ops D) (fallen last states : Assignment D) (n : ℕ) (i : Insn) (s : View D)
     (to : Option ℕ) (t : Option (View D)) → fallen ≡ states → last ≡ flow_edge o fallen to t → to ≡ leads_to n i
-        → t ≡ jump o i s
+    → t ≡ jump o i s
     → last ≡ flow_edge o states (leads_to n i) (jump o i s)
 jumped_is o fallen last states n i s to t is_fallen is_last leads is_jump =
     is_last ∙ ap (λ x. flow_edge o x to t) is_fallen ∙ ap (λ x. flow_edge o states x t) leads

@@ -85,7 +85,7 @@ abbrev pub steps_of : {D : Type 0} → Ops D → D → Option (ℤ × ℤ)
 steps_of o b =
     if nat_le (o.high b) 65535 then Some (pos (o.low b), pos (o.high b))
     else (if nat_le (2 ^ 64 - 65536) (o.low b) then Some (pos (o.low b) -ℤ pos (2 ^ 64), pos (o.high b) -ℤ pos (2 ^ 64))
-        else None)
+    else None)
 
 abbrev pub is_near : ℤ → ℤ → Bool
 is_near lo hi = int_le (negsuc 65535) lo && int_le hi (pos 65536)
@@ -145,14 +145,34 @@ pub record Access : Type 0 where
   pub is_store : Bool
 
 abbrev pub access_of : Insn → Option Access
-access_of (Load size dst base offset) = Some (record { base = base.number; offset = offset; size = size; is_store =
-    false })
-access_of (LoadSx size dst base offset) = Some (record { base = base.number; offset = offset; size = size; is_store =
-    false })
-access_of (Store size base offset src) = Some (record { base = base.number; offset = offset; size = size; is_store =
-    true })
-access_of (StoreImm size base offset imm) = Some (record { base = base.number; offset = offset; size = size; is_store =
-    true })
+access_of (Load size dst base offset) = Some (record {
+  base = base.number;
+  offset = offset;
+  size = size;
+  is_store =
+      false;
+})
+access_of (LoadSx size dst base offset) = Some (record {
+  base = base.number;
+  offset = offset;
+  size = size;
+  is_store =
+      false;
+})
+access_of (Store size base offset src) = Some (record {
+  base = base.number;
+  offset = offset;
+  size = size;
+  is_store =
+      true;
+})
+access_of (StoreImm size base offset imm) = Some (record {
+  base = base.number;
+  offset = offset;
+  size = size;
+  is_store =
+      true;
+})
 access_of _ = None
 
 -- ---- the rules, each as a test; where a rule does not speak of an instruction or a register it is met
@@ -305,8 +325,11 @@ abbrev pub marks : (ℕ → Bool) → Reach → ℕ → Bool
 marks written a = if int_le a.hi a.lo then with_marks written (stack_index a.lo) a.len else written
 
 abbrev pub after_store : {D : Type 0} → View D → RegState D → ℤ → Size → View D
-after_store s (Stack a) offset size = record { registers = s.registers; written =
-    marks s.written (reach_of a offset size) }
+after_store s (Stack a) offset size = record {
+  registers = s.registers;
+  written =
+      marks s.written (reach_of a offset size);
+}
 after_store s _ offset size = s
 
 -- the state with a destination and a tested register cut, or nothing on a dead edge

@@ -212,15 +212,15 @@ different_laws takes t = record {
   keeps = λ a b v u h k e.
       let n = t v u e in
       both_keep (without a b) (without b a) v u (without_holds a b v u h k n)
-          (without_holds b a u v k h (λ z. n (sym z)));
+      (without_holds b a u v k h (λ z. n (sym z)));
   grows = λ a b c d h k.
       both_below (without a b) (without b a) (without c d) (without d c) (without_grows a b c d h k)
-          (without_grows b a d c k h);
+      (without_grows b a d c k h);
   cuts = λ a b c d h k.
       let i = within a c h in
       let j = within b d k in
       both_below (without a b) (without b a) (Some c) (Some d) (without_cuts a b c i.0 i.1)
-          (without_cuts b a d j.0 j.1);
+      (without_cuts b a d j.0 j.1);
 }
 
 -- ---- all of them

@@ -19,8 +19,10 @@ use Rattle.partition_table.specs.Tables.{Name, Row, Table, Clash, is_name, same_
 pub equivalent_by : {A : Type 0} {E : A → A → Bool} → ((x y : A) → Decides (E x y) (x ≡ y)) → IsEquivalence E
 equivalent_by {E = E} decides = record {
   refl = λ x. (decides x x).1 refl;
-  symm = λ x y. same_from_decides (E x y) (E y x) (decides x y) (λ t. sym ((decides y x).0 t),
-      λ e. (decides y x).1 (sym e));
+  symm = λ x y. same_from_decides (E x y) (E y x) (decides x y) (
+    λ t. sym ((decides y x).0 t),
+    λ e. (decides y x).1 (sym e),
+  );
   congr = λ x y z t. ap (λ u. E u z) ((decides x y).0 t);
 }
 
@@ -36,8 +38,11 @@ pub registration_decides : (r s : Registration) → Decides (same_registration r
 registration_decides = by_order registrations_total registrations_exact
 
 pub code_decides : (c d : Option (List Insn)) → Decides (same_code c d) (c ≡ d)
-code_decides (Some c) (Some d) = (λ t. ap Some ((insns.same_code c d _ refl).0 t), λ e. let is : c ≡ d = cc in
-    (insns.same_code c d _ refl).1 is)
+code_decides (Some c) (Some d) = (
+  λ t. ap Some ((insns.same_code c d _ refl).0 t),
+  λ e. let is : c ≡ d = cc in
+      (insns.same_code c d _ refl).1 is,
+)
 code_decides (Some c) None = (λ t. absurd (cc), λ e. absurd (cc))
 code_decides None (Some d) = (λ t. absurd (cc), λ e. absurd (cc))
 code_decides None None = (λ t. refl, λ e. refl)
@@ -52,7 +57,7 @@ row_decides r s =
     let parts = both_decide _ _ (registration_decides r.registration s.registration) (code_decides r.code s.code) in (
       λ t. let is = parts.0 t in
           ap (λ (x : Registration). record { registration = x; code = r.code }) is.0
-              ∙ ap (λ (c : Option (List Insn)). record { registration = s.registration; code = c }) is.1,
+          ∙ ap (λ (c : Option (List Insn)). record { registration = s.registration; code = c }) is.1,
       λ e. parts.1 (ap (λ (x : Row). x.registration) e, ap (λ (x : Row). x.code) e),
     )
 
@@ -86,18 +91,60 @@ clash_decides c d =
     (both_decide _ _ (facts_decide c.of_first d.of_first)
     (both_decide _ _ (facts_decide c.of_second d.of_second) (code_decides c.code d.code))))) in (
       λ t. let is = parts.0 t in
-          ap (λ (n : Name). record { name = n; first = c.first; second = c.second; of_first = c.of_first; of_second =
-              c.of_second; code = c.code }) is.0
-          ∙ ap (λ (r : Registration). record { name = d.name; first = r; second = c.second; of_first =
-              c.of_first; of_second = c.of_second; code = c.code }) is.1.0
-          ∙ ap (λ (r : Registration). record { name = d.name; first = d.first; second = r; of_first =
-              c.of_first; of_second = c.of_second; code = c.code }) is.1.1.0
-          ∙ ap (λ (f : Facts). record { name = d.name; first = d.first; second = d.second; of_first = f; of_second =
-              c.of_second; code = c.code }) is.1.1.1.0
-          ∙ ap (λ (f : Facts). record { name = d.name; first = d.first; second = d.second; of_first =
-              d.of_first; of_second = f; code = c.code }) is.1.1.1.1.0
-          ∙ ap (λ (x : Option (List Insn)). record { name = d.name; first = d.first; second = d.second; of_first =
-              d.of_first; of_second = d.of_second; code = x }) is.1.1.1.1.1,
+          ap (λ (n : Name). record {
+            name = n;
+            first = c.first;
+            second = c.second;
+            of_first = c.of_first;
+            of_second =
+                c.of_second;
+            code = c.code;
+          }) is.0
+          ∙ ap (λ (r : Registration). record {
+            name = d.name;
+            first = r;
+            second = c.second;
+            of_first =
+                c.of_first;
+            of_second = c.of_second;
+            code = c.code;
+          }) is.1.0
+          ∙ ap (λ (r : Registration). record {
+            name = d.name;
+            first = d.first;
+            second = r;
+            of_first =
+                c.of_first;
+            of_second = c.of_second;
+            code = c.code;
+          }) is.1.1.0
+          ∙ ap (λ (f : Facts). record {
+            name = d.name;
+            first = d.first;
+            second = d.second;
+            of_first = f;
+            of_second =
+                c.of_second;
+            code = c.code;
+          }) is.1.1.1.0
+          ∙ ap (λ (f : Facts). record {
+            name = d.name;
+            first = d.first;
+            second = d.second;
+            of_first =
+                d.of_first;
+            of_second = f;
+            code = c.code;
+          }) is.1.1.1.1.0
+          ∙ ap (λ (x : Option (List Insn)). record {
+            name = d.name;
+            first = d.first;
+            second = d.second;
+            of_first =
+                d.of_first;
+            of_second = d.of_second;
+            code = x;
+          }) is.1.1.1.1.1,
       λ e. parts.1 (
         ap (λ (x : Clash). x.name) e,
         (

@@ -11,8 +11,11 @@ use Rattle.partition_table.specs.Tables.{Name, Table, Clash, clash_at}
 
 -- facts are the pair of their numbers
 abbrev pub coded_facts : Coded Facts
-coded_facts = code_by (ℕ × ℕ) (coded× coded_ℕ coded_ℕ) (λ f. (f.size, f.uptime)) (λ p. record { size = p.0; uptime =
-    p.1 }) (λ _. refl)
+coded_facts = code_by (ℕ × ℕ) (coded× coded_ℕ coded_ℕ) (λ f. (f.size, f.uptime)) (λ p. record {
+  size = p.0;
+  uptime =
+      p.1;
+}) (λ _. refl)
 
 -- the parts of a clash
 abbrev pub Parts : Type 0
@@ -23,10 +26,17 @@ abbrev pub coded_clash : Coded Clash
 coded_clash =
     code_by Parts
     (coded× coded_name (coded× coded_registration (coded× coded_registration
-        (coded× coded_facts (coded× coded_facts (coded_option (coded_list the_row.coded)))))))
+    (coded× coded_facts (coded× coded_facts (coded_option (coded_list the_row.coded)))))))
     (λ c. (c.name, (c.first, (c.second, (c.of_first, (c.of_second, c.code))))))
-    (λ p. record { name = p.0; first = p.1.0; second = p.1.1.0; of_first = p.1.1.1.0; of_second = p.1.1.1.1.0; code =
-        p.1.1.1.1.1 })
+    (λ p. record {
+      name = p.0;
+      first = p.1.0;
+      second = p.1.1.0;
+      of_first = p.1.1.1.0;
+      of_second = p.1.1.1.1.0;
+      code =
+          p.1.1.1.1.1;
+    })
     (λ _. refl)
 
 -- the clash of a name, if it is one, with these facts of the halves

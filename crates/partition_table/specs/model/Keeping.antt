@@ -80,4 +80,4 @@ programs_agree programs other =
 abbrev pub IsKeptFor : Table → ResolverId → List Insn → Type 0
 IsKeptFor table resolver c =
     (name : Name) × (row : Row) × (get table name ≡ Some row) × (row.registration.resolver ≡ resolver)
-        × (row.code ≡ Some c)
+    × (row.code ≡ Some c)

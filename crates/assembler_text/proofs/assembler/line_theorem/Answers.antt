@@ -4,5 +4,11 @@ use Rattle.assembler_text.proofs.assembler.line_theorem.Goals as goal
 
 pub returns : goal.returns
 returns c =
-    record { some = some_line; either = either_line; one_insn = one_insn; one_fault = one_line_fault; written =
-        own_line }
+    record {
+      some = some_line;
+      either = either_line;
+      one_insn = one_insn;
+      one_fault = one_line_fault;
+      written =
+          own_line;
+    }

@@ -24,7 +24,7 @@ returns-in_err-add c =
     let P : List ℕ → Type 0 = λ t. Tells e (with_line (c.loop-text.line + 1) c.loop-text.builder (line_at t)) in
     let told : Tells e (code_of (lines_of c.args.text.now)) =
     stops e c.loop-text.line c.loop-text.builder c.loop-text.text.now _ some
-        (subst P c.split.ensures.front c.in_err-add.ensures.err) c.loop-text.invariant.0 in
+    (subst P c.split.ensures.front c.in_err-add.ensures.err) c.loop-text.invariant.0 in
     rw (p.1, p.2) told
 
 pub loop-text-preserved : goal.loop-text-preserved
@@ -35,7 +35,7 @@ loop-text-preserved c =
     let P : List ℕ → Type 0 =
     λ t. with_line (c.loop-text.line + 1) c.loop-text.builder (line_at t) ≡ Ok c.add.new.builder in
     let added : with_line (c.loop-text.line + 1) c.loop-text.builder (line_at (front class.Line c.loop-text.text.now))
-            ≡ Ok c.add.new.builder = subst P c.split.ensures.front c.in_ok-add.ensures.ok in (
+    ≡ Ok c.add.new.builder = subst P c.split.ensures.front c.in_ok-add.ensures.ok in (
       rw text (goes_on c.loop-text.line c.loop-text.builder c.add.new.builder c.loop-text.text.now _ some added
           c.loop-text.invariant.0),
       omega (arith, ap length text, behind_shorter c.loop-text.text.now some, c.loop-text.invariant.1),

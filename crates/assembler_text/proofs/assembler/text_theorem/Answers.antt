@@ -4,5 +4,11 @@ use Rattle.assembler_text.proofs.assembler.text_theorem.Goals as goal
 
 pub returns : goal.returns
 returns c =
-    record { some = some_text; either = either_text; one_code = one_code; one_fault = one_first_fault; written =
-        text_written }
+    record {
+      some = some_text;
+      either = either_text;
+      one_code = one_code;
+      one_fault = one_first_fault;
+      written =
+          text_written;
+    }

@@ -9,6 +9,6 @@ use Rattle.assembler_text.proofs.disassembler.address_text.Goals as goal
 pub returns : goal.returns
 returns c =
     let pieces : IfOk c.format.result (λ text. string_bytes text
-            ≡ codes "[r" ++ (decimal c.args.base.number ++ (step_text c.args.offset ++ codes "]"))) = search rules in
+    ≡ codes "[r" ++ (decimal c.args.base.number ++ (step_text c.args.offset ++ codes "]"))) = search rules in
     subst (λ (t : List ℕ). IfOk c.format.result (λ text. string_bytes text ≡ t))
-        (address_pieces (decimal c.args.base.number) (step_text c.args.offset)) pieces
+    (address_pieces (decimal c.args.base.number) (step_text c.args.offset)) pieces

@@ -9,15 +9,15 @@ pub push_insn-requires : goal.push_insn-requires
 push_insn-requires c =
     let insns = c.insns-insns.result.now in
     let within : c.loop-insn.insn-index < length c.args.code.now =
-            subst (λ xs. c.loop-insn.insn-index < length xs) c.insns-insns.ensures c.loop-insn-test.true in
+    subst (λ xs. c.loop-insn.insn-index < length xs) c.insns-insns.ensures c.loop-insn-test.true in
     subst IsListed (sym c.insn-item.is) (subst (λ xs. IsListed (get_or xs c.loop-insn.insn-index c.insn-item.result))
-        (sym c.insns-insns.ensures) (c.known.ensures.listed c.loop-insn.insn-index c.insn-item.result within))
+    (sym c.insns-insns.ensures) (c.known.ensures.listed c.loop-insn.insn-index c.insn-item.result within))
 
 pub loop-insn-preserved : goal.loop-insn-preserved
 loop-insn-preserved c =
     c.in_ok-push_insn.ensures ∙ ap (λ bytes. bytes ++ insn_bytes c.insn-item.result) c.loop-insn.invariant
     ∙ sym (more_written c.insns-insns.result.now c.loop-insn.insn-index c.insn-item.result c.loop-insn-test.true
-        c.insn-item.is)
+    c.insn-item.is)
 
 written : goal.returns-clause-bytes
 written c = all_written c.insns-insns.result.now c.loop-insn.insn-index c.loop-insn.bytes.items c.loop-insn-test.false

@@ -11,7 +11,7 @@ returns-in_ok-clash-in-Less c =
     ∙ sym (less_clash c.args.half_a.facts c.args.half_b.facts c.args.name.now c.args.mine.now c.args.other.now
     (get c.args.half_a.table.now c.args.name.now) (get c.args.half_b.table.now c.args.name.now)
     (option_map (λ p. arc_value p.now) c.program_for-program.result) c.requires.mine c.requires.other
-        (sym c.in-Less.ensures)
+    (sym c.in-Less.ensures)
     (c.program_for-program.ensures.each c.args.name.now))
 
 pub returns-in_ok-clash-in-Greater : goal.returns-in_ok-clash-in-Greater

@@ -13,7 +13,7 @@ pub new-requires : goal.new-requires
 new-requires c =
     let by_name = clash_by_name c.facts.result c.args.a.now c.facts-2.result c.args.b.now in
     let found = all_found by_name c.loop-name.found.items (pairs_left c.loop-name.name-iterator) (keys c.args.a.now)
-            c.loop-name.invariant.told c.in-None.ensures.steps.0 in
+    c.loop-name.invariant.told c.in-None.ensures.steps.0 in
     subst (λ n. n ≤ 4096) (sym (ap length found)) (few_found by_name c.args.a.now c.facts.ensures.kept)
 
 -- what is answered are the clashes
@@ -25,7 +25,7 @@ listed c =
     let by_name = clash_by_name c.facts.result a c.facts-2.result b in
     c.new.ensures
     ∙ all_found by_name c.loop-name.found.items (pairs_left c.loop-name.name-iterator) (keys a)
-        c.loop-name.invariant.told c.in-None.ensures.steps.0
+    c.loop-name.invariant.told c.in-None.ensures.steps.0
     ∙ ap (λ facts. filter_map (clash_by_name facts a c.facts-2.result b) (keys a)) c.facts.ensures.facts
     ∙ ap (λ facts. filter_map (clash_by_name (facts_of a c.args.uptime_a) a facts b) (keys a)) c.facts-2.ensures.facts
 

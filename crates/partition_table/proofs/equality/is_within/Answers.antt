@@ -27,7 +27,7 @@ returns-then-not-is_registered_so-clause-within c =
       λ within. absurd (one_missing a b c.in-Some.field-0-0.now c.in-Some.mine.now
           (option_map (λ r. r.now) c.in-Some.other) met.0
           (λ e. let yes = c.is_registered_so.ensures.1 e in let no = c.if-not-is_registered_so.true in
-              absurd (cc)) within),
+          absurd (cc)) within),
     )
 
 pub loop-mine-preserved : goal.loop-mine-preserved
@@ -37,7 +37,7 @@ loop-mine-preserved c =
     let left = map (λ item. item.0) (pairs_left c.next.new.self) in
     let met = subst (AllByRecursion (IsPaired a b)) c.in-Some.ensures.steps c.loop-mine.invariant.met in
     let so_far = subst (WithinSoFar a b) (ap (map (λ item. item.0)) c.in-Some.ensures.steps)
-            c.loop-mine.invariant.so_far in
+    c.loop-mine.invariant.so_far in
     record {
       so_far = one_more_within a b c.in-Some.field-0-0.now left c.in-Some.mine.now
           (option_map (λ r. r.now) c.in-Some.other) so_far met.0

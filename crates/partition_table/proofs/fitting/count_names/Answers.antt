@@ -15,7 +15,7 @@ loop-mine-init c =
       told = ap (λ pairs. c.len-count.result + length (filter p (items pairs)))
           c.into_iter-mine-iterator.ensures.into_iter_gives
           ∙ ap (λ n. n + length (filter p (items c.new-mine-items.result))) (c.len-count.ensures.count
-              ∙ sym (keys_length c.args.a.now))
+          ∙ sym (keys_length c.args.a.now))
           ∙ ap (λ names. length (keys c.args.a.now) + length (filter p names)) c.new-mine-items.ensures.names;
       met = subst (λ (pairs : Paired). AllByRecursion (IsPaired c.args.b.now c.args.a.now) (pairs_left pairs))
           (sym c.into_iter-mine-iterator.ensures.into_iter_gives) c.new-mine-items.ensures.met;
@@ -23,5 +23,9 @@ loop-mine-init c =
 
 pub overflow_add-count : goal.overflow_add-count
 overflow_add-count c =
-    omega (arith, c.loop-mine.invariant.told, union_few c.args.a.now c.args.b.now c.len-count.ensures.kept
-        c.len.ensures.kept)
+    omega (
+      arith,
+      c.loop-mine.invariant.told,
+      union_few c.args.a.now c.args.b.now c.len-count.ensures.kept
+          c.len.ensures.kept,
+    )

@@ -14,7 +14,7 @@ returns-in-Some c =
     ∙ program_answer c.args.clash.now c.args.word c.in-Program.field-0 (arc_value c.in-Some.program.now) c.run.result.r0
     (sym c.in-Program.ensures) (sym c.in-Some.ensures)
     (c.run.ensures.meaning ∙ ap (λ code. meaning code c.record.result) c.deref.ensures
-        ∙ ap (meaning (arc_value c.in-Some.program.now)) c.record.ensures)
+    ∙ ap (meaning (arc_value c.in-Some.program.now)) c.record.ensures)
 
 pub returns-in-None : goal.returns-in-None
 returns-in-None c =

@@ -12,9 +12,9 @@ returns-then-not-has_room_at c =
     let other = programs_by arc_value c.args.other.now.entries in
     let given = c.into_iter-id-iterator.ensures.into_iter_gives in
     let turn = btree_map_turn deref_pair c.loop-id.yielded c.into_iter-id-iterator.result c.loop-id.id-iterator
-            c.next.new.self c.next.result
+    c.next.new.self c.next.result
     (c.in-Some.id, c.in-Some.program) c.loop-id.yielded_by c.in-Some.is c.next.ensures.steps ids_total
-        c.args.programs.now given.0 given.5 in (
+    c.args.programs.now given.0 given.5 in (
       λ t. absurd (cc),
       λ agree. absurd (one_differs arc_value c.args.programs.now.entries other c.in-Some.id.now c.in-Some.program.now
           turn.1
@@ -24,15 +24,15 @@ returns-then-not-has_room_at c =
 pub loop-id-preserved : goal.loop-id-preserved
 loop-id-preserved c =
     one_more_agrees arc_value c.args.programs.now.entries (programs_by arc_value c.args.other.now.entries)
-        c.loop-id.id-iterator c.next.new.self
+    c.loop-id.id-iterator c.next.new.self
     c.in-Some.id.now c.in-Some.program.now c.loop-id.invariant c.in-Some.ensures.steps
-        (c.has_room_at.ensures.0 c.if-not-has_room_at.false)
+    (c.has_room_at.ensures.0 c.if-not-has_room_at.false)
 
 pub returns : goal.returns
 returns c =
     let other = programs_by arc_value c.args.other.now.entries in (
       λ _. all_agree arc_value c.args.programs.now.entries other
           (subst (AgreeSoFar arc_value c.args.programs.now.entries other) c.in-None.ensures.steps.0
-              c.loop-id.invariant),
+          c.loop-id.invariant),
       λ _. refl,
     )

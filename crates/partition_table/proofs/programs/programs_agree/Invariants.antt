@@ -13,4 +13,4 @@ abbrev pub invariant-loop-id : goal.invariant-loop-id
 invariant-loop-id l =
     (id : ProgramId) → (p : _) → lookup (is_at (id_cmp id)) l.programs.entries ≡ Some p
     → has_room_for (programs_by arc_value l.other.entries) (Program id) (Some (arc_value p))
-        ⊎ (lookup (is_at (id_cmp id)) l.id-iterator ≡ Some p)
+    ⊎ (lookup (is_at (id_cmp id)) l.id-iterator ≡ Some p)

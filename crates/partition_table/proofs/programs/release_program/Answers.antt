@@ -7,4 +7,4 @@ pub returns-in-Some : goal.returns-in-Some
 returns-in-Some c =
     rw c.in-Some.is
     (made_removed ids_total arc_value ids_exact c.args.programs.now c.remove.new.self c.in-Some.id
-        c.remove.ensures.updates)
+    c.remove.ensures.updates)

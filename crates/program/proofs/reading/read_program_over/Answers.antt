@@ -8,21 +8,21 @@ use Rattle.program.proofs.reading.read_program_over.Goals as goal
 pub returns-in_err-code-clause-told : goal.returns-in_err-code-clause-told
 returns-in_err-code-clause-told g c = λ fault h.
     subst (λ r. Answers r (Err fault)) (sym (converted c.from_residual.result (of_codec c.in_err-code.field-0.0)
-        c.from_residual.ensures))
+    c.from_residual.ensures))
     (codec_told g.D.Domain.ops c.args.bytes.now c.in_err-code.field-0.0 c.in_err-code.ensures.read
-        c.in_err-code.ensures.told fault h)
+    c.in_err-code.ensures.told fault h)
 
 pub returns-in_err-program-clause-taken : goal.returns-in_err-program-clause-taken
 returns-in_err-program-clause-taken g c = λ code h.
     let bytes = c.args.bytes.now in
     let spelled = c.in_ok-code.ensures.spelled in
     let one : (other : List Insn) → Spells bytes other → other ≡ c.in_ok-code.code =
-            λ other s. c.one_reading_theorem.ensures.one_code bytes other c.in_ok-code.code s spelled in
+    λ other s. c.one_reading_theorem.ensures.one_code bytes other c.in_ok-code.code s spelled in
     subst (λ r. Answers r (Ok code)) (sym (converted c.from_residual-in_err-program.result
-        (of_verify c.in_err-program.field-0.0) c.from_residual-in_err-program.ensures))
+    (of_verify c.in_err-program.field-0.0) c.from_residual-in_err-program.ensures))
     (refused_taken g.D.Domain.ops bytes c.in_ok-code.code spelled (c.one_reading_theorem.ensures.either bytes) one
-        (c.one_verdict_theorem.ensures.either c.in_ok-code.code)
-        (c.one_verdict_theorem.ensures.one_refusal c.in_ok-code.code)
+    (c.one_verdict_theorem.ensures.either c.in_ok-code.code)
+    (c.one_verdict_theorem.ensures.one_refusal c.in_ok-code.code)
     c.in_err-program.field-0.0 c.in_err-program.ensures.refused code h)
 
 pub returns-in_err-program-clause-told : goal.returns-in_err-program-clause-told
@@ -30,12 +30,12 @@ returns-in_err-program-clause-told g c = λ fault h.
     let bytes = c.args.bytes.now in
     let spelled = c.in_ok-code.ensures.spelled in
     let one : (other : List Insn) → Spells bytes other → other ≡ c.in_ok-code.code =
-            λ other s. c.one_reading_theorem.ensures.one_code bytes other c.in_ok-code.code s spelled in
+    λ other s. c.one_reading_theorem.ensures.one_code bytes other c.in_ok-code.code s spelled in
     subst (λ r. Answers r (Err fault)) (sym (converted c.from_residual-in_err-program.result
-        (of_verify c.in_err-program.field-0.0) c.from_residual-in_err-program.ensures))
+    (of_verify c.in_err-program.field-0.0) c.from_residual-in_err-program.ensures))
     (refused_told g.D.Domain.ops bytes c.in_ok-code.code spelled (c.one_reading_theorem.ensures.either bytes) one
-        (c.one_verdict_theorem.ensures.either c.in_ok-code.code)
-        (c.one_verdict_theorem.ensures.one_refusal c.in_ok-code.code)
+    (c.one_verdict_theorem.ensures.either c.in_ok-code.code)
+    (c.one_verdict_theorem.ensures.one_refusal c.in_ok-code.code)
     c.in_err-program.field-0.0 c.in_err-program.ensures.refused fault h)
 
 pub returns-clause-told : goal.returns-clause-told
@@ -43,9 +43,9 @@ returns-clause-told g c = λ fault h.
     let bytes = c.args.bytes.now in
     let spelled = c.in_ok-code.ensures.spelled in
     let one : (other : List Insn) → Spells bytes other → other ≡ c.in_ok-code.code =
-            λ other s. c.one_reading_theorem.ensures.one_code bytes other c.in_ok-code.code s spelled in
+    λ other s. c.one_reading_theorem.ensures.one_code bytes other c.in_ok-code.code s spelled in
     subst (λ code. Answers (Ok code) (Err fault)) (sym c.in_ok-program.ensures.accepted)
     (accepted_told g.D.Domain.ops bytes c.in_ok-code.code spelled (c.one_reading_theorem.ensures.either bytes) one
-        (c.one_verdict_theorem.ensures.either c.in_ok-code.code)
-        (c.one_verdict_theorem.ensures.one_refusal c.in_ok-code.code)
+    (c.one_verdict_theorem.ensures.either c.in_ok-code.code)
+    (c.one_verdict_theorem.ensures.one_refusal c.in_ok-code.code)
     c.in_ok-program.ensures.structured c.in_ok-program.ensures.typable fault h)

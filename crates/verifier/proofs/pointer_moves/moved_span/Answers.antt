@@ -13,7 +13,7 @@ returns-in-Sub g c =
     let near = span_near a in
     let steps = steps_near least greatest c.in_ok-least.ensures.small in
     near_exact (cut (cut a.lo -ℤ cut greatest)) (cut (cut a.hi -ℤ cut least)) (a.lo -ℤ greatest) (a.hi -ℤ least) _
-        c.span_in_range.ensures (cut_difference a.lo greatest near.0 steps.1) (cut_difference a.hi least near.1 steps.0)
+    c.span_in_range.ensures (cut_difference a.lo greatest near.0 steps.1) (cut_difference a.hi least near.1 steps.0)
     ∙ ap (moved_by Sub a) c.in_ok-least.ensures.value
     ∙ ap (λ op. moved_span g.D.Domain.ops op a c.args.number.now) (sym c.in-Sub.is)
 
@@ -25,7 +25,7 @@ returns-in_default g c =
     let near = span_near a in
     let steps = steps_near least greatest c.in_ok-least.ensures.small in
     near_exact (cut (cut a.lo +ℤ cut least)) (cut (cut a.hi +ℤ cut greatest)) (a.lo +ℤ least) (a.hi +ℤ greatest) _
-        c.span_in_range-in_default.ensures (cut_sum a.lo least near.0 steps.0) (cut_sum a.hi greatest near.1 steps.1)
+    c.span_in_range-in_default.ensures (cut_sum a.lo least near.0 steps.0) (cut_sum a.hi greatest near.1 steps.1)
     ∙ moved_otherwise c.args.op a (least, greatest) c.in_default.not-Sub
     ∙ ap (moved_by c.args.op a) c.in_ok-least.ensures.value
 
@@ -37,7 +37,7 @@ span_in_range-requires g c =
     let near = span_near a in
     let steps = steps_near least greatest c.in_ok-least.ensures.small in
     le_exact (cut (cut a.lo -ℤ cut greatest)) (cut (cut a.hi -ℤ cut least)) (a.lo -ℤ greatest) (a.hi -ℤ least)
-        (cut_difference a.lo greatest near.0 steps.1) (cut_difference a.hi least near.1 steps.0)
+    (cut_difference a.lo greatest near.0 steps.1) (cut_difference a.hi least near.1 steps.0)
     (lowered_ordered a least greatest c.in_ok-least.ensures.small.1)
 
 pub span_in_range-requires-in_default : goal.span_in_range-requires-in_default
@@ -48,5 +48,5 @@ span_in_range-requires-in_default g c =
     let near = span_near a in
     let steps = steps_near least greatest c.in_ok-least.ensures.small in
     le_exact (cut (cut a.lo +ℤ cut least)) (cut (cut a.hi +ℤ cut greatest)) (a.lo +ℤ least) (a.hi +ℤ greatest)
-        (cut_sum a.lo least near.0 steps.0) (cut_sum a.hi greatest near.1 steps.1)
+    (cut_sum a.lo least near.0 steps.0) (cut_sum a.hi greatest near.1 steps.1)
     (raised_ordered a least greatest c.in_ok-least.ensures.small.1)

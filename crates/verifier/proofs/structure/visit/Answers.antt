@@ -18,13 +18,13 @@ returns-in-Some c = ill c.args.code.now c.args.slot c.args.insn.now c.args.reach
 pub mark-requires : goal.mark-requires
 mark-requires c = λ k e.
     let h = falls_inside c.args.code.now c.args.slot c.args.insn.now c.in_default.ensures k (sym c.falls_to.ensures
-            ∙ e) in
+    ∙ e) in
     let few = c.requires.few in let long = c.requires.long in omega arith
 
 pub mark-requires-2 : goal.mark-requires-2
 mark-requires-2 c = λ k e.
     let h = leads_inside c.args.code.now c.args.slot c.args.insn.now c.in_default.ensures k (sym c.leads_to.ensures
-            ∙ e) in
+    ∙ e) in
     let few = c.requires.few in let long = c.requires.long in omega arith
 
 pub returns : goal.returns
@@ -33,6 +33,6 @@ returns c =
     let long = c.requires.long in
     let e = c.mark-2.ensures ∙ ap (λ to. mark c.mark.new.reached to) c.leads_to.ensures
     ∙ ap (λ r. mark r (leads_to c.args.slot c.args.insn.now)) (c.mark.ensures
-        ∙ ap (mark c.args.reached.now) c.falls_to.ensures) in
+    ∙ ap (mark c.args.reached.now) c.falls_to.ensures) in
     rw e (seen_insn c.args.code.now c.args.slot c.args.insn.now c.args.reached.now (omega arith) c.requires.seen
-        c.requires.is_at c.in_default.ensures)
+    c.requires.is_at c.in_default.ensures)

@@ -11,7 +11,7 @@ pub stack_bytes-first-requires : goal.stack_bytes-first-requires
 stack_bytes-first-requires g c =
     let e : c.args.offset ≡ to_z w16 (of_z w16 c.args.offset) = omega (arith, ints) in
     subst (λ (o : ℤ). IsTrue (in_stack (reach_of c.in-Stack.span o c.args.size))) e
-        (c.requires c.in-Stack.span (sym c.register.ensures ∙ c.in-Stack.is))
+    (c.requires c.in-Stack.span (sym c.register.ensures ∙ c.in-Stack.is))
 
 pub returns-then-span : goal.returns-then-span
 returns-then-span g c =
@@ -19,6 +19,6 @@ returns-then-span g c =
     let e : to_z w16 (of_z w16 c.args.offset) ≡ c.args.offset = omega (arith, ints) in
     c.mark.ensures
     ∙ stored_exact (view c.args.state.now) ((view c.args.state.now).registers c.args.base.number) c.in-Stack.span
-        c.args.offset c.args.size c.stack_bytes-first.result.0 c.bytes_of.result
+    c.args.offset c.args.size c.stack_bytes-first.result.0 c.bytes_of.result
     (sym c.register.ensures ∙ c.in-Stack.is) one (c.stack_bytes-first.ensures.first
-        ∙ ap (λ (o : ℤ). stack_index (c.in-Stack.span.lo +ℤ o)) e) c.bytes_of.ensures.value
+    ∙ ap (λ (o : ℤ). stack_index (c.in-Stack.span.lo +ℤ o)) e) c.bytes_of.ensures.value

@@ -55,7 +55,7 @@ carry-requires-2 g c = (
       let h =
       leads_inside c.args.code.now c.args.at c.args.insn
       (λ rule. c.requires.structured.meets c.args.at c.args.insn rule c.requires.is_at) k (sym c.leads_to.ensures
-          ∙ e) in
+      ∙ e) in
       let long : room c.carry.new.pending ≡ slot_count c.args.code.now =
       c.carry.ensures.room ∙ c.take.ensures.room ∙ c.requires.room in
       omega arith,

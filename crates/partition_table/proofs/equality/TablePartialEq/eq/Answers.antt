@@ -11,7 +11,7 @@ returns-then-is_within-2 c =
       | then-is_within w ↦
           c.agrees_with.ensures
           ∙ equal_by_codes a b c.is_within.ensures.tables.0 c.is_within.ensures.tables.1
-              (c.is_within.ensures.within.0 w.if-is_within.true)
+          (c.is_within.ensures.within.0 w.if-is_within.true)
           (w.is_within-then-is_within.ensures.within.0 (sym w.value-is ∙ c.if-is_within-2.true))
       | else-is_within w ↦ let both : true ≡ false = sym c.if-is_within-2.true ∙ w.value-is ∙ w.if-is_within.false in
           absurd (cc)

@@ -6,7 +6,7 @@ pub returns-in-Some : goal.returns-in-Some
 returns-in-Some c = λ n row of_row same.
     let p = c.args.self.now in
     kept_in_first p.a.now p.b.now c.requires.tables.0 c.requires.tables.1 c.requires.agree c.args.resolver
-        (arc_value c.in-Some.program.now)
+    (arc_value c.in-Some.program.now)
     c.in-Some.ensures.named n row of_row same
 
 pub returns-in-None : goal.returns-in-None

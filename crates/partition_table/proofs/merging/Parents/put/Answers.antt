@@ -19,7 +19,7 @@ keep-requires-clause-coded c =
     let coded = c.program_for.ensures c.args.name.now held.0 held.1 (ap (λ r. r.resolver) held.2) in
     subst (λ row. IsCodeOf row.registration.resolver row.code) (row_of_parts held.0 kept code held.2 coded)
     (coded_row_of p.a.now p.b.now c.requires.tables.0 c.requires.tables.1 c.requires.agree c.args.name.now held.0
-        held.1)
+    held.1)
 
 pub keep-requires-clause-agrees : goal.keep-requires-clause-agrees
 keep-requires-clause-agrees c =
@@ -30,7 +30,7 @@ keep-requires-clause-agrees c =
     let coded = c.program_for.ensures c.args.name.now held.0 held.1 (ap (λ r. r.resolver) held.2) in
     subst (λ row. agrees_with c.args.merged.now row ≡ true) (row_of_parts held.0 kept code held.2 coded)
     (part_agrees p.a.now p.b.now c.requires.tables.0 c.requires.tables.1 c.requires.agree c.args.merged.now
-        c.requires.part
+    c.requires.part
     c.args.name.now held.0 held.1)
 
 pub returns : goal.returns
@@ -44,8 +44,8 @@ returns c = on_ok_weaker c.keep.result (λ e row shown of_row.
     let coded = c.program_for.ensures n r.0 of_r (ap (λ r. r.resolver) r.2) in
     e ∙ ap (insert c.args.merged.now n) (sym (row_of_parts r.0 kept code r.2 coded))
     ∙ ap (λ o. with_row n o c.args.merged.now) (sym (stays_put (get p.a.now n) (get p.b.now n)
-        (contains name_cmp p.gone_a n)
+    (contains name_cmp p.gone_a n)
     (contains name_cmp p.gone_b n) r.0 kept r.2 c.is_withdrawn.result c.is_withdrawn.ensures
     ∙ ap (λ b. if b then None else Some r.0) c.if-is_withdrawn.false))
     ∙ ap (λ o. with_row n (unless_gone (get p.a.now n) (get p.b.now n) (contains name_cmp p.gone_a n)
-        (contains name_cmp p.gone_b n) o) c.args.merged.now) (sym r.1)) c.keep.ensures.kept
+    (contains name_cmp p.gone_b n) o) c.args.merged.now) (sym r.1)) c.keep.ensures.kept

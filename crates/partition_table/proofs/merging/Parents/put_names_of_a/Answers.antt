@@ -42,7 +42,7 @@ put-requires-clause-held c =
     let met = subst (AllByRecursion (IsPaired a b)) c.in-Some.ensures.steps c.loop-name.invariant.met in
     kept_held a b n (merged_at (get a n) (get b n) x) (merged_of a b n x) c.settle-kept.result
     (settled_kept a b n c.in-Some.mine.now (option_map (λ s. s.now) c.in-Some.other) met.0 x c.settle-kept.result
-        c.settle-kept.ensures.kept)
+    c.settle-kept.ensures.kept)
 
 pub loop-name-preserved : goal.loop-name-preserved
 loop-name-preserved c =
@@ -59,11 +59,11 @@ loop-name-preserved c =
     let other = option_map (λ s. s.now) c.in-Some.other in
     let met = subst (AllByRecursion (IsPaired a b)) c.in-Some.ensures.steps c.loop-name.invariant.met in
     let names : map (λ item. item.0) (pairs_left c.loop-name.name-iterator) ≡ n ∷ left =
-            ap (map (λ item. item.0)) c.in-Some.ensures.steps in
+    ap (map (λ item. item.0)) c.in-Some.ensures.steps in
     let kept = settled_kept a b n c.in-Some.mine.now other met.0 x c.settle-kept.result c.settle-kept.ensures.kept in
     let put = c.in_ok-put.ensures row (sym kept) (merged_of a b n x) in
     let behind = settled_left a b n c.in-Some.mine.now other met.0 x xs (iter_rest c.settle-kept.new.answers)
-            c.settle-kept.ensures.left in
+    c.settle-kept.ensures.left in
     record {
       told = ap (λ ys. put_all (settled a b gone_a gone_b left ys) c.put.new.merged) behind
           ∙ ap (put_all (settled a b gone_a gone_b left (answers_left (get a n) (get b n) xs))) put
@@ -71,7 +71,7 @@ loop-name-preserved c =
           ∙ c.loop-name.invariant.told;
       ready = subst (IsReady a b left (len a)) (sym put)
           (ready_next a b n left (len a) c.loop-name.merged (subst
-              (λ names. IsReady a b names (len a) c.loop-name.merged) names c.loop-name.invariant.ready)
+          (λ names. IsReady a b names (len a) c.loop-name.merged) names c.loop-name.invariant.ready)
           (unless_gone (get a n) (get b n) (gone_a n) (gone_b n) row)
           (unless_gone_of (IsRowOf a b n) (get a n) (get b n) (gone_a n) (gone_b n) row (merged_of a b n x)));
       met = met.1;

@@ -16,9 +16,9 @@ invariant-loop-name l =
     record {
       told :
           put_all (settled p.a.now p.b.now (contains name_cmp p.gone_a) (contains name_cmp p.gone_b)
-              (map (λ item. item.0) left) (iter_rest l.answers)) l.merged
+          (map (λ item. item.0) left) (iter_rest l.answers)) l.merged
           ≡ put_all (settled p.a.now p.b.now (contains name_cmp p.gone_a) (contains name_cmp p.gone_b) (keys p.a.now)
-              l.fn.answers) empty;
+          l.fn.answers) empty;
       ready : IsReady p.a.now p.b.now (map (λ item. item.0) left) (len p.a.now) l.merged;
       met : AllByRecursion (IsPaired p.a.now p.b.now) left;
     }

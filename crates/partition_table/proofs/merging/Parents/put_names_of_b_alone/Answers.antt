@@ -22,10 +22,10 @@ loop-name-preserved c =
     let met = subst (AllByRecursion (IsPaired b a)) c.in-Some.ensures.steps c.loop-name.invariant.met in
     let lack = lacked a n c.in-Some.mine met.0.1 (sym c.is_some.ensures ∙ c.if-is_some.false) in
     let names = ap (λ items. names_without a (map (λ item. item.0) items)) c.in-Some.ensures.steps
-            ∙ without_step a n left lack in
+    ∙ without_step a n left lack in
     let row = own_row a b n (get b n) refl in
     let put = c.in_ok-put.ensures (get b n) met.0.0 row ∙ ap
-            (λ r. with_row n (unless_gone r (get b n) (gone_a n) (gone_b n) (get b n)) c.loop-name.merged) lack in
+    (λ r. with_row n (unless_gone r (get b n) (gone_a n) (gone_b n) (get b n)) c.loop-name.merged) lack in
     record {
       told = ap (put_all (each_kept kept (names_without a left))) put
           ∙ ap (λ names. put_all (each_kept kept names) c.loop-name.merged) (sym names)

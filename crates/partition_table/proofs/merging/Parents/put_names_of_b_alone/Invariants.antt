@@ -14,7 +14,7 @@ invariant-loop-name l =
     let p = l.self in
     let left = pairs_left l.name-iterator in
     let kept = λ (name : Name). unless_gone None (get p.b.now name) (contains name_cmp p.gone_a name)
-            (contains name_cmp p.gone_b name) (get p.b.now name) in
+    (contains name_cmp p.gone_b name) (get p.b.now name) in
     record {
       told :
           put_all (each_kept kept (names_without p.a.now (map (λ item. item.0) left))) l.merged

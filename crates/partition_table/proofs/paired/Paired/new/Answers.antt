@@ -16,5 +16,5 @@ pub returns-clause-met : goal.returns-clause-met
 returns-clause-met c =
     subst (AllByRecursion (IsPaired c.args.table.now c.args.other.now))
     (sym (ap (λ rows. walk rows (rows_ahead c.new.result)) c.rows.ensures.rows
-        ∙ ap (walk (rows_of c.args.table.now)) c.new.ensures.rows))
+    ∙ ap (walk (rows_of c.args.table.now)) c.new.ensures.rows))
     (pairs_met c.args.table.now c.args.other.now)

@@ -11,5 +11,5 @@ returns c =
     let others = programs_by arc_value c.other.inside.programs.entries in
     let held_other = held_now others c.other.inside.rows.entries c.args.other.now c.other.view_is c.other.invariant in
     agree_is programs others c.args.self.now c.args.other.now held.0 held.1 held_other.0 held_other.1
-        c.programs_agree.result
+    c.programs_agree.result
     c.programs_agree.ensures

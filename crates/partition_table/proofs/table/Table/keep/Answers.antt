@@ -15,7 +15,7 @@ hold_program-requires-clause-room c =
     let held = held_now programs c.self.inside.rows.entries c.args.self.now c.self.view_is c.self.invariant in
     room_from_agrees programs c.args.self.now held.0 held.1
     record { registration = c.args.registration; code = option_map (λ p. arc_value p.now) c.args.program }
-        c.requires.agrees
+    c.requires.agrees
 
 -- where there is no place for the row, the programs are as they were
 programs_back : (c : After-from) → programs_by arc_value c.release_program.new.programs.entries
@@ -23,10 +23,10 @@ programs_back : (c : After-from) → programs_by arc_value c.release_program.new
 programs_back c =
     c.release_program.ensures
     ∙ released (programs_by arc_value c.self.inside.programs.entries)
-        (programs_by arc_value c.hold_program.new.programs.entries)
+    (programs_by arc_value c.hold_program.new.programs.entries)
     c.args.registration.resolver (option_map (λ p. arc_value p.now) c.args.program) c.in_ok-added.added c.requires.coded
     c.in_ok-added.ensures.held (λ none. ap (programs_by arc_value) (c.in_ok-added.ensures.kept none))
-        c.in_ok-added.ensures.added
+    c.in_ok-added.ensures.added
 
 -- and so is the table
 table_back : (c : After-from) → table_by (programs_by arc_value c.release_program.new.programs.entries)
@@ -39,7 +39,7 @@ table_back c =
 pub invariant_of-self-in-Err : goal.invariant_of-self-in-Err
 invariant_of-self-in-Err c =
     subst (λ p. IsHeld p (table_by (programs_by arc_value c.release_program.new.programs.entries)
-        c.insert.new.self.entries))
+    c.insert.new.self.entries))
     (sym (programs_back c))
     (subst (IsHeld (programs_by arc_value c.self.inside.programs.entries)) (sym (table_back c)) c.self.invariant)
 
@@ -59,7 +59,7 @@ made c =
     let room = room_from_agrees programs c.args.self.now held.0 held.1 (row c) c.requires.agrees in
     ap (λ p. table_by p c.insert.new.self.entries) c.in_ok-added.ensures.held
     ∙ made_more programs c.args.self.now held.0 held.1 c.args.name (row c) c.requires.new c.requires.room
-        c.requires.coded room
+    c.requires.coded room
     c.self.inside.rows c.insert.new.self c.self.view_is c.in_default.ensures.updates
 
 pub invariant_of-self-in_default : goal.invariant_of-self-in_default
@@ -71,7 +71,7 @@ invariant_of-self-in_default c =
     subst (IsHeld (programs_by arc_value c.hold_program.new.programs.entries)) (sym (made c))
     (subst (λ p. IsHeld p (insert c.args.self.now c.args.name (row c))) (sym c.in_ok-added.ensures.held)
     (held_more programs c.args.self.now held.0 held.1 c.args.name (row c) c.requires.new c.requires.room
-        c.requires.coded room))
+    c.requires.coded room))
 
 pub returns-clause-kept : goal.returns-clause-kept
 unfolding row

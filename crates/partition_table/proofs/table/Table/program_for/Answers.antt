@@ -11,7 +11,7 @@ returns-in-Builtin-clause-each c = λ q row there is.
     let programs = programs_by arc_value c.self.inside.programs.entries in
     let held = held_now programs c.self.inside.rows.entries c.args.self.now c.self.view_is c.self.invariant in
     sym (code_held programs c.args.self.now held.0 held.1 q row there c.args.resolver is
-        ∙ ap (code_for programs) c.in-Builtin.is)
+    ∙ ap (code_for programs) c.in-Builtin.is)
 
 pub returns-in-Program-clause-each : goal.returns-in-Program-clause-each
 returns-in-Program-clause-each c = λ q row there is.
@@ -26,5 +26,5 @@ returns-in-Program-clause-named c =
     let programs = programs_by arc_value c.self.inside.programs.entries in
     let held = held_now programs c.self.inside.rows.entries c.args.self.now c.self.view_is c.self.invariant in
     kept_for programs c.args.self.now held.0 held.1 arc_value c.args.resolver c.in-Program.id c.in-Program.is
-        c.get.result
+    c.get.result
     (code_lent arc_value c.self.inside.programs.entries c.in-Program.id c.get.result c.get.ensures.value)

@@ -13,16 +13,16 @@ pub returns-then-contains_key-clause-answer : goal.returns-then-contains_key-cla
 returns-then-contains_key-clause-answer c =
     let programs = programs_by arc_value c.self.inside.programs.entries in
     let named = sym (has_name programs c.self.inside.rows.entries c.args.self.now c.self.view_is c.args.name)
-            ∙ sym c.contains_key.ensures in
+    ∙ sym c.contains_key.ensures in
     inl (taken_due c.args.self.now c.args.name c.args.registration c.args.store.now (named ∙ c.if-contains_key.true))
 
 pub returns-then-len-eq-MAX_NAMES-clause-answer : goal.returns-then-len-eq-MAX_NAMES-clause-answer
 returns-then-len-eq-MAX_NAMES-clause-answer c =
     let programs = programs_by arc_value c.self.inside.programs.entries in
     let named = sym (has_name programs c.self.inside.rows.entries c.args.self.now c.self.view_is c.args.name)
-            ∙ sym c.contains_key.ensures in
+    ∙ sym c.contains_key.ensures in
     let count = c.len.ensures.len ∙ sym (count_of programs c.self.inside.rows.entries c.len.ensures.ordered)
-            ∙ ap len c.self.view_is in
+    ∙ ap len c.self.view_is in
     inl (full_due c.args.self.now c.args.name c.args.registration c.args.store.now (named ∙ c.if-contains_key.false)
     (sym count ∙ c.if-len-eq-MAX_NAMES.true))
 
@@ -31,13 +31,13 @@ returns-in_err-program-clause-answer c =
     let programs = programs_by arc_value c.self.inside.programs.entries in
     let held = held_now programs c.self.inside.rows.entries c.args.self.now c.self.view_is c.self.invariant in
     let named = sym (has_name programs c.self.inside.rows.entries c.args.self.now c.self.view_is c.args.name)
-            ∙ sym c.contains_key.ensures in
+    ∙ sym c.contains_key.ensures in
     let count = c.len.ensures.len ∙ sym (count_of programs c.self.inside.rows.entries c.len.ensures.ordered)
-            ∙ ap len c.self.view_is in
+    ∙ ap len c.self.view_is in
     let place = has_place c.len.result (len c.args.self.now) count held.0.few c.if-len-eq-MAX_NAMES.false in
     handed_on _ c.from_residual.result c.in_err-program.field-0.0 c.from_residual.ensures.1
     (inl (unknown_due c.args.self.now c.args.name c.args.registration c.args.store.now (named
-        ∙ c.if-contains_key.false) place
+    ∙ c.if-contains_key.false) place
     c.in_err-program.ensures.unknown.1 ∙ ap Some (sym c.in_err-program.ensures.unknown.0)))
 
 pub returns-then-not-has_room-clause-answer : goal.returns-then-not-has_room-clause-answer
@@ -45,24 +45,27 @@ returns-then-not-has_room-clause-answer c =
     let programs = programs_by arc_value c.self.inside.programs.entries in
     let held = held_now programs c.self.inside.rows.entries c.args.self.now c.self.view_is c.self.invariant in
     let named = sym (has_name programs c.self.inside.rows.entries c.args.self.now c.self.view_is c.args.name)
-            ∙ sym c.contains_key.ensures in
+    ∙ sym c.contains_key.ensures in
     let count = c.len.ensures.len ∙ sym (count_of programs c.self.inside.rows.entries c.len.ensures.ordered)
-            ∙ ap len c.self.view_is in
+    ∙ ap len c.self.view_is in
     let place = has_place c.len.result (len c.args.self.now) count held.0.few c.if-len-eq-MAX_NAMES.false in
     inl (other_due c.args.self.now c.args.name c.args.registration c.args.store.now (named
-        ∙ c.if-contains_key.false) place
+    ∙ c.if-contains_key.false) place
     c.in_ok-program.ensures.known
-    (ap (λ code. agrees_with c.args.self.now record { registration = c.args.registration; code =
-        code }) (sym c.in_ok-program.ensures.found)
+    (ap (λ code. agrees_with c.args.self.now record {
+      registration = c.args.registration;
+      code =
+          code;
+    }) (sym c.in_ok-program.ensures.found)
     ∙ differs_when programs c.args.self.now held.0 held.1 c.args.registration
-        (option_map (λ p. arc_value p.now) c.in_ok-program.program)
+    (option_map (λ p. arc_value p.now) c.in_ok-program.program)
     c.has_room.result c.has_room.ensures c.if-not-has_room.true))
 
 pub keep-requires-clause-new : goal.keep-requires-clause-new
 keep-requires-clause-new c =
     let programs = programs_by arc_value c.self.inside.programs.entries in
     let named = sym (has_name programs c.self.inside.rows.entries c.args.self.now c.self.view_is c.args.name)
-            ∙ sym c.contains_key.ensures in
+    ∙ sym c.contains_key.ensures in
     is_none_by _ (named ∙ c.if-contains_key.false)
 
 pub keep-requires-clause-room : goal.keep-requires-clause-room
@@ -70,7 +73,7 @@ keep-requires-clause-room c =
     let programs = programs_by arc_value c.self.inside.programs.entries in
     let held = held_now programs c.self.inside.rows.entries c.args.self.now c.self.view_is c.self.invariant in
     let count = c.len.ensures.len ∙ sym (count_of programs c.self.inside.rows.entries c.len.ensures.ordered)
-            ∙ ap len c.self.view_is in
+    ∙ ap len c.self.view_is in
     has_place c.len.result (len c.args.self.now) count held.0.few c.if-len-eq-MAX_NAMES.false
 
 pub keep-requires-clause-agrees : goal.keep-requires-clause-agrees
@@ -78,7 +81,7 @@ keep-requires-clause-agrees c =
     let programs = programs_by arc_value c.self.inside.programs.entries in
     let held = held_now programs c.self.inside.rows.entries c.args.self.now c.self.view_is c.self.invariant in
     agrees_when programs c.args.self.now held.0 held.1 c.args.registration
-        (option_map (λ p. arc_value p.now) c.in_ok-program.program)
+    (option_map (λ p. arc_value p.now) c.in_ok-program.program)
     c.has_room.result c.has_room.ensures c.if-not-has_room.false
 
 pub returns-clause-answer : goal.returns-clause-answer
@@ -86,14 +89,17 @@ returns-clause-answer c =
     let programs = programs_by arc_value c.self.inside.programs.entries in
     let held = held_now programs c.self.inside.rows.entries c.args.self.now c.self.view_is c.self.invariant in
     let named = sym (has_name programs c.self.inside.rows.entries c.args.self.now c.self.view_is c.args.name)
-            ∙ sym c.contains_key.ensures in
+    ∙ sym c.contains_key.ensures in
     let count = c.len.ensures.len ∙ sym (count_of programs c.self.inside.rows.entries c.len.ensures.ordered)
-            ∙ ap len c.self.view_is in
+    ∙ ap len c.self.view_is in
     let place = has_place c.len.result (len c.args.self.now) count held.0.few c.if-len-eq-MAX_NAMES.false in
     none_due c.args.self.now c.args.name c.args.registration c.args.store.now (named ∙ c.if-contains_key.false) place
     c.in_ok-program.ensures.known
-    (ap (λ code. agrees_with c.args.self.now record { registration = c.args.registration; code =
-        code }) (sym c.in_ok-program.ensures.found)
+    (ap (λ code. agrees_with c.args.self.now record {
+      registration = c.args.registration;
+      code =
+          code;
+    }) (sym c.in_ok-program.ensures.found)
     ∙ agrees_when programs c.args.self.now held.0 held.1 c.args.registration
-        (option_map (λ p. arc_value p.now) c.in_ok-program.program)
+    (option_map (λ p. arc_value p.now) c.in_ok-program.program)
     c.has_room.result c.has_room.ensures c.if-not-has_room.false)

@@ -18,12 +18,12 @@ table_same : (c : In_ok-clone-2)
 table_same c =
     ap (λ p. table_by p c.in_ok-clone.field-0.entries) (programs_same c)
     ∙ ap (table_by (programs_by arc_value c.self.inside.programs.entries))
-        (same_clone c.self.inside.rows.entries c.in_ok-clone.field-0.entries c.in_ok-clone.ensures.cases)
+    (same_clone c.self.inside.rows.entries c.in_ok-clone.field-0.entries c.in_ok-clone.ensures.cases)
 
 pub invariant_of-result : goal.invariant_of-result
 invariant_of-result c =
     subst (λ p. IsHeld p (table_by (programs_by arc_value c.in_ok-clone-2.field-0.entries)
-        c.in_ok-clone.field-0.entries)) (sym (programs_same c))
+    c.in_ok-clone.field-0.entries)) (sym (programs_same c))
     (subst (IsHeld (programs_by arc_value c.self.inside.programs.entries)) (sym (table_same c)) c.self.invariant)
 
 pub returns : goal.returns
