@@ -99,8 +99,7 @@ decimal_gives most ds small =
     gives_if (IsWritten most ds) (IsPast most ds) (has_leading_zero ds) (Err fault.Operand) (number_at 10 most ds)
     (λ h. other)
     (λ h. gives_map (number_at 10 most ds) (number_gives 10 most ds) (written h) (λ p. record {
-      numeral =
-          p.0;
+      numeral = p.0;
       no_leading_zero = no_zero ds h;
       past = p.1;
     }))
@@ -193,8 +192,7 @@ value_gives w = from_hex (hex_digits w) refl
             digits = ds;
             spelled = hex_is w ds h;
             numeral = m.numeral;
-            number =
-                m.value;
+            number = m.value;
           });
           taken = omega (arith, m.fits);
         })
@@ -248,14 +246,12 @@ pub short_step_gives : (w : List ℕ) → Gives (IsRead AStep w) (IsPastStep 327
 short_step_gives w =
     gives_map (step_at 32767 w) (step_gives 32767 w (omega arith)) (λ z s. record {
       spelled = s.0;
-      taken =
-          short_fits z s.1;
+      taken = short_fits z s.1;
     }) (λ p. p)
 
 pub long_step_gives : (w : List ℕ) → Gives (IsRead ALongStep w) (IsPastStep 2147483647 w) (step_at 2147483647 w)
 long_step_gives w =
     gives_map (step_at 2147483647 w) (step_gives 2147483647 w (omega arith)) (λ z s. record {
       spelled = s.0;
-      taken =
-          long_fits z s.1;
+      taken = long_fits z s.1;
     }) (λ p. p)

@@ -87,8 +87,7 @@ begins text o h =
       behind = s.behind;
       spelled = s.spelled;
       is_operand = h;
-      before_blank =
-          s.before_blank;
+      before_blank = s.before_blank;
       behind_blank = s.behind_blank;
     }
 

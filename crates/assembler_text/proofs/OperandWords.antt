@@ -28,8 +28,7 @@ register_gives w = from_number (register_number w) refl (known_register w)
     from_number None e k = other
     from_number (Some n) e k =
         subst (λ r. Gives (IsRead ARegister w) ⊥ (asked r)) (sym (register_of n k)) (record {
-          spelled =
-              number_name w n e;
+          spelled = number_name w n e;
           taken = tt;
         })
 
@@ -47,8 +46,7 @@ source_gives w = from_register (register_at w) (register_gives w)
     from_register (Ok r) h = record { spelled = h.spelled; taken = tt }
     from_register (Err f) h =
         gives_then (IsRead ASource w) (imm_at w) (λ n. Ok (Imm n)) (imm_gives w) (λ n i. record {
-          spelled =
-              i.spelled;
+          spelled = i.spelled;
           taken = i.taken;
         }) (λ p. p)
 

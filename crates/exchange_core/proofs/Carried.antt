@@ -99,7 +99,8 @@ module _ {id : SideId} {side : Side} {past : Past} (fits : SideFits id side past
     where
       by_heard : (exchange after : Exchange) → OpenFits id side.table exchange past →
           (offer.side ≡ other id) × (offer.number ≡ exchange.number) → (b : Bool) →
-          (if b then Some exchange else hear_first side.id side.table offer exchange) ≡ Some after → OpenFits id side.table after past
+          (if b then Some exchange else hear_first side.id side.table offer exchange) ≡ Some after
+          → OpenFits id side.table after past
       by_heard exchange after f theirs true e = subst (λ x. OpenFits id side.table x past) (some_inj e) f
       by_heard exchange after f theirs false e = first_heard exchange after offer f has theirs e
 
@@ -126,7 +127,8 @@ module _ {id : SideId} {side : Side} {past : Past} (fits : SideFits id side past
     where
       by_heard : (exchange after : Exchange) → OpenFits id side.table exchange past → side.exchange ≡ Some exchange →
           exchange.number ≡ number → (o : Option Heard) → exchange.heard ≡ o →
-          option_and_then (take_heard (clashes_of side) k judged exchange) o ≡ Some after → OpenFits id side.table after past
+          option_and_then (take_heard (clashes_of side) k judged exchange) o ≡ Some after
+          → OpenFits id side.table after past
       by_heard exchange after f opened same_number None is e = cc
       by_heard exchange after f opened same_number (Some heard) is e =
           let h = when _ _ _ e in

@@ -50,7 +50,8 @@ room_hear true side offer e = by_open side.exchange e
     by_test : (x : Exchange) (b : Bool) → (if b then first_offer_fault true side x offer else Some JournalFull) ≡ None →
         true ≡ false
     by_test x true e =
-        third (not (x.seed == offer.seed)) (not (nat_le (union_for side.id side.table offer.table) max_names)) SeedDiffers
+        third (not (x.seed == offer.seed)) (not (nat_le (union_for side.id side.table offer.table) max_names))
+        SeedDiffers
         TooManyNames JournalFull e
     by_test x false e = cc
 

@@ -56,7 +56,8 @@ module _ {id : SideId} {own : Table} {x : Exchange} (m : IsMergeable id own x) w
   pub one_answer_each : (heard : Heard) → x.heard ≡ Some heard → (given : List Verdict3) →
       given ≡ answers (all_held heard.rulings) → length given ≡ length (clash_names_for id own heard.table)
   one_answer_each heard is given e =
-      subst (λ (h : Heard). given ≡ answers (all_held h.rulings) → length given ≡ length (clash_names_for id own h.table))
+      subst (λ (h : Heard). given ≡ answers (all_held h.rulings)
+      → length given ≡ length (clash_names_for id own h.table))
       (same_heard heard is)
       (λ e. ap length (e ∙ held_answers m.heard.rulings m.full) ∙ length-map m.heard.rulings answer_in ∙ m.places
       ∙ length-names id own x.uptime m.heard.table m.heard.uptime) e
@@ -71,8 +72,11 @@ module _ {id : SideId} {own : Table} {x : Exchange} (m : IsMergeable id own x) w
       let full : list_all is_some heard.rulings ≡ true =
       subst (λ (h : Heard). list_all is_some h.rulings ≡ true) (same_heard heard is) m.full in
       subst (λ (p : Heard × List Name). (rulings ≡ all_held p.0.rulings)
-      × (table ≡ merge_for id own p.0.table (map answer_in p.0.rulings) x.withdrawn p.1)) (λ i. (here i, there i))
-      (e, t ∙ ap (λ (a : List Verdict3). merge_for id own heard.table a x.withdrawn theirs) (held_answers heard.rulings full))
+      × (table ≡ merge_for id own p.0.table (map answer_in p.0.rulings) x.withdrawn p.1)) (λ i. (here i, there i)) (
+        e,
+        t ∙ ap (λ (a : List Verdict3). merge_for id own heard.table a x.withdrawn theirs)
+            (held_answers heard.rulings full),
+      )
 
 by_side : (id : SideId) (own : Table) (x : Exchange) (heard : Heard) (theirs : List Name) (rulings : List Judged)
     (table : Table) → fit_for id own heard.table ≡ true →
@@ -93,14 +97,16 @@ pub finished_so : {id : SideId} {own : Table} {x : Exchange} → IsMergeable id 
 finished_so {id} {own} {x} m rulings table merged heard theirs is sent =
     let same = same_heard m heard is in
     let f = merged heard theirs is sent in
-    let full : list_all is_some heard.rulings ≡ true = subst (λ (h : Heard). list_all is_some h.rulings ≡ true) same m.full in
+    let full : list_all is_some heard.rulings ≡ true = subst (λ (h : Heard). list_all is_some h.rulings
+    ≡ true) same m.full in
     let places : length heard.rulings ≡ length (clashes_for id own x.uptime heard.table heard.uptime) =
     subst (λ (h : Heard). length h.rulings ≡ length (clashes_for id own x.uptime h.table h.uptime)) same m.places in
     let lawful : (k : ℕ) (judged : Judged) → slice_get heard.rulings k ≡ Some (Some judged) →
     is_lawful (clashes_for id own x.uptime heard.table heard.uptime) x.seed k judged ≡ true =
     subst (λ (h : Heard). (k : ℕ) (judged : Judged) → slice_get h.rulings k ≡ Some (Some judged) →
     is_lawful (clashes_for id own x.uptime h.table h.uptime) x.seed k judged ≡ true) same m.lawful in
-    by_side id own x heard theirs rulings table (fits m heard is) (ap length f.0 ∙ length-held heard.rulings full ∙ places)
+    by_side id own x heard theirs rulings table (fits m heard is) (ap length f.0 ∙ length-held heard.rulings full
+    ∙ places)
     (λ k judged at. lawful k judged (held_at heard.rulings full k judged
     (ap (λ (l : List Judged). slice_get l k) (sym f.0) ∙ at)))
     (f.1 ∙ ap (λ (a : List Verdict3). merge_for id own heard.table a x.withdrawn theirs)

@@ -18,7 +18,8 @@ length_onto : (events : List Event) (calls : List Call) →
     length (fold (λ calls event. call_of event ∷ calls) calls events) ≡ length events + length calls
 length_onto [] calls = omega arith
 length_onto (event ∷ events) calls =
-    let h : length (fold (λ calls event. call_of event ∷ calls) (call_of event ∷ calls) events) ≡ length events + length (call_of event ∷ calls) = length_onto events (call_of event ∷ calls) in
+    let h : length (fold (λ calls event. call_of event ∷ calls) (call_of event ∷ calls) events)
+    ≡ length events + length (call_of event ∷ calls) = length_onto events (call_of event ∷ calls) in
     omega (arith, h)
 
 -- there is one call an event
@@ -29,7 +30,8 @@ length-calls events = let h = length_onto events [] in omega (arith, h)
 pub led_on : (events : List Event) (event : Event) (old new : Side) → IsJournal events old →
     carried_out old (call_of event) ≡ Some new → IsJournal (events ++ event ∷ []) new
 led_on events event old new is e =
-    subst (λ id. replay id (calls_of (events ++ event ∷ [])) ≡ new) (sym (ap (λ (s : Side). s.id) (sym leads) ∙ (replay_holds old.id (calls_of (events ++ event ∷ []))).same_id))
+    subst (λ id. replay id (calls_of (events ++ event ∷ [])) ≡ new) (sym (ap (λ (s : Side). s.id) (sym leads)
+    ∙ (replay_holds old.id (calls_of (events ++ event ∷ []))).same_id))
     leads
   where
     leads : replay old.id (calls_of (events ++ event ∷ [])) ≡ new

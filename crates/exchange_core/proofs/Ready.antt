@@ -52,7 +52,8 @@ pub ready_to_finish : (full : Bool) (side : Side) → finish_fault full side ≡
     (x : Exchange) → side.exchange ≡ Some x → IsMergeable side.id side.table x
 ready_to_finish full side e holds x opened =
     let due : missing_or_full full (missing_of x) ≡ None =
-    ap (λ (o : Option Exchange). option_map_or (λ (y : Exchange). missing_or_full full (missing_of y)) o (Some NotHealing))
+    ap (λ (o : Option Exchange). option_map_or (λ (y : Exchange). missing_or_full full (missing_of y)) o
+    (Some NotHealing))
     (sym opened) ∙ e in
     let p = parts x.heard x.closed x.their_list (lacks_nothing full (missing_of x) due) in
     let h = (holds.open_holds x opened).heard p.heard p.was_heard in
@@ -72,6 +73,7 @@ pub open_to_finish : (full : Bool) (side : Side) → finish_fault full side ≡ 
 open_to_finish full side e = by_open side.exchange e
   where
     by_open : (o : Option Exchange) →
-        option_map_or (λ (y : Exchange). missing_or_full full (missing_of y)) o (Some NotHealing) ≡ None → is_some o ≡ true
+        option_map_or (λ (y : Exchange). missing_or_full full (missing_of y)) o (Some NotHealing) ≡ None
+        → is_some o ≡ true
     by_open None e = cc
     by_open (Some x) e = refl

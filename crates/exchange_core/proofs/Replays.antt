@@ -87,7 +87,8 @@ module _ {id : SideId} {side : Side} (h : Holds id side) where
       (by_heard g.before g.after (h.open_holds g.before g.opened) (is_some g.before.heard) c.1)
     where
       by_heard : (exchange after : Exchange) → OpenHolds side exchange → (b : Bool) →
-          (if b then Some exchange else hear_first side.id side.table offer exchange) ≡ Some after → OpenHolds side after
+          (if b then Some exchange else hear_first side.id side.table offer exchange) ≡ Some after
+          → OpenHolds side after
       by_heard exchange after o true e = subst (OpenHolds side) (some_inj e) o
       by_heard exchange after o false e =
           let w = when _ _ _ e in

@@ -68,7 +68,8 @@ module _ {id : SideId} {side : Side} {past : Past} (fits : SideFits id side past
   earlier_list : (l : Withdrawals) → Has past.lists l → l.side ≡ id → l.number < number
   earlier_list l h is = is_fresh side.latest number l.number above (fits.covers_list l h is)
 
-  open_with_ours : OpenFits id side.table (new_exchange number seed uptime) (with_offer past (offer_of side number seed uptime))
+  open_with_ours : OpenFits id side.table (new_exchange number seed uptime)
+      (with_offer past (offer_of side number seed uptime))
   open_with_ours = record {
     ours = (0, ap Some (λ i. made (fits.same_id i) number seed uptime side.table));
     heard = λ heard e. cc;
@@ -216,7 +217,8 @@ module _ {id : SideId} {side : Side} {past : Past} (fits : SideFits id side past
 
 -- each call of a side
 
-pub call_keeps : {id : SideId} {side : Side} {past : Past} → SideFits id side past → (call : Call) → IsSent side past call →
+pub call_keeps : {id : SideId} {side : Side} {past : Past} → SideFits id side past → (call : Call)
+    → IsSent side past call →
     (new : Side) → carried_out side call ≡ Some new → Keeps id new past (past_after past side call)
 call_keeps fits (Register name row) sent new e = same_past (register_fits fits name row new e)
 call_keeps fits (Unregister name) sent new e = same_past (unregister_fits fits name new e)

@@ -44,7 +44,8 @@ entries_without : (names : List Name) (table : Table) →
     entries (without names table) ≡ where_key name_cmp (stays names) (entries table)
 entries_without names table =
     let left = where_key name_cmp (stays names) (entries table) in
-    let sorted : T (is_sorted name_cmp left) = is_sorted-where_key name_cmp (stays names) (entries table) (entries_sorted table) in
+    let sorted : T (is_sorted name_cmp left) = is_sorted-where_key name_cmp (stays names) (entries table)
+    (entries_sorted table) in
     ap entries (same_map names_total names_exact (without names table) (from_sorted left) (λ q.
     get_without names table q
     ∙ sym (turned (is_in q names) (get table q))

@@ -10,7 +10,8 @@ use Rattle.exchange_core.specs.Sides.{Judged, Heard, Exchange, Side, is_one_of_f
 use Rattle.exchange_core.specs.Refusals.{is_strange, take_fault_in, take_fault}
 use Rattle.exchange_core.proofs.Rulings.{lawful_is, has_clash_is, clashes_are}
 
-made_so : {X Y : Type 0} (f : X → Y) (b : Bool) (x : X) → b ≡ true → is_some (option_map f (if b then Some x else None)) ≡ true
+made_so : {X Y : Type 0} (f : X → Y) (b : Bool) (x : X) → b ≡ true
+    → is_some (option_map f (if b then Some x else None)) ≡ true
 made_so f true x e = refl
 made_so f false x e = cc
 
@@ -44,7 +45,8 @@ takeable full side number k clash word said e same = by_open side.exchange refl 
         (option_and_then (take_heard (clashes_of side) k (record { word = word; answer = said }) x) o)) ≡ true
     by_heard x opened None is has one =
         let empty : clashes_of side ≡ [] =
-        ap (λ (o : Option Exchange). option_map_or (λ (y : Exchange). option_map_or (clashes_heard side y) y.heard []) o [])
+        ap (λ (o : Option Exchange). option_map_or (λ (y : Exchange). option_map_or (clashes_heard side y) y.heard []) o
+        [])
         opened ∙ ap (λ (o : Option Heard). option_map_or (clashes_heard side x) o []) is in
         absurd (none_there clash k
         (subst (λ (l : List Clash). option_map_or (same_clash clash) (slice_get l k) false ≡ true) empty has))

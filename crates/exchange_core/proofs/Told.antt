@@ -90,7 +90,8 @@ ruling_fits (step ∷ earlier) number k r e =
     (by_old (ruling_at number k (world_after earlier).past.rulings) refl (ruling_fits earlier number k r))
   where
     by_old : (o : Option Ruling) → ruling_at number k (world_after earlier).past.rulings ≡ o →
-        (ruling_at number k (world_after earlier).past.rulings ≡ Some r → RulingFits number k r (world_after earlier).past)
+        (ruling_at number k (world_after earlier).past.rulings ≡ Some r
+        → RulingFits number k r (world_after earlier).past)
         →
         RulingFits number k r (world_after earlier).past
     by_old (Some old) is before = before (is ∙ sym ((step_grows earlier step).found_still number k old is) ∙ e)
@@ -140,10 +141,12 @@ told_now past one id side exchange heard r s opened was same_number fits =
     ap (λ b. is_some (option_and_then (carried_out side) (if b then Some (Take r.number r.k r.judged) else None)))
     (has_clash_passes side exchange heard r.k r.clash opened was at)
     ∙ ap (λ o. opens (option_and_then (take_in (clashes_of side) r.number r.k r.judged) o)) opened
-    ∙ ap (λ b. opens (if b then option_and_then (take_heard (clashes_of side) r.k r.judged exchange) exchange.heard else None))
+    ∙ ap (λ b. opens (if b then option_and_then (take_heard (clashes_of side) r.k r.judged exchange) exchange.heard
+    else None))
     (eq-eqb _ _ same_number)
     ∙ ap (λ o. opens (option_and_then (take_heard (clashes_of side) r.k r.judged exchange) o)) was
-    ∙ ap (λ b. opens (if b then Some after else None)) (ap (λ (l : List Clash). is_lawful l exchange.seed r.k r.judged) (clashes_are side exchange heard opened was) ∙ lawful)
+    ∙ ap (λ b. opens (if b then Some after else None)) (ap (λ (l : List Clash). is_lawful l exchange.seed r.k r.judged)
+    (clashes_are side exchange heard opened was) ∙ lawful)
 
 pub told : (history : List Event) → TakesRulings history
 told history id number k ruling exchange heard opened same_number was found =

@@ -77,7 +77,8 @@ finished_at id own exchange heard theirs rulings table =
 
 abbrev pub finished_of : Side → Exchange → Heard → List Name → Finished
 finished_of side exchange heard theirs =
-    finished_at side.id side.table exchange heard theirs (all_held heard.rulings) (merged_table side exchange heard theirs)
+    finished_at side.id side.table exchange heard theirs (all_held heard.rulings)
+    (merged_table side exchange heard theirs)
 
 abbrev pub finished_in : Side → Exchange → Option Heard → Option (List Name) → Option Finished
 finished_in side exchange (Some heard) (Some theirs) = Some (finished_of side exchange heard theirs)
@@ -86,4 +87,5 @@ finished_in side exchange None theirs = None
 
 -- what a finish of this side gives; none where the exchange isn't open, or the offer or the list wasn't heard
 abbrev pub finished_from : Side → Option Finished
-finished_from side = option_and_then (λ exchange. finished_in side exchange exchange.heard exchange.their_list) side.exchange
+finished_from side = option_and_then (λ exchange. finished_in side exchange exchange.heard exchange.their_list)
+    side.exchange

@@ -87,16 +87,17 @@ impl Side {
 
     /// Registers the name on an idle side, and keeps the program that the registration names, as the store has it.
     ///
-    /// Refusals are 30 for a name that is registered, 32 where the table is full, 33 where an exchange is open, 40 where
-    /// the journal is full, 41 where the store has no such program, and 42 where the table keeps other code under its
-    /// id; the least that stands is answered. 90 is answered where memory runs out.
+    /// Refusals are 30 for a name that is registered, 32 where the table is full, 33 where an exchange is open, 40
+    /// where the journal is full, 41 where the store has no such program, and 42 where the table keeps other code
+    /// under its id; the least that stands is answered. 90 is answered where memory runs out.
     pub fn register(
         &mut self,
         name: Name,
         registration: Registration,
         store: &UploadStore,
     ) -> Result<(), SideFault>
-        ensures answer { IsAnswered (due.register_fault (is_full self.old) (shown self.old) name registration store.now) result }
+        ensures answer { IsAnswered (due.register_fault (is_full self.old) (shown self.old) name registration store.now)
+            result }
         ensures done { OnOk result (IsDone self.old (call.Register name (row_for store.now registration)) self.new) }
         ensures untouched { OnErr result (IsUntouched self.old self.new) }
     {
@@ -113,8 +114,8 @@ impl Side {
 
     /// Takes the name out on an idle side, and answers what it was registered with.
     ///
-    /// Refusals are 31 for a name that isn't registered, 33 where an exchange is open, and 40 where the journal is full;
-    /// the least that stands is answered. 90 is answered where memory runs out.
+    /// Refusals are 31 for a name that isn't registered, 33 where an exchange is open, and 40 where the journal is
+    /// full; the least that stands is answered. 90 is answered where memory runs out.
     pub fn unregister(&mut self, name: &Name) -> Result<Registration, SideFault>
         ensures answer { IsAnswered (due.unregister_fault (is_full self.old) (shown self.old) name.now) result }
         ensures given { IfOk result (λ registration. option_map (λ row. row.registration)
@@ -131,8 +132,8 @@ impl Side {
         Ok(registration)
     }
 
-    /// Opens an exchange of this number, and gives the offer to be sent. The table then stays as it is until `finish` or
-    /// `abandon`.
+    /// Opens an exchange of this number, and gives the offer to be sent. The table then stays as it is until `finish`
+    /// or `abandon`.
     ///
     /// Refusals are 33 where an exchange is open, 35 for a number that isn't above every number that this side began,
     /// and 40 where the journal is full; the least that stands is answered. 90 is answered where memory runs out: it
@@ -159,13 +160,15 @@ impl Side {
         Ok(offer)
     }
 
-    /// Hears the other side's offer. One that comes after the first, of the open number, changes nothing but the journal.
+    /// Hears the other side's offer. One that comes after the first, of the open number, changes nothing but the
+    /// journal.
     ///
-    /// Refusals are 34 where no exchange is open, 36 where the seeds differ, 37 where the two tables have more than 4,096
-    /// names together, 40 where the journal is full, 42 where the tables have two codes under one id, 45 for another
-    /// number, and 46 for an own offer; the least that stands is answered. 36, 37 and 42 are looked for only where it is
-    /// the other side's first offer of the open number. 90 is answered where memory runs out: it takes some for the list
-    /// of clashes, one more owner of each program that judges, a place for each ruling, and two owners of the table.
+    /// Refusals are 34 where no exchange is open, 36 where the seeds differ, 37 where the two tables have more than
+    /// 4,096 names together, 40 where the journal is full, 42 where the tables have two codes under one id, 45 for
+    /// another number, and 46 for an own offer; the least that stands is answered. 36, 37 and 42 are looked for only
+    /// where it is the other side's first offer of the open number. 90 is answered where memory runs out: it takes
+    /// some for the list of clashes, one more owner of each program that judges, a place for each ruling, and two
+    /// owners of the table.
     pub fn hear(&mut self, alloc: Global, offer: &Offer) -> Result<(), SideFault>
         ensures answer { IsAnswered (due.hear_fault (is_full self.old) (shown self.old) offer.now) result }
         ensures done { OnOk result (IsDone self.old (call.Hear offer.now) self.new) }
@@ -184,10 +187,11 @@ impl Side {
     /// Takes a ruling of a clash. A second one of the same clash changes nothing but the journal.
     ///
     /// Refusals are 34 where no exchange is open, 38 for a ruling of the open number that isn't of clash `k` of the
-    /// exchange at one of its four words, 40 where the journal is full, and 45 for another number; the least that stands
-    /// is answered. 90 is answered where memory runs out.
+    /// exchange at one of its four words, 40 where the journal is full, and 45 for another number; the least that
+    /// stands is answered. 90 is answered where memory runs out.
     pub fn take(&mut self, ruling: Ruling<'_>) -> Result<(), SideFault>
-        ensures answer { IsAnswered (due.take_fault (is_full self.old) (shown self.old) ruling.entry.number ruling.entry.k
+        ensures answer { IsAnswered (due.take_fault (is_full self.old) (shown self.old) ruling.entry.number
+            ruling.entry.k
             (clash_of_verdict ruling.entry.verdict) (word_of_verdict ruling.entry.verdict)) result }
         ensures done { OnOk result (IsDone self.old (call.Take ruling.entry.number ruling.entry.k record {
           word = word_of_verdict ruling.entry.verdict;
@@ -231,8 +235,8 @@ impl Side {
     /// Closes the list of withdrawn names, and gives it to be sent. From then on the side withdraws no more in this
     /// exchange.
     ///
-    /// Refusals are 34 where no exchange is open, 40 where the journal is full, and 48 where the list is closed already;
-    /// the least that stands is answered. 90 is answered where memory runs out.
+    /// Refusals are 34 where no exchange is open, 40 where the journal is full, and 48 where the list is closed
+    /// already; the least that stands is answered. 90 is answered where memory runs out.
     pub fn close_list(&mut self, alloc: Global) -> Result<Withdrawals, SideFault>
         ensures answer { IsAnswered (due.close_list_fault (is_full self.old) (shown self.old)) result }
         ensures list { IfOk result (λ list. list ≡ list_of (shown self.old)) }
@@ -250,8 +254,8 @@ impl Side {
 
     /// Hears the other side's list of withdrawn names. One that comes after the first changes nothing but the journal.
     ///
-    /// Refusals are 34 where no exchange is open, 40 where the journal is full, 45 for another number, and 46 for an own
-    /// list; the least that stands is answered. 90 is answered where memory runs out.
+    /// Refusals are 34 where no exchange is open, 40 where the journal is full, 45 for another number, and 46 for an
+    /// own list; the least that stands is answered. 90 is answered where memory runs out.
     pub fn hear_list(&mut self, sent: &Withdrawals) -> Result<(), SideFault>
         ensures answer { IsAnswered (due.hear_list_fault (is_full self.old) (shown self.old) sent.now) result }
         ensures done { OnOk result (IsDone self.old (call.Hear_list sent.now) self.new) }
@@ -269,9 +273,10 @@ impl Side {
 
     /// Makes the table the merge of the two by the rulings taken, and closes the exchange.
     ///
-    /// Refusals are 34 where no exchange is open, 39 with what is missing (the other's offer, else the first clash without
-    /// a ruling, else the own list, else the other's), and 40 where the journal is full; the least that stands is
-    /// answered. 90 is answered where memory runs out: it takes some for the merge, its copy, the rulings and the answers.
+    /// Refusals are 34 where no exchange is open, 39 with what is missing (the other's offer, else the first clash
+    /// without a ruling, else the own list, else the other's), and 40 where the journal is full; the least that stands
+    /// is answered. 90 is answered where memory runs out: it takes some for the merge, its copy, the rulings and the
+    /// answers.
     pub fn finish(&mut self, alloc: Global) -> Result<Finished, SideFault>
         ensures answer { IsAnswered (due.finish_fault (is_full self.old) (shown self.old)) result }
         ensures given { IfOk result (λ finished. finished_from (shown self.old) ≡ Some finished) }

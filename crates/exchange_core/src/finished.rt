@@ -11,8 +11,8 @@ use partition_table::Table;
 use std::marker::Model;
 use std::sync::Arc;
 
-/// An exchange that a side finished: the two tables that it merged, A's and B's, with the uptimes of their halves and the
-/// names that each side withdrew, the ruling of each clash, and the merged table.
+/// An exchange that a side finished: the two tables that it merged, A's and B's, with the uptimes of their halves and
+/// the names that each side withdrew, the ruling of each clash, and the merged table.
 ///
 /// That the table is the merge of the two under these rulings and lists, that each word is one of its clash's four, and
 /// each answer its resolver's at that word, stands in the type. Only a side's `finish` makes one.

@@ -78,7 +78,8 @@ fn merge_exchange(
 fn finished_with(id: SideId, own: Table, exchange: Exchange, merged: Merged) -> Finished
     requires ready { IsMergeable id own exchange }
     requires merged { IsMergeOf id own exchange merged.rulings.items merged.table }
-    ensures { (heard : sides.Heard) (theirs : List Name) → exchange.heard ≡ Some heard → exchange.their_list ≡ Some theirs
+    ensures { (heard : sides.Heard) (theirs : List Name) → exchange.heard ≡ Some heard
+        → exchange.their_list ≡ Some theirs
         → result ≡ finished_at id own exchange heard theirs merged.rulings.items merged.table }
 {
     let (Some(heard), Some(other_gone)) = (exchange.heard, exchange.their_list) else {

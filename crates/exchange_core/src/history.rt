@@ -10,9 +10,11 @@ ghost use Rattle.exchange_core.specs.History.{BeginsOnce, ClosesOnce, FinishedWi
 /// It does nothing when it runs. Its contract is proved of every history.
 pub fn history_theorem()
     // Whichever sides finish the number, and whenever.
-    ensures one_table { (history : List Event) (number : ℕ) (i j : SideId) (a b : Table) → FinishedWith history i number a → FinishedWith history j number b → a ≡ b }
+    ensures one_table { (history : List Event) (number : ℕ) (i j : SideId) (a b : Table)
+        → FinishedWith history i number a → FinishedWith history j number b → a ≡ b }
     // Both began it with one seed and closed their lists, and each clash is decided by its resolver at one lawful word.
-    ensures merge { (history : List Event) (number : ℕ) (id : SideId) (table : Table) → FinishedWith history id number table → IsLawfulMerge history number table }
+    ensures merge { (history : List Event) (number : ℕ) (id : SideId) (table : Table)
+        → FinishedWith history id number table → IsLawfulMerge history number table }
     // No side hears an offer with another seed than its own, so none finishes by one.
     ensures one_seed { (history : List Event) → HasOneSeed history }
     // So the tables, the lists and the words of a number are the only ones.

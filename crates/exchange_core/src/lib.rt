@@ -16,6 +16,8 @@ mod shown_rows;
 mod side;
 mod side_id;
 mod state;
+#[cfg(test)]
+mod tests;
 
 pub use calls::MAX_EVENTS;
 pub use fault::{MissingPart, SideFault};

@@ -41,7 +41,14 @@ impl Model for Offer {
 impl Offer {
     // The offer of a side with this table.
     pub(crate) fn new(side: SideId, number: u64, seed: u64, uptime: u64, table: Arc<Table>) -> Offer
-        ensures { result ≡ record { side = side; number = number; seed = seed; uptime = uptime; table = arc_value table } }
+        ensures { result ≡ record {
+          side = side;
+          number = number;
+          seed = seed;
+          uptime = uptime;
+          table =
+              arc_value table;
+        } }
     {
         Offer {
             side,

@@ -3,7 +3,8 @@ use crate::exchange::has_name;
 use clash_record::{Name, Registration};
 use partition_table::Rows;
 
-/// Gives the rows of a side's table in the order of names, without the names that the side withdrew in the open exchange.
+/// Gives the rows of a side's table in the order of names, without the names that the side withdrew in the open
+/// exchange.
 #[derive(Drop)]
 pub struct ShownRows<'a> {
     pub(crate) rows: Rows<'a>,

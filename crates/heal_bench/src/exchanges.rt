@@ -5,7 +5,7 @@ use exchange_core::{Offer, Side, SideId};
 use partition_table::{ClashList, Ruling, Verdict, clashes, word};
 use std::alloc::Global;
 use std::fmt;
-use std::time::{Duration, Instant};
+use std::time::Instant;
 use upload_store::UploadStore;
 
 /// The number of the exchange.
@@ -34,29 +34,63 @@ impl fmt::Display for ExchangeTimes {
 
 /// Takes the times of one exchange of two sides with so many names, each of which clashes.
 pub(crate) fn measure(rt: &HostRuntime, rows: &str) -> Result<ExchangeTimes, Fault> {
-    let alloc = rt.alloc();
     let rows = row_count(rows)?;
-    let mut a = side(alloc, SideId::A, rows, 1)?;
-    let mut b = side(alloc, SideId::B, rows, 2)?;
+    let a = side(rt.alloc(), SideId::A, rows, 1)?;
+    let b = side(rt.alloc(), SideId::B, rows, 2)?;
     let start = Instant::now(rt)?;
-    let of_a = a.begin(alloc, NUMBER, SEED, 0)?;
-    let of_b = b.begin(alloc, NUMBER, SEED, 0)?;
-    let begun = start.elapsed(rt)?;
-    hear_each_other(alloc, &mut a, &of_a, &mut b, &of_b)?;
-    let heard = start.elapsed(rt)?;
-    let list = clashes(alloc, of_a.table(), 0, of_b.table(), 0)?;
-    let judged = start.elapsed(rt)?;
-    take_all(&mut a, &list)?;
-    take_all(&mut b, &list)?;
-    let taken = start.elapsed(rt)?;
-    finish_both(alloc, &mut a, &mut b)?;
-    let finished = start.elapsed(rt)?;
+    let mut exchange = Exchange::begun(rt.alloc(), a, b)?;
     Ok(ExchangeTimes {
-        begin: begun.as_nanos(),
-        hear: between(begun, heard),
-        take: between(judged, taken),
-        finish: between(taken, finished),
+        begin: start.elapsed(rt)?.as_nanos(),
+        hear: exchange.hear(rt)?,
+        take: exchange.take(rt)?,
+        finish: exchange.finish(rt)?,
     })
+}
+
+/// Two sides that began one number, and their offers.
+#[derive(Drop)]
+struct Exchange {
+    a: Side,
+    b: Side,
+    of_a: Offer,
+    of_b: Offer,
+}
+
+impl Exchange {
+    fn begun(alloc: Global, mut a: Side, mut b: Side) -> Result<Exchange, Fault> {
+        let of_a = a.begin(alloc, NUMBER, SEED, 0)?;
+        let of_b = b.begin(alloc, NUMBER, SEED, 0)?;
+        Ok(Exchange { a, b, of_a, of_b })
+    }
+
+    /// Each side hears the other's offer.
+    fn hear(&mut self, rt: &HostRuntime) -> Result<u128, Fault> {
+        let start = Instant::now(rt)?;
+        self.a.hear(rt.alloc(), &self.of_b)?;
+        self.b.hear(rt.alloc(), &self.of_a)?;
+        Ok(start.elapsed(rt)?.as_nanos())
+    }
+
+    /// Each clash is judged at its first word, and each side takes the rulings.
+    fn take(&mut self, rt: &HostRuntime) -> Result<u128, Fault> {
+        let list = clashes(rt.alloc(), self.of_a.table(), 0, self.of_b.table(), 0)?;
+        let start = Instant::now(rt)?;
+        take_all(&mut self.a, &list)?;
+        take_all(&mut self.b, &list)?;
+        Ok(start.elapsed(rt)?.as_nanos())
+    }
+
+    /// Each side closes its list, hears the other's, and finishes.
+    fn finish(&mut self, rt: &HostRuntime) -> Result<u128, Fault> {
+        let start = Instant::now(rt)?;
+        let gone_of_a = self.a.close_list(rt.alloc())?;
+        let gone_of_b = self.b.close_list(rt.alloc())?;
+        self.a.hear_list(&gone_of_b)?;
+        self.b.hear_list(&gone_of_a)?;
+        self.a.finish(rt.alloc())?;
+        self.b.finish(rt.alloc())?;
+        Ok(start.elapsed(rt)?.as_nanos())
+    }
 }
 
 /// A side with so many names, all of an owner on this node.
@@ -67,19 +101,6 @@ fn side(alloc: Global, id: SideId, rows: u16, node: u32) -> Result<Side, Fault> 
         side.register(numbered_name(row)?, of_node(node), &store)?;
     }
     Ok(side)
-}
-
-/// Each side hears the other's offer.
-fn hear_each_other(
-    alloc: Global,
-    a: &mut Side,
-    of_a: &Offer,
-    b: &mut Side,
-    of_b: &Offer,
-) -> Result<(), Fault> {
-    a.hear(alloc, of_b)?;
-    b.hear(alloc, of_a)?;
-    Ok(())
 }
 
 /// Judges each clash at its first word, and gives the side the ruling.
@@ -94,19 +115,4 @@ fn take_all(side: &mut Side, list: &ClashList) -> Result<(), Fault> {
         side.take(Ruling { number, k, verdict })?;
     }
     Ok(())
-}
-
-/// Each side closes its list, hears the other's, and finishes.
-fn finish_both(alloc: Global, a: &mut Side, b: &mut Side) -> Result<(), Fault> {
-    let gone_of_a = a.close_list(alloc)?;
-    let gone_of_b = b.close_list(alloc)?;
-    a.hear_list(&gone_of_b)?;
-    b.hear_list(&gone_of_a)?;
-    a.finish(alloc)?;
-    b.finish(alloc)?;
-    Ok(())
-}
-
-fn between(from: Duration, to: Duration) -> u128 {
-    to.saturating_sub(from).as_nanos()
 }

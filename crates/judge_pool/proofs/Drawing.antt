@@ -42,8 +42,7 @@ begins n round done none = record {
   posted = none;
   drawn = omega arith;
   counted = omega arith;
-  others =
-      (λ other apart x. refl);
+  others = (λ other apart x. refl);
 }
 
 -- a turn that draws a clash and posts its verdict

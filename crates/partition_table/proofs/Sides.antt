@@ -41,8 +41,7 @@ head_name of_a of_b n (Some r) (Some s) cs ns h =
           first = r.registration;
           second = s.registration;
           of_first = of_a;
-          of_second =
-              of_b;
+          of_second = of_b;
           code = r.code;
         }
         else record {
@@ -50,8 +49,7 @@ head_name of_a of_b n (Some r) (Some s) cs ns h =
           first = s.registration;
           second = r.registration;
           of_first = of_b;
-          of_second =
-              of_a;
+          of_second = of_a;
           code = s.code;
         })) cs)
         ≡ cond (not same) (n ∷ ns) ns
@@ -106,8 +104,7 @@ same_names : (ns ms : List Name) → IsStrictlySortedBy name_cmp ns → IsStrict
     → ((q : Name) → list_any (is_name q) ns ≡ list_any (is_name q) ms) → ns ≡ ms
 same_names ns ms sorted_ns sorted_ms same =
     btree_set_from_contains names_total (record { keys = ns }) (record {
-      keys =
-          ms;
+      keys = ms;
     }) sorted_ns sorted_ms same names_exact
 
 differ_back : (r s : Option Row) → differ r s ≡ differ s r
@@ -281,8 +278,7 @@ module _ (a b : Table) (kept_a : IsTable a) (kept_b : IsTable b) (agree : tables
   merge_back answers gone_a gone_b =
       is_the_merge b a answers (record {
         of_a = gone_b;
-        of_b =
-            gone_a;
+        of_b = gone_a;
       }) (merge a b answers (record { of_a = gone_a; of_b = gone_b })) (λ q.
       merge_is a b answers (record { of_a = gone_a; of_b = gone_b }) q
       ∙ gone_back (get a q) (get b q) (is_in q gone_a) (is_in q gone_b)

@@ -143,8 +143,7 @@ clash_of name r of_r s of_s =
       first = r.registration;
       second = s.registration;
       of_first = of_r;
-      of_second =
-          of_s;
+      of_second = of_s;
       code = r.code;
     }
     else record {
@@ -152,8 +151,7 @@ clash_of name r of_r s of_s =
       first = s.registration;
       second = r.registration;
       of_first = of_s;
-      of_second =
-          of_r;
+      of_second = of_r;
       code = s.code;
     }
 

@@ -71,8 +71,7 @@ judged_so number k word verdict e =
       number = number;
       k = k;
       clash = clash_of_verdict verdict;
-      judged =
-          record { word = e i; answer = same i };
+      judged = record { word = e i; answer = same i };
     }
 
 -- a pass that finds the word of a verdict has seen this verdict

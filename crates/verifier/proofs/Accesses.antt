@@ -49,8 +49,7 @@ reads_some m at (suc n) h =
     record {
       word = first.byte + 256 * rest.word;
       is_there = rw (there, rest_there) refl;
-      small =
-          longer n first.byte rest.word first.small rest.small;
+      small = longer n first.byte rest.word first.small rest.small;
     }
 
 -- ---- addresses

@@ -124,8 +124,7 @@ too_set s m r word slots h = by_test (r.number == 10)
     next memory = record {
       slot = s.slot + slots;
       registers = slice_set s.registers r.number (Some word);
-      memory =
-          memory;
+      memory = memory;
     }
 
     by_test : (q : Bool) → GoesToo (cond q None (Some (next s.memory))) (cond q None (Some (next m)))

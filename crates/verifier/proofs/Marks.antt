@@ -113,8 +113,7 @@ seen_skipped code n reached seen none = record {
         is_before = b;
         insn = edge.insn;
         is_at = edge.is_at;
-        leads =
-            edge.leads;
+        leads = edge.leads;
       })
       | inr e ↦ let f : insn_at code edge.slot ≡ None = ap (insn_at code) e ∙ none in
           let g : insn_at code edge.slot ≡ Some edge.insn = edge.is_at in absurd (cc)
@@ -156,8 +155,7 @@ seen_more code n i reached long seen is meets =
       slot = n;
       insn = i;
       is_at = is;
-      leads =
-          to;
+      leads = to;
     } in
     record {
       meets = λ slot j rule h at. elim (earlier slot n h) [
@@ -185,8 +183,7 @@ seen_more code n i reached long seen is meets =
                 slot = k.slot;
                 is_before = b;
                 insn = k.insn;
-                is_at =
-                    k.is_at;
+                is_at = k.is_at;
                 leads = k.leads;
               })))
               | inr b ↦

@@ -65,8 +65,7 @@ step_of low high u q (small l h s) a b f =
       by = pos u;
       above = omega (arith, ints);
       below = omega (arith, ints);
-      word =
-          omega (arith, ints);
+      word = omega (arith, ints);
       near_below = omega (arith, ints);
       near_above = omega (arith, ints);
     }
@@ -75,8 +74,7 @@ step_of low high u q (below_zero l h s) a b f =
       by = pos u -ℤ pos (2 ^ 64);
       above = omega (arith, ints);
       below = omega (arith, ints);
-      word =
-          omega (arith, ints);
+      word = omega (arith, ints);
       near_below = omega (arith, ints);
       near_above = omega (arith, ints);
     }

@@ -61,8 +61,7 @@ read_record bytes stack a k offset size each l h f inside =
     let w = reads_some there i.0 n (λ j s. record {
       byte = slice_index bytes (i.0 + j);
       is_there = refl;
-      small =
-          each (i.0 + j) 0 (omega arith);
+      small = each (i.0 + j) 0 (omega arith);
     }) in
     record {
       tag = ptr the_record k;

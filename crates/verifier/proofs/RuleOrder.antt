@@ -269,29 +269,25 @@ module _ {D : Type 0} {o : Ops D} (laws : Laws o) (s t : View D) (below : ViewBe
   reach_down (Load size dst base offset) f g p k h = k (record {
     base = base.number;
     offset = offset;
-    size =
-        size;
+    size = size;
     is_store = false;
   }) (first_at base.number [] (p unreadable_rule)) (p OutsideStack) h
   reach_down (LoadSx size dst base offset) f g p k h = k (record {
     base = base.number;
     offset = offset;
-    size =
-        size;
+    size = size;
     is_store = false;
   }) (first_at base.number [] (p unreadable_rule)) (p OutsideStack) h
   reach_down (Store size base offset src) f g p k h = k (record {
     base = base.number;
     offset = offset;
-    size =
-        size;
+    size = size;
     is_store = true;
   }) (first_at base.number (src.number ∷ []) (p unreadable_rule)) (p OutsideStack) h
   reach_down (StoreImm size base offset imm) f g p k h = k (record {
     base = base.number;
     offset = offset;
-    size =
-        size;
+    size = size;
     is_store = true;
   }) (first_at base.number [] (p unreadable_rule)) (p OutsideStack) h
   reach_down i f g p k h = refl
@@ -374,8 +370,7 @@ stored_up s t r h (numbers a b k) is = h
 stored_up s t r h (records a b k) is = h
 stored_up s t r h (stacks a b k) is = record {
   registers = h.registers;
-  written =
-      marks_down s.written t.written a b r.offset r.size h.written (begins a b r.offset (bytes_of r.size) k is);
+  written = marks_down s.written t.written a b r.offset r.size h.written (begins a b r.offset (bytes_of r.size) k is);
 }
 
 module _ {D : Type 0} {o : Ops D} (laws : Laws o) (s t : View D) (below : ViewBelow o s t) where
@@ -463,16 +458,14 @@ module _ {D : Type 0} {o : Ops D} (laws : Laws o) (s t : View D) (below : ViewBe
   fall_up (Store size base offset src) l p = stored_up s t (record {
     base = base.number;
     offset = offset;
-    size =
-        size;
+    size = size;
     is_store = true;
   }) below (first_at laws s t below base.number (src.number ∷ []) (p unreadable_rule))
       (p OutsideStack)
   fall_up (StoreImm size base offset imm) l p = stored_up s t (record {
     base = base.number;
     offset = offset;
-    size =
-        size;
+    size = size;
     is_store = true;
   }) below (first_at laws s t below base.number [] (p unreadable_rule)) (p OutsideStack)
   fall_up (Jump distance) l p = tt

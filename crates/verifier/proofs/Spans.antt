@@ -100,8 +100,7 @@ steps_near lo hi h = (
   record { above = h.0; below = omega (arith, ints) },
   record {
     above = omega (arith, ints);
-    below =
-        omega (arith, ints);
+    below = omega (arith, ints);
   },
 )
 

@@ -107,8 +107,7 @@ go_on p bytes t u m raw_slot slot e = (
   refl,
   record {
     slot = e;
-    long =
-        m.long;
+    long = m.long;
     registers = m.registers;
     memory = m.memory;
   },

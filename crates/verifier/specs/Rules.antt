@@ -149,29 +149,25 @@ access_of (Load size dst base offset) = Some (record {
   base = base.number;
   offset = offset;
   size = size;
-  is_store =
-      false;
+  is_store = false;
 })
 access_of (LoadSx size dst base offset) = Some (record {
   base = base.number;
   offset = offset;
   size = size;
-  is_store =
-      false;
+  is_store = false;
 })
 access_of (Store size base offset src) = Some (record {
   base = base.number;
   offset = offset;
   size = size;
-  is_store =
-      true;
+  is_store = true;
 })
 access_of (StoreImm size base offset imm) = Some (record {
   base = base.number;
   offset = offset;
   size = size;
-  is_store =
-      true;
+  is_store = true;
 })
 access_of _ = None
 
@@ -327,8 +323,7 @@ marks written a = if int_le a.hi a.lo then with_marks written (stack_index a.lo)
 abbrev pub after_store : {D : Type 0} → View D → RegState D → ℤ → Size → View D
 after_store s (Stack a) offset size = record {
   registers = s.registers;
-  written =
-      marks s.written (reach_of a offset size);
+  written = marks s.written (reach_of a offset size);
 }
 after_store s _ offset size = s
 

@@ -7,5 +7,7 @@ use Rattle.exchange_core.specs.Sides.{Judged, Heard, Exchange, put_ruling}
 abbrev pub with_ruling : ℕ → Judged → Exchange → Exchange
 with_ruling k judged exchange =
     record exchange {
-      heard = option_map (λ (heard : Heard). record heard { rulings = put_ruling heard.rulings k judged }) exchange.heard;
+      heard = option_map (λ (heard : Heard). record heard {
+        rulings = put_ruling heard.rulings k judged;
+      }) exchange.heard;
     }

@@ -59,7 +59,8 @@ ExchangeParts = ℕ × (ℕ × (ℕ × (Option Heard × (List Name × (Bool × O
 abbrev pub coded_exchange : Coded Exchange
 coded_exchange =
     code_by ExchangeParts
-    (coded× coded_ℕ (coded× coded_ℕ (coded× coded_ℕ (coded× (coded_option coded_heard) (coded× coded_names (coded× coded_bool (coded_option coded_names)))))))
+    (coded× coded_ℕ (coded× coded_ℕ (coded× coded_ℕ (coded× (coded_option coded_heard)
+    (coded× coded_names (coded× coded_bool (coded_option coded_names)))))))
     (λ x. (x.number, (x.seed, (x.uptime, (x.heard, (x.withdrawn, (x.closed, x.their_list)))))))
     (λ p. record {
       number = p.0;
@@ -87,7 +88,25 @@ coded_finished =
     code_by FinishedParts
     (coded× coded_ℕ (coded× coded_ℕ (coded× coded_table (coded× coded_ℕ (coded× coded_table (coded× coded_ℕ
     (coded× coded_names (coded× coded_names (coded× (coded_list coded_judged) coded_table)))))))))
-    (λ f. (f.number, (f.seed, (f.a, (f.uptime_a, (f.b, (f.uptime_b, (f.gone.of_a, (f.gone.of_b, (f.rulings, f.table))))))))))
+    (λ f. (
+      f.number,
+      (
+        f.seed,
+        (
+          f.a,
+          (
+            f.uptime_a,
+            (
+              f.b,
+              (
+                f.uptime_b,
+                (f.gone.of_a, (f.gone.of_b, (f.rulings, f.table))),
+              ),
+            ),
+          ),
+        ),
+      ),
+    ))
     (λ p. record {
       number = p.0;
       seed = p.1.0;

@@ -96,16 +96,14 @@ clash_decides c d =
             first = c.first;
             second = c.second;
             of_first = c.of_first;
-            of_second =
-                c.of_second;
+            of_second = c.of_second;
             code = c.code;
           }) is.0
           ∙ ap (λ (r : Registration). record {
             name = d.name;
             first = r;
             second = c.second;
-            of_first =
-                c.of_first;
+            of_first = c.of_first;
             of_second = c.of_second;
             code = c.code;
           }) is.1.0
@@ -113,8 +111,7 @@ clash_decides c d =
             name = d.name;
             first = d.first;
             second = r;
-            of_first =
-                c.of_first;
+            of_first = c.of_first;
             of_second = c.of_second;
             code = c.code;
           }) is.1.1.0
@@ -123,16 +120,14 @@ clash_decides c d =
             first = d.first;
             second = d.second;
             of_first = f;
-            of_second =
-                c.of_second;
+            of_second = c.of_second;
             code = c.code;
           }) is.1.1.1.0
           ∙ ap (λ (f : Facts). record {
             name = d.name;
             first = d.first;
             second = d.second;
-            of_first =
-                d.of_first;
+            of_first = d.of_first;
             of_second = f;
             code = c.code;
           }) is.1.1.1.1.0
@@ -140,8 +135,7 @@ clash_decides c d =
             name = d.name;
             first = d.first;
             second = d.second;
-            of_first =
-                d.of_first;
+            of_first = d.of_first;
             of_second = d.of_second;
             code = x;
           }) is.1.1.1.1.1,

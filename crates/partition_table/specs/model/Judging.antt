@@ -13,8 +13,7 @@ use Rattle.partition_table.specs.Tables.{Name, Table, Clash, clash_at}
 abbrev pub coded_facts : Coded Facts
 coded_facts = code_by (ℕ × ℕ) (coded× coded_ℕ coded_ℕ) (λ f. (f.size, f.uptime)) (λ p. record {
   size = p.0;
-  uptime =
-      p.1;
+  uptime = p.1;
 }) (λ _. refl)
 
 -- the parts of a clash
@@ -34,8 +33,7 @@ coded_clash =
       second = p.1.1.0;
       of_first = p.1.1.1.0;
       of_second = p.1.1.1.1.0;
-      code =
-          p.1.1.1.1.1;
+      code = p.1.1.1.1.1;
     })
     (λ _. refl)
 

@@ -9,6 +9,5 @@ returns c =
       either = either_line;
       one_insn = one_insn;
       one_fault = one_line_fault;
-      written =
-          own_line;
+      written = own_line;
     }

@@ -9,6 +9,5 @@ returns c =
       either = either_text;
       one_code = one_code;
       one_fault = one_first_fault;
-      written =
-          text_written;
+      written = text_written;
     }

@@ -11,9 +11,11 @@ use Rattle.exchange_core.proofs.finishing.finished_with.Goals as goal
 pub invariant_of-result : goal.invariant_of-result
 invariant_of-result c =
     let rulings = c.args.merged.rulings.items in
-    let ready = subst (λ (x : Exchange). IsMergeable c.args.id c.args.own x) (sym c.exchange.view_is) c.requires.ready in
+    let ready = subst (λ (x : Exchange). IsMergeable c.args.id c.args.own x) (sym c.exchange.view_is)
+    c.requires.ready in
     let merged =
-    subst (λ (x : Exchange). IsMergeOf c.args.id c.args.own x rulings c.args.merged.table) (sym c.exchange.view_is) c.requires.merged in
+    subst (λ (x : Exchange). IsMergeOf c.args.id c.args.own x rulings c.args.merged.table) (sym c.exchange.view_is)
+    c.requires.merged in
     subst (λ (p : Table × ℕ). IsFinished
     (finished_by c.args.id c.exchange.inside.number c.exchange.inside.seed
     (record { table = c.args.own; uptime = c.exchange.inside.uptime; gone = c.exchange.inside.withdrawn.items })

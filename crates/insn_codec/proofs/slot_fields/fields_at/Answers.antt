@@ -14,7 +14,6 @@ returns c =
       opcode = get_or bytes 0 0;
       dst = get_or bytes 1 0 % 16;
       src = get_or bytes 1 0 / 16;
-      offset =
-          offset i;
+      offset = offset i;
       imm = imm i;
     }

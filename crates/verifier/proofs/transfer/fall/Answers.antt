@@ -11,8 +11,7 @@ after_store-requires g c =
     let fits : FitsSigned w16 c.in-Store.offset = rw c.in-Store.is at c.known.ensures in (
       search rules,
       λ a e. reach_inside g.D.Domain.ops c.args.insn (view c.args.state.now) (record {
-        base =
-            c.in-Store.base.number;
+        base = c.in-Store.base.number;
         offset = c.in-Store.offset;
         size = c.in-Store.size;
         is_store = true;
@@ -25,8 +24,7 @@ after_store-requires-in-StoreImm g c =
     let fits = rw c.in-StoreImm.is at c.known.ensures in (
       search rules,
       λ a e. reach_inside g.D.Domain.ops c.args.insn (view c.args.state.now) (record {
-        base =
-            c.in-StoreImm.base.number;
+        base = c.in-StoreImm.base.number;
         offset = c.in-StoreImm.offset;
         size = c.in-StoreImm.size;
         is_store = true;

@@ -16,7 +16,8 @@ pub finish-requires-clause-ready : goal.finish-requires-clause-ready
 finish-requires-clause-ready c =
     let side = c.args.self.now in
     ready_to_finish c.is_full.result side.state (sym c.finish_fault.ensures ∙ c.in_default.is)
-    (subst (λ (s : Side). Holds side.state.id s) side.replayed (replay_holds side.state.id (calls_of side.journal.items)))
+    (subst (λ (s : Side). Holds side.state.id s) side.replayed
+    (replay_holds side.state.id (calls_of side.journal.items)))
 
 pub invariant_of-self-2-clause-replayed : goal.invariant_of-self-2-clause-replayed
 invariant_of-self-2-clause-replayed c =

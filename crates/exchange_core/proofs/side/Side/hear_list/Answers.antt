@@ -17,4 +17,5 @@ invariant_of-self-2-clause-few c =
     let event = event.HearList c.in_ok-copy.copy in
     few_on c.args.self.now.journal.items c.push_reserved.new.self.items event c.is_full.result
     (c.push_reserved.ensures.items ∙ ap (λ l. l ++ event ∷ []) c.in_ok-reserve.ensures.items) c.is_full.ensures
-    (room_hear_list c.is_full.result c.args.self.now.state c.args.sent.now (sym c.hear_list_fault.ensures ∙ c.in_default.is))
+    (room_hear_list c.is_full.result c.args.self.now.state c.args.sent.now (sym c.hear_list_fault.ensures
+    ∙ c.in_default.is))

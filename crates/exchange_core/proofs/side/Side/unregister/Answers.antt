@@ -16,4 +16,5 @@ invariant_of-self-2-clause-few c =
     let event = event.Unregister c.args.name.now in
     few_on c.args.self.now.journal.items c.push_reserved.new.self.items event c.is_full.result
     (c.push_reserved.ensures.items ∙ ap (λ l. l ++ event ∷ []) c.in_ok-reserve.ensures.items) c.is_full.ensures
-    (room_unregister c.is_full.result c.args.self.now.state c.args.name.now (sym c.unregister_fault.ensures ∙ c.in_default.is))
+    (room_unregister c.is_full.result c.args.self.now.state c.args.name.now (sym c.unregister_fault.ensures
+    ∙ c.in_default.is))

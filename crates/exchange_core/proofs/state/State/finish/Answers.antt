@@ -32,7 +32,8 @@ merge_exchange-requires c =
 
 pub finished_with-requires-clause-ready : goal.finished_with-requires-clause-ready
 finished_with-requires-clause-ready c =
-    subst (λ (t : Table). IsMergeable c.self.inside.id t c.in-Some-take.exchange) (sym c.replace-own.ensures.value) (ready c.before)
+    subst (λ (t : Table). IsMergeable c.self.inside.id t c.in-Some-take.exchange) (sym c.replace-own.ensures.value)
+    (ready c.before)
 
 pub finished_with-requires-clause-merged : goal.finished_with-requires-clause-merged
 finished_with-requires-clause-merged c =

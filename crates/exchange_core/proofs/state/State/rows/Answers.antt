@@ -19,4 +19,5 @@ returns c =
     ap (not_withdrawn c.withdrawn.result.now) c.rows-2.ensures.rows
     ∙ (ap (λ (names : List Name). not_withdrawn names (rows_of c.self.inside.table)) c.withdrawn.ensures
     ∙ (sym (rows_without c.in-Some.exchange.withdrawn c.self.inside.table)
-    ∙ (sym (ap rows_of (shown_open side c.in-Some.exchange c.in-Some.is)) ∙ ap (λ (s : Side). rows_of (shown_table s)) c.self.view_is)))
+    ∙ (sym (ap rows_of (shown_open side c.in-Some.exchange c.in-Some.is))
+    ∙ ap (λ (s : Side). rows_of (shown_table s)) c.self.view_is)))

@@ -54,8 +54,7 @@ returns-then-not-has_room-clause-answer c =
     c.in_ok-program.ensures.known
     (ap (λ code. agrees_with c.args.self.now record {
       registration = c.args.registration;
-      code =
-          code;
+      code = code;
     }) (sym c.in_ok-program.ensures.found)
     ∙ differs_when programs c.args.self.now held.0 held.1 c.args.registration
     (option_map (λ p. arc_value p.now) c.in_ok-program.program)
@@ -97,8 +96,7 @@ returns-clause-answer c =
     c.in_ok-program.ensures.known
     (ap (λ code. agrees_with c.args.self.now record {
       registration = c.args.registration;
-      code =
-          code;
+      code = code;
     }) (sym c.in_ok-program.ensures.found)
     ∙ agrees_when programs c.args.self.now held.0 held.1 c.args.registration
     (option_map (λ p. arc_value p.now) c.in_ok-program.program)
