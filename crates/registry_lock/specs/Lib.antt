@@ -1,0 +1,4 @@
+pub mod Faults
+pub mod Meeting
+pub mod Telling
+pub mod model

@@ -1,0 +1,38 @@
+//! The one table of two sides that met.
+ghost use Rattle.std.specs.Prelude.{◌≡◌};
+
+use partition_table::Table;
+use std::marker::Model;
+
+/// The one table of two sides that met. A contract sees it as that table. Only `meet` makes one.
+#[derive(Drop)]
+pub struct Healed {
+    pub(crate) table: Table,
+}
+
+impl Model for Healed {
+    ghost use Rattle.partition_table.specs.Tables.{Table};
+    ghost use Rattle.partition_table.specs.model.Keeping.{coded_table};
+
+    ghost Value = { Table };
+
+    ghost coded = { coded_table };
+
+    ghost view = { λ h. h.table };
+}
+
+impl Healed {
+    /// The table that both sides have.
+    pub fn table(&self) -> &Table
+        ensures { result.now ≡ self.now }
+    {
+        &self.table
+    }
+
+    /// The table itself.
+    pub fn into_table(self) -> Table
+        ensures { result ≡ self }
+    {
+        self.table
+    }
+}

@@ -1,0 +1,78 @@
+//! What a side was told during a round.
+ghost use Rattle.registry_lock.specs.Telling.{IsTold};
+
+use crossbeam_queue::SegQueue;
+use exchange_core::Side;
+use judge_pool::Ear;
+use partition_table::{Ruling, Verdict};
+use std::alloc::Global;
+use std::sync::Wait;
+use verdict_board::{Board, Pass};
+
+// What names a ruling. It borrows nothing, so that an ear of any board may hold it.
+#[derive(Clone, Copy)]
+struct Told {
+    k: u32,
+    word: u64,
+}
+
+// What one side was told. Without memory for a queue all is dropped.
+#[derive(Drop)]
+pub(crate) struct Inbox {
+    queue: Option<SegQueue<Told>>,
+}
+
+impl Ear for Inbox {
+    fn told<'p, R: Wait>(&self, rt: &R, ruling: Ruling<'p>, _pass: &Pass<'p>) {
+        let told = Told {
+            k: ruling.k,
+            word: ruling.verdict.word(),
+        };
+        if let Some(queue) = &self.queue {
+            let _ = queue.push(rt, told);
+        }
+    }
+}
+
+impl Inbox {
+    pub(crate) fn new(alloc: Global) -> Inbox {
+        Inbox {
+            queue: SegQueue::new(alloc).ok(),
+        }
+    }
+
+    // The side takes what is here, at most as often as the board has clashes.
+    pub(crate) fn empty_into<R: Wait>(&self, rt: &R, board: &Board<'_>, side: Side) -> Side
+        ensures { IsTold board.entry.now.place side result }
+    {
+        let mut side = side;
+        for _turn in 0..board.clashes().len() {
+            let Some(told) = self.next(rt) else {
+                break;
+            };
+            take_told(board, &mut side, told);
+        }
+        side
+    }
+
+    fn next<R: Wait>(&self, rt: &R) -> Option<Told> {
+        match &self.queue {
+            Some(queue) => queue.pop(rt),
+            None => None,
+        }
+    }
+}
+
+// The side takes the ruling, which is made again by a run of the resolver. A refusal is dropped.
+fn take_told(board: &Board<'_>, side: &mut Side, told: Told)
+    ensures { IsTold board.entry.now.place side.old side.new }
+{
+    if let Some(clash) = board.clashes().get(told.k) {
+        let ruling = Ruling {
+            number: board.number(),
+            k: told.k,
+            verdict: Verdict::judged(clash, told.word),
+        };
+        let _ = side.take(ruling);
+    }
+}

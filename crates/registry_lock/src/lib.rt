@@ -1,0 +1,18 @@
+//! Sides under locks, rounds that tell them, and the meeting of two sides that finished.
+#![tactic(auto)]
+
+mod comparing;
+mod fault;
+mod healed;
+mod inbox;
+mod meeting;
+mod partition;
+mod telling;
+#[cfg(test)]
+mod tests;
+
+pub use fault::MeetFault;
+pub use healed::Healed;
+pub use meeting::meet;
+pub use partition::Partition;
+pub use telling::tell_round;

@@ -1,0 +1,46 @@
+//! A round whose rulings two sides are told.
+ghost use Rattle.std.specs.Prelude.{◌≡◌, ◌<◌, ◌≤◌, All, vec_len};
+ghost use Rattle.judge_pool.specs.Work.{round_posts};
+ghost use Rattle.registry_lock.specs.Telling.{IsTold};
+
+use crate::inbox::Inbox;
+use exchange_core::Side;
+use judge_pool::{Gate, RoundDone, heal_round};
+use std::alloc::Global;
+use std::sync::Wait;
+use std::thread::Threads;
+use verdict_board::{Board, Seat};
+
+/// A round, as `heal_round` runs it, whose rulings two sides take once all workers have ended. What a side refuses,
+/// and what there is no memory to hold until then, is dropped.
+///
+/// It asks for seats of this board, and for a round from 0 to 3. It runs the resolver of each clash once more for each
+/// side.
+pub fn tell_round<'p, G: Gate + Sync, R: Threads + Wait + Sync>(
+    rt: &R,
+    alloc: Global,
+    board: &Board<'p>,
+    seats: Vec<Seat>,
+    round: u32,
+    gate: &G,
+    first: Side,
+    second: Side,
+) -> (Side, Side, RoundDone)
+    requires seats { All (λ s. s.draws ≡ board.now.draws) seats.items }
+    requires round { round < 4 }
+    // Each side comes back as it was, followed by takes of rulings of this board, and by nothing else.
+    ensures first { IsTold board.entry.now.place first result.0 }
+    ensures second { IsTold board.entry.now.place second result.1 }
+    ensures seats { All (λ s. s.draws ≡ board.entry.now.draws) result.2.seats.items }
+    // The seat of each worker that was started comes back.
+    ensures back { result.2.started ≤ vec_len result.2.seats }
+    // Where none was started nothing is judged.
+    ensures none { result.2.started ≡ 0 → round_posts result.2 ≡ 0 }
+{
+    let left = Inbox::new(alloc);
+    let right = Inbox::new(alloc);
+    let done = heal_round(rt, alloc, board, seats, round, gate, &left, &right);
+    let first = left.empty_into(rt, board, first);
+    let second = right.empty_into(rt, board, second);
+    (first, second, done)
+}
