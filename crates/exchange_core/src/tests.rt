@@ -313,10 +313,12 @@ fn full_journal(rt: HostRuntime) -> Result<(), Fail> {
         a.register(db, of(1), &store)?;
         a.unregister(&db)?;
     }
-    a.unregister(&name(b"web")?)?;
+    a.register(db, of(1), &store)?;
     assert_eq!(rt; a.events(), MAX_EVENTS);
-    assert_eq!(rt; number(a.register(db, of(1), &store).err()), Some(40));
-    assert_eq!(rt; number(a.unregister(&db).err()), Some(31));
+    assert_eq!(rt; number(a.register(db, of(1), &store).err()), Some(30));
+    let other = name(b"other")?;
+    assert_eq!(rt; number(a.register(other, of(1), &store).err()), Some(40));
+    assert_eq!(rt; number(a.unregister(&other).err()), Some(31));
     assert_eq!(rt; number(a.begin(alloc, 1, 0, 0).err()), Some(40));
     Ok(())
 }
