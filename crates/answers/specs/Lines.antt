@@ -1,4 +1,4 @@
--- What is printed for a task, and the status of the program.
+-- What is printed for a question, and the status of the program.
 use Rattle.std.specs.Prelude.{◌≡◌, ◌⊎◌, ◌++◌, ℕ, List, length, codes, Option, Some, None, Result, Ok, Err}
 use Rattle.std.specs.declared.alloc.AllocError.{AllocError}
 use Rattle.std.specs.Fmt.{decimal}
@@ -15,8 +15,8 @@ use Rattle.builtin_resolvers.specs.declared.verdicts.Verdict3.{Verdict3}
 use Rattle.builtin_resolvers.specs.Verdicts.{verdict_text}
 use Rattle.task.specs.declared.Profile.{Profile}
 use Rattle.task.specs.declared.Profile.TheVariants.{Unsigned, Both}
-use Rattle.task.specs.declared.Task.{Task}
-use Rattle.task.specs.declared.Task.TheVariants.{Check, Judge, Asm, Dis}
+use Rattle.task.specs.declared.Question.{Question}
+use Rattle.task.specs.declared.Question.TheVariants.{Check, Judge, Asm, Dis}
 use Rattle.numbered.specs.declared.Place.{Place}
 use Rattle.numbered.specs.declared.Place.TheVariants.{Slot, Line}
 use Rattle.numbered.specs.declared.NumberedRefusal.{NumberedRefusal}
@@ -84,8 +84,8 @@ IsAssembled bytes said = ⊥
 abbrev pub IsOfBytes : Option (List ℕ) → Answer → Type 0
 IsOfBytes known said = (said ≡ DeviceFault) ⊎ OfBytes known (λ bytes. IsAssembled bytes said)
 
--- what is said to a task; what a file has is known only by reading it
-abbrev pub IsAnswer : Task → Answer → Type 0
+-- what is said to a question; what a file has is known only by reading it
+abbrev pub IsAnswer : Question → Answer → Type 0
 IsAnswer (Check code profile) said = IsChecked profile code.now said
 IsAnswer (Judge code clash) said = IsJudged code.now clash.now said
 IsAnswer (Asm file) said = IsOfBytes None said
@@ -131,13 +131,13 @@ abbrev pub IsPrinted : Result Answer AllocError → ℕ → List ℕ → Type 0
 IsPrinted (Ok said) status line = (status ≡ status_of said) × (line ≡ line_of said)
 IsPrinted (Err e) status line = ⊥
 
--- ---- what the program does
+-- ---- what goes out
 
 -- all that is printed went out, with its status; or the status is 3, and a beginning of it went out, or of the line for
 -- want of memory
-pub data Obeys (task : Task) (old new : Option (List ℕ)) (status : ℕ) : Type 0 where
-  obeyed : (said : Answer) → IsAnswer task said → status ≡ status_of said → Appends old new (line_of said)
-      → Obeys task old new status
-  cut : (said : Answer) → IsAnswer task said → status ≡ 3 → AppendsFront old new (line_of said)
-      → Obeys task old new status
-  no_memory : status ≡ 3 → AppendsFront old new (codes "refused 90\n") → Obeys task old new status
+pub data IsReply (question : Question) (old new : Option (List ℕ)) (status : ℕ) : Type 0 where
+  replied : (said : Answer) → IsAnswer question said → status ≡ status_of said → Appends old new (line_of said)
+      → IsReply question old new status
+  cut : (said : Answer) → IsAnswer question said → status ≡ 3 → AppendsFront old new (line_of said)
+      → IsReply question old new status
+  no_memory : status ≡ 3 → AppendsFront old new (codes "refused 90\n") → IsReply question old new status

@@ -1,4 +1,4 @@
--- Why a task was not carried out: numbered refusals, and want of memory.
+-- Why a question is refused: numbered refusals, and want of memory.
 use Rattle.std.specs.Prelude.{ℕ, ◌==◌, if◌then◌else◌, ◌≡◌, Option, None}
 use Rattle.numbered.specs.declared.Place.{Place}
 use Rattle.numbered.specs.declared.NumberedRefusal.{NumberedRefusal}

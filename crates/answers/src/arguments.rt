@@ -1,4 +1,4 @@
-//! What stands in the words of a task, in hex digits.
+//! What stands in the words of a question, in hex digits.
 ghost use Rattle.std.specs.Prelude.{◌≡◌, Ok, IfOk, IfErr};
 ghost use Rattle.hex.specs.Hex.{decode_of};
 ghost use Rattle.insn_codec.specs.Encoding.{Spells};

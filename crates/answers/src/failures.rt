@@ -1,4 +1,4 @@
-//! Why a task was not carried out.
+//! Why a question is refused.
 ghost use Rattle.std.specs.Prelude.{◌≡◌};
 ghost use Rattle.answers.specs.Refusals.{failure_by, input_fault_number, input_fault_place};
 

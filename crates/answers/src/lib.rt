@@ -1,17 +1,17 @@
-//! What heal answers to a task: a judging, a check, or code as text or as hex digits.
+//! What heal answers to a question: a judging, a check, or code as text or as hex digits.
 #![tactic(auto)]
 
 mod arguments;
 mod failures;
 mod files;
-mod obeying;
 mod printing;
+mod replying;
 mod ruling;
 #[cfg(test)]
 mod tests;
 
 pub use failures::{Failure, InputFault};
 pub use files::MAX_FILE_LEN;
-pub use obeying::obey;
 pub use printing::Answer;
+pub use replying::reply_to;
 pub use ruling::{Answered, judge_one};

@@ -1,4 +1,4 @@
-//! What is said to a task, and how it is said.
+//! What is said to a question, and how it is said.
 ghost use Rattle.std.specs.Prelude.{◌≡◌, IfOk, string_bytes};
 ghost use Rattle.answers.specs.Lines.{hex_line, line_of, refused_line, status_of, answer_unless_memory};
 
@@ -10,7 +10,7 @@ use instruction_set::Code;
 use numbered::{NumberedRefusal, Place};
 use std::alloc::{AllocError, Global};
 
-/// What is said to a task.
+/// What is said to a question.
 #[derive(Debug, Drop)]
 pub enum Answer {
     /// The code is accepted, and has so many instructions.
@@ -21,7 +21,7 @@ pub enum Answer {
     Assembled { code: Code },
     /// The code of hex digits, which is said as text.
     Disassembled { code: Code },
-    /// The task was not carried out.
+    /// The question was refused.
     Refused(NumberedRefusal),
     /// A file could not be read.
     DeviceFault,

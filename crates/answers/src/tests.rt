@@ -2,13 +2,13 @@
 ghost use Rattle.std.specs.Prelude.{Some};
 
 use crate::files::MAX_FILE_LEN;
-use crate::obeying::{asm_from, obey, refuse_memory, status_and_text};
+use crate::replying::{asm_from, refuse_memory, reply_to, status_and_text};
 use crate::{Failure, InputFault};
 use std::alloc::Global;
 use std::io::{ErrorKind, Read, Write};
 use std::test::Fail;
 use std::{env, fs, io};
-use task::{Profile, Task};
+use task::{Profile, Question};
 
 const EXIT: &'static str = "9500000000000000";
 
@@ -89,10 +89,10 @@ fn weighted(
     Ok(text)
 }
 
-/// Whether the task is answered by this status and this text.
-fn is_answered(rt: &HostRuntime, task: &Task<'_>, status: u8, text: &str) -> bool {
+/// Whether the question is answered by this status and this text.
+fn is_answered(rt: &HostRuntime, question: &Question<'_>, status: u8, text: &str) -> bool {
     let mut out = Vec::new(rt.alloc());
-    let got = obey(rt, task, &mut out);
+    let got = reply_to(rt, question, &mut out);
     got == status && out.as_slice() == text.as_bytes()
 }
 
@@ -156,8 +156,8 @@ fn code_on_db(rt: HostRuntime) -> Result<(), Fail> {
     ] {
         let text = code(alloc, slots)?;
         let (code, clash) = (text.as_str(), clash.as_str());
-        let task = Task::Judge { code, clash };
-        assert!(rt; is_answered(&rt, &task, 0, line), "at {slots}");
+        let question = Question::Judge { code, clash };
+        assert!(rt; is_answered(&rt, &question, 0, line), "at {slots}");
     }
     Ok(())
 }
@@ -180,7 +180,7 @@ fn other_records(rt: HostRuntime) -> Result<(), Fail> {
         let clash = db(alloc, name, first, second)?;
         let (code, clash) = (text, clash.as_str());
         assert!(rt;
-            is_answered(&rt, &Task::Judge { code, clash }, 0, line),
+            is_answered(&rt, &Question::Judge { code, clash }, 0, line),
             "at {line}"
         );
     }
@@ -206,19 +206,19 @@ fn no_code(rt: HostRuntime) -> Result<(), Fail> {
     for (slots, line) in NO_CODE {
         let text = code(alloc, slots)?;
         let (code, clash) = (text.as_str(), clash.as_str());
-        for task in [
-            Task::Judge { code, clash },
-            Task::Check {
+        for question in [
+            Question::Judge { code, clash },
+            Question::Check {
                 code,
                 profile: Profile::Unsigned,
             },
-            Task::Check {
+            Question::Check {
                 code,
                 profile: Profile::Both,
             },
-            Task::Dis { code },
+            Question::Dis { code },
         ] {
-            assert!(rt; is_answered(&rt, &task, 2, line), "at {task:?}");
+            assert!(rt; is_answered(&rt, &question, 2, line), "at {question:?}");
         }
     }
     Ok(())
@@ -292,18 +292,18 @@ fn unsafe_code(rt: HostRuntime) -> Result<(), Fail> {
         let text = code(alloc, slots)?;
         let line = format!(in alloc; "refused {number} at slot {slot}\n")?;
         let (code, clash) = (text.as_str(), clash.as_str());
-        for task in [
-            Task::Judge { code, clash },
-            Task::Check {
+        for question in [
+            Question::Judge { code, clash },
+            Question::Check {
                 code,
                 profile: Profile::Unsigned,
             },
-            Task::Check {
+            Question::Check {
                 code,
                 profile: Profile::Both,
             },
         ] {
-            assert!(rt; is_answered(&rt, &task, 2, &line), "at {task:?}");
+            assert!(rt; is_answered(&rt, &question, 2, &line), "at {question:?}");
         }
     }
     Ok(())
@@ -328,7 +328,7 @@ fn accepted_code(rt: HostRuntime) -> Result<(), Fail> {
         for profile in [Profile::Unsigned, Profile::Both] {
             let code = text.as_str();
             assert!(rt;
-                is_answered(&rt, &Task::Check { code, profile }, 0, line),
+                is_answered(&rt, &Question::Check { code, profile }, 0, line),
                 "at {slots}"
             );
         }
@@ -359,15 +359,22 @@ fn signed_bounds(rt: HostRuntime) -> Result<(), Fail> {
             (Profile::Unsigned, 2, "refused 18 at slot 4\n"),
             (Profile::Both, 0, "accepted 7 instructions\n"),
         ] {
-            assert!(rt; is_answered(&rt, &Task::Check { code, profile }, status, said));
+            assert!(rt; is_answered(&rt, &Question::Check { code, profile }, status, said));
         }
-        assert!(rt; is_answered(&rt, &Task::Judge { code, clash }, 0, line));
+        assert!(rt; is_answered(&rt, &Question::Judge { code, clash }, 0, line));
     }
     // A weight of 2^63 is below zero where it is read as a signed number.
     let text = code(alloc, SIGNED[0].0)?;
     let clash = weighted(alloc, NAME, "05", "09", "80")?;
     let (code, clash) = (text.as_str(), clash.as_str());
-    assert!(rt; is_answered(&rt, &Task::Judge { code, clash }, 0, "none in 4 steps\n"));
+    assert!(rt;
+        is_answered(
+            &rt,
+            &Question::Judge { code, clash },
+            0,
+            "none in 4 steps\n"
+        )
+    );
     Ok(())
 }
 
@@ -385,8 +392,8 @@ fn code_as_text(rt: HostRuntime) -> Result<(), Fail> {
         ("bf20000000000000 X", "mov64 r0, r2\nexit\n"),
     ] {
         let hex = code(alloc, slots)?;
-        let task = Task::Dis { code: hex.as_str() };
-        assert!(rt; is_answered(&rt, &task, 0, text), "at {slots}");
+        let question = Question::Dis { code: hex.as_str() };
+        assert!(rt; is_answered(&rt, &question, 0, text), "at {slots}");
     }
     Ok(())
 }
@@ -512,12 +519,12 @@ fn a_file(rt: HostRuntime) -> Result<(), Fail> {
     let folder = env::temp_dir(&rt)?;
     let id = std::process::id(rt.process());
     let path = format!(in alloc; "{}/heal_{id}.txt", folder.display())?;
-    let task = Task::Asm {
+    let question = Question::Asm {
         file: path.as_str(),
     };
-    assert!(rt; is_answered(&rt, &task, 3, "device fault\n"));
+    assert!(rt; is_answered(&rt, &question, 3, "device fault\n"));
     fs::write(&rt, path.as_str(), "mov64 r0, 1\nexit\n")?;
-    let is_read = is_answered(&rt, &task, 0, "b7000000010000009500000000000000\n");
+    let is_read = is_answered(&rt, &question, 0, "b7000000010000009500000000000000\n");
     fs::remove_file(&rt, path.as_str())?;
     assert!(rt; is_read);
     Ok(())
@@ -532,17 +539,17 @@ fn the_longest_code(rt: HostRuntime) -> Result<(), Fail> {
         text.push_str("b700000001000000")?;
     }
     text.push_str(EXIT)?;
-    let task = Task::Judge {
+    let question = Question::Judge {
         code: text.as_str(),
         clash: clash.as_str(),
     };
-    assert!(rt; is_answered(&rt, &task, 0, "first in 1024 steps\n"));
+    assert!(rt; is_answered(&rt, &question, 0, "first in 1024 steps\n"));
     text.push_str(EXIT)?;
-    let task = Task::Judge {
+    let question = Question::Judge {
         code: text.as_str(),
         clash: clash.as_str(),
     };
-    assert!(rt; is_answered(&rt, &task, 2, "refused 2\n"));
+    assert!(rt; is_answered(&rt, &question, 2, "refused 2\n"));
     Ok(())
 }
 
@@ -569,7 +576,7 @@ fn records_of_other_lengths(rt: HostRuntime) -> Result<(), Fail> {
         let text = zeros(rt.alloc(), count)?;
         let clash = text.as_str();
         assert!(rt;
-            is_answered(&rt, &Task::Judge { code, clash }, status, line),
+            is_answered(&rt, &Question::Judge { code, clash }, status, line),
             "at {count}"
         );
     }
@@ -591,7 +598,7 @@ fn facts_behind_the_registrations(rt: HostRuntime) -> Result<(), Fail> {
     ] {
         let code = size_of_first.as_str();
         assert!(rt;
-            is_answered(&rt, &Task::Judge { code, clash }, 0, line),
+            is_answered(&rt, &Question::Judge { code, clash }, 0, line),
             "at {line}"
         );
     }
@@ -608,7 +615,7 @@ fn wrong_records(rt: HostRuntime) -> Result<(), Fail> {
         ("0", "00", "refused 50\n"),
     ] {
         assert!(rt;
-            is_answered(&rt, &Task::Judge { code, clash }, 2, line),
+            is_answered(&rt, &Question::Judge { code, clash }, 2, line),
             "at {line}"
         );
     }
@@ -619,7 +626,7 @@ fn wrong_records(rt: HostRuntime) -> Result<(), Fail> {
 fn a_failing_device(rt: HostRuntime) -> Result<(), Fail> {
     let alloc = rt.alloc();
     let clash = db(alloc, NAME, "05", "09")?;
-    let task = Task::Judge {
+    let question = Question::Judge {
         code: "b7000000010000009500000000000000",
         clash: clash.as_str(),
     };
@@ -632,7 +639,7 @@ fn a_failing_device(rt: HostRuntime) -> Result<(), Fail> {
             interrupts: 2,
         };
         let status = if calls == line.len() { 0 } else { 3 };
-        assert_eq!(rt; obey(&rt, &task, &mut device), status, "at {calls}");
+        assert_eq!(rt; reply_to(&rt, &question, &mut device), status, "at {calls}");
         assert!(rt; device.held.as_slice() == &line[..calls], "at {calls}");
     }
     Ok(())

@@ -5,7 +5,7 @@ use Rattle.clap.specs.Lexer.{strip_byte}
 use Rattle.clap.specs.Words.{Text}
 use Rattle.clap.proofs.OnLiterals.{clap_on_literals}
 use Rattle.task.specs.declared.Profile.TheVariants.{Unsigned, Both}
-use Rattle.command_line.specs.Asked.{Asks, asm, check, dis, judge}
+use Rattle.command_line.specs.Asked.{Asks, asm, check, dis, judge, run}
 use Rattle.command_line.specs.Plain.{IsPlain}
 
 no_hyphen : (word : Text) → IsPlain word → strip_byte 45 word ≡ None
@@ -56,3 +56,16 @@ unfolding clap_on_literals
 plain_dis name code plain =
     let a = no_hyphen code plain in
     let b = no_end code plain in (simp (a, b), simp (a, b))
+
+pub plain_run : (name file : Text) → IsPlain file → Asks (name ∷ codes "run" ∷ file ∷ []) (run file 4)
+unfolding clap_on_literals
+plain_run name file plain =
+    let a = no_hyphen file plain in
+    let b = no_end file plain in (simp (a, b), simp (a, b))
+
+pub plain_workers : (name file : Text) → IsPlain file
+    → Asks (name ∷ codes "run" ∷ file ∷ codes "--workers" ∷ codes "16" ∷ []) (run file 16)
+unfolding clap_on_literals
+plain_workers name file plain =
+    let a = no_hyphen file plain in
+    let b = no_end file plain in (simp (a, b), simp (a, b))

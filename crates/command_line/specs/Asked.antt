@@ -5,6 +5,8 @@ use Rattle.std.specs.declared.io.ErrorKind.{ErrorKind}
 use Rattle.std.specs.declared.io.ErrorKind.TheVariants as of_io
 use Rattle.clap.specs.Words.{App, Row, Rule, Text, first_of, fault_of, new_app, new_rule, kind_of, subcommand_of, with_rule, with_subcommand}
 use Rattle.clap.specs.Simple.{on_top}
+use Rattle.clap.specs.ValueTests.{is_numeral}
+use Rattle.std.specs.Str.Parse.{digits_value, without_leading_plus}
 use Rattle.clap.specs.declared.error.kind.ErrorKind.TheVariants.{OutOfMemory}
 use Rattle.command_line.specs.declared.faults.CommandFault.{CommandFault}
 use Rattle.command_line.specs.declared.faults.CommandFault.TheVariants.{Parse, NoTask, NotText}
@@ -12,8 +14,10 @@ use Rattle.clap.specs.declared.builder.action.ArgAction.TheVariants.{Set}
 use Rattle.clap.specs.declared.builder.value_parser.ValueParser.TheVariants as value
 use Rattle.task.specs.declared.Profile.{Profile}
 use Rattle.task.specs.declared.Profile.TheVariants.{Unsigned, Both}
+use Rattle.task.specs.declared.Question.TheVariants.{Check, Judge, Asm, Dis}
 use Rattle.task.specs.declared.Task.{Task}
-use Rattle.task.specs.declared.Task.TheVariants.{Check, Judge, Asm, Dis}
+use Rattle.task.specs.declared.Task.TheVariants.{Answer, Run}
+use Rattle.task.specs.Workers.{workers_if}
 
 -- ---- the command
 
@@ -50,10 +54,23 @@ asm_app = one_app (codes "asm") (codes "FILE")
 abbrev pub dis_app : App
 dis_app = one_app (codes "dis") (codes "HEX")
 
--- heal with its four subcommands
+-- an option with one value, a number from 1 to 16
+abbrev pub workers_option : Rule
+workers_option = record (new_rule (codes "workers")) {
+  long = Some (codes "workers");
+  action = Some Set;
+  value_names = 1;
+  parser = Some (value.Unsigned 1 16);
+}
+
+-- run FILE [--workers W]
+abbrev pub run_app : App
+run_app = with_rule (one_app (codes "run") (codes "FILE")) workers_option
+
+-- heal with its five subcommands
 abbrev pub subcommands_app : App
-subcommands_app = with_subcommand (with_subcommand (with_subcommand (with_subcommand (new_app (codes "heal"))
-    check_app.top) judge_app.top) asm_app.top) dis_app.top
+subcommands_app = with_subcommand (with_subcommand (with_subcommand (with_subcommand (with_subcommand
+    (new_app (codes "heal")) check_app.top) judge_app.top) asm_app.top) dis_app.top) run_app.top
 
 -- heal with one of its subcommands
 abbrev pub heal_app : App
@@ -67,13 +84,15 @@ pub data Asked : Type 0 where
   judge : List ℕ → List ℕ → Asked
   asm : List ℕ → Asked
   dis : List ℕ → Asked
+  run : List ℕ → ℕ → Asked
 
 -- the task, seen so
 abbrev pub asked_by : Task → Asked
-asked_by (Check code profile) = check code.now profile
-asked_by (Judge code clash) = judge code.now clash.now
-asked_by (Asm file) = asm file.now
-asked_by (Dis code) = dis code.now
+asked_by (Answer (Check code profile)) = check code.now profile
+asked_by (Answer (Judge code clash)) = judge code.now clash.now
+asked_by (Answer (Asm file)) = asm file.now
+asked_by (Answer (Dis code)) = dis code.now
+asked_by (Run file workers) = run file.now workers.count
 
 -- the profile of a number, and the second one where none is named
 abbrev pub profile_named : Option Text → Option Profile
@@ -98,13 +117,25 @@ asm_asked rows = option_map asm (first_of (codes "FILE") rows)
 abbrev pub dis_asked : List Row → Option Asked
 dis_asked rows = option_map dis (first_of (codes "HEX") rows)
 
+-- how many workers a text names, and four where none is named
+abbrev pub workers_named : Option Text → Option ℕ
+workers_named None = Some 4
+workers_named (Some number) =
+    if is_numeral (without_leading_plus number) then workers_if (digits_value 10 (without_leading_plus number)) else None
+
+abbrev pub run_asked : List Row → Option Asked
+run_asked rows =
+    option_and_then (λ file. option_map (run file) (workers_named (first_of (codes "workers") rows)))
+    (first_of (codes "FILE") rows)
+
 -- what a subcommand of this name asks for
 abbrev pub asked_of : Text × List Row → Option Asked
 asked_of sub =
     if bytes_eq sub.0 (codes "check") then check_asked sub.1
     else (if bytes_eq sub.0 (codes "judge") then judge_asked sub.1
     else (if bytes_eq sub.0 (codes "asm") then asm_asked sub.1
-    else (if bytes_eq sub.0 (codes "dis") then dis_asked sub.1 else None)))
+    else (if bytes_eq sub.0 (codes "dis") then dis_asked sub.1
+    else (if bytes_eq sub.0 (codes "run") then run_asked sub.1 else None))))
 
 -- the words have no fault, and ask for this
 abbrev pub Asks : List Text → Asked → Type 0

@@ -1,7 +1,7 @@
 //! The command line as clap knows it.
 ghost use Rattle.std.specs.Prelude.{◌≡◌, IfOk, false};
 ghost use Rattle.clap.specs.Words.{app_of, rule_of};
-ghost use Rattle.command_line.specs.Asked.{check_app, heal_app, judge_app, needed, one_app, profile_option};
+ghost use Rattle.command_line.specs.Asked.{check_app, heal_app, judge_app, needed, one_app, profile_option, run_app, workers_option};
 ghost use Rattle.command_line.specs.model.Apps.{IsApp};
 
 use clap::builder::ValueParser;
@@ -34,10 +34,31 @@ const REFUSALS: &'static str = "Refusals:
   24  a load of stack bytes that may be unwritten
   25  a number as an address
   26  an address as the answer
+  30  a name that is registered already
+  31  a name that isn't registered
+  32  a table of 4,096 names
+  33  an exchange that is open
+  34  no exchange is open
+  35  a number that isn't above all that were begun
+  36  another seed
+  37  more than 4,096 names together
+  38  a ruling that isn't of the clash at one of its words
+  39  an exchange that isn't complete
+  40  a journal of 65,536 events
+  41  a resolver that is no built-in's word and no label
   42  other code that is kept under the same id
   43  no room: 256 programs are kept
   44  a name that isn't 1 to 32 visible characters of ASCII
-  50  a text that isn't hex digits, two a byte
+  45  another number
+  46  a message of the side's own
+  47  a name that was withdrawn already
+  48  a list of withdrawn names that is closed
+  49  other tables, uptimes or withdrawn names
+  50  a text that isn't hex digits, as many as have to be
+  51  an unknown word, another count of words, or a character that isn't printable
+  52  a number that isn't decimal digits without zeros in front, or is too big
+  53  a label that is in use or isn't 1 to 32 visible characters of ASCII
+  54  a line of more than 20,000 bytes
   55  a record that has neither 160 nor 128 bytes
   56  a file that isn't UTF-8
   57  a file of more than 1,048,576 bytes
@@ -71,7 +92,35 @@ fn profile_arg<'a>(alloc: Global) -> Arg<'a>
         .help("1: over unsigned ranges alone; 2: over signed ones beside them [default: 2]")
 }
 
-// The one subcommand with an option.
+// How many workers judge clashes.
+fn workers_arg<'a>(alloc: Global) -> Arg<'a>
+    ensures rule { rule_of result ≡ workers_option }
+    ensures global { result.global ≡ false }
+{
+    Arg::new(alloc, "workers")
+        .long("workers")
+        .action(ArgAction::Set)
+        .value_name("W")
+        .value_parser(ValueParser::unsigned(1, 16))
+        .help("How many workers judge clashes, 1 to 16 [default: 4]")
+}
+
+// A script, and an option.
+fn run_command<'a>(alloc: Global) -> Result<Command<'a>, AllocError>
+    ensures { IfOk result (λ c. IsApp c run_app) }
+{
+    let about = "Carries out a script: names of two halves of a cluster, and how their split heals";
+    let run = one_command(
+        alloc,
+        "run",
+        about,
+        "FILE",
+        "A file that holds the lines of a script",
+    )?;
+    run.arg(workers_arg(alloc))
+}
+
+// Code, and an option.
 fn check_command<'a>(alloc: Global) -> Result<Command<'a>, AllocError>
     ensures { IfOk result (λ c. IsApp c check_app) }
 {
@@ -122,12 +171,14 @@ pub(crate) fn heal<'a>(alloc: Global) -> Result<Command<'a>, AllocError>
         "HEX",
         "Code, in hex digits",
     )?;
+    let run = run_command(alloc)?;
     let heal = Command::new(alloc, "heal")
         .bin_name("heal")?
         .after_help(REFUSALS)
         .subcommand(check)?
         .subcommand(judge)?
         .subcommand(asm)?
-        .subcommand(dis)?;
+        .subcommand(dis)?
+        .subcommand(run)?;
     Ok(heal.subcommand_required(true))
 }

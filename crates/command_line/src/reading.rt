@@ -2,7 +2,7 @@
 ghost use Rattle.std.specs.Prelude.{◌≡◌, ◌∷◌, [], codes, ◌⊎◌, List, ℕ, IfOk, IfErr, map, option_map, option_and_then};
 ghost use Rattle.clap.specs.Words.{first_of, found_of, rows_of, subcommand_rows_of};
 ghost use Rattle.command_line.specs.Asked.{Asked, Asks, IsForMemory, asked_by, asked_of};
-ghost use Rattle.command_line.specs.Asked.{asm, asm_asked, check, check_asked, dis, dis_asked, judge, judge_asked, profile_named};
+ghost use Rattle.command_line.specs.Asked.{asm, asm_asked, check, check_asked, dis, dis_asked, judge, judge_asked, profile_named, run, run_asked, workers_named};
 ghost use Rattle.task.specs.declared.Profile.TheVariants.{Unsigned, Both};
 ghost use Rattle.command_line.specs.Plain.{IsPlain};
 
@@ -11,7 +11,7 @@ use crate::grammar::heal;
 use clap::ArgMatches;
 use std::alloc::Global;
 use std::convert::AsStr;
-use task::{Profile, Task};
+use task::{Profile, Question, Task, Workers};
 
 // The first value of `id`.
 #[tactic(auto, using(crate::proofs::Rows::rows))]
@@ -37,7 +37,7 @@ fn check_of<'a>(found: &ArgMatches<'a>) -> Option<Task<'a>>
 {
     let code = value(found, "HEX")?;
     let profile = profile_of(value(found, "profile"))?;
-    Some(Task::Check { code, profile })
+    Some(Task::Answer(Question::Check { code, profile }))
 }
 
 fn judge_of<'a>(found: &ArgMatches<'a>) -> Option<Task<'a>>
@@ -45,21 +45,42 @@ fn judge_of<'a>(found: &ArgMatches<'a>) -> Option<Task<'a>>
 {
     let code = value(found, "HEX")?;
     let clash = value(found, "RECORDHEX")?;
-    Some(Task::Judge { code, clash })
+    Some(Task::Answer(Question::Judge { code, clash }))
 }
 
 fn asm_of<'a>(found: &ArgMatches<'a>) -> Option<Task<'a>>
     ensures { option_map asked_by result ≡ asm_asked (rows_of (found_of found.now)) }
 {
     let file = value(found, "FILE")?;
-    Some(Task::Asm { file })
+    Some(Task::Answer(Question::Asm { file }))
 }
 
 fn dis_of<'a>(found: &ArgMatches<'a>) -> Option<Task<'a>>
     ensures { option_map asked_by result ≡ dis_asked (rows_of (found_of found.now)) }
 {
     let code = value(found, "HEX")?;
-    Some(Task::Dis { code })
+    Some(Task::Answer(Question::Dis { code }))
+}
+
+// How many workers a text names, and four where none is named.
+fn workers_of(number: Option<&str>) -> Option<Workers>
+    ensures { option_map (λ workers. workers.count) result ≡ workers_named (option_map (λ s. s.now) number.entry) }
+{
+    match number {
+        None => Workers::new(4),
+        Some(text) => match text.parse::<u32>() {
+            Ok(count) => Workers::new(count),
+            Err(_) => None,
+        },
+    }
+}
+
+fn run_of<'a>(found: &ArgMatches<'a>) -> Option<Task<'a>>
+    ensures { option_map asked_by result ≡ run_asked (rows_of (found_of found.now)) }
+{
+    let file = value(found, "FILE")?;
+    let workers = workers_of(value(found, "workers"))?;
+    Some(Task::Run { file, workers })
 }
 
 fn task_of<'a>(matches: &ArgMatches<'a>) -> Option<Task<'a>>
@@ -74,6 +95,8 @@ fn task_of<'a>(matches: &ArgMatches<'a>) -> Option<Task<'a>>
         asm_of(found)
     } else if name == "dis" {
         dis_of(found)
+    } else if name == "run" {
+        run_of(found)
     } else {
         None
     }
@@ -103,4 +126,7 @@ pub fn plain_words_theorem()
         → Asks (name ∷ codes "judge" ∷ code ∷ clash ∷ []) (judge code clash) }
     ensures asm { (name file : List ℕ) → IsPlain file → Asks (name ∷ codes "asm" ∷ file ∷ []) (asm file) }
     ensures dis { (name code : List ℕ) → IsPlain code → Asks (name ∷ codes "dis" ∷ code ∷ []) (dis code) }
+    ensures run { (name file : List ℕ) → IsPlain file → Asks (name ∷ codes "run" ∷ file ∷ []) (run file 4) }
+    ensures workers { (name file : List ℕ) → IsPlain file
+        → Asks (name ∷ codes "run" ∷ file ∷ codes "--workers" ∷ codes "16" ∷ []) (run file 16) }
 {}

@@ -2,6 +2,7 @@
 #![tactic(auto)]
 
 mod exchanges;
+mod judging;
 mod programs;
 mod registry;
 mod tables;
@@ -12,6 +13,7 @@ use std::{env, fmt, io};
 const USAGE: &'static str = "usage: heal_bench program HEX RECORDHEX RUNS
        heal_bench tables ROWS
        heal_bench exchange ROWS
+       heal_bench judge HEX WORKERS
 
 program: decodes and verifies the program 2,000 times, runs it RUNS times on the record, whose word changes from run to
 run, and prints the mean times in nanoseconds, the steps of one run and the sum of all answers.
@@ -19,6 +21,8 @@ tables: makes tables of ROWS rows, 1 to 4096, and prints the mean times in nanos
 clashes and the merge of two that clash in every name; and of these for two that are equal.
 exchange: two sides with ROWS names begin, hear each other, take a ruling for each name and finish; prints the times in
 nanoseconds of each of these on both sides together.
+judge: 1 to 16 WORKERS judge 4,096 clashes by the program in each of 20 rounds; prints the mean time of a round in
+nanoseconds, and how many verdicts were kept in all.
 ";
 
 fn main(rt: HostRuntime) -> io::Result<ExitCode> {
@@ -33,6 +37,7 @@ fn main(rt: HostRuntime) -> io::Result<ExitCode> {
         [_, "program", code, clash, runs] => report(&rt, programs::measure(&rt, code, clash, runs)),
         [_, "tables", rows] => report(&rt, tables::measure(&rt, rows)),
         [_, "exchange", rows] => report(&rt, exchanges::measure(&rt, rows)),
+        [_, "judge", code, workers] => report(&rt, judging::measure(&rt, code, workers)),
         _ => {
             eprint!(&rt; "{USAGE}")?;
             Ok(ExitCode::FAILURE)

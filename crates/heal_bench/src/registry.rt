@@ -3,16 +3,24 @@ ghost use Rattle.std.specs.Prelude.{◌<◌, IfOk};
 
 use clash_record::{BadName, Builtin, Name, Owner, Registration, ResolverId, name};
 use exchange_core::SideFault;
+use hex::FromHexError;
 use partition_table::TableFault;
 use std::alloc::AllocError;
 use std::io;
 use thiserror::Error;
+use upload_store::UploadFault;
 
 /// Why nothing was measured.
 #[derive(Debug, Drop, Error)]
 pub(crate) enum Fault {
     #[error("ROWS isn't a number from 1 to 4096")]
     Rows,
+    #[error("WORKERS isn't a number from 1 to 16")]
+    Workers,
+    #[error("no hex digits, two a byte: {0}")]
+    Digits(#[from] FromHexError),
+    #[error(transparent)]
+    Upload(#[from] UploadFault),
     #[error(transparent)]
     Name(#[from] BadName),
     #[error(transparent)]
@@ -43,11 +51,16 @@ pub(crate) fn numbered_name(number: u16) -> Result<Name, BadName> {
 
 /// A registration of an owner on this node, judged by the built-in resolver that lets one of two exit.
 pub(crate) fn of_node(node: u32) -> Registration {
+    registration(node, ResolverId::Builtin(Builtin::Exit))
+}
+
+/// A registration of an owner on this node, judged by this resolver.
+pub(crate) fn registration(node: u32, resolver: ResolverId) -> Registration {
     Registration {
         owner: Owner { node, serial: 1 },
         stamp: 0,
         weight: 0,
         extra: [0; 16],
-        resolver: ResolverId::Builtin(Builtin::Exit),
+        resolver,
     }
 }

@@ -4,7 +4,7 @@ use Rattle.std.specs.declared.io.ErrorKind.{ErrorKind}
 use Rattle.std.specs.declared.io.ErrorKind.TheVariants as of_io
 use Rattle.task.specs.declared.Task.{Task}
 use Rattle.command_line.specs.Asked.{Asked, Asks, asked_by}
-use Rattle.answers.specs.Lines.{Obeys}
+use Rattle.heal_main.specs.Obeying.{Obeys}
 
 -- the task that the words ask for is carried out; or they ask for none, with status 1; or memory ran out, with status
 -- 3;

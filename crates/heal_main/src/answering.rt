@@ -5,12 +5,14 @@ ghost use Rattle.std.specs.String.{string_bytes};
 ghost use Rattle.command_line.specs.Asked.{IsForMemory};
 ghost use Rattle.heal_main.specs.Answering.{IsAnswered, IsUnread};
 
-use answers::obey;
+use crate::obeying::obey;
 use command_line::{CommandFault, command};
 use std::convert::AsStr;
 use std::io;
 use std::io::Write;
 use std::rt::Files;
+use std::sync::Wait;
+use std::thread::Threads;
 
 /// Tells a fault of the command line, and answers its status. What the device takes of it changes nothing.
 fn refuse<E: Write>(fault: &CommandFault, errors: &mut E) -> u8
@@ -22,7 +24,7 @@ fn refuse<E: Write>(fault: &CommandFault, errors: &mut E) -> u8
 }
 
 /// Carries out what the words ask for, and answers the program's status.
-fn answer_words<R: Files + AllocGlobal, S: AsStr, O: Write, E: Write>(
+fn answer_words<R: Files + Threads + Wait + Sync + AllocGlobal, S: AsStr, O: Write, E: Write>(
     rt: &R,
     words: &[S],
     output: &mut O,
@@ -38,7 +40,7 @@ fn answer_words<R: Files + AllocGlobal, S: AsStr, O: Write, E: Write>(
 
 /// The same of the words that were read, if they could be. A fault of the command line is told as an error, with
 /// status 1, and nothing goes out; want of memory while the words are read is status 3.
-pub fn answer<R: Files + AllocGlobal, O: Write, E: Write>(
+pub fn answer<R: Files + Threads + Wait + Sync + AllocGlobal, O: Write, E: Write>(
     rt: &R,
     words: io::Result<Vec<String>>,
     output: &mut O,

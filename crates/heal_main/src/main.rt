@@ -1,15 +1,16 @@
-//! heal: judges a clash of two registrations by the code of a stranger, and reads and writes such code.
+//! heal: heals splits of a cluster's names, judges clashes by the code of strangers, and reads and writes such code.
 #![tactic(auto)]
 
 ghost use Rattle.std.specs.Prelude.{None};
 
 mod answering;
+mod obeying;
 #[cfg(test)]
 mod tests;
 
 use answering::answer;
 use std::io;
-use std::io::{ErrorKind, Write};
+use std::io::{BufWriter, ErrorKind, Write};
 use std::process::ExitCode;
 
 /// Standard error, to which texts are written.
@@ -41,12 +42,13 @@ fn words(rt: &HostRuntime) -> io::Result<Vec<String>> {
     Ok(std::env::args(rt)?.collect(rt.alloc())?)
 }
 
+// Answers the words. What goes out is gathered first, where there is memory for that.
 fn main(rt: HostRuntime) -> ExitCode {
     let words = words(&rt);
-    ExitCode::from(answer(
-        &rt,
-        words,
-        &mut io::writer(&rt),
-        &mut StandardError { rt: &rt },
-    ))
+    let mut errors = StandardError { rt: &rt };
+    let status = match BufWriter::new(rt.alloc(), io::writer(&rt)) {
+        Ok(mut output) => answer(&rt, words, &mut output, &mut errors),
+        Err(_) => answer(&rt, words, &mut io::writer(&rt), &mut errors),
+    };
+    ExitCode::from(status)
 }

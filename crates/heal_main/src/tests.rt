@@ -23,7 +23,7 @@ const SIGNED: &'static str =
 
 #[test]
 fn tasks(rt: HostRuntime) -> Result<(), Fail> {
-    let rows: [(&[&str], u8, &str); 6] = [
+    let rows: [(&[&str], u8, &str); 7] = [
         (
             &["heal", "check", "b7000000010000009500000000000000"],
             0,
@@ -42,6 +42,11 @@ fn tasks(rt: HostRuntime) -> Result<(), Fail> {
         (&["heal", "dis", "9500000000000000"], 0, "exit\n"),
         (&["heal", "judge", "01", "00"], 2, "refused 3\n"),
         (&["heal", "asm", "/no/such/file"], 3, "device fault\n"),
+        (
+            &["heal", "run", "/no/such/file", "--workers", "1"],
+            3,
+            "device fault\n",
+        ),
     ];
     for (words, status, text) in rows {
         let (got, output, errors) = answered(&rt, words)?;
@@ -56,7 +61,7 @@ fn tasks(rt: HostRuntime) -> Result<(), Fail> {
 
 #[test]
 fn no_task(rt: HostRuntime) -> Result<(), Fail> {
-    let wrong: [&[&str]; 14] = [
+    let wrong: [&[&str]; 18] = [
         &["heal"],
         &["heal", "judges", "01", "00"],
         &["heal", "judge"],
@@ -70,7 +75,11 @@ fn no_task(rt: HostRuntime) -> Result<(), Fail> {
         &["heal", "asm"],
         &["heal", "--help"],
         &["heal", "asm", "-x"],
-        &["heal", "run", "script"],
+        &["heal", "run"],
+        &["heal", "run", "script", "--workers", "0"],
+        &["heal", "run", "script", "--workers", "17"],
+        &["heal", "run", "script", "--workers", "many"],
+        &["heal", "run", "script", "other"],
     ];
     for words in wrong {
         let (status, output, errors) = answered(&rt, words)?;

@@ -10,6 +10,7 @@ use std::sync::Wait;
 use std::sync::atomic::{AtomicU64, Ordering};
 use std::test::Fail;
 use std::thread;
+use std::thread::Threads;
 use std::time::{Clock, Duration};
 use upload_store::UploadStore;
 use verdict_board::{Board, Draw, Pass, Posted, Seat, open};
@@ -106,6 +107,97 @@ fn the_first_verdict_stays(rt: HostRuntime) -> Result<(), Fail> {
         assert_eq!(rt; read_first(&board, &mut late), Some(ruling));
         assert_eq!(rt; read_first(&board, &mut new), Some(ruling));
         assert!(rt; board.read(1, &mut new).is_none());
+    }
+    Ok(())
+}
+
+// A pass of a board, which goes from thread to thread.
+#[derive(Drop)]
+struct Caller<'a, 'p> {
+    board: &'a Board<'p>,
+    pass: Pass<'p>,
+    ghost of_board: { pass.place ≡ board.now.place },
+}
+
+impl<'a, 'p> Caller<'a, 'p> {
+    fn new(board: &'a Board<'p>) -> Result<Caller<'a, 'p>, Fail> {
+        Ok(Caller {
+            board,
+            pass: board.pass()?,
+        })
+    }
+
+    fn post(self, round: u32) -> (Caller<'a, 'p>, Option<Posted<'p>>)
+        requires { round < 4 }
+    {
+        let Caller { board, mut pass } = self;
+        let posted = post_first(board, round, &mut pass);
+        (Caller { board, pass }, posted)
+    }
+
+    fn read(self) -> (Caller<'a, 'p>, Option<(u64, Verdict3)>) {
+        let Caller { board, mut pass } = self;
+        let found = read_first(board, &mut pass);
+        (Caller { board, pass }, found)
+    }
+
+    // Posts the verdict of clash 0 at its word in a round, in a thread of its own.
+    fn post_alone<R: Threads + Wait + Sync>(
+        self,
+        rt: &R,
+        round: u32,
+    ) -> Result<(Caller<'a, 'p>, Option<Posted<'p>>), Fail>
+        requires { round < 4 }
+    {
+        let caller = self;
+        thread::scope(
+            thread::scope_env(),
+            rt,
+            |scope| -> Result<(Caller<'_, '_>, Option<Posted<'_>>), Fail>
+                requires { round < 4 }
+            {
+                match scope.spawn(
+                    move ||
+                        requires { round < 4 }
+                    { caller.post(round) },
+                ) {
+                    Ok(child) => Ok(child.join(rt)),
+                    Err(_) => Err(Fail::from("no thread")),
+                }
+            },
+        )
+    }
+
+    // Reads clash 0 in a thread of its own.
+    fn read_alone<R: Threads + Wait + Sync>(
+        self,
+        rt: &R,
+    ) -> Result<(Caller<'a, 'p>, Option<(u64, Verdict3)>), Fail> {
+        let caller = self;
+        thread::scope(thread::scope_env(), rt, |scope| {
+            match scope.spawn(move || caller.read()) {
+                Ok(child) => Ok(child.join(rt)),
+                Err(_) => Err(Fail::from("no thread")),
+            }
+        })
+    }
+}
+
+#[test]
+fn the_first_verdict_stays_for_every_thread(rt: HostRuntime) -> Result<(), Fail> {
+    let list = exit_clashes(rt.alloc(), 1)?;
+    for (first, second, ruling) in [(0, 1, (0, Verdict3::First)), (1, 0, (1, Verdict3::Second))] {
+        let (board, _a, _b) = open_for_two(rt.alloc(), &list)?;
+        let (early, found) = Caller::new(&board)?.read_alone(&rt)?;
+        assert_eq!(rt; found, None);
+        let (kept, posted) = Caller::new(&board)?.post_alone(&rt, first)?;
+        assert!(rt; matches!(posted, Some(Posted::Kept)));
+        let (late, posted) = Caller::new(&board)?.post_alone(&rt, second)?;
+        assert!(rt; matches!(posted, Some(Posted::Earlier)));
+        assert_eq!(rt; early.read_alone(&rt)?.1, Some(ruling));
+        assert_eq!(rt; kept.read_alone(&rt)?.1, Some(ruling));
+        assert_eq!(rt; late.read_alone(&rt)?.1, Some(ruling));
+        assert_eq!(rt; Caller::new(&board)?.read_alone(&rt)?.1, Some(ruling));
     }
     Ok(())
 }

@@ -1,5 +1,6 @@
 -- A table that gets a row, and one that loses a row.
-use Rattle.std.proofs.Common.{◌≡◌, ◌+◌, ◌-◌, ◌<◌, ◌≤◌, ◌⊎◌, Bool, true, false, cond, if◌then◌else◌, Option, Some, None, is_some, IfSome, List, refl, ap, sym, subst, ◌∙◌, inl, inr, arith}
+use Rattle.std.proofs.Common.{◌≡◌, ◌+◌, ◌-◌, ◌<◌, ◌≤◌, ◌⊎◌, Bool, true, false, cond, if◌then◌else◌, Option, Some, None, is_some, IfSome, List, [], ◌∷◌, ◌++◌, reverse, refl, ap, sym, subst, ◌∙◌, inl, inr, arith}
+use Rattle.std.proofs.lemmas.List.{reverse-append}
 use Rattle.std.specs.Option.{option_map}
 use Rattle.std.specs.Ordering.{eq_by_cmp}
 use Rattle.std.specs.Cmp.{Equal-is, eq_by_cmp_equiv, tied_itself}
@@ -134,16 +135,30 @@ module _ (programs : Programs) (table : Table) (held : IsHeld programs table) (l
           let old = held.named id c h in
           (old.0, old.1, still_there old.0 old.1 old.2, old.3)
 
+  -- the entries make the table as before, but for the programs
+  made_before : (es : List (Name × Registration)) → table_by programs es ≡ table
+      → insert (table_by after es) name (row_for after row.registration) ≡ insert table name row
+  made_before es made =
+      ap (λ t. insert t name (row_for after row.registration))
+      (made_alike names_total names_exact (row_for after) (row_for programs) es
+      (λ q x there. same_row q (row_for programs x)
+      (ap (λ t. get t q) (sym made) ∙ get_row programs es q ∙ ap (option_map (row_for programs)) there)) ∙ made)
+      ∙ ap (insert table name) own_row
+
   -- the entries with one more make the table with the row
   pub made_more : (m n : BTreeMap Name Registration) → table_by programs m.entries ≡ table
       → Updates name_cmp m n name (Some row.registration) → table_by after n.entries ≡ insert table name row
   made_more m n made updates =
       made_inserted names_total (row_for after) names_exact m n name row.registration updates
-      ∙ ap (λ t. insert t name (row_for after row.registration))
-      (made_alike names_total names_exact (row_for after) (row_for programs) m.entries
-      (λ q x there. same_row q (row_for programs x)
-      (ap (λ t. get t q) (sym made) ∙ get_row programs m.entries q ∙ ap (option_map (row_for programs)) there)) ∙ made)
-      ∙ ap (insert table name) own_row
+      ∙ made_before m.entries made
+
+  -- so do rows of which this is the last
+  pub made_pushed : (rows pushed : List (Name × Registration)) → table_by programs (reverse rows) ≡ table
+      → pushed ≡ rows ++ (name, row.registration) ∷ [] → table_by after (reverse pushed) ≡ insert table name row
+  made_pushed rows pushed made is =
+      ap (λ es. table_by after (reverse es)) is
+      ∙ ap (table_by after) (reverse-append rows ((name, row.registration) ∷ []))
+      ∙ made_before (reverse rows) made
 
 -- one row less
 module _ (programs : Programs) (table : Table) (held : IsHeld programs table) (looked : IsLookedUp programs table)

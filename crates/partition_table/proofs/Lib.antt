@@ -1,4 +1,5 @@
 pub mod Agreeing
+pub mod Building
 pub mod Changes
 pub mod Equal
 pub mod Held

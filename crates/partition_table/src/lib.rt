@@ -1,6 +1,7 @@
 //! Tables of names, their clashes, and the merge of two.
 #![tactic(auto)]
 
+mod builder;
 mod clash;
 mod clashing;
 mod equality;

@@ -12,6 +12,7 @@ ghost use Rattle.partition_table.specs.Faults.{IsAnswered, fit_fault};
 ghost use Rattle.partition_table.specs.model.Merging.{IsRowOf, IsReady, holds_as, first_answer, answers_left};
 ghost use Rattle.partition_table.specs.model.Merging.{settled, put_all, names_without, each_kept, kept_with};
 
+use crate::builder::TableBuilder;
 use crate::fault::TableFault;
 use crate::fitting::fit;
 use crate::order::order;
@@ -56,10 +57,10 @@ pub fn merge(
         gone_a: set_of(alloc, gone_a)?,
         gone_b: set_of(alloc, gone_b)?,
     };
-    let mut merged = Table::new(alloc);
+    let mut merged = TableBuilder::new(alloc);
     parents.put_names_of_a(&mut merged, answers)?;
     parents.put_names_of_b_alone(&mut merged)?;
-    Ok(merged)
+    Ok(merged.finish(alloc)?)
 }
 
 // What is merged: two tables, and the names that were withdrawn of each.
@@ -73,7 +74,11 @@ struct Parents<'a> {
 
 impl<'a> Parents<'a> {
     // Puts what is kept under the names of `a`.
-    fn put_names_of_a(&self, merged: &mut Table, answers: &[Verdict3]) -> Result<(), AllocError>
+    fn put_names_of_a(
+        &self,
+        merged: &mut TableBuilder,
+        answers: &[Verdict3],
+    ) -> Result<(), AllocError>
         requires agree { IsTrue (tables_agree self.now.a.now self.now.b.now) }
         requires new { merged.old ≡ map.empty }
         ensures put { OnOk result (merged.new ≡ put_all (settled self.now.a.now self.now.b.now
@@ -90,7 +95,7 @@ impl<'a> Parents<'a> {
     }
 
     // Puts what is kept under the names that `b` has alone.
-    fn put_names_of_b_alone(&self, merged: &mut Table) -> Result<(), AllocError>
+    fn put_names_of_b_alone(&self, merged: &mut TableBuilder) -> Result<(), AllocError>
         requires agree { IsTrue (tables_agree self.now.a.now self.now.b.now) }
         requires ready { IsReady self.now.a.now self.now.b.now
             (names_without self.now.a.now (map.keys self.now.b.now)) max_names merged.old }
@@ -110,7 +115,7 @@ impl<'a> Parents<'a> {
     // Puts the row that one of the two has with the registration that is kept, unless it was withdrawn.
     fn put(
         &self,
-        merged: &mut Table,
+        merged: &mut TableBuilder,
         name: &Name,
         kept: Option<&Registration>,
     ) -> Result<(), AllocError>
@@ -135,7 +140,7 @@ impl<'a> Parents<'a> {
         if self.is_withdrawn(name, kept) {
             return Ok(());
         }
-        merged.keep(*name, *kept, self.program_for(kept.resolver))
+        merged.push(*name, *kept, self.program_for(kept.resolver))
     }
 
     // Whether a side that holds the registration under the name withdrew it.

@@ -1,10 +1,12 @@
 //! Tables.
-ghost use Rattle.std.specs.Prelude.{◌≡◌, ◌<◌, Some, None, Ok, Err, IfOk, OnOk, OnErr, IfSome, IsTrue};
+ghost use Rattle.std.specs.Prelude.{◌≡◌, ◌<◌, Some, None, Ok, Err, IfOk, OnOk, OnErr, IfSome, IsTrue, reverse};
 ghost use Rattle.std.specs.Option.{option_map};
 ghost use Rattle.std.specs.Arc.{arc_value};
 ghost use Rattle.std.specs.FinMap as map;
+ghost use Rattle.std.specs.BTreeMap.{IsFromIterResult};
+ghost use Rattle.clash_record.specs.Orders.{name_cmp};
 ghost use Rattle.partition_table.specs.Tables.{IsTable, IsCodeOf, agrees_with, tables_agree, max_names, row_for, rows_of, Name, Row};
-ghost use Rattle.partition_table.specs.model.Keeping.{IsKeptFor};
+ghost use Rattle.partition_table.specs.model.Keeping.{programs_by, table_by, IsHeld, IsKeptFor};
 ghost use Rattle.partition_table.specs.Faults.{IsAnswered, register_fault, unregister_answer};
 
 use crate::fault::TableFault;
@@ -157,6 +159,21 @@ impl Table {
         }
     }
 
+    // The table of these rows, of which the last under a name counts, with the programs that they name.
+    pub(crate) fn of_rows(
+        alloc: Global,
+        rows: Vec<(Name, Registration)>,
+        programs: BTreeMap<ProgramId, Arc<Verified>>,
+    ) -> Result<Table, AllocError>
+        requires { IsHeld (programs_by arc_value programs.entries)
+            (table_by (programs_by arc_value programs.entries) (reverse rows.items)) }
+        ensures { IfOk result (λ table. table
+            ≡ table_by (programs_by arc_value programs.entries) (reverse rows.items)) }
+    {
+        let rows = map_of(alloc, rows)?;
+        Ok(Table { rows, programs })
+    }
+
     // Keeps a row under a name that has none. Its growths come in turn, and a refused one undoes those before it.
     pub(crate) fn keep(
         &mut self,
@@ -180,4 +197,14 @@ impl Table {
         }
         Ok(())
     }
+}
+
+// The rows as a map, which has the last of those under a name.
+fn map_of(
+    alloc: Global,
+    rows: Vec<(Name, Registration)>,
+) -> Result<BTreeMap<Name, Registration>, AllocError>
+    ensures { IfOk result (IsFromIterResult name_cmp rows.items) }
+{
+    rows.into_iter().collect(alloc)
 }

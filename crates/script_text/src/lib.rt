@@ -8,7 +8,7 @@ mod numbers;
 mod parsing;
 mod words;
 
-pub use command::{Command, Terms, Withdrawal};
+pub use command::{Command, Terms, Uptimes, Withdrawal};
 pub use fault::LineFault;
 pub use input::{Found, LINE_LIMIT, LineBuffer, ReadBuffer, ReadFailed, Stop, next_line};
 pub use parsing::command_of;

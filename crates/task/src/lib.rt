@@ -1,6 +1,10 @@
 //! The tasks of heal.
 #![tactic(auto)]
 
+mod workers;
+
+pub use workers::{MAX_WORKERS, Workers};
+
 /// Over which ranges code is verified.
 #[derive(Clone, Copy, Debug, PartialEq, Eq)]
 pub enum Profile {
@@ -10,9 +14,9 @@ pub enum Profile {
     Both,
 }
 
-/// What heal is asked for.
+/// What heal is asked for, and answers on a few lines.
 #[derive(Clone, Copy, Debug, PartialEq, Eq)]
-pub enum Task<'a> {
+pub enum Question<'a> {
     /// Says whether code, in hex digits, is accepted over these ranges.
     Check { code: &'a str, profile: Profile },
     /// Judges the clash of a record by code, both in hex digits.
@@ -21,4 +25,13 @@ pub enum Task<'a> {
     Asm { file: &'a str },
     /// Prints code, in hex digits, as text.
     Dis { code: &'a str },
+}
+
+/// What heal does.
+#[derive(Clone, Copy, Debug, PartialEq, Eq)]
+pub enum Task<'a> {
+    /// Answers a question.
+    Answer(Question<'a>),
+    /// Carries out the script in a file, with so many workers who judge clashes.
+    Run { file: &'a str, workers: Workers },
 }

@@ -2,7 +2,7 @@ use Rattle.std.proofs.Common.{◌≡◌, ◌∙◌, ap, ap₂, true}
 use Rattle.clap.specs.Words.{App, app_of, new_app, with_subcommand}
 use Rattle.clap.specs.Simple.{app_of_fields}
 use Rattle.std.specs.Prelude.{codes}
-use Rattle.command_line.specs.Asked.{check_app, judge_app, asm_app, subcommands_app}
+use Rattle.command_line.specs.Asked.{check_app, judge_app, asm_app, dis_app, subcommands_app}
 use Rattle.command_line.proofs.grammar.heal.Goals as goal
 
 abbrev checking : App
@@ -13,6 +13,9 @@ judging = with_subcommand checking judge_app.top
 
 abbrev assembling : App
 assembling = with_subcommand judging asm_app.top
+
+abbrev disassembling : App
+disassembling = with_subcommand assembling dis_app.top
 
 pub returns : goal.returns
 returns c =
@@ -27,8 +30,11 @@ returns c =
     let three : app_of c.in_ok-subcommand-3.field-0 ≡ assembling =
     c.in_ok-subcommand-3.ensures.shape c.in_ok-asm.ensures.1
     ∙ ap₂ with_subcommand two (ap (λ (a : App). a.top) c.in_ok-asm.ensures.0) in
-    let four : app_of c.in_ok-heal.heal ≡ subcommands_app =
-    c.in_ok-heal.ensures.shape c.in_ok-dis.ensures.1
+    let four : app_of c.in_ok-subcommand-4.field-0 ≡ disassembling =
+    c.in_ok-subcommand-4.ensures.shape c.in_ok-dis.ensures.1
     ∙ ap₂ with_subcommand three (ap (λ (a : App). a.top) c.in_ok-dis.ensures.0) in
+    let five : app_of c.in_ok-heal.heal ≡ subcommands_app =
+    c.in_ok-heal.ensures.shape c.in_ok-run.ensures.1
+    ∙ ap₂ with_subcommand four (ap (λ (a : App). a.top) c.in_ok-run.ensures.0) in
     ap app_of_fields c.subcommand_required.ensures
-    ∙ ap (λ (a : App). record a { top = record a.top { subcommand_required = true } }) four
+    ∙ ap (λ (a : App). record a { top = record a.top { subcommand_required = true } }) five

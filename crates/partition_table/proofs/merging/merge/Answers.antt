@@ -26,7 +26,7 @@ returns-clause-merged c =
     let gone_a = contains name_cmp c.in_ok-set_of.field-0 in
     let gone_b = contains name_cmp c.in_ok-set_of-2.field-0 in
     let answers = c.args.answers.now in
-    c.in_ok-put_names_of_b_alone.ensures
+    c.in_ok-finish.ensures ∙ c.in_ok-put_names_of_b_alone.ensures
     ∙ ap (put_all (each_kept (alone_in_b a b gone_a gone_b answers) (names_without a (keys b))))
     c.in_ok-put_names_of_a.ensures.put
     ∙ passes_merge a b gone_a gone_b answers record { of_a = c.args.gone_a.now; of_b = c.args.gone_b.now }

@@ -10,8 +10,8 @@ use Rattle.partition_table.specs.model.Merging.{IsRowOf}
 use Rattle.partition_table.proofs.Uniting.{coded_row_of, part_agrees, row_of_parts, row_with, stays_put}
 use Rattle.partition_table.proofs.merging.Parents.put.Goals as goal
 
-pub keep-requires-clause-coded : goal.keep-requires-clause-coded
-keep-requires-clause-coded c =
+pub push-requires-clause-coded : goal.push-requires-clause-coded
+push-requires-clause-coded c =
     let p = c.args.self.now in
     let kept = c.in-Some.kept.now in
     let held = rw c.in-Some.is at c.requires.held in
@@ -21,8 +21,8 @@ keep-requires-clause-coded c =
     (coded_row_of p.a.now p.b.now c.requires.tables.0 c.requires.tables.1 c.requires.agree c.args.name.now held.0
     held.1)
 
-pub keep-requires-clause-agrees : goal.keep-requires-clause-agrees
-keep-requires-clause-agrees c =
+pub push-requires-clause-agrees : goal.push-requires-clause-agrees
+push-requires-clause-agrees c =
     let p = c.args.self.now in
     let kept = c.in-Some.kept.now in
     let held = rw c.in-Some.is at c.requires.held in
@@ -34,7 +34,7 @@ keep-requires-clause-agrees c =
     c.args.name.now held.0 held.1)
 
 pub returns : goal.returns
-returns c = on_ok_weaker c.keep.result (λ e row shown of_row.
+returns c = on_ok_weaker c.push.result (λ e row shown of_row.
     let p = c.args.self.now in
     let n = c.args.name.now in
     let kept = c.in-Some.kept.now in
@@ -48,4 +48,4 @@ returns c = on_ok_weaker c.keep.result (λ e row shown of_row.
     (contains name_cmp p.gone_b n) r.0 kept r.2 c.is_withdrawn.result c.is_withdrawn.ensures
     ∙ ap (λ b. if b then None else Some r.0) c.if-is_withdrawn.false))
     ∙ ap (λ o. with_row n (unless_gone (get p.a.now n) (get p.b.now n) (contains name_cmp p.gone_a n)
-    (contains name_cmp p.gone_b n) o) c.args.merged.now) (sym r.1)) c.keep.ensures.kept
+    (contains name_cmp p.gone_b n) o) c.args.merged.now) (sym r.1)) c.push.ensures.pushed

@@ -1,0 +1,103 @@
+//! What a round of judging costs, by so many workers.
+ghost use Rattle.std.specs.Prelude.{◌<◌, ◌≤◌, IfOk};
+
+use crate::registry::{Fault, numbered_name, registration};
+use clash_record::ResolverId;
+use judge_pool::{Ear, Gate, heal_round};
+use partition_table::{ClashList, Ruling, Table, clashes};
+use std::alloc::Global;
+use std::fmt;
+use std::sync::Wait;
+use std::thread::Threads;
+use std::time::{Clock, Instant};
+use upload_store::UploadStore;
+use verdict_board::{Pass, open};
+
+/// How many clashes are judged.
+const CLASHES: u16 = 4096;
+
+/// The number of the exchange.
+const NUMBER: u64 = 1;
+
+/// The seed of its words.
+const SEED: u64 = 0;
+
+/// How many rounds are timed, each on a board of its own.
+const ROUNDS: u32 = 20;
+
+/// The mean time in nanoseconds of a round, and how many verdicts were kept in all.
+#[derive(Clone, Copy, Debug)]
+pub(crate) struct RoundTime {
+    judge: u128,
+    kept: u32,
+}
+
+impl fmt::Display for RoundTime {
+    fn fmt<W: fmt::Write>(&self, f: &mut fmt::Formatter<W>) -> fmt::Result {
+        writeln!(f, "judge {} ns", self.judge)?;
+        writeln!(f, "kept {}", self.kept)
+    }
+}
+
+/// Holds no post.
+#[derive(Drop)]
+struct Open;
+
+impl Gate for Open {
+    fn before_post<R: Wait>(&self, _rt: &R, _round: u32, _k: u32) {}
+}
+
+/// Drops what it is told.
+#[derive(Drop)]
+struct Deaf;
+
+impl Ear for Deaf {
+    fn told<'p, R: Wait>(&self, _rt: &R, _ruling: Ruling<'p>, _pass: &Pass<'p>) {}
+}
+
+/// Takes the time of rounds in which so many workers judge 4,096 clashes by the program.
+pub(crate) fn measure<R: Threads + Wait + Clock + AllocGlobal + Sync>(
+    rt: &R,
+    code: &str,
+    workers: &str,
+) -> Result<RoundTime, Fault> {
+    let workers = worker_count(workers)?;
+    let list = clashes_by(rt.alloc(), &hex::decode(rt.alloc(), code)?)?;
+    let mut total: u128 = 0;
+    let mut kept: u32 = 0;
+    for _ in 0..ROUNDS {
+        let (board, seats) = open(rt.alloc(), NUMBER, SEED, &list, workers)?;
+        let start = Instant::now(rt)?;
+        let done = heal_round(rt, rt.alloc(), &board, seats, 0, &Open, &Deaf, &Deaf);
+        total = total.wrapping_add(start.elapsed(rt)?.as_nanos());
+        kept = kept.wrapping_add(done.kept);
+    }
+    Ok(RoundTime {
+        judge: total / u128::from(ROUNDS),
+        kept,
+    })
+}
+
+/// The count of workers that a word gives.
+fn worker_count(word: &str) -> Result<u32, Fault>
+    ensures { IfOk result (λ workers. (0 < workers) × (workers ≤ 16)) }
+{
+    match word.parse::<u32>() {
+        Ok(workers) if workers > 0 && workers <= 16 => Ok(workers),
+        _ => Err(Fault::Workers),
+    }
+}
+
+/// The clashes of two tables that have each name with owners on two nodes, all judged by this program.
+fn clashes_by(alloc: Global, code: &[u8]) -> Result<ClashList, Fault> {
+    let mut store = UploadStore::new(alloc);
+    let resolver = ResolverId::Program(store.upload(alloc, code)?);
+    let mut a = Table::new(alloc);
+    let mut b = Table::new(alloc);
+    for number in 0..CLASHES {
+        let name = numbered_name(number)?;
+        a.register(name, registration(1, resolver), &store)?;
+        b.register(name, registration(2, resolver), &store)?;
+    }
+    Ok(clashes(alloc, &a, 0, &b, 0)?)
+}

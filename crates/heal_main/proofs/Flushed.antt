@@ -1,0 +1,80 @@
+-- What was carried out stays so where the writer hands on what it gathered, and where it can't.
+use Rattle.std.proofs.Common.{◌≡◌, ◌∙◌, ◌⊎◌, inl, inr, ℕ, List, ◌++◌, length, take, Option, Some, None, refl, sym, subst}
+use Rattle.std.proofs.Math.Seq.{take-length}
+use Rattle.std.specs.Io.KnownBytes.{Appends, Keeps}
+use Rattle.output.specs.Sending.{AppendsFront}
+use Rattle.task.specs.declared.Question.{Question}
+use Rattle.task.specs.declared.Task.{Task}
+use Rattle.task.specs.declared.Task.TheVariants.{Answer, Run}
+use Rattle.answers.specs.Lines.{IsReply, replied, cut, no_memory}
+use Rattle.script_machine.specs.Replies as said
+use Rattle.script_engine.specs.Runs.{IsScriptRun, Ending, Writes}
+use Rattle.heal_main.specs.Obeying.{Obeys, RunsFile, ran, unopened}
+
+appends_kept : (a b c : Option (List ℕ)) (text : List ℕ) → Appends a b text → Keeps b c → Appends a c text
+appends_kept None b c text h k = tt
+appends_kept (Some xs) None c text h k = absurd h
+appends_kept (Some xs) (Some ys) None text h k = absurd k
+appends_kept (Some xs) (Some ys) (Some zs) text h k = k ∙ h
+
+front_kept : (a b c : Option (List ℕ)) (text : List ℕ) → AppendsFront a b text → Keeps b c → AppendsFront a c text
+front_kept a b c text h k = (h.0, appends_kept a b c (take h.0 text) h.1 k)
+
+whole_front : (a b c : Option (List ℕ)) (text : List ℕ) → Appends a b text → Keeps b c → AppendsFront a c text
+whole_front a b c text h k =
+    (length text, subst (λ t. Appends a c t) (sym (take-length text)) (appends_kept a b c text h k))
+
+module _ (old mid new : Option (List ℕ)) (status : ℕ) (k : Keeps mid new) where
+  reply_kept : (question : Question) → IsReply question old mid status → IsReply question old new status
+  reply_kept question (replied said is s h) = replied said is s (appends_kept old mid new _ h k)
+  reply_kept question (cut said is s h) = cut said is s (front_kept old mid new _ h k)
+  reply_kept question (no_memory s h) = no_memory s (front_kept old mid new _ h k)
+
+  reply_cut : (question : Question) → IsReply question old mid status → IsReply question old new 3
+  reply_cut question (replied said is s h) = cut said is refl (whole_front old mid new _ h k)
+  reply_cut question (cut said is s h) = cut said is refl (front_kept old mid new _ h k)
+  reply_cut question (no_memory s h) = no_memory refl (front_kept old mid new _ h k)
+
+  writes_kept : (ending : Ending) (answers : List said.Answer) → Writes ending answers old mid status
+      → Writes ending answers old new status
+  writes_kept ending answers (inl h) = inl (h.0, appends_kept old mid new _ h.1 k, h.2)
+  writes_kept ending answers (inr h) = inr (front_kept old mid new _ h.0 k, h.1)
+
+  writes_cut : (ending : Ending) (answers : List said.Answer) → Writes ending answers old mid status
+      → Writes ending answers old new 3
+  writes_cut ending answers (inl h) = inr (whole_front old mid new _ h.1 k, refl)
+  writes_cut ending answers (inr h) = inr (front_kept old mid new _ h.0 k, refl)
+
+  run_by : (read_old read_new : Option (List ℕ)) (after : ℕ) (h : IsScriptRun read_old read_new old mid status)
+      → Writes h.ending h.answers old new after → IsScriptRun read_old read_new old new after
+  run_by read_old read_new after h writes = record {
+    ending = h.ending;
+    front = h.front;
+    rest = h.rest;
+    answers = h.answers;
+    final = h.final;
+    reads = h.reads;
+    reaches = h.reaches;
+    run = h.run;
+    writes = writes;
+  }
+
+  file_kept : RunsFile old mid status → RunsFile old new status
+  file_kept (ran read_old read_new h) =
+      ran read_old read_new (run_by read_old read_new status h (writes_kept h.ending h.answers h.writes))
+  file_kept (unopened (inl front) three) = unopened (inl (front_kept old mid new _ front k)) three
+  file_kept (unopened (inr front) three) = unopened (inr (front_kept old mid new _ front k)) three
+
+  file_cut : RunsFile old mid status → RunsFile old new 3
+  file_cut (ran read_old read_new h) =
+      ran read_old read_new (run_by read_old read_new 3 h (writes_cut h.ending h.answers h.writes))
+  file_cut (unopened (inl front) three) = unopened (inl (front_kept old mid new _ front k)) refl
+  file_cut (unopened (inr front) three) = unopened (inr (front_kept old mid new _ front k)) refl
+
+  pub obeyed_kept : (task : Task) → Obeys task old mid status → Obeys task old new status
+  obeyed_kept (Answer question) h = reply_kept question h
+  obeyed_kept (Run file workers) h = file_kept h
+
+  pub obeyed_cut : (task : Task) → Obeys task old mid status → Obeys task old new 3
+  obeyed_cut (Answer question) h = reply_cut question h
+  obeyed_cut (Run file workers) h = file_cut h

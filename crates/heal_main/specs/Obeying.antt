@@ -1,0 +1,21 @@
+-- What heal does with a task.
+use Rattle.std.specs.Prelude.{◌≡◌, ◌⊎◌, ℕ, List, codes, Option}
+use Rattle.output.specs.Sending.{AppendsFront}
+use Rattle.task.specs.declared.Task.{Task}
+use Rattle.task.specs.declared.Task.TheVariants.{Answer, Run}
+use Rattle.answers.specs.Lines.{IsReply}
+use Rattle.script_engine.specs.Runs.{IsScriptRun}
+
+-- a file could not be opened, as the device failed or memory ran out
+abbrev pub TellsUnopened : Option (List ℕ) → Option (List ℕ) → Type 0
+TellsUnopened old new = AppendsFront old new (codes "device fault\n") ⊎ AppendsFront old new (codes "refused 90\n")
+
+-- the script in a file is carried out, whose bytes are known only by reading it; or the file could not be opened
+pub data RunsFile (old new : Option (List ℕ)) (status : ℕ) : Type 0 where
+  ran : (read_old read_new : Option (List ℕ)) → IsScriptRun read_old read_new old new status → RunsFile old new status
+  unopened : TellsUnopened old new → status ≡ 3 → RunsFile old new status
+
+-- a question is answered, or a script is carried out
+abbrev pub Obeys : Task → Option (List ℕ) → Option (List ℕ) → ℕ → Type 0
+Obeys (Answer question) old new status = IsReply question old new status
+Obeys (Run file workers) old new status = RunsFile old new status

@@ -1,0 +1,53 @@
+use Rattle.std.proofs.Common.{◌≡◌, ◌∷◌, [], ◌++◌, is_ok, if◌then◌else◌, reverse, ap, sym, subst, ◌∙◌}
+use Rattle.std.specs.Option.{option_map}
+use Rattle.std.specs.Arc.{arc_value}
+use Rattle.std.specs.FinMap.{insert}
+use Rattle.partition_table.specs.Tables.{Row}
+use Rattle.partition_table.specs.model.Keeping.{programs_by, table_by, IsHeld}
+use Rattle.partition_table.proofs.Held.{held_now, room_from_agrees}
+use Rattle.partition_table.proofs.Changes.{held_more, made_pushed}
+use Rattle.partition_table.proofs.builder.TableBuilder.push.Goals.{In-Ok}
+use Rattle.partition_table.proofs.builder.TableBuilder.push.Goals as goal
+
+pub hold_program-requires-clause-room : goal.hold_program-requires-clause-room
+hold_program-requires-clause-room c =
+    let programs = programs_by arc_value c.self.inside.programs.entries in
+    let held = held_now programs (reverse c.self.inside.rows.items) c.args.self.now c.self.view_is c.self.invariant in
+    room_from_agrees programs c.args.self.now held.0 held.1
+    record { registration = c.args.registration; code = option_map (λ p. arc_value p.now) c.args.program }
+    c.requires.agrees
+
+-- the row that is added
+row : In-Ok → Row
+row c = record { registration = c.args.registration; code = option_map (λ p. arc_value p.now) c.args.program }
+
+made : (c : In-Ok) → table_by (programs_by arc_value c.hold_program.new.programs.entries) (reverse c.push.new.self.items)
+    ≡ insert c.args.self.now c.args.name (row c)
+unfolding row
+made c =
+    let programs = programs_by arc_value c.self.inside.programs.entries in
+    let rows = c.self.inside.rows.items in
+    let held = held_now programs (reverse rows) c.args.self.now c.self.view_is c.self.invariant in
+    let room = room_from_agrees programs c.args.self.now held.0 held.1 (row c) c.requires.agrees in
+    let added = (c.args.name, c.args.registration) ∷ [] in
+    ap (λ p. table_by p (reverse c.push.new.self.items)) c.in_ok-hold_program.ensures.held
+    ∙ made_pushed programs c.args.self.now held.0 held.1 c.args.name (row c) c.requires.new c.requires.room
+    c.requires.coded room rows c.push.new.self.items c.self.view_is
+    (c.push.ensures.items
+    ∙ ap (λ r. if is_ok r then c.reserve.new.self.items ++ added else c.reserve.new.self.items) c.in-Ok.is
+    ∙ ap (λ es. es ++ added) c.reserve.ensures.items)
+
+pub invariant_of-self-2 : goal.invariant_of-self-2
+unfolding row
+invariant_of-self-2 c =
+    let programs = programs_by arc_value c.self.inside.programs.entries in
+    let held = held_now programs (reverse c.self.inside.rows.items) c.args.self.now c.self.view_is c.self.invariant in
+    let room = room_from_agrees programs c.args.self.now held.0 held.1 (row c) c.requires.agrees in
+    subst (IsHeld (programs_by arc_value c.hold_program.new.programs.entries)) (sym (made c))
+    (subst (λ p. IsHeld p (insert c.args.self.now c.args.name (row c))) (sym c.in_ok-hold_program.ensures.held)
+    (held_more programs c.args.self.now held.0 held.1 c.args.name (row c) c.requires.new c.requires.room
+    c.requires.coded room))
+
+pub returns-clause-pushed : goal.returns-clause-pushed
+unfolding row
+returns-clause-pushed c = made c

@@ -1,0 +1,14 @@
+use Rattle.std.proofs.Common.{sym, subst}
+use Rattle.std.specs.Arc.{arc_value}
+use Rattle.partition_table.specs.model.Keeping.{programs_by, IsHeld}
+use Rattle.partition_table.proofs.Building.{made_of}
+use Rattle.partition_table.proofs.table.Table.of_rows.Goals as goal
+
+pub invariant_of-result : goal.invariant_of-result
+invariant_of-result c =
+    let programs = programs_by arc_value c.args.programs.entries in
+    subst (IsHeld programs) (sym (made_of programs c.args.rows.items c.in_ok-rows.rows c.in_ok-rows.ensures)) c.requires
+
+pub returns : goal.returns
+returns c =
+    made_of (programs_by arc_value c.args.programs.entries) c.args.rows.items c.in_ok-rows.rows c.in_ok-rows.ensures

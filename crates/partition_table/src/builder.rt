@@ -1,0 +1,84 @@
+//! A table that is made row by row.
+ghost use Rattle.std.specs.Prelude.{◌≡◌, ◌<◌, None, IfOk, OnOk, OnErr, IsTrue};
+ghost use Rattle.std.specs.Option.{option_map};
+ghost use Rattle.std.specs.Arc.{arc_value};
+ghost use Rattle.std.specs.FinMap as map;
+ghost use Rattle.partition_table.specs.Tables.{IsCodeOf, agrees_with, max_names};
+
+use crate::programs::hold_program;
+use crate::table::Table;
+use clash_record::{Name, ProgramId, Registration};
+use std::alloc::{AllocError, Global};
+use std::collections::BTreeMap;
+use std::marker::Model;
+use std::sync::Arc;
+use verifier::Verified;
+
+/// The rows of a table that is being made, and the programs that these name.
+///
+/// A contract sees it as the table that `finish` makes of it. Rows that come in the order of names need no sorting.
+#[derive(Drop)]
+pub(crate) struct TableBuilder {
+    rows: Vec<(Name, Registration)>,
+    programs: BTreeMap<ProgramId, Arc<Verified>>,
+}
+
+impl Model for TableBuilder {
+    ghost use Rattle.std.specs.Prelude.{reverse};
+    ghost use Rattle.std.specs.Arc.{arc_value};
+    ghost use Rattle.partition_table.specs.Tables.{Table};
+    ghost use Rattle.partition_table.specs.model.Keeping.{coded_table, programs_by, table_by, IsHeld};
+
+    ghost Value = { Table };
+
+    ghost coded = { coded_table };
+
+    ghost view = { λ t. table_by (programs_by arc_value t.programs.entries) (reverse t.rows.items) };
+
+    ghost invariant = { λ t. IsHeld (programs_by arc_value t.programs.entries)
+        (table_by (programs_by arc_value t.programs.entries) (reverse t.rows.items)) };
+}
+
+impl TableBuilder {
+    /// No rows. Takes no memory.
+    pub(crate) fn new(alloc: Global) -> TableBuilder
+        ensures { result ≡ map.empty }
+    {
+        TableBuilder {
+            rows: Vec::new(alloc),
+            programs: BTreeMap::new(alloc),
+        }
+    }
+
+    /// Adds a row under a name that has none.
+    pub(crate) fn push(
+        &mut self,
+        name: Name,
+        registration: Registration,
+        program: Option<&Arc<Verified>>,
+    ) -> Result<(), AllocError>
+        requires new { map.get self.old name ≡ None }
+        requires room { map.len self.old < max_names }
+        requires coded { IsCodeOf registration.resolver (option_map (λ p. arc_value p.now) program) }
+        requires agrees { IsTrue (agrees_with self.old
+            record { registration = registration; code = option_map (λ p. arc_value p.now) program }) }
+        ensures pushed { OnOk result (self.new ≡ map.insert self.old name
+            record { registration = registration; code = option_map (λ p. arc_value p.now) program.entry }) }
+        ensures unchanged { OnErr result (self.new ≡ self.old) }
+    {
+        self.rows.reserve(1)?;
+        hold_program(&mut self.programs, registration.resolver, program)?;
+        let Ok(()) = self.rows.push((name, registration)) else {
+            unreachable!()
+        };
+        Ok(())
+    }
+
+    /// The table of the rows. Takes memory for them, and looks once at each where they came in the order of names.
+    pub(crate) fn finish(self, alloc: Global) -> Result<Table, AllocError>
+        ensures { IfOk result (λ table. table ≡ self) }
+    {
+        let TableBuilder { rows, programs } = self;
+        Table::of_rows(alloc, rows, programs)
+    }
+}

@@ -1,0 +1,5 @@
+pub mod LineLists
+pub mod LongerRuns
+pub mod Endings
+pub mod LatestNumbers
+pub mod Saying

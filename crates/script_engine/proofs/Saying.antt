@@ -1,0 +1,44 @@
+-- Answers that are sent.
+use Rattle.std.proofs.Common.{◌≡◌, ◌⊎◌, inl, inr, ℕ, List, Option, Some, None, Result, Ok, Err, IfOk, refl, sym, subst}
+use Rattle.script_text.specs.declared.fault.LineFault.{LineFault}
+use Rattle.script_text.specs.declared.fault.LineFault.TheVariants.{OutOfMemory}
+use Rattle.script_text.specs.Asking.{Asked, asked_of}
+use Rattle.script_text.specs.Faults.{line_fault_number}
+use Rattle.script_text.specs.Lines.{Short}
+use Rattle.script_machine.specs.declared.reply.Reply.{Reply}
+use Rattle.script_machine.specs.declared.reply.Reply.TheVariants.{Silent, Refused}
+use Rattle.script_machine.specs.Machines.{Machine}
+use Rattle.script_machine.specs.Replies.{Answer, Says, reply_text, reply_status}
+use Rattle.script_machine.specs.Steps.{Step, AnswersText, Refuses}
+use Rattle.script_engine.specs.model.Progress.{SendsNext, IsSaid}
+
+-- a reply that is sent is said
+pub said : {E : Type 0} (IsAnswer : Answer → Type 0) (number : ℕ) (old new : Option (List ℕ)) (reply : Reply)
+    (result : Result ℕ E) → IsAnswer (Says reply) → SendsNext old new (reply_text number reply) result
+    → IfOk result (λ status. status ≡ reply_status reply) → IsSaid IsAnswer number old new result
+said IsAnswer number old new reply result is_answer sends status =
+    record { answer = Says reply; is_answer = is_answer; sends = sends; status = status }
+
+-- a line may be refused for want of memory, whatever it asks for
+starved : (machine : Machine) (asked : Result (Option Asked) LineFault) (reply : Reply)
+    → Refuses 90 None machine reply machine → AnswersText machine asked (Says reply) machine
+starved machine (Ok (Some asked)) reply h = inr h
+starved machine (Ok None) reply h = inr h
+starved machine (Err fault) reply h = inr h
+
+-- what is wrong with a line is told
+pub fault_told : (machine : Machine) (text : List ℕ) (fault : LineFault) (reply : Reply)
+    → (asked_of text ≡ Err fault) ⊎ (fault ≡ OutOfMemory)
+    → reply ≡ Refused (record { number = line_fault_number fault; place = None })
+    → Step machine (Short text) (Says reply) machine
+fault_told machine text fault reply (inl e) told =
+    subst (λ asked. AnswersText machine asked (Says reply) machine) (sym e) (inl (told, refl))
+fault_told machine text fault reply (inr e) told =
+    starved machine (asked_of text) reply
+    (subst (λ f. reply ≡ Refused (record { number = line_fault_number f; place = None })) e told, refl)
+
+-- a line that asks for nothing is answered by nothing
+pub nothing_told : (machine : Machine) (text : List ℕ) → asked_of text ≡ Ok None
+    → Step machine (Short text) (Says Silent) machine
+nothing_told machine text e =
+    subst (λ asked. AnswersText machine asked (Says Silent) machine) (sym e) (inl (refl, refl))

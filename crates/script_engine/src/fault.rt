@@ -1,0 +1,24 @@
+//! Lines that are refused whatever they say.
+ghost use Rattle.std.specs.Prelude.{None};
+
+use numbered::{Numbered, Place};
+use thiserror::Error;
+
+/// A line of more than 20,000 bytes.
+#[derive(Clone, Copy, Debug, PartialEq, Eq, Error)]
+#[error("a line of more than 20,000 bytes")]
+pub(crate) struct LineTooLong;
+
+impl Numbered for LineTooLong {
+    ghost number_of = { λ _. 54 };
+
+    ghost place_of = { λ _. None };
+
+    fn number(&self) -> u32 {
+        54
+    }
+
+    fn place(&self) -> Option<Place> {
+        None
+    }
+}

@@ -1,0 +1,11 @@
+//! Scripts from end to end: lines are read, carried out and answered.
+#![tactic(auto)]
+
+mod crew;
+mod fault;
+mod running;
+mod serving;
+#[cfg(test)]
+mod tests;
+
+pub use running::run_script;

@@ -1,0 +1,126 @@
+//! A line, and what is said to it.
+ghost use Rattle.std.specs.Prelude.{◌≡◌, ◌<◌, ◌-◌, ◌^◌, ℕ, List, Option, IfOk};
+ghost use Rattle.output.specs.Sending.{Sends};
+ghost use Rattle.script_text.specs.Reading.{seen_line};
+ghost use Rattle.script_text.specs.Commands.{asked};
+ghost use Rattle.script_text.specs.Asking.{Heal};
+ghost use Rattle.script_machine.specs.Machines.{machine_of};
+ghost use Rattle.script_machine.specs.Replies.{reply_text, reply_status};
+ghost use Rattle.script_engine.specs.model.Progress.{SendsNext, Serves, ServesAsked};
+
+use crate::crew::Crew;
+use crate::fault::LineTooLong;
+use judge_pool::Gate;
+use output::DeviceFault;
+use script_healing::print_healing;
+use script_machine::{Machine, Reply, print_reply};
+use script_text::{Command, LineBuffer, Uptimes, Withdrawal, command_of};
+use std::io::Write;
+use std::sync::Wait;
+use std::thread::Threads;
+
+/// Carries out the line of this number, and says the answer. Answers the status of the line.
+pub(crate) fn serve<T: Threads + Wait + Sync + AllocGlobal, G: Gate + Sync, W: Write>(
+    crew: &Crew<'_, T, G>,
+    machine: &mut Machine,
+    writer: &mut W,
+    number: u64,
+    line: &LineBuffer,
+    is_long: bool,
+) -> Result<u8, DeviceFault>
+    requires { (machine_of machine.old).latest < 2 ^ 64 - 1 }
+    ensures { Serves (machine_of machine.old) (machine_of machine.new) (seen_line is_long line.now) number
+        (W.contents writer.old) (W.contents writer.new) result }
+{
+    if is_long {
+        return say(writer, number, &Reply::refused(&LineTooLong));
+    }
+    match command_of(crew.rt.alloc(), line.as_slice()) {
+        Err(fault) => say(writer, number, &Reply::refused(&fault)),
+        Ok(None) => say(writer, number, &Reply::Silent),
+        Ok(Some(command)) => obey(crew, machine, writer, number, &command),
+    }
+}
+
+// Carries a command out, and says the answer.
+fn obey<T: Threads + Wait + Sync + AllocGlobal, G: Gate + Sync, W: Write>(
+    crew: &Crew<'_, T, G>,
+    machine: &mut Machine,
+    writer: &mut W,
+    number: u64,
+    command: &Command<'_>,
+) -> Result<u8, DeviceFault>
+    requires { (machine_of machine.old).latest < 2 ^ 64 - 1 }
+    ensures { ServesAsked (machine_of machine.old) (machine_of machine.new) (asked command.now) number
+        (W.contents writer.old) (W.contents writer.new) result }
+{
+    let alloc = crew.rt.alloc();
+    match command {
+        Command::Upload { label, code } => {
+            say(writer, number, &machine.upload(alloc, label, code))
+        }
+        Command::Register {
+            side,
+            name,
+            terms,
+            resolver,
+        } => say(
+            writer,
+            number,
+            &machine.register(*side, *name, *terms, resolver),
+        ),
+        Command::Unregister { side, name } => say(writer, number, &machine.unregister(*side, name)),
+        Command::Whereis { side, name } => say(writer, number, &machine.whereis(*side, name)),
+        Command::Show { side } => with_status(machine.print_rows(Ok(()), writer, *side), 0),
+        Command::Heal {
+            seed,
+            uptimes,
+            gone,
+        } => heal(crew, machine, writer, number, *seed, *uptimes, gone),
+    }
+}
+
+// Heals the split, and says how.
+fn heal<T: Threads + Wait + Sync + AllocGlobal, G: Gate + Sync, W: Write>(
+    crew: &Crew<'_, T, G>,
+    machine: &mut Machine,
+    writer: &mut W,
+    number: u64,
+    seed: u64,
+    uptimes: Uptimes,
+    gone: &[Withdrawal],
+) -> Result<u8, DeviceFault>
+    requires { (machine_of machine.old).latest < 2 ^ 64 - 1 }
+    ensures { ServesAsked (machine_of machine.old) (machine_of machine.new) (Heal seed uptimes gone.now) number
+        (W.contents writer.old) (W.contents writer.new) result }
+{
+    let healed = machine.heal(
+        crew.rt,
+        crew.rt.alloc(),
+        crew.gate,
+        crew.workers,
+        seed,
+        uptimes,
+        gone,
+    );
+    match healed {
+        Ok(healing) => with_status(print_healing(Ok(()), writer, &healing, gone), 0),
+        Err(refusal) => say(writer, number, &Reply::Refused(refusal)),
+    }
+}
+
+// Says a reply. Answers its status.
+fn say<W: Write>(writer: &mut W, number: u64, reply: &Reply) -> Result<u8, DeviceFault>
+    ensures sends { SendsNext (W.contents writer.old) (W.contents writer.new) (reply_text number reply.now) result }
+    ensures status { IfOk result (λ status. status ≡ reply_status reply.now) }
+{
+    with_status(print_reply(Ok(()), writer, number, reply), reply.status())
+}
+
+// What was sent, with a status.
+fn with_status(sent: Result<(), DeviceFault>, status: u8) -> Result<u8, DeviceFault>
+    ensures sent { (old new : Option (List ℕ)) (text : List ℕ) → Sends old new text sent → Sends old new text result }
+    ensures status { IfOk result (λ answered. answered ≡ status) }
+{
+    sent.map(|()| status)
+}

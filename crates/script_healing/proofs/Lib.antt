@@ -1,0 +1,10 @@
+mod Answered
+mod Called
+mod Carried
+mod Judged
+mod Left
+mod Pieces
+mod Rounds
+mod Settled
+mod Steps
+mod Trying

@@ -1,0 +1,74 @@
+//! Why a split isn't healed.
+ghost use Rattle.std.specs.Prelude.{◌≡◌, ◌⊎◌, ◌≤◌, None};
+ghost use Rattle.script_healing.specs.Faults.{heal_fault_number};
+
+use exchange_core::SideFault;
+use numbered::{Numbered, Place};
+use registry_lock::MeetFault;
+use std::alloc::AllocError;
+use thiserror::Error;
+
+/// Why a split isn't healed.
+#[derive(Clone, Copy, Debug, PartialEq, Eq, Error)]
+pub enum HealFault {
+    /// A half refused a call.
+    #[error(transparent)]
+    Side(SideFault),
+    /// Both halves finished, and don't meet.
+    #[error(transparent)]
+    Meet(MeetFault),
+    /// Memory ran out.
+    #[error("out of memory")]
+    OutOfMemory,
+}
+
+impl Numbered for HealFault {
+    ghost number_of = { heal_fault_number };
+
+    ghost place_of = { λ _. None };
+
+    fn number(&self) -> u32 {
+        match self {
+            HealFault::Side(fault) => fault.number(),
+            HealFault::Meet(fault) => fault.number(),
+            HealFault::OutOfMemory => 90,
+        }
+    }
+
+    fn place(&self) -> Option<Place> {
+        None
+    }
+}
+
+impl HealFault {
+    // The one of the two with the lesser number.
+    pub(crate) fn least(self, other: HealFault) -> HealFault
+        ensures one { (result ≡ self) ⊎ (result ≡ other) }
+        ensures below { heal_fault_number result ≤ heal_fault_number self }
+        ensures other_below { heal_fault_number result ≤ heal_fault_number other }
+    {
+        if other.number() < self.number() {
+            other
+        } else {
+            self
+        }
+    }
+}
+
+impl From<SideFault> for HealFault {
+    fn from(fault: SideFault) -> HealFault {
+        HealFault::Side(fault)
+    }
+}
+
+impl From<MeetFault> for HealFault {
+    fn from(fault: MeetFault) -> HealFault {
+        HealFault::Meet(fault)
+    }
+}
+
+impl From<AllocError> for HealFault {
+    fn from(_: AllocError) -> HealFault {
+        HealFault::OutOfMemory
+    }
+}

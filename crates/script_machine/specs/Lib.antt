@@ -1,0 +1,4 @@
+pub mod Machines
+pub mod Replies
+pub mod Steps
+pub mod model

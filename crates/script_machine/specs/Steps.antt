@@ -1,0 +1,192 @@
+-- What a line leaves, and what is said to it.
+use Rattle.std.specs.Prelude.{◌≡◌, ◌⊎◌, ℕ, ◌+◌, Bool, not, ◌&&◌, ◌||◌, if◌then◌else◌, List, [], ◌∷◌, ◌++◌, length, Option, Some, None, is_some, is_none, Result, Ok, Err, nat_le}
+use Rattle.std.specs.Bool.{MatchBool}
+use Rattle.std.specs.Option.{option_map}
+use Rattle.std.specs.List.{list_any}
+use Rattle.std.specs.FinMap.{get}
+use Rattle.numbered.specs.declared.Place.{Place}
+use Rattle.numbered.specs.declared.NumberedRefusal.{NumberedRefusal}
+use Rattle.hex.specs.Hex.{decode_of}
+use Rattle.clash_record.specs.Name.{is_name}
+use Rattle.clash_record.specs.declared.registrations.ProgramId.{ProgramId}
+use Rattle.clash_record.specs.declared.registrations.Registration.{Registration}
+use Rattle.clash_record.specs.declared.registrations.ResolverId.{ResolverId}
+use Rattle.upload_store.specs.Programs.{Programs}
+use Rattle.upload_store.specs.Uploads.{IsKept, IsUploadFault}
+use Rattle.upload_store.specs.Faults.{upload_fault_number, upload_fault_place}
+use Rattle.upload_store.specs.declared.fault.UploadFault.{UploadFault}
+use Rattle.partition_table.specs.Tables.{Name, Clash, row_for, rows_of}
+use Rattle.exchange_core.specs.declared.side_id.SideId.{SideId}
+use Rattle.exchange_core.specs.declared.fault.SideFault.{SideFault}
+use Rattle.exchange_core.specs.Faults.{side_fault_number}
+use Rattle.exchange_core.specs.declared.judged.Judged.{Judged}
+use Rattle.exchange_core.specs.Sides.{Side, register, unregister, shown_table}
+use Rattle.exchange_core.specs.Refusals.{register_fault, unregister_fault}
+use Rattle.script_text.specs.declared.command.Terms.{Terms}
+use Rattle.script_text.specs.declared.command.Uptimes.{Uptimes}
+use Rattle.script_text.specs.declared.command.Withdrawal.{Withdrawal}
+use Rattle.script_text.specs.declared.fault.LineFault.{LineFault}
+use Rattle.script_text.specs.Faults.{line_fault_number}
+use Rattle.script_text.specs.Asking.{Asked, Upload, Register, Unregister, Whereis, Show, Heal, asked_of}
+use Rattle.script_text.specs.Lines.{Line, Short, Long}
+use Rattle.script_healing.specs.Clusters.{Cluster, at, with_standing, is_full_at}
+use Rattle.script_healing.specs.Healing.{Plan, IsHealed, IsFailed}
+use Rattle.script_machine.specs.declared.labels.Label.{Label}
+use Rattle.script_machine.specs.declared.reply.Reply.{Reply}
+use Rattle.script_machine.specs.declared.reply.Reply.TheVariants.{Silent, Uploaded, Registered, Unregistered, Owned, Undefined, Refused}
+use Rattle.script_machine.specs.Machines.{Machine, labelled, builtin_of, resolver_of}
+use Rattle.script_machine.specs.Replies.{Answer, Says, Shows, Heals}
+
+-- the line is refused, and nothing changes
+abbrev pub Refuses : ℕ → Option Place → Machine → Reply → Machine → Type 0
+Refuses number place old reply new =
+    (reply ≡ Refused (record { number = number; place = place })) × (new ≡ old)
+
+-- so, unless the line is refused for want of memory
+abbrev pub UnlessMemory : (Reply → Machine → Type 0) → Machine → Reply → Machine → Type 0
+UnlessMemory Is old reply new = Is reply new ⊎ Refuses 90 None old reply new
+
+-- ---- uploads
+
+-- no word that is in use already is a label, and neither are those for the resolvers that are built in
+abbrev pub is_free : List Label → List ℕ → Bool
+is_free labels word = is_name word && (is_none (builtin_of word) && not (list_any (labelled word) labels))
+
+-- the store takes the bytes over, under their id, and the label names it
+pub record Uploads (old : Machine) (word bytes : List ℕ) (reply : Reply) (new : Machine) : Type 0 where
+  pub id : ProgramId
+  pub kept : IsKept old.programs bytes id new.programs
+  pub said : reply ≡ Uploaded word (length kept.code)
+  pub labels : new.labels ≡ old.labels ++ record { text = word; program = id } ∷ []
+  pub cluster : new.cluster ≡ old.cluster
+  pub latest : new.latest ≡ old.latest
+
+-- the store refuses them
+pub record UploadRefused (old : Machine) (bytes : List ℕ) (reply : Reply) (new : Machine) : Type 0 where
+  pub fault : UploadFault
+  pub cause : IsUploadFault old.programs bytes fault
+  pub refused : Refuses (upload_fault_number fault) (upload_fault_place fault) old reply new
+
+abbrev pub UploadsBytes : Machine → List ℕ → List ℕ → Reply → Machine → Type 0
+UploadsBytes old word bytes reply new = Uploads old word bytes reply new ⊎ UploadRefused old bytes reply new
+
+abbrev pub UploadsHex : {E : Type 0} → Machine → List ℕ → Result (List ℕ) E → Reply → Machine → Type 0
+UploadsHex old word (Ok bytes) reply new = UploadsBytes old word bytes reply new
+UploadsHex old word (Err fault) reply new = Refuses 50 None old reply new
+
+-- the label is looked at before the code
+abbrev pub UploadStep : Machine → List ℕ → List ℕ → Reply → Machine → Type 0
+UploadStep old label code reply new =
+    MatchBool (is_free old.labels label) (UploadsHex old label (decode_of code) reply new)
+    (Refuses 53 None old reply new)
+
+-- ---- edits
+
+-- the same machine with this side, which has one more event
+abbrev pub with_side : Machine → SideId → Side → Machine
+with_side machine id side = record machine {
+  cluster = with_standing machine.cluster id (record { side = side; events = (at machine.cluster id).events + 1 });
+}
+
+-- an edit is refused where a refusal is due, and else carried out
+abbrev pub Edits : Machine → SideId → Option SideFault → Option Side → Reply → Reply → Machine → Type 0
+Edits old id (Some fault) after done reply new = Refuses (side_fault_number fault) None old reply new
+Edits old id None (Some side) done reply new = (reply ≡ done) × (new ≡ with_side old id side)
+Edits old id None None done reply new = ⊥
+
+abbrev pub registration_of : Terms → ResolverId → Registration
+registration_of terms resolver = record {
+  owner = terms.owner;
+  stamp = terms.stamp;
+  weight = terms.weight;
+  extra = terms.extra;
+  resolver = resolver;
+}
+
+abbrev pub Registers : Machine → SideId → Name → Registration → Reply → Machine → Type 0
+Registers old id name registration reply new =
+    let standing = at old.cluster id in
+    Edits old id (register_fault (is_full_at standing) standing.side name registration old.programs)
+    (register standing.side name (row_for old.programs registration)) Registered reply new
+
+-- the word for the resolver is looked at before the call
+abbrev pub RegisterStep : Machine → SideId → Name → Terms → Option ResolverId → Reply → Machine → Type 0
+RegisterStep old id name terms (Some resolver) reply new =
+    Registers old id name (registration_of terms resolver) reply new
+RegisterStep old id name terms None reply new = Refuses 41 None old reply new
+
+abbrev pub UnregisterStep : Machine → SideId → Name → Reply → Machine → Type 0
+UnregisterStep old id name reply new =
+    let standing = at old.cluster id in
+    Edits old id (unregister_fault (is_full_at standing) standing.side name) (unregister standing.side name)
+    Unregistered reply new
+
+-- ---- questions
+
+-- the table that a side shows: without the names that it withdrew while its exchange is open
+abbrev pub owned : Option Registration → Reply
+owned (Some registration) = Owned registration.owner
+owned None = Undefined
+
+abbrev pub whereis_reply : Machine → SideId → Name → Reply
+whereis_reply machine id name =
+    owned (option_map (λ row. row.registration) (get (shown_table (at machine.cluster id).side) name))
+
+-- ---- healing
+
+abbrev pub plan_for : Machine → ℕ → Uptimes → List Withdrawal → Plan
+plan_for old seed uptimes gone =
+    record { number = old.latest + 1; seed = seed; uptimes = uptimes; gone = gone }
+
+-- nothing but the halves changes, and the number is used
+pub record HasHealed (old new : Machine) : Type 0 where
+  pub labels : new.labels ≡ old.labels
+  pub programs : new.programs ≡ old.programs
+  pub latest : new.latest ≡ old.latest + 1
+
+-- the exchange failed, with any number
+pub record HealRefused (plan : Plan) (old : Machine) (reply : Reply) (new : Machine) : Type 0 where
+  pub number : ℕ
+  pub said : reply ≡ Refused (record { number = number; place = None })
+  pub failed : IsFailed plan old.cluster new.cluster
+  pub healed : HasHealed old new
+
+pub record HealsAs (plan : Plan) (old : Machine) (clashes : List Clash) (rulings : List Judged) (count : ℕ)
+    (new : Machine) : Type 0 where
+  pub is_healed : IsHealed plan old.cluster new.cluster clashes rulings count
+  pub healed : HasHealed old new
+
+-- ---- lines
+
+-- a reply to what is asked for. A line may be refused for want of memory, and then nothing changes
+abbrev pub Replies : Machine → Asked → Reply → Machine → Type 0
+Replies old (Upload label code) reply new = UploadStep old label code reply new
+Replies old (Register id name terms resolver) reply new =
+    RegisterStep old id name terms (resolver_of old.labels resolver) reply new
+Replies old (Unregister id name) reply new = UnregisterStep old id name reply new
+Replies old (Whereis id name) reply new = (reply ≡ whereis_reply old id name) × (new ≡ old)
+Replies old (Show id) reply new = ⊥
+Replies old (Heal seed uptimes gone) reply new = HealRefused (plan_for old seed uptimes gone) old reply new
+
+abbrev pub Answers : Machine → Asked → Answer → Machine → Type 0
+Answers old asked (Says reply) new = UnlessMemory (Replies old asked) old reply new
+Answers old (Show id) (Shows labels rows) new =
+    (labels ≡ old.labels) × (rows ≡ rows_of (shown_table (at old.cluster id).side)) × (new ≡ old)
+Answers old (Heal seed uptimes gone) (Heals clashes rulings withdrawn count) new =
+    (withdrawn ≡ gone) × HealsAs (plan_for old seed uptimes gone) old clashes rulings count new
+Answers old asked answer new = ⊥
+
+abbrev pub AnswersText : Machine → Result (Option Asked) LineFault → Answer → Machine → Type 0
+AnswersText old (Ok (Some asked)) answer new = Answers old asked answer new
+AnswersText old (Ok None) (Says reply) new =
+    UnlessMemory (λ reply new. (reply ≡ Silent) × (new ≡ old)) old reply new
+AnswersText old (Ok None) answer new = ⊥
+AnswersText old (Err fault) (Says reply) new =
+    UnlessMemory (Refuses (line_fault_number fault) None old) old reply new
+AnswersText old (Err fault) answer new = ⊥
+
+-- a line is answered so, and leaves new. A line that is too long is refused whatever it says
+abbrev pub Step : Machine → Line → Answer → Machine → Type 0
+Step old (Short text) answer new = AnswersText old (asked_of text) answer new
+Step old Long (Says reply) new = Refuses 54 None old reply new
+Step old Long answer new = ⊥

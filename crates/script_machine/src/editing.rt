@@ -1,0 +1,62 @@
+//! Names, registered and taken out.
+ghost use Rattle.std.specs.Prelude.{◌≡◌};
+ghost use Rattle.script_machine.specs.Machines as machines;
+ghost use Rattle.script_machine.specs.Machines.{machine_of};
+ghost use Rattle.script_machine.specs.Steps as steps;
+ghost use Rattle.script_machine.specs.Steps.{UnlessMemory, RegisterStep, UnregisterStep};
+
+use crate::fault::WordFault;
+use crate::labels::resolver_of;
+use crate::machine::Machine;
+use crate::reply::Reply;
+use clash_record::{Name, Registration, ResolverId};
+use exchange_core::SideId;
+use script_text::Terms;
+
+impl Machine {
+    /// Registers a name on a side. The resolver is the word for one that is built in, or a label.
+    ///
+    /// Refusals are 41 for another resolver, and then those of the side. 90 is answered where memory runs out. A
+    /// refusal leaves all as it was.
+    pub fn register(&mut self, side: SideId, name: Name, terms: Terms, resolver: &[u8]) -> Reply
+        ensures { UnlessMemory (RegisterStep (machine_of self.old) side name terms
+            (machines.resolver_of (machine_of self.old).labels resolver.now)) (machine_of self.old) result
+            (machine_of self.new) }
+    {
+        let Some(resolver) = resolver_of(&self.labels, resolver) else {
+            return Reply::refused(&WordFault::NoResolver);
+        };
+        let registration = registration_of(terms, resolver);
+        match self.cluster.register(side, name, registration, &self.store) {
+            Ok(()) => Reply::Registered,
+            Err(fault) => Reply::refused(&fault),
+        }
+    }
+
+    /// Takes a name out of a side.
+    ///
+    /// Refusals are those of the side. 90 is answered where memory runs out. A refusal leaves all as it was.
+    pub fn unregister(&mut self, side: SideId, name: &Name) -> Reply
+        ensures { UnlessMemory (UnregisterStep (machine_of self.old) side name.now) (machine_of self.old) result
+            (machine_of self.new) }
+    {
+        match self.cluster.unregister(side, name) {
+            Ok(_) => Reply::Unregistered,
+            Err(refusal) => Reply::refused(&refusal),
+        }
+    }
+}
+
+// What a name is registered with on these terms.
+fn registration_of(terms: Terms, resolver: ResolverId) -> Registration
+    ensures { result ≡ steps.registration_of terms resolver }
+{
+    let extra = terms.extra;
+    Registration {
+        owner: terms.owner,
+        stamp: terms.stamp,
+        weight: terms.weight,
+        extra,
+        resolver,
+    }
+}

@@ -1,0 +1,46 @@
+//! What a script keeps from line to line.
+ghost use Rattle.std.specs.Prelude.{◌≡◌};
+ghost use Rattle.script_machine.specs.Machines.{machine_of, new_machine};
+ghost use Rattle.script_machine.specs.Steps.{whereis_reply};
+
+use crate::labels::Label;
+use crate::reply::Reply;
+use clash_record::Name;
+use exchange_core::SideId;
+use script_healing::Cluster;
+use std::alloc::Global;
+use upload_store::UploadStore;
+
+/// What a script keeps from line to line: the labels, the uploaded programs, the two halves of a cluster, and the
+/// number of the latest exchange.
+#[derive(Drop)]
+pub struct Machine {
+    pub(crate) labels: Vec<Label>,
+    pub(crate) store: UploadStore,
+    pub(crate) cluster: Cluster,
+    pub(crate) latest: u64,
+}
+
+impl Machine {
+    /// Without labels, programs, names and exchanges. Takes no memory.
+    pub fn new(alloc: Global) -> Machine
+        ensures { machine_of result ≡ new_machine }
+    {
+        Machine {
+            labels: Vec::new(alloc),
+            store: UploadStore::new(alloc),
+            cluster: Cluster::new(alloc),
+            latest: 0,
+        }
+    }
+
+    /// Who owns a name on a side, if anybody does; an open side leaves out the names that it withdrew. Takes no memory.
+    pub fn whereis(&self, side: SideId, name: &Name) -> Reply
+        ensures { result ≡ whereis_reply (machine_of self.now) side name.now }
+    {
+        match self.cluster.side(side).whereis(name) {
+            Some(registration) => Reply::Owned(registration.owner),
+            None => Reply::Undefined,
+        }
+    }
+}

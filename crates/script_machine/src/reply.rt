@@ -1,0 +1,73 @@
+//! What is said to a line.
+ghost use Rattle.std.specs.Prelude.{◌≡◌};
+ghost use Rattle.output.specs.Sending.{SendsOn};
+ghost use Rattle.script_machine.specs.Replies.{reply_status, reply_text};
+ghost use Rattle.script_machine.specs.declared.reply.Reply.TheVariants.{Refused};
+
+use clash_record::{Name, Owner};
+use numbered::{Numbered, NumberedRefusal, refusal_of};
+use output::{DeviceFault, send_after};
+use script_output::{print_code_count, print_owner_line, print_refusal};
+use std::io::Write;
+
+/// What is said to a line, aside from the names of a side and how a split was healed.
+#[derive(Clone, Copy, Debug)]
+pub enum Reply {
+    /// Nothing: the line asks for nothing.
+    Silent,
+    /// A program was taken over under this label, and has so many instructions.
+    Uploaded { label: Name, count: usize },
+    /// A name was registered.
+    Registered,
+    /// A name was taken out.
+    Unregistered,
+    /// Who owns a name.
+    Owned(Owner),
+    /// Nobody owns the name.
+    Undefined,
+    /// The line is refused.
+    Refused(NumberedRefusal),
+}
+
+// The number of a refusal for want of memory.
+const OUT_OF_MEMORY: u32 = 90;
+
+impl Reply {
+    /// The line is refused, for this fault.
+    pub fn refused<F: Numbered>(fault: &F) -> Reply
+        ensures { result ≡ Refused (record { number = F.number_of fault.now; place = F.place_of fault.now }) }
+    {
+        Reply::Refused(refusal_of(fault))
+    }
+
+    /// The least status of a script to which it was said: 3 where memory ran out, 2 at another refusal, and else 0.
+    pub fn status(&self) -> u8
+        ensures { result ≡ reply_status self.now }
+    {
+        match self {
+            Reply::Refused(refusal) if refusal.number == OUT_OF_MEMORY => 3,
+            Reply::Refused(_) => 2,
+            _ => 0,
+        }
+    }
+}
+
+/// Prints the reply to the line of this number.
+pub fn print_reply<W: Write>(
+    sent: Result<(), DeviceFault>,
+    writer: &mut W,
+    line: u64,
+    reply: &Reply,
+) -> Result<(), DeviceFault>
+    ensures { SendsOn sent (W.contents writer.old) (W.contents writer.new) (reply_text line reply.now) result }
+{
+    match reply {
+        Reply::Silent => send_after(sent, writer, b""),
+        Reply::Uploaded { label, count } => print_code_count(sent, writer, label.bytes(), *count),
+        Reply::Registered => send_after(sent, writer, b"yes\n"),
+        Reply::Unregistered => send_after(sent, writer, b"gone\n"),
+        Reply::Owned(owner) => print_owner_line(sent, writer, *owner),
+        Reply::Undefined => send_after(sent, writer, b"undefined\n"),
+        Reply::Refused(refusal) => print_refusal(sent, writer, line, *refusal),
+    }
+}

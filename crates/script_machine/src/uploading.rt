@@ -1,0 +1,69 @@
+//! Programs, kept under labels.
+ghost use Rattle.std.specs.Prelude.{◌≡◌, ◌<◌, length, IsSome, Some, vec_len, vec_capacity};
+ghost use Rattle.std.specs.Option.{option_map};
+ghost use Rattle.std.specs.FinMap.{get};
+ghost use Rattle.script_machine.specs.Machines.{machine_of};
+ghost use Rattle.script_machine.specs.Steps.{UnlessMemory, UploadStep, UploadsBytes};
+
+use crate::fault::WordFault;
+use crate::labels::{Label, free_label};
+use crate::machine::Machine;
+use crate::reply::Reply;
+use clash_record::{Name, ProgramId};
+use hex::FromHexError;
+use std::alloc::Global;
+use upload_store::UploadStore;
+
+impl Machine {
+    /// Keeps the program that these hex digits spell, under a label.
+    ///
+    /// Refusals are 53 for a label that isn't 1 to 32 visible characters of ASCII, is in use or is the word for a
+    /// resolver that is built in, then 50 for code that isn't hex digits, and then those of the store. 90 is answered
+    /// where memory runs out. A refusal leaves all as it was.
+    pub fn upload(&mut self, alloc: Global, label: &[u8], code: &[u8]) -> Reply
+        ensures { UnlessMemory (UploadStep (machine_of self.old) label.now code.now) (machine_of self.old) result
+            (machine_of self.new) }
+    {
+        let Some(label) = free_label(&self.labels, label) else {
+            return Reply::refused(&WordFault::Label);
+        };
+        if self.labels.reserve(1).is_err() {
+            return Reply::refused(&WordFault::OutOfMemory);
+        }
+        match hex::decode(alloc, code) {
+            Ok(bytes) => self.keep(alloc, label, &bytes),
+            Err(FromHexError::OutOfMemory) => Reply::refused(&WordFault::OutOfMemory),
+            Err(_) => Reply::refused(&WordFault::HexText),
+        }
+    }
+
+    // Keeps the program that these bytes spell, under a label for which there is room.
+    fn keep(&mut self, alloc: Global, label: Name, bytes: &[u8]) -> Reply
+        requires { vec_len self.old.labels < vec_capacity self.old.labels }
+        ensures { UnlessMemory (UploadsBytes (machine_of self.old) label bytes.now) (machine_of self.old) result
+            (machine_of self.new) }
+    {
+        match self.store.upload(alloc, bytes) {
+            Ok(program) => {
+                self.labels.push_reserved(Label {
+                    text: label,
+                    program,
+                });
+                let count = code_len(&self.store, &program);
+                Reply::Uploaded { label, count }
+            }
+            Err(fault) => Reply::refused(&fault),
+        }
+    }
+}
+
+// How many instructions a program has that is kept.
+fn code_len(store: &UploadStore, program: &ProgramId) -> usize
+    requires { IsSome (get store.now program.now) }
+    ensures { option_map length (get store.now program.now) ≡ Some result }
+{
+    match store.get(program) {
+        Some(verified) => verified.code().len(),
+        None => unreachable!(),
+    }
+}

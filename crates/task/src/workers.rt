@@ -1,0 +1,37 @@
+//! How many workers judge clashes.
+ghost use Rattle.std.specs.Prelude.{◌≡◌, ◌<◌, ◌≤◌, ◌&&◌, nat_le, nat_lt, if◌then◌else◌, Some, None};
+ghost use Rattle.std.specs.Option.{option_map};
+ghost use Rattle.task.specs.Workers.{workers_if};
+
+/// The most workers that a script may ask for.
+pub const MAX_WORKERS: u32 = 16;
+
+/// How many workers judge clashes: 1 to 16, which stands in the type.
+#[derive(Clone, Copy, Debug, PartialEq, Eq)]
+pub struct Workers {
+    count: u32,
+    pub ghost some: { 0 < count },
+    pub ghost few: { count ≤ 16 },
+}
+
+impl Workers {
+    /// So many workers, where it is 1 to 16.
+    pub fn new(count: u32) -> Option<Workers>
+        ensures { option_map (λ workers. workers.count) result ≡ workers_if count }
+    {
+        if (1..=MAX_WORKERS).contains(&count) {
+            Some(Workers { count })
+        } else {
+            None
+        }
+    }
+
+    /// How many they are.
+    pub fn count(self) -> u32
+        ensures count { result ≡ self.count }
+        ensures some { 0 < result }
+        ensures few { result ≤ 16 }
+    {
+        self.count
+    }
+}
