@@ -40,10 +40,12 @@ __attribute__((destructor)) static void end(void)
     close(file);
 }
 
+/* The requests of several threads are counted together. */
 static int is_refused(void)
 {
-    count++;
-    return count == alone || (from && count >= from);
+    unsigned long number = __atomic_add_fetch(&count, 1, __ATOMIC_SEQ_CST);
+
+    return number == alone || (from && number >= from);
 }
 
 #define NEXT(name) ((__typeof__(&name))dlsym(RTLD_NEXT, #name))

@@ -1,7 +1,9 @@
 #!/bin/bash
 # refused_memory.sh: runs heal with each request for memory refused in turn: the Nth alone, and all from the Nth on. Each run has
 # to answer as with ample memory, or to end with status 3 and to say `refused 90`, or on standard error that memory ran out while
-# the words were read. Needs ./heal to have been run once, and a C compiler.
+# the words were read. Of a script, a line may be refused 90 and then the lines after it are carried out, which may tell that it
+# wasn't; and a `heal` may be refused with another number where no round could start a worker, or print words of a later round.
+# Needs ./heal to have been run once, and a C compiler.
 set -e
 here=$(cd "$(dirname "$0")" && pwd)
 root=$here/..
@@ -40,6 +42,32 @@ sweep() {
     echo "$1 $requests requests"
 }
 
+# Whether each line that a script said is one that it says with ample memory, or tells of a refusal or of what one leaves. Where
+# none says 90, memory was wanted in the rounds of a `heal` alone.
+is_right_script() {
+    [ "$status $said" = "$ample" ] && return
+    [ "$status" = 3 ] && { [ "$said" = "refused 90" ] || grep -q 'out of memory' "$out/errors"; } && return
+    case "$said" in *"refused 90"*) [ "$status" = 3 ] || return 1 ;; *) [ "$status" = 2 ] || [ "$status" = 0 ] || return 1 ;; esac
+    ! printf '%s\n' "$said" | grep -vxF "${ample#* }" \
+        | grep -vxE 'line [0-9]+: refused (30|31|33|39|40|41|90)|healed [0-9]+ names|[a-z]+ (first|second|none) word [0-9]+|exit [0-9]+\.[0-9]+|conflict .*|[a-z]+ [0-9]+\.[0-9]+ .*|end|undefined|withdrew .*' \
+        | grep -q .
+}
+
+# Refuses each request that heal makes of this script.
+sweep_script() {
+    run "REFUSE_COUNT=$out/count" run "$1" --workers 2
+    ample="$status $said"
+    local requests lines
+    requests=$(cat "$out/count")
+    for n in $(seq "$requests"); do
+        for settings in "REFUSE_ALONE=$n" "REFUSE_FROM=$n"; do
+            run "$settings" run "$1" --workers 2
+            is_right_script || { echo "$settings of $requests: '$said', status $status, for: run $1" >&2; exit 1; }
+        done
+    done
+    echo "run ${1##*/} $requests requests"
+}
+
 record=$(tail -1 "$root/crates/heal_main/args")
 code=$(cat "$root/resolvers/name_hash.hex")
 "$heal" dis "$code" > "$out/text"
@@ -52,4 +80,24 @@ sweep dis "$code"
 sweep asm "$out/text"
 sweep asm "$out/comment"
 sweep help
+cat > "$out/uploaded" <<'END'
+upload gt 79123800000000007913600000000000b7000000010000003d32010000000000b7000000020000009500000000000000
+register a db 1.10 5 0 - gt
+register b db 2.20 9 0 - gt
+register b web 2.21 1 0 - notify-all
+heal 0
+show a
+show b
+END
+cat > "$out/noticed" <<'END'
+register a m 1.1 0 0 - notify-all
+register b m 2.2 0 0 - notify-all
+heal 3
+show a
+END
+printf '# a comment alone\n' > "$out/comments"
+printf 'greet a\nwhereis a db\nheal 01\n' > "$out/wrong"
+for script in uploaded noticed comments wrong; do
+    sweep_script "$out/$script"
+done
 echo "$runs runs, none wrong"

@@ -2,10 +2,16 @@
 use crate::answering::answer;
 use std::io;
 use std::io::ErrorKind;
+use std::rt::Files;
+use std::sync::Wait;
 use std::test::Fail;
+use std::thread::Threads;
 
 /// What goes out for these words, what is told as an error, and the status.
-fn answered(rt: &HostRuntime, words: &[&str]) -> io::Result<(u8, Vec<u8>, Vec<u8>)> {
+fn answered<R: Files + Threads + Wait + Sync + AllocGlobal>(
+    rt: &R,
+    words: &[&str],
+) -> io::Result<(u8, Vec<u8>, Vec<u8>)> {
     let alloc = rt.alloc();
     let mut owned = Vec::new(alloc);
     for word in words {
