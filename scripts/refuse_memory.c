@@ -1,5 +1,6 @@
 /* Stands before malloc and its kin (LD_PRELOAD) and refuses requests for memory: the one with the number REFUSE_ALONE, or each from
- * the number REFUSE_FROM on, counted from 1. At the end the count of requests goes to the file REFUSE_COUNT, if it is named. */
+ * the number REFUSE_FROM on, counted from 1. The count of requests is kept in the file REFUSE_COUNT, if it is named, as a number of
+ * eight bytes: a program that ends by _exit runs nothing at its end. */
 #define _GNU_SOURCE
 #include <dlfcn.h>
 #include <errno.h>
@@ -8,9 +9,10 @@
 #include <stdio.h>
 #include <stdlib.h>
 #include <string.h>
+#include <sys/mman.h>
 #include <unistd.h>
 
-static unsigned long count, alone, from;
+static unsigned long own_count, *count = &own_count, alone, from;
 
 static unsigned long number_in(const char *name)
 {
@@ -19,31 +21,35 @@ static unsigned long number_in(const char *name)
     return text ? strtoul(text, NULL, 10) : 0;
 }
 
-__attribute__((constructor)) static void start(void)
+static void count_in(const char *path)
 {
-    alone = number_in("REFUSE_ALONE");
-    from = number_in("REFUSE_FROM");
-    count = 0;
+    int file = open(path, O_RDWR | O_CREAT | O_TRUNC, 0600);
+    void *shared;
+
+    if (file < 0 || ftruncate(file, sizeof *count) < 0)
+        _exit(99);
+    shared = mmap(NULL, sizeof *count, PROT_READ | PROT_WRITE, MAP_SHARED, file, 0);
+    if (shared == MAP_FAILED)
+        _exit(99);
+    count = shared;
+    close(file);
 }
 
-__attribute__((destructor)) static void end(void)
+__attribute__((constructor)) static void start(void)
 {
     const char *path = getenv("REFUSE_COUNT");
-    char line[32];
-    int file;
 
-    if (!path)
-        return;
-    file = open(path, O_WRONLY | O_CREAT | O_TRUNC, 0600);
-    if (file < 0 || write(file, line, snprintf(line, sizeof line, "%lu\n", count)) < 0)
-        _exit(99);
-    close(file);
+    alone = number_in("REFUSE_ALONE");
+    from = number_in("REFUSE_FROM");
+    if (path)
+        count_in(path);
+    *count = 0;
 }
 
 /* The requests of several threads are counted together. */
 static int is_refused(void)
 {
-    unsigned long number = __atomic_add_fetch(&count, 1, __ATOMIC_SEQ_CST);
+    unsigned long number = __atomic_add_fetch(count, 1, __ATOMIC_SEQ_CST);
 
     return number == alone || (from && number >= from);
 }

@@ -21,6 +21,11 @@ run() {
     runs=$((runs + 1))
 }
 
+# How many requests the latest run made that counted them.
+requests_made() {
+    od -An -tu8 "$out/count" | tr -d ' '
+}
+
 # Whether the run answered as with ample memory, or told that memory ran out.
 is_right() {
     [ "$status $said" = "$ample" ] && return
@@ -32,7 +37,7 @@ sweep() {
     run "REFUSE_COUNT=$out/count" "$@"
     ample="$status $said"
     local requests
-    requests=$(cat "$out/count")
+    requests=$(requests_made)
     for n in $(seq "$requests"); do
         for settings in "REFUSE_ALONE=$n" "REFUSE_FROM=$n"; do
             run "$settings" "$@"
@@ -58,7 +63,7 @@ sweep_script() {
     run "REFUSE_COUNT=$out/count" run "$1" --workers 2
     ample="$status $said"
     local requests lines
-    requests=$(cat "$out/count")
+    requests=$(requests_made)
     for n in $(seq "$requests"); do
         for settings in "REFUSE_ALONE=$n" "REFUSE_FROM=$n"; do
             run "$settings" run "$1" --workers 2
