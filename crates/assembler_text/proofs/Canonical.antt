@@ -1,32 +1,13 @@
 -- What is written is a line of the grammar.
-use Rattle.std.proofs.Common.{◌≡◌, refl, ap, ◌∙◌, sym, ℕ, List, [], ◌∷◌, ◌++◌, drop, append_assoc, append-nil, inl}
-use Rattle.std.specs.Prelude.{codes}
+use Rattle.std.proofs.Common.{◌≡◌, refl, sym, ℕ, drop, List, [], ◌∷◌, ◌++◌, append-nil, inl}
 use Rattle.instruction_set.specs.Slots.{IsListed}
 use Rattle.instruction_set.specs.declared.insn.Insn.{Insn}
-use Rattle.assembler_text.specs.Text.{Operand, OfRegister, OfImm, OfValue, OfAddress, OfStep, operands_of, mnemonic_of, operand_text, first_text, others_text, operands_text, text_of, line_of}
+use Rattle.assembler_text.specs.Text.{Operand, OfRegister, OfImm, OfValue, OfAddress, OfStep, operands_of, operand_text, first_text, others_text, operands_text, text_of}
 use Rattle.assembler_text.specs.Grammar.{AreBlanks, IsOperand, AreSeparated, AreOperands, IsInsnLine}
 
-pub address_pieces : (d s : List ℕ) → codes "[r" ++ (d ++ (s ++ codes "]")) ≡ 91 ∷ (114 ∷ d) ++ s ++ 93 ∷ []
-address_pieces d s = ap (λ (t : List ℕ). 91 ∷ 114 ∷ t) (sym (append_assoc d s (93 ∷ [])))
-
-pub other_piece : (x : List ℕ) → codes ", " ++ x ≡ codes ", " ++ x ++ []
-other_piece x = sym (append-nil (codes ", " ++ x))
-
-pub other_pieces : (x y : List ℕ) → codes ", " ++ (x ++ (codes ", " ++ y)) ≡ codes ", " ++ x ++ (codes ", " ++ y ++ [])
-other_pieces x y = ap (λ (t : List ℕ). codes ", " ++ x ++ t) (other_piece y)
-
--- mnemonic, operands and newline, however they are put together
-pub pieces_are : (m : List ℕ) (os : List Operand) (n : List ℕ)
-    → m ++ (first_text os ++ (others_text (drop 1 os) ++ n)) ≡ (m ++ operands_text os) ++ n
-pieces_are m [] n = ap (λ (t : List ℕ). t ++ n) (sym (append-nil m))
-pieces_are m (o ∷ os) n =
-    ap (λ (t : List ℕ). m ++ t) (sym (append_assoc (first_text (o ∷ os)) (others_text os) n))
-    ∙ sym (append_assoc m (first_text (o ∷ os) ++ others_text os) n)
-
-pub line_pieces : (i : Insn)
-    → mnemonic_of i ++ (first_text (operands_of i) ++ (others_text (drop 1 (operands_of i)) ++ codes "\n")) ≡ line_of i
-unfolding text_of
-line_pieces i = pieces_are (mnemonic_of i) (operands_of i) (codes "\n")
+pub first_and_others : (os : List Operand) → first_text os ++ others_text (drop 1 os) ≡ operands_text os
+first_and_others [] = refl
+first_and_others (o ∷ os) = refl
 
 pub own_operand : (o : Operand) → IsOperand o (operand_text o)
 own_operand (OfRegister r) = refl

@@ -1,12 +1,12 @@
 //! Code to text.
-ghost use Rattle.std.specs.Prelude.{◌≡◌, ◌++◌, IfOk, OnOk, codes, drop};
-ghost use Rattle.std.specs.Int.{w16};
+ghost use Rattle.std.specs.Prelude.{◌≡◌, IfOk, Some, drop};
 ghost use Rattle.std.specs.String.{string_bytes};
-ghost use Rattle.assembler_text.specs.Text.{alu_name, width_name, size_name, order_name, test_name, test_width_name, mnemonic_of, source_text, step_text, OfAddress, operands_of, operand_text, first_text, others_text, line_of, code_text};
+ghost use Rattle.assembler_text.specs.Text.{alu_name, width_name, size_name, order_name, test_name, test_width_name, mnemonic_of, source_text, step_text, OfAddress, operands_of, operand_text, first_text, others_text, code_text};
 ghost use Rattle.assembler_text.specs.Grammar.{IsTextOf};
 
 use instruction_set::{AluOp, Code, EndKind, Insn, Register, Size, Source, Test, Width};
 use std::alloc::{AllocError, Global};
+use std::fmt::{self, Display, Formatter, Write};
 
 fn alu_name(op: AluOp) -> &'static str
     ensures { result.now ≡ alu_name op }
@@ -88,130 +88,145 @@ fn test_width_name(width: Width) -> &'static str
 }
 
 /// A second operand.
-fn source_text(alloc: Global, src: Source) -> Result<String, AllocError>
-    ensures { IfOk result (λ text. string_bytes text ≡ source_text src) }
-{
-    match src {
-        Source::Imm(number) => format!(in alloc; "{number}"),
-        Source::Reg(register) => format!(in alloc; "r{}", register.number),
+#[derive(Clone, Copy)]
+struct SourceText(Source);
+
+impl Display for SourceText {
+    ghost output = { λ text. Some (source_text text.0) };
+
+    fn fmt<W: Write>(&self, f: &mut Formatter<W>) -> fmt::Result {
+        match self.0 {
+            Source::Imm(number) => write!(f, "{number}"),
+            Source::Reg(register) => write!(f, "r{}", register.number),
+        }
     }
 }
 
 /// A number with its sign.
-fn step_text(alloc: Global, number: i32) -> Result<String, AllocError>
-    ensures { IfOk result (λ text. string_bytes text ≡ step_text number) }
-{
-    if number < 0 {
-        format!(in alloc; "{number}")
-    } else {
-        format!(in alloc; "+{number}")
+#[derive(Clone, Copy)]
+struct Step(i32);
+
+impl Display for Step {
+    ghost output = { λ step. Some (step_text step.0) };
+
+    fn fmt<W: Write>(&self, f: &mut Formatter<W>) -> fmt::Result {
+        let number = self.0;
+        if number < 0 {
+            write!(f, "{number}")
+        } else {
+            write!(f, "+{number}")
+        }
     }
 }
 
 /// A register and an offset in brackets.
-fn address_text(alloc: Global, base: Register, offset: i16) -> Result<String, AllocError>
-    ensures { IfOk result (λ text. string_bytes text ≡ operand_text (OfAddress base offset)) }
-{
-    let offset = step_text(alloc, i32::from(offset))?;
-    format!(in alloc; "[r{}{offset}]", base.number)
+#[derive(Clone, Copy)]
+struct Address(Register, i16);
+
+impl Display for Address {
+    ghost output = { λ address. Some (operand_text (OfAddress address.0 address.1)) };
+
+    fn fmt<W: Write>(&self, f: &mut Formatter<W>) -> fmt::Result {
+        write!(f, "[r{}{}]", self.0.number, Step(i32::from(self.1)))
+    }
 }
 
 /// The mnemonic of an instruction.
-fn mnemonic(alloc: Global, insn: Insn) -> Result<String, AllocError>
-    ensures { IfOk result (λ text. string_bytes text ≡ mnemonic_of insn) }
-{
-    match insn {
-        Insn::Alu { width, op, .. } => format!(in alloc; "{}{}", alu_name(op), width_name(width)),
-        Insn::Neg { width, .. } => format!(in alloc; "neg{}", width_name(width)),
-        Insn::MovSx { width, bits, .. } => format!(in alloc; "mov{}s{bits}", width_name(width)),
-        Insn::End { kind, bits, .. } => format!(in alloc; "{}{bits}", order_name(kind)),
-        Insn::LoadWide { .. } => String::from_str(alloc, "lddw"),
-        Insn::Load { size, .. } => format!(in alloc; "ldx{}", size_name(size)),
-        Insn::LoadSx { size, .. } => format!(in alloc; "ldxs{}", size_name(size)),
-        Insn::Store { size, .. } => format!(in alloc; "stx{}", size_name(size)),
-        Insn::StoreImm { size, .. } => format!(in alloc; "st{}", size_name(size)),
-        Insn::Jump { .. } => String::from_str(alloc, "ja"),
-        Insn::JumpLong { .. } => String::from_str(alloc, "jal"),
-        Insn::JumpIf { width, test, .. } => {
-            format!(in alloc; "{}{}", test_name(test), test_width_name(width))
+#[derive(Clone, Copy)]
+struct MnemonicText(Insn);
+
+impl Display for MnemonicText {
+    ghost output = { λ text. Some (mnemonic_of text.0) };
+
+    fn fmt<W: Write>(&self, f: &mut Formatter<W>) -> fmt::Result {
+        match self.0 {
+            Insn::Alu { width, op, .. } => write!(f, "{}{}", alu_name(op), width_name(width)),
+            Insn::Neg { width, .. } => write!(f, "neg{}", width_name(width)),
+            Insn::MovSx { width, bits, .. } => write!(f, "mov{}s{bits}", width_name(width)),
+            Insn::End { kind, bits, .. } => write!(f, "{}{bits}", order_name(kind)),
+            Insn::LoadWide { .. } => write!(f, "lddw"),
+            Insn::Load { size, .. } => write!(f, "ldx{}", size_name(size)),
+            Insn::LoadSx { size, .. } => write!(f, "ldxs{}", size_name(size)),
+            Insn::Store { size, .. } => write!(f, "stx{}", size_name(size)),
+            Insn::StoreImm { size, .. } => write!(f, "st{}", size_name(size)),
+            Insn::Jump { .. } => write!(f, "ja"),
+            Insn::JumpLong { .. } => write!(f, "jal"),
+            Insn::JumpIf { width, test, .. } => {
+                write!(f, "{}{}", test_name(test), test_width_name(width))
+            }
+            Insn::Exit => write!(f, "exit"),
         }
-        Insn::Exit => String::from_str(alloc, "exit"),
     }
 }
 
 /// The first operand of an instruction after a space, if it has one.
-fn first_operand(alloc: Global, insn: Insn) -> Result<String, AllocError>
-    ensures { IfOk result (λ text. string_bytes text ≡ first_text (operands_of insn)) }
-{
-    match insn {
-        Insn::Alu { dst, .. }
-        | Insn::Neg { dst, .. }
-        | Insn::MovSx { dst, .. }
-        | Insn::End { dst, .. }
-        | Insn::LoadWide { dst, .. }
-        | Insn::Load { dst, .. }
-        | Insn::LoadSx { dst, .. }
-        | Insn::JumpIf { dst, .. } => format!(in alloc; " r{}", dst.number),
-        Insn::Store { base, offset, .. } => {
-            format!(in alloc; " {}", address_text(alloc, base, offset)?)
+#[derive(Clone, Copy)]
+struct FirstOperand(Insn);
+
+impl Display for FirstOperand {
+    ghost output = { λ first. Some (first_text (operands_of first.0)) };
+
+    fn fmt<W: Write>(&self, f: &mut Formatter<W>) -> fmt::Result {
+        match self.0 {
+            Insn::Alu { dst, .. }
+            | Insn::Neg { dst, .. }
+            | Insn::MovSx { dst, .. }
+            | Insn::End { dst, .. }
+            | Insn::LoadWide { dst, .. }
+            | Insn::Load { dst, .. }
+            | Insn::LoadSx { dst, .. }
+            | Insn::JumpIf { dst, .. } => write!(f, " r{}", dst.number),
+            Insn::Store { base, offset, .. } => write!(f, " {}", Address(base, offset)),
+            Insn::StoreImm { base, offset, .. } => write!(f, " {}", Address(base, offset)),
+            Insn::Jump { distance } => write!(f, " {}", Step(i32::from(distance))),
+            Insn::JumpLong { distance } => write!(f, " {}", Step(distance)),
+            Insn::Exit => Ok(()),
         }
-        Insn::StoreImm { base, offset, .. } => {
-            format!(in alloc; " {}", address_text(alloc, base, offset)?)
-        }
-        Insn::Jump { distance } => {
-            format!(in alloc; " {}", step_text(alloc, i32::from(distance))?)
-        }
-        Insn::JumpLong { distance } => format!(in alloc; " {}", step_text(alloc, distance)?),
-        Insn::Exit => Ok(String::new(alloc)),
     }
 }
 
 /// The operands of an instruction after its first, each after a comma and a space.
-fn other_operands(alloc: Global, insn: Insn) -> Result<String, AllocError>
-    ensures { IfOk result (λ text. string_bytes text ≡ others_text (drop 1 (operands_of insn))) }
-{
-    match insn {
-        Insn::Neg { .. }
-        | Insn::End { .. }
-        | Insn::Jump { .. }
-        | Insn::JumpLong { .. }
-        | Insn::Exit => Ok(String::new(alloc)),
-        Insn::Alu { src, .. } => format!(in alloc; ", {}", source_text(alloc, src)?),
-        Insn::MovSx { src, .. } => format!(in alloc; ", r{}", src.number),
-        Insn::Store { src, .. } => format!(in alloc; ", r{}", src.number),
-        Insn::LoadWide { value, .. } => format!(in alloc; ", {value}"),
-        Insn::Load { base, offset, .. } => {
-            format!(in alloc; ", {}", address_text(alloc, base, offset)?)
-        }
-        Insn::LoadSx { base, offset, .. } => {
-            format!(in alloc; ", {}", address_text(alloc, base, offset)?)
-        }
-        Insn::StoreImm { imm, .. } => format!(in alloc; ", {imm}"),
-        Insn::JumpIf { src, distance, .. } => {
-            let src = source_text(alloc, src)?;
-            format!(in alloc; ", {src}, {}", step_text(alloc, i32::from(distance))?)
+#[derive(Clone, Copy)]
+struct OtherOperands(Insn);
+
+impl Display for OtherOperands {
+    ghost output = { λ others. Some (others_text (drop 1 (operands_of others.0))) };
+
+    fn fmt<W: Write>(&self, f: &mut Formatter<W>) -> fmt::Result {
+        match self.0 {
+            Insn::Neg { .. }
+            | Insn::End { .. }
+            | Insn::Jump { .. }
+            | Insn::JumpLong { .. }
+            | Insn::Exit => Ok(()),
+            Insn::Alu { src, .. } => write!(f, ", {}", SourceText(src)),
+            Insn::MovSx { src, .. } | Insn::Store { src, .. } => write!(f, ", r{}", src.number),
+            Insn::LoadWide { value, .. } => write!(f, ", {value}"),
+            Insn::Load { base, offset, .. } => write!(f, ", {}", Address(base, offset)),
+            Insn::LoadSx { base, offset, .. } => write!(f, ", {}", Address(base, offset)),
+            Insn::StoreImm { imm, .. } => write!(f, ", {imm}"),
+            Insn::JumpIf { src, distance, .. } => {
+                write!(f, ", {}, {}", SourceText(src), Step(i32::from(distance)))
+            }
         }
     }
 }
 
-/// The canonical line of an instruction.
-#[tactic(auto, using(crate::proofs::Canonical::line_pieces))]
-fn line(alloc: Global, insn: Insn) -> Result<String, AllocError>
-    ensures { IfOk result (λ text. string_bytes text ≡ line_of insn) }
-{
-    let mnemonic = mnemonic(alloc, insn)?;
-    let first = first_operand(alloc, insn)?;
-    let others = other_operands(alloc, insn)?;
-    format!(in alloc; "{mnemonic}{first}{others}\n")
-}
-
 /// The lines of these instructions in order.
+#[tactic(auto, using(crate::proofs::Canonical::first_and_others), unfolding(crate::specs::Text::text_of))]
 fn lines(alloc: Global, insns: &[Insn]) -> Result<String, AllocError>
     ensures { IfOk result (λ text. string_bytes text ≡ code_text insns.now) }
 {
     let mut text = String::new(alloc);
     for insn in insns {
-        text.push_str(line(alloc, *insn)?.as_str())?;
+        let insn = *insn;
+        writeln!(
+            text,
+            "{}{}{}",
+            MnemonicText(insn),
+            FirstOperand(insn),
+            OtherOperands(insn)
+        )?;
     }
     Ok(text)
 }
