@@ -253,56 +253,6 @@ fn withdrawn_names(rt: HostRuntime) -> Result<(), Fail> {
     Ok(())
 }
 
-// The other side's offer and list, and the clashes of the two tables.
-#[derive(Drop)]
-struct Heard {
-    offer: Offer,
-    list: Withdrawals,
-    all: ClashList,
-}
-
-// Begins an exchange on this side and on another.
-fn begun(alloc: Global, a: &mut Side) -> Result<Heard, Fail> {
-    let mut b = side(alloc, SideId::B, 2, &["db"])?;
-    let own = a.begin(alloc, 1, 0, 0)?;
-    let offer = b.begin(alloc, 1, 0, 0)?;
-    let all = clashes_of(alloc, &own, &offer)?;
-    let list = b.close_list(alloc)?;
-    Ok(Heard { offer, list, all })
-}
-
-// The step of this number of an exchange in which the name is withdrawn first.
-fn take_step(alloc: Global, a: &mut Side, heard: &Heard, step: u32) -> Result<(), Fail> {
-    match step {
-        0 => a.withdraw(&name(b"db")?)?,
-        1 => a.hear(alloc, &heard.offer)?,
-        2 => {
-            take_at(a, &heard.all, 1, 0, 0)?;
-        }
-        3 => {
-            a.close_list(alloc)?;
-        }
-        _ => a.hear_list(&heard.list)?,
-    }
-    Ok(())
-}
-
-// What is left after an abandon that follows so many steps.
-#[test]
-fn abandons_after_each_step(rt: HostRuntime) -> Result<(), Fail> {
-    for steps in 0..6 {
-        let mut a = side(rt.alloc(), SideId::A, 1, &["db"])?;
-        let heard = begun(rt.alloc(), &mut a)?;
-        for step in 0..steps {
-            take_step(rt.alloc(), &mut a, &heard, step)?;
-        }
-        a.abandon()?;
-        assert_eq!(rt; a.whereis(&name(b"db")?).is_some(), steps == 0);
-        assert_eq!(rt; number(a.begin(rt.alloc(), 1, 0, 0).err()), Some(35));
-    }
-    Ok(())
-}
-
 #[test]
 fn full_journal(rt: HostRuntime) -> Result<(), Fail> {
     let alloc = rt.alloc();

@@ -1,0 +1,18 @@
+//! Hostile use of the crates together: tests alone, of changed codes, of the longest run, of an exchange that is abandoned
+//! after each of its steps, and of two sides in a random walk.
+#![tactic(auto)]
+
+#[cfg(test)]
+mod abandoned;
+#[cfg(test)]
+mod dice;
+#[cfg(test)]
+mod kept;
+#[cfg(test)]
+mod longest_code;
+#[cfg(test)]
+mod mutated_codes;
+#[cfg(test)]
+mod random_walk;
+#[cfg(test)]
+mod walk_log;
