@@ -1,5 +1,5 @@
 //! Reading a line.
-ghost use Rattle.std.specs.Prelude.{◌≡◌, ◌<◌, length, drop, map};
+ghost use Rattle.std.specs.Prelude.{◌≡◌, ◌<◌, length, drop, map, Ok, None};
 ghost use Rattle.std.specs.Option.{option_map};
 ghost use Rattle.script_text.specs.Asking as asking;
 ghost use Rattle.script_text.specs.Asking.{side_of, name_of, extra_of, terms_of, triples_of, names_of, if_right, long_of, asked_by, asked_of};
@@ -9,7 +9,7 @@ ghost use Rattle.script_text.specs.model.Triples.{after_first, right_triple, giv
 use crate::command::{Command, Terms, Uptimes, Withdrawal};
 use crate::fault::LineFault;
 use crate::numbers::{long, owner};
-use crate::words::{is_printable, words};
+use crate::words::{is_printable, split_word, words};
 use clash_record::{Name, name};
 use exchange_core::SideId;
 use hex::decode_to_slice;
@@ -20,21 +20,29 @@ use std::alloc::{AllocError, Global};
 /// The line comes without its end. Refusals are 51 for an unknown word, another count of words or a byte outside of
 /// ASCII's printable characters, and else, of the leftmost word that is wrong, 44 for a name, 50 for hex digits and 52
 /// for a number. 90 is answered where memory runs out: it takes some for the list of the words, and for that of the
-/// names that go.
+/// names that go, but none for a line that asks for nothing.
+#[tactic(auto, using(crate::proofs::Silences::asks_something))]
 pub fn command_of(alloc: Global, line: &[u8]) -> Result<Option<Command<'_>>, LineFault>
-    ensures { IsRight (right_option result) (asked_of line.now) }
+    ensures asked { IsRight (right_option result) (asked_of line.now) }
+    ensures silent { asked_of line.now ≡ Ok None → result ≡ Ok None }
 {
-    let words = words(alloc, line)?;
-    let Some((first, rest)) = words.split_first() else {
+    let Some((first, rest)) = split_word(line) else {
         return Ok(None);
     };
-    if first.starts_with(b"#") {
+    if begins_comment(first) {
         return Ok(None);
     }
     if !is_printable(line) {
         return Err(LineFault::Word);
     }
-    Ok(Some(command(alloc, first, rest)?))
+    let words = words(alloc, rest)?;
+    Ok(Some(command(alloc, first, words.as_slice())?))
+}
+
+fn begins_comment(first: &[u8]) -> bool
+    ensures { result ≡ asking.begins_comment first.now }
+{
+    matches!(first, [b'#', ..])
 }
 
 fn command<'a>(alloc: Global, first: &[u8], words: &[&'a [u8]]) -> Result<Command<'a>, LineFault>
