@@ -20,9 +20,11 @@ texts-ended_along (b ∷ bs) h = texts-cons b (bs ++ 10 ∷ []) h.0 ∙ ap (onto
 texts-last_along : (text : List ℕ) → AllByRecursion (λ b. b ≢ 10) text → 0 < length text → texts_of text ≡ text ∷ []
 texts-last_along [] h some = absurd (omega arith)
 texts-last_along (b ∷ []) h some = texts-cons b [] h.0
-texts-last_along (b ∷ c ∷ bs) h some = texts-cons b (c ∷ bs) h.0 ∙ ap (onto_first b) (texts-last_along (c ∷ bs) h.1 (omega arith))
+texts-last_along (b ∷ c ∷ bs) h some = texts-cons b (c ∷ bs) h.0
+    ∙ ap (onto_first b) (texts-last_along (c ∷ bs) h.1 (omega arith))
 
-onto_some : (t : Bool) (c : ℕ) (ps : List (List ℕ)) → (x : List ℕ) × (xs : List (List ℕ)) × (cond t ([] ∷ ps) (onto_first c ps) ≡ x ∷ xs)
+onto_some : (t : Bool) (c : ℕ) (ps : List (List ℕ))
+    → (x : List ℕ) × (xs : List (List ℕ)) × (cond t ([] ∷ ps) (onto_first c ps) ≡ x ∷ xs)
 onto_some true c ps = ([], ps, refl)
 onto_some false c [] = (c ∷ [], [], refl)
 onto_some false c (p ∷ ps) = (c ∷ p, ps, refl)
@@ -45,7 +47,8 @@ map-append_line [] ys = refl
 map-append_line (x ∷ xs) ys = ap (λ l. line_of x ∷ l) (map-append_line xs ys)
 
 pub lines-append : (front more : List ℕ) → EndsLine front → lines_of (front ++ more) ≡ lines_of front ++ lines_of more
-lines-append front more h = ap (map line_of) (texts-append front more h) ∙ map-append_line (texts_of front) (texts_of more)
+lines-append front more h = ap (map line_of) (texts-append front more h)
+    ∙ map-append_line (texts_of front) (texts_of more)
 
 pub ends_line_last : (xs : List ℕ) → EndsLine (xs ++ 10 ∷ [])
 ends_line_last [] = refl
@@ -53,8 +56,13 @@ ends_line_last (b ∷ []) = refl
 ends_line_last (b ∷ c ∷ bs) = ends_line_last (c ∷ bs)
 
 -- a line that a line feed ends, after others
-pub lines_ended : (front text : List ℕ) → EndsLine front → HasNoEnd text → lines_of (front ++ (text ++ 10 ∷ [])) ≡ lines_of front ++ line_of text ∷ []
-lines_ended front text h plain = lines-append front (text ++ 10 ∷ []) h ∙ ap (λ ts. lines_of front ++ map line_of ts) (texts-ended_along text (recursion_from_All (λ b. b ≢ 10) text plain))
+pub lines_ended : (front text : List ℕ) → EndsLine front → HasNoEnd text
+    → lines_of (front ++ (text ++ 10 ∷ [])) ≡ lines_of front ++ line_of text ∷ []
+lines_ended front text h plain = lines-append front (text ++ 10 ∷ []) h
+    ∙ ap (λ ts. lines_of front ++ map line_of ts) (texts-ended_along text (recursion_from_All (λ b. b ≢ 10) text plain))
 
-pub lines_last : (front text : List ℕ) → EndsLine front → HasNoEnd text → 0 < length text → lines_of (front ++ text) ≡ lines_of front ++ line_of text ∷ []
-lines_last front text h plain some = lines-append front text h ∙ ap (λ ts. lines_of front ++ map line_of ts) (texts-last_along text (recursion_from_All (λ b. b ≢ 10) text plain) some)
+pub lines_last : (front text : List ℕ) → EndsLine front → HasNoEnd text → 0 < length text
+    → lines_of (front ++ text) ≡ lines_of front ++ line_of text ∷ []
+lines_last front text h plain some = lines-append front text h
+    ∙ ap (λ ts. lines_of front ++ map line_of ts) (texts-last_along text (recursion_from_All
+    (λ b. b ≢ 10) text plain) some)

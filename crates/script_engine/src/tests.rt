@@ -3,6 +3,7 @@ ghost use Rattle.std.specs.Prelude.{Some, ◌<◌, ◌≤◌};
 
 use crate::running::run_script;
 use judge_pool::Gate;
+use std::alloc::Global;
 use std::io::{ErrorKind, Read, Write};
 use std::sync::Wait;
 use std::sync::atomic::{AtomicU64, Ordering};
@@ -258,24 +259,35 @@ fn a_writer_may_fail(rt: HostRuntime) {
     assert!(&rt; written.as_slice() == WRITTEN);
 }
 
+// What is said to each line of it that ended.
+const ANSWERS: [&'static str; 4] = ["yes\n", "1.1\n", "end\n", "healed 1 names\n"];
+
+// What is written where a read fails after so many bytes.
+fn written_before_fault(alloc: Global, bytes: usize) -> Result<Vec<u8>, Fail> {
+    let ended = SCRIPT
+        .iter()
+        .take(bytes)
+        .filter(|byte| **byte == b'\n')
+        .count();
+    let mut written = Vec::new(alloc);
+    for answer in ANSWERS.iter().take(ended) {
+        written.extend_from_slice(answer.as_bytes())?;
+    }
+    written.extend_from_slice(b"device fault\n")?;
+    Ok(written)
+}
+
 #[test]
-fn a_reader_may_fail(rt: HostRuntime) {
-    for (calls, wanted) in [
-        (0, b"device fault\n".as_slice()),
-        (28, b"device fault\n".as_slice()),
-        (29, b"yes\ndevice fault\n".as_slice()),
-        (41, b"yes\ndevice fault\n".as_slice()),
-        (42, b"yes\n1.1\ndevice fault\n".as_slice()),
-        (49, b"yes\n1.1\nend\ndevice fault\n".as_slice()),
-        (
-            65,
-            b"yes\n1.1\nend\nhealed 1 names\ndevice fault\n".as_slice(),
-        ),
-    ] {
+fn a_reader_may_fail(rt: HostRuntime) -> Result<(), Fail> {
+    for calls in 0..=SCRIPT.len() {
         let (status, written) = run(&rt, SCRIPT, (1, calls), (9, ALWAYS));
         assert_eq!(&rt; status, 3);
-        assert!(&rt; written.as_slice() == wanted);
+        assert!(&rt;
+            written == written_before_fault(rt.alloc(), calls)?,
+            "after {calls} bytes"
+        );
     }
+    Ok(())
 }
 
 // Holds each post until it was asked for all clashes, for at most 10,000 turns.

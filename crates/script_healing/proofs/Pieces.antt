@@ -19,7 +19,8 @@ then_sent first second third old middle new a b h k start before sends =
     subst (λ (l : List ℕ). Sends start new l third) (append_assoc before a b)
     (k start (before ++ a) (h start before sends))
 
-flat_map-append : {X : Type 0} (f : X → List ℕ) (xs ys : List X) → flat_map f (xs ++ ys) ≡ flat_map f xs ++ flat_map f ys
+flat_map-append : {X : Type 0} (f : X → List ℕ) (xs ys : List X)
+    → flat_map f (xs ++ ys) ≡ flat_map f xs ++ flat_map f ys
 flat_map-append f [] ys = refl
 flat_map-append f (x ∷ xs) ys =
     ap (λ (l : List ℕ). f x ++ l) (flat_map-append f xs ys) ∙ sym (append_assoc (f x) (flat_map f xs) (flat_map f ys))

@@ -88,7 +88,8 @@ told_both place old_a old_b new_a new_b plan was of_a of_b a b rounds = record {
   a = told_half place plan was A of_a old_a new_a a rounds.a;
   b = told_half place plan was B of_b old_b new_b b rounds.b;
   grown =
-      grown_on was old_a old_b new_a new_b rounds.grown (told_grows place old_a new_a a) (told_grows place old_b new_b b);
+      grown_on was old_a old_b new_a new_b rounds.grown (told_grows place old_a new_a a)
+      (told_grows place old_b new_b b);
 }
 
 -- what the finishes of both leave

@@ -42,8 +42,8 @@ with_standing cluster B standing = record cluster { b = standing }
 abbrev pub is_full_at : Standing → Bool
 is_full_at standing = nat_le max_events standing.events
 
--- A call of a half was carried out: the half is what the call leaves, its journal has one event more, and the other half
--- is as it was
+-- A call of a half was carried out: the half is what the call leaves, its journal has one event more, and the other
+-- half is as it was
 pub record IsCalled (old : Cluster) (id : SideId) (left : Option Side) (new : Cluster) : Type 0 where
   pub side : Side
   pub carried : left ≡ Some side

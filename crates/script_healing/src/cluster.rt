@@ -50,8 +50,8 @@ impl Cluster {
     /// Registers the name on an idle half, and keeps the program that the registration names, as the store has it.
     ///
     /// Refusals are 30 for a name that is registered there, 32 where the table is full, 33 where the half's exchange
-    /// is open, 40 where its journal is full, 41 where the store has no such program, and 42 where the table keeps other
-    /// code under its id; the least that stands is answered. 90 is answered where memory runs out.
+    /// is open, 40 where its journal is full, 41 where the store has no such program, and 42 where the table keeps
+    /// other code under its id; the least that stands is answered. 90 is answered where memory runs out.
     pub fn register(
         &mut self,
         id: SideId,

@@ -1,6 +1,7 @@
 //! Why a split isn't healed.
 ghost use Rattle.std.specs.Prelude.{◌≡◌, ◌⊎◌, ◌≤◌, None};
 ghost use Rattle.script_healing.specs.Faults.{heal_fault_number};
+ghost use Rattle.script_healing.specs.declared.fault.HealFault.TheVariants.{Side, Meet, OutOfMemory};
 
 use exchange_core::SideFault;
 use numbered::{Numbered, Place};
@@ -56,18 +57,24 @@ impl HealFault {
 }
 
 impl From<SideFault> for HealFault {
+    ghost from_gives = { λ fault converted. converted ≡ Side fault };
+
     fn from(fault: SideFault) -> HealFault {
         HealFault::Side(fault)
     }
 }
 
 impl From<MeetFault> for HealFault {
+    ghost from_gives = { λ fault converted. converted ≡ Meet fault };
+
     fn from(fault: MeetFault) -> HealFault {
         HealFault::Meet(fault)
     }
 }
 
 impl From<AllocError> for HealFault {
+    ghost from_gives = { λ _ converted. converted ≡ OutOfMemory };
+
     fn from(_: AllocError) -> HealFault {
         HealFault::OutOfMemory
     }

@@ -25,7 +25,8 @@ impl Halves {
     pub fn abandon_open(&mut self) -> Result<(), HealFault>
         ensures rested { OnOk result (AreRested (halves_of self.old) (halves_of self.new)) }
         // What a failure left of the halves it has left of them still.
-        ensures left { (plan : planned.Plan) (was : shown_as.Cluster) → AreSides was → IsFailed plan was (halves_of self.old)
+        ensures left { (plan : planned.Plan) (was : shown_as.Cluster) → AreSides was
+            → IsFailed plan was (halves_of self.old)
             → IsFailed plan was (halves_of self.new) }
     {
         let _ = both(abandon_open(&mut self.a), abandon_open(&mut self.b))?;
@@ -34,7 +35,8 @@ impl Halves {
 
     // Opens the exchange on both halves, and carries it as far as it goes without rulings. Gives the offers, A's first.
     pub fn open(&mut self, alloc: Global, plan: &Plan<'_>) -> Result<(Offer, Offer), HealFault>
-        ensures offers { IfOk result (λ offers. (was : shown_as.Cluster) → AreSides was → AreRested was (halves_of self.old)
+        ensures offers { IfOk result (λ offers. (was : shown_as.Cluster) → AreSides was
+            → AreRested was (halves_of self.old)
             → AreOffers (plan_of plan.entry.now) was offers.0 offers.1) }
         ensures tried { OnOk result ((was : shown_as.Cluster) → AreSides was → AreRested was (halves_of self.old)
             → AreTrying (plan_of plan.entry.now) was plan.entry.now.gone.now (halves_of self.new)) }
@@ -50,7 +52,8 @@ impl Halves {
 
     // Both begin. Gives the offers, A's first.
     fn begin(&mut self, alloc: Global, plan: &Plan<'_>) -> Result<(Offer, Offer), HealFault>
-        ensures offers { IfOk result (λ offers. (was : shown_as.Cluster) → AreSides was → AreRested was (halves_of self.old)
+        ensures offers { IfOk result (λ offers. (was : shown_as.Cluster) → AreSides was
+            → AreRested was (halves_of self.old)
             → AreOffers (plan_of plan.entry.now) was offers.0 offers.1) }
         ensures tried { OnOk result ((was : shown_as.Cluster) → AreSides was → AreRested was (halves_of self.old)
             → AreTrying (plan_of plan.entry.now) was [] (halves_of self.new)) }
@@ -74,7 +77,8 @@ impl Halves {
 
     // Withdraws the names that go, in their order, each on its half. Stops at the first refusal.
     fn withdraw(&mut self, plan: &Plan<'_>) -> Result<(), HealFault>
-        ensures withdrawn { OnOk result ((was : shown_as.Cluster) → AreTrying (plan_of plan.entry.now) was [] (halves_of self.old)
+        ensures withdrawn { OnOk result ((was : shown_as.Cluster)
+            → AreTrying (plan_of plan.entry.now) was [] (halves_of self.old)
             → AreTrying (plan_of plan.entry.now) was plan.entry.now.gone.now (halves_of self.new)) }
         ensures failed { OnErr result ((was : shown_as.Cluster) → AreSides was
             → AreTrying (plan_of plan.entry.now) was [] (halves_of self.old)
@@ -98,7 +102,8 @@ impl Halves {
         }
     }
 
-    // Both close their lists of withdrawn names, and hear the other's. Where one refuses, both go on as they were tried.
+    // Both close their lists of withdrawn names, and hear the other's. Where one refuses, both go on as they were
+    // tried.
     fn exchange_lists(&mut self, alloc: Global) -> Result<(), HealFault>
         ensures { (plan : planned.Plan) (was : shown_as.Cluster) → AreTrying plan was plan.gone (halves_of self.old)
             → AreTrying plan was plan.gone (halves_of self.new) }

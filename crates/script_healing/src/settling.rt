@@ -101,7 +101,8 @@ impl Halves {
         gate: &G,
     ) -> Result<Healing, HealFault>
         requires { (0 < workers) × (workers ≤ 16) }
-        ensures healed { IfOk result (λ healing. (was : shown_as.Cluster) → AreSides was → AreRested was (halves_of self.old)
+        ensures healed { IfOk result (λ healing. (was : shown_as.Cluster) → AreSides was
+            → AreRested was (halves_of self.old)
             → IsHealed (plan_of plan.entry.now) was (halves_of self.new) healing.clashes healing.rulings.items
             healing.count) }
         ensures failed { OnErr result ((was : shown_as.Cluster) → AreSides was → AreRested was (halves_of self.old)

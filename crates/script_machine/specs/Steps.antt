@@ -31,6 +31,8 @@ use Rattle.script_text.specs.Asking.{Asked, Upload, Register, Unregister, Wherei
 use Rattle.script_text.specs.Lines.{Line, Short, Long}
 use Rattle.script_healing.specs.Clusters.{Cluster, at, with_standing, is_full_at}
 use Rattle.script_healing.specs.Healing.{Plan, IsHealed, IsFailed}
+use Rattle.script_healing.specs.Faults.{heal_fault_number}
+use Rattle.script_healing.specs.declared.fault.HealFault.{HealFault}
 use Rattle.script_machine.specs.declared.labels.Label.{Label}
 use Rattle.script_machine.specs.declared.reply.Reply.{Reply}
 use Rattle.script_machine.specs.declared.reply.Reply.TheVariants.{Silent, Uploaded, Registered, Unregistered, Owned, Undefined, Refused}
@@ -144,10 +146,10 @@ pub record HasHealed (old new : Machine) : Type 0 where
   pub programs : new.programs ≡ old.programs
   pub latest : new.latest ≡ old.latest + 1
 
--- the exchange failed, with any number
+-- the exchange failed, with the number of any refusal of a healing
 pub record HealRefused (plan : Plan) (old : Machine) (reply : Reply) (new : Machine) : Type 0 where
-  pub number : ℕ
-  pub said : reply ≡ Refused (record { number = number; place = None })
+  pub fault : HealFault
+  pub said : reply ≡ Refused (record { number = heal_fault_number fault; place = None })
   pub failed : IsFailed plan old.cluster new.cluster
   pub healed : HasHealed old new
 

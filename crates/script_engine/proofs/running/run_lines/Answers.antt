@@ -66,7 +66,8 @@ loop-before-preserved g c =
     let served = c.serve.ensures in
     let line = carried _ _ _ _ _ _ _ p stop text _ c.next_line.new.buffer _ served.answer _
     (other_stop stop (sym c.eq.ensures ∙ c.if-eq.false)) plain same gone served.is_answer in
-    next_line_on _ _ _ _ _ _ _ p stop _ _ _ (seen_line c.in-Ok.found.is_long c.next_line.new.line) served.answer _ _ line
+    next_line_on _ _ _ _ _ _ _ p stop _ _ _
+    (seen_line c.in-Ok.found.is_long c.next_line.new.line) served.answer _ _ line
     (sent_whole _ _ _ c.serve.result (served.sends _ _ p.writes) (ap is_err c.in-Ok-serve.is))
     (is_line_feed stop (sym c.eq.ensures ∙ c.if-eq.false) (sym c.eq-in-loop-before.ensures ∙ c.if-eq-2.false))
     (c.max-status.ensures

@@ -23,7 +23,7 @@ pub returns-in-Err : goal.returns-in-Err
 returns-in-Err g c =
     let right =
     subst (λ (r : Result (Option Command) LineFault). IsRight (right_option r) (asked_of c.as_slice.result.now))
-    c.in-Err.is c.command_of.ensures in
+    c.in-Err.is c.command_of.ensures.asked in
     let told = fault_told (machine_of c.args.machine.now) c.as_slice.result.now c.in-Err.fault
     c.refused-in-Err.result right c.refused-in-Err.ensures in
     said _ _ _ _ c.refused-in-Err.result c.say-in-Err.result
@@ -36,7 +36,7 @@ returns-in-Err g c =
 pub returns-in-Ok-None : goal.returns-in-Ok-None
 returns-in-Ok-None g c =
     let machine = machine_of c.args.machine.now in
-    let due = c.in-Ok-None.ensures ∙ ap (λ (o : Option Command). Ok (option_map asked o)) c.in-Ok-None.field-0-is in
+    let due = c.in-Ok-None.ensures.asked ∙ ap (λ (o : Option Command). Ok (option_map asked o)) c.in-Ok-None.field-0-is in
     said _ _ _ _ Silent c.say-in-Ok-None.result
     (subst (λ (long : Bool). Step machine (seen_line long c.args.line.now) (Says Silent) machine)
     (sym c.if-is_long.false)

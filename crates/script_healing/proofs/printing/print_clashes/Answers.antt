@@ -20,7 +20,8 @@ loop-clash-preserved g c =
     rw (c.into_iter-clash-iterator.ensures.into_iter_gives, c.zip-clash-items.ensures.first) c.iter.ensures in
     let second : iter_rest (zip_second c.into_iter-clash-iterator.result) ≡ rulings =
     rw c.into_iter-clash-iterator.ensures.into_iter_gives c.zip-clash-items.ensures.second.0 in
-    let turn = zip_turn clashes rulings c.loop-clash.yielded _ _ c.next.new.self _ first second c.loop-clash.yielded_by _ c.in-Some.is
+    let turn = zip_turn clashes rulings c.loop-clash.yielded _ _ c.next.new.self _ first second c.loop-clash.yielded_by
+    _ c.in-Some.is
     c.next.ensures.steps in
     let n = length c.loop-clash.yielded in
     let clash = c.in-Some.clash.now in
@@ -41,7 +42,8 @@ returns g c =
     rw (c.into_iter-clash-iterator.ensures.into_iter_gives, c.zip-clash-items.ensures.first) c.iter.ensures in
     let second : iter_rest (zip_second c.into_iter-clash-iterator.result) ≡ rulings =
     rw c.into_iter-clash-iterator.ensures.into_iter_gives c.zip-clash-items.ensures.second.0 in
-    let all = zip_end clashes rulings c.loop-clash.yielded _ _ c.next.new.self _ first second c.loop-clash.yielded_by c.in-None.is
+    let all = zip_end clashes rulings c.loop-clash.yielded _ _ c.next.new.self _ first second c.loop-clash.yielded_by
+    c.in-None.is
     c.next.ensures.steps in
     subst (λ (l : List ℕ). SendsOn c.args.sent (g.W.Write.contents c.args.writer.now)
     (g.W.Write.contents c.loop-clash.writer) l c.loop-clash.sent)

@@ -23,9 +23,11 @@ returns-in_err-both c =
     let of_b = c.in_ok-of_a.of_b in
     let closed = both_close a.result b.result _ _ _ _ a.ensures.done a.ensures.untouched b.ensures.done
     b.ensures.untouched plan was trying in
-    let list_a : of_a ≡ list_of (shown c.args.self.now.a) = ok_has (λ (l : Withdrawals). l ≡ list_of (shown c.args.self.now.a)) a.result of_a
+    let list_a : of_a ≡ list_of (shown c.args.self.now.a) = ok_has (λ (l : Withdrawals). l
+    ≡ list_of (shown c.args.self.now.a)) a.result of_a
     c.in_ok-of_a.ensures.0 a.ensures.list in
-    let list_b : of_b ≡ list_of (shown c.args.self.now.b) = ok_has (λ (l : Withdrawals). l ≡ list_of (shown c.args.self.now.b)) b.result of_b
+    let list_b : of_b ≡ list_of (shown c.args.self.now.b) = ok_has (λ (l : Withdrawals). l
+    ≡ list_of (shown c.args.self.now.b)) b.result of_b
     c.in_ok-of_a.ensures.1 b.ensures.list in
     both_hear_lists c.hear_list.result c.hear_list-2.result of_a of_b _ _ _ _ c.hear_list.ensures.done
     c.hear_list.ensures.untouched c.hear_list-2.ensures.done c.hear_list-2.ensures.untouched plan was
@@ -43,9 +45,11 @@ returns c =
     let of_b = c.in_ok-of_a.of_b in
     let closed = both_close a.result b.result _ _ _ _ a.ensures.done a.ensures.untouched b.ensures.done
     b.ensures.untouched plan was trying in
-    let list_a : of_a ≡ list_of (shown c.args.self.now.a) = ok_has (λ (l : Withdrawals). l ≡ list_of (shown c.args.self.now.a)) a.result of_a
+    let list_a : of_a ≡ list_of (shown c.args.self.now.a) = ok_has (λ (l : Withdrawals). l
+    ≡ list_of (shown c.args.self.now.a)) a.result of_a
     c.in_ok-of_a.ensures.0 a.ensures.list in
-    let list_b : of_b ≡ list_of (shown c.args.self.now.b) = ok_has (λ (l : Withdrawals). l ≡ list_of (shown c.args.self.now.b)) b.result of_b
+    let list_b : of_b ≡ list_of (shown c.args.self.now.b) = ok_has (λ (l : Withdrawals). l
+    ≡ list_of (shown c.args.self.now.b)) b.result of_b
     c.in_ok-of_a.ensures.1 b.ensures.list in
     both_hear_lists c.hear_list.result c.hear_list-2.result of_a of_b _ _ _ _ c.hear_list.ensures.done
     c.hear_list.ensures.untouched c.hear_list-2.ensures.done c.hear_list-2.ensures.untouched plan was
