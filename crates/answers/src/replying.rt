@@ -153,8 +153,8 @@ pub(crate) fn refuse_memory<W: Write>(writer: &mut W) -> u8
     3
 }
 
-/// Replies to a question, and answers the program's status: 0, or 2 where it was refused, or 3 where memory ran out, or a
-/// file could not be read, or the writer failed.
+/// Replies to a question, and answers the program's status: 0, or 2 where it was refused, or 3 where memory ran out,
+/// or a file could not be read, or the writer failed.
 pub fn reply_to<R: Files + AllocGlobal, W: Write>(
     rt: &R,
     question: &Question<'_>,

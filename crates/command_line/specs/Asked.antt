@@ -121,7 +121,8 @@ dis_asked rows = option_map dis (first_of (codes "HEX") rows)
 abbrev pub workers_named : Option Text → Option ℕ
 workers_named None = Some 4
 workers_named (Some number) =
-    if is_numeral (without_leading_plus number) then workers_if (digits_value 10 (without_leading_plus number)) else None
+    if is_numeral (without_leading_plus number) then workers_if (digits_value 10 (without_leading_plus number))
+    else None
 
 abbrev pub run_asked : List Row → Option Asked
 run_asked rows =

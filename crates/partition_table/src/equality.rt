@@ -84,7 +84,8 @@ fn same_registration(a: &Registration, b: &Registration) -> bool
 }
 
 fn same_program(a: Option<&Arc<Verified>>, b: Option<&Arc<Verified>>) -> bool
-    ensures { result ≡ same_code (option_map (λ p. arc_value p.now) a.entry) (option_map (λ p. arc_value p.now) b.entry) }
+    ensures { result
+        ≡ same_code (option_map (λ p. arc_value p.now) a.entry) (option_map (λ p. arc_value p.now) b.entry) }
 {
     match (a, b) {
         (Some(a), Some(b)) => a.code() == b.code(),

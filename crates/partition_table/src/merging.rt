@@ -100,7 +100,8 @@ impl<'a> Parents<'a> {
         requires ready { IsReady self.now.a.now self.now.b.now
             (names_without self.now.a.now (map.keys self.now.b.now)) max_names merged.old }
         ensures { OnOk result (merged.new ≡ put_all (each_kept (λ name. unless_gone None (map.get self.now.b.now name)
-            (contains name_cmp self.now.gone_a name) (contains name_cmp self.now.gone_b name) (map.get self.now.b.now name))
+            (contains name_cmp self.now.gone_a name) (contains name_cmp self.now.gone_b name)
+            (map.get self.now.b.now name))
             (names_without self.now.a.now (map.keys self.now.b.now))) merged.old) }
     {
         for (name, theirs, mine) in Paired::new(self.b, self.a) {

@@ -51,7 +51,8 @@ pub(crate) fn release_program(
     programs: &mut BTreeMap<ProgramId, Arc<Verified>>,
     id: Option<ProgramId>,
 )
-    ensures { programs_by arc_value programs.new.entries ≡ without_code id (programs_by arc_value programs.old.entries) }
+    ensures { programs_by arc_value programs.new.entries
+        ≡ without_code id (programs_by arc_value programs.old.entries) }
 {
     if let Some(id) = id {
         programs.remove(&id);

@@ -21,7 +21,8 @@ hold_program-requires-clause-room c =
 row : In-Ok → Row
 row c = record { registration = c.args.registration; code = option_map (λ p. arc_value p.now) c.args.program }
 
-made : (c : In-Ok) → table_by (programs_by arc_value c.hold_program.new.programs.entries) (reverse c.push.new.self.items)
+made : (c : In-Ok) → table_by (programs_by arc_value c.hold_program.new.programs.entries)
+    (reverse c.push.new.self.items)
     ≡ insert c.args.self.now c.args.name (row c)
 unfolding row
 made c =
