@@ -1,6 +1,12 @@
-/* Stands before malloc and its kin (LD_PRELOAD) and refuses requests for memory: the one with the number REFUSE_ALONE, or each from
- * the number REFUSE_FROM on, counted from 1. The count of requests is kept in the file REFUSE_COUNT, if it is named, as a number of
- * eight bytes: a program that ends by _exit runs nothing at its end. */
+/* Stands before malloc and its kin (LD_PRELOAD) and refuses requests for memory.
+ *
+ * Over a whole run: the request with the number REFUSE_ALONE, or each from the number REFUSE_FROM on, counted from 1. The count of
+ * requests is kept in the file REFUSE_COUNT, if it is named, as a number of eight bytes: a program that ends by _exit runs nothing
+ * at its end.
+ *
+ * Over a part of a run: a line `refuse N` on standard output begins a window, in which the Nth request alone is refused, counted
+ * from 1 there, and a line `refuse all` one in which each is. A line `ample` ends it, and then standard error is told how many
+ * requests were made in it, and how many of them were refused. */
 #define _GNU_SOURCE
 #include <dlfcn.h>
 #include <errno.h>
@@ -12,7 +18,15 @@
 #include <sys/mman.h>
 #include <unistd.h>
 
+/* What the window refuses that is open. */
+enum refusing { NONE, ALONE, ALL };
+
 static unsigned long own_count, *count = &own_count, alone, from;
+
+static enum refusing window;
+static unsigned long window_alone, made, refused;
+
+#define NEXT(name) ((__typeof__(&name))dlsym(RTLD_NEXT, #name))
 
 static unsigned long number_in(const char *name)
 {
@@ -46,15 +60,28 @@ __attribute__((constructor)) static void start(void)
     *count = 0;
 }
 
+/* Whether the open window refuses this request. */
+static int is_refused_in_window(void)
+{
+    unsigned long number;
+
+    if (window == NONE)
+        return 0;
+    number = __atomic_add_fetch(&made, 1, __ATOMIC_SEQ_CST);
+    if (window == ALONE && number != window_alone)
+        return 0;
+    __atomic_add_fetch(&refused, 1, __ATOMIC_SEQ_CST);
+    return 1;
+}
+
 /* The requests of several threads are counted together. */
 static int is_refused(void)
 {
     unsigned long number = __atomic_add_fetch(count, 1, __ATOMIC_SEQ_CST);
+    int in_window = is_refused_in_window();
 
-    return number == alone || (from && number >= from);
+    return in_window || number == alone || (from && number >= from);
 }
-
-#define NEXT(name) ((__typeof__(&name))dlsym(RTLD_NEXT, #name))
 
 void *malloc(size_t size)
 {
@@ -99,4 +126,73 @@ int posix_memalign(void **place, size_t alignment, size_t size)
     if (!next)
         next = NEXT(posix_memalign);
     return is_refused() ? ENOMEM : next(place, alignment, size);
+}
+
+static ssize_t write_on(int file, const void *bytes, size_t size)
+{
+    static ssize_t (*next)(int, const void *, size_t);
+
+    if (!next)
+        next = NEXT(write);
+    return next(file, bytes, size);
+}
+
+static void begin_window(enum refusing which, unsigned long number)
+{
+    made = refused = 0;
+    window_alone = number;
+    window = which;
+}
+
+static void end_window(void)
+{
+    char told[64];
+
+    window = NONE;
+    write_on(STDERR_FILENO, told, snprintf(told, sizeof told, "%lu made, %lu refused\n", made, refused));
+}
+
+/* Heeds a whole line that the program wrote. */
+static void heed(const char *line)
+{
+    unsigned long number;
+    int end = 0;
+
+    if (strcmp(line, "ample") == 0)
+        end_window();
+    else if (strcmp(line, "refuse all") == 0)
+        begin_window(ALL, 0);
+    else if (sscanf(line, "refuse %lu%n", &number, &end) == 1 && line[end] == '\0')
+        begin_window(ALONE, number);
+}
+
+/* Puts what was written together to lines. A line that is too long for a command is none. */
+static void watch(const char *bytes, size_t size)
+{
+    static char line[32];
+    static size_t length;
+
+    for (size_t i = 0; i < size; i++) {
+        if (bytes[i] == '\n') {
+            line[length < sizeof line ? length : 0] = '\0';
+            length = 0;
+            heed(line);
+        } else if (length < sizeof line) {
+            line[length++] = bytes[i];
+        }
+    }
+}
+
+ssize_t write(int file, const void *bytes, size_t size)
+{
+    ssize_t written = write_on(file, bytes, size);
+
+    if (file == STDOUT_FILENO && written > 0)
+        watch(bytes, written);
+    return written;
+}
+
+ssize_t __write(int file, const void *bytes, size_t size)
+{
+    return write(file, bytes, size);
 }

@@ -1,9 +1,10 @@
 #!/bin/bash
-# refused_memory.sh: runs heal with each request for memory refused in turn: the Nth alone, and all from the Nth on. Each run has
+# sweep_memory.sh: runs heal with each request for memory refused in turn: the Nth alone, and all from the Nth on. Each run has
 # to answer as with ample memory, or to end with status 3 and to say `refused 90`, or on standard error that memory ran out while
 # the words were read. Of a script, a line may be refused 90 and then the lines after it are carried out, which may tell that it
 # wasn't; and a `heal` may be refused with another number where no round could start a worker, or print words of a later round.
-# Needs ./heal to have been run once, and a C compiler.
+# Then it runs memory_sweep, which has each call of the crates refused in turn, and looks whether each refusal was answered and
+# each answer had none. Needs what `rt ci` builds of both programs, and a C compiler.
 set -e
 here=$(cd "$(dirname "$0")" && pwd)
 root=$here/..
@@ -58,6 +59,46 @@ is_right_script() {
         | grep -q .
 }
 
+# Reads what memory_sweep and the library say, and prints for each call how many requests it makes and how many refused ones it
+# does without. Wrong is a call that says so, one that was refused though no request was, one that answers though a request was
+# refused, one whose last window refused a request, one that takes memory and shouldn't, and one that should and was never
+# refused. A merge, and a finish by it, collects its rows into a map: where the room that it asks for ahead is refused, it asks
+# again as the rows come.
+read_sweep() {
+    awk -v asks_again='^(merge|Side::finish)$' '
+        function fault(what) { print call ": " what > "/dev/stderr"; faults++ }
+        /^call / { call = substr($0, 6); if (!(call in runs)) order[++calls] = call; runs[call]++ }
+        /^refuse / { every = $2 == "all"; number = $2; made = -1 }
+        / made, [0-9]+ refused$/ { made = $1; denied = $3 }
+        /^refused$/ && (made < number || denied != 1) { fault("refused, though no request was, at request " number) }
+        /^refused$/ { refusals[call]++ }
+        /^answered$/ && made < 0 { fault("the library was silent") }
+        /^answered$/ && !every && denied > 0 { spared[call]++ }
+        /^answered$/ && !every && denied > 0 && call !~ asks_again { fault("answered, though request " number " was refused") }
+        /^answered$/ && every && made > 0 { fault("takes memory") }
+        /^answered$/ { if (made > most[call]) most[call] = made; if (every) takes_none[call] = 1 }
+        /^right$/ && !every && denied > 0 { fault("the sweep ended at a refused request") }
+        /^right$/ { rights[call]++ }
+        /^wrong: / { fault(substr($0, 8) ", at request " number) }
+        END {
+            for (i = 1; i <= calls; i++) {
+                call = order[i]
+                print call " " most[call] + 0 " requests, " refusals[call] + 0 " refusals, " spared[call] + 0 " done without"
+                if (rights[call] != runs[call]) fault("not right")
+                if (!(call in takes_none) && !refusals[call]) fault("was never refused")
+            }
+            exit (faults > 0)
+        }'
+}
+
+# Has each call of the crates refused in turn.
+sweep_calls() {
+    local folder=$root/crates/memory_sweep
+    LD_PRELOAD="$out/refuse.so" "$folder/out/memory_sweep" > "$out/said" 2>&1 || { tail -n 3 "$out/said" >&2; exit 1; }
+    diff <(grep '^call ' "$out/said") <(grep '^call ' "$folder/stdout") >&2
+    read_sweep < "$out/said"
+}
+
 # Refuses each request that heal makes of this script.
 sweep_script() {
     run "REFUSE_COUNT=$out/count" run "$1" --workers 2
@@ -106,3 +147,4 @@ for script in uploaded noticed comments wrong; do
     sweep_script "$out/$script"
 done
 echo "$runs runs, none wrong"
+sweep_calls

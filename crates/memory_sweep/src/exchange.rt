@@ -1,0 +1,206 @@
+//! An exchange of two sides, as far as it has come.
+
+use crate::comparing::is_same_option;
+use crate::fault::Fault;
+use crate::rows::{by, numbered_name, stored};
+use crate::sweep::Subject;
+use clash_record::{ProgramId, Registration, ResolverId};
+use exchange_core::{Finished, Offer, Side, SideId, Withdrawals};
+use partition_table::{ClashList, Ruling, Verdict, clashes, word};
+use std::alloc::Global;
+use upload_store::UploadStore;
+
+/// The number of the exchange.
+pub(crate) const NUMBER: u64 = 1;
+
+/// The seed of its words.
+pub(crate) const SEED: u64 = 5;
+
+/// A side, what it hears of the other, and what its calls answered.
+#[derive(Drop)]
+pub(crate) struct Exchange {
+    pub(crate) side: Side,
+    pub(crate) store: UploadStore,
+    pub(crate) program: ProgramId,
+    pub(crate) of_other: Offer,
+    pub(crate) list_of_other: Withdrawals,
+    clashes: Option<ClashList>,
+    pub(crate) unregistered: Option<Registration>,
+    pub(crate) offer: Option<Offer>,
+    pub(crate) list: Option<Withdrawals>,
+    pub(crate) finished: Option<Finished>,
+}
+
+impl Exchange {
+    /// A side with so many names, and another that has the same names with owners of its own and has closed its list.
+    pub(crate) fn idle(alloc: Global, names: u8) -> Result<Exchange, Fault> {
+        let (store, program) = stored(alloc)?;
+        let resolver = ResolverId::Program(program);
+        let side = side_with(alloc, SideId::A, names, 1, resolver, &store)?;
+        let mut other = side_with(alloc, SideId::B, names, 2, resolver, &store)?;
+        let of_other = other.begin(alloc, NUMBER, SEED, 0)?;
+        let list_of_other = other.close_list(alloc)?;
+        Ok(Exchange {
+            side,
+            store,
+            program,
+            of_other,
+            list_of_other,
+            clashes: None,
+            unregistered: None,
+            offer: None,
+            list: None,
+            finished: None,
+        })
+    }
+
+    /// The same once the side has begun.
+    pub(crate) fn begun(alloc: Global, names: u8) -> Result<Exchange, Fault> {
+        let mut exchange = Exchange::idle(alloc, names)?;
+        exchange.offer = Some(exchange.side.begin(alloc, NUMBER, SEED, 0)?);
+        exchange.list_clashes(alloc)?;
+        Ok(exchange)
+    }
+
+    /// The same once the side has heard the other.
+    pub(crate) fn heard(alloc: Global, names: u8) -> Result<Exchange, Fault> {
+        let mut exchange = Exchange::begun(alloc, names)?;
+        exchange.side.hear(alloc, &exchange.of_other)?;
+        Ok(exchange)
+    }
+
+    /// A side that has begun and withdrawn its first name.
+    pub(crate) fn withdrawn(alloc: Global, names: u8) -> Result<Exchange, Fault> {
+        let mut exchange = Exchange::begun(alloc, names)?;
+        exchange.side.withdraw(&numbered_name(0)?)?;
+        Ok(exchange)
+    }
+
+    /// A side that has all that it needs to finish.
+    pub(crate) fn complete(alloc: Global, names: u8) -> Result<Exchange, Fault> {
+        let mut exchange = Exchange::heard(alloc, names)?;
+        for k in 0..names {
+            exchange.take(u32::from(k))?;
+        }
+        exchange.list = Some(exchange.side.close_list(alloc)?);
+        exchange.side.hear_list(&exchange.list_of_other)?;
+        Ok(exchange)
+    }
+
+    /// Finishes the exchange.
+    pub(crate) fn finish(self, alloc: Global) -> Result<Finished, Fault> {
+        let mut side = self.side;
+        Ok(side.finish(alloc)?)
+    }
+
+    /// The side takes the ruling of clash `k` at its word in the first round. Takes no memory of its own.
+    pub(crate) fn take(&mut self, k: u32) -> Result<(), Fault> {
+        let list = self.clashes.as_ref().ok_or(Fault::Unprepared)?;
+        let clash = list.get(k).ok_or(Fault::Unprepared)?;
+        let verdict = Verdict::judged(clash, word(SEED, 0, list.len() as u32, k));
+        self.side.take(Ruling {
+            number: NUMBER,
+            k,
+            verdict,
+        })?;
+        Ok(())
+    }
+
+    /// Lists the clashes of what the two sides offered.
+    fn list_clashes(&mut self, alloc: Global) -> Result<(), Fault> {
+        if let Some(offer) = &self.offer {
+            self.clashes = Some(clashes(alloc, offer.table(), 0, self.of_other.table(), 0)?);
+        }
+        Ok(())
+    }
+
+    /// Takes a ruling of each clash. What the side refuses it has or doesn't want.
+    fn take_all(&mut self) {
+        let count = self.clashes.as_ref().map_or(0, |list| list.len() as u32);
+        for k in 0..count {
+            let _ = self.take(k);
+        }
+    }
+}
+
+impl Subject for Exchange {
+    fn is_same(&self, other: &Exchange) -> bool {
+        self.side.events() == other.side.events()
+            && has_same_rows(&self.side, &other.side)
+            && self.unregistered == other.unregistered
+            && is_same_option(self.offer.as_ref(), other.offer.as_ref(), is_same_offer)
+            && is_same_option(self.list.as_ref(), other.list.as_ref(), is_same_list)
+            && is_same_option(
+                self.finished.as_ref(),
+                other.finished.as_ref(),
+                is_same_finished,
+            )
+    }
+
+    // Goes on to the end of the exchange. What was done already, or can't be done any more, is refused.
+    fn go_on(&mut self, alloc: Global) -> Result<(), Fault> {
+        if let Ok(offer) = self.side.begin(alloc, NUMBER, SEED, 0) {
+            self.offer = Some(offer);
+        }
+        self.list_clashes(alloc)?;
+        let _ = self.side.hear(alloc, &self.of_other);
+        self.take_all();
+        if let Ok(list) = self.side.close_list(alloc) {
+            self.list = Some(list);
+        }
+        let _ = self.side.hear_list(&self.list_of_other);
+        if let Ok(finished) = self.side.finish(alloc) {
+            self.finished = Some(finished);
+        }
+        Ok(())
+    }
+}
+
+/// A side with so many names of an owner on this node, all judged by this resolver.
+fn side_with(
+    alloc: Global,
+    id: SideId,
+    names: u8,
+    node: u32,
+    resolver: ResolverId,
+    store: &UploadStore,
+) -> Result<Side, Fault> {
+    let mut side = Side::new(alloc, id);
+    for number in 0..names {
+        side.register(numbered_name(number)?, by(node, resolver), store)?;
+    }
+    Ok(side)
+}
+
+fn has_same_rows(one: &Side, other: &Side) -> bool {
+    let mut rows = other.rows();
+    for row in one.rows() {
+        if rows.next() != Some(row) {
+            return false;
+        }
+    }
+    rows.next().is_none()
+}
+
+fn is_same_offer(one: &Offer, other: &Offer) -> bool {
+    one.side() == other.side()
+        && one.number() == other.number()
+        && one.seed() == other.seed()
+        && one.uptime() == other.uptime()
+        && one.table() == other.table()
+}
+
+fn is_same_list(one: &Withdrawals, other: &Withdrawals) -> bool {
+    one.side() == other.side() && one.number() == other.number() && one.names() == other.names()
+}
+
+fn is_same_finished(one: &Finished, other: &Finished) -> bool {
+    one.number() == other.number()
+        && one.seed() == other.seed()
+        && one.a() == other.a()
+        && one.b() == other.b()
+        && one.gone_a() == other.gone_a()
+        && one.gone_b() == other.gone_b()
+        && one.rulings() == other.rulings()
+        && one.table() == other.table()
+}

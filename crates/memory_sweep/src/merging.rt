@@ -1,0 +1,78 @@
+//! The merge of two tables.
+ghost use Rattle.std.specs.Prelude.{◌≡◌, length};
+ghost use Rattle.partition_table.specs.Tables.{clash_names};
+
+use crate::comparing::is_same_table;
+use crate::fault::Fault;
+use crate::rows::{numbered_name, stored, table};
+use crate::sweep::{Subject, sweep};
+use builtin_resolvers::Verdict3;
+use clash_record::{Name, ResolverId};
+use partition_table::{Table, clashes, merge};
+use std::alloc::Global;
+
+/// Two tables, and one answer for each of their clashes.
+#[derive(Drop)]
+struct Pair {
+    a: Table,
+    b: Table,
+    answers: Vec<Verdict3>,
+    ghost answered: { length answers.items ≡ length (clash_names a b) },
+}
+
+impl Pair {
+    fn of(alloc: Global, a: Table, b: Table) -> Result<Pair, Fault> {
+        let count = clashes(alloc, &a, 0, &b, 0)?.len();
+        let answers = vec![in alloc; Verdict3::First; count]?;
+        Ok(Pair { a, b, answers })
+    }
+}
+
+/// What is merged, the names that were withdrawn of it, and what the merge gave.
+#[derive(Drop)]
+struct Merging {
+    pair: Pair,
+    gone: [Name; 1],
+    merged: Option<Table>,
+}
+
+impl Merging {
+    /// Two tables that clash in so many names, all judged by a program.
+    fn new(alloc: Global, names: u8) -> Result<Merging, Fault> {
+        let (store, program) = stored(alloc)?;
+        let resolver = ResolverId::Program(program);
+        let a = table(alloc, names, 1, resolver, &store)?;
+        let b = table(alloc, names, 2, resolver, &store)?;
+        Ok(Merging {
+            pair: Pair::of(alloc, a, b)?,
+            gone: [numbered_name(0)?],
+            merged: None,
+        })
+    }
+}
+
+impl Subject for Merging {
+    fn is_same(&self, other: &Merging) -> bool {
+        self.pair.a == other.pair.a
+            && self.pair.b == other.pair.b
+            && is_same_table(self.merged.as_ref(), other.merged.as_ref())
+    }
+
+    fn go_on(&mut self, _alloc: Global) -> Result<(), Fault> {
+        Ok(())
+    }
+}
+
+/// Sweeps the merge of tables with so many names.
+pub(crate) fn sweep_merging(rt: &HostRuntime, names: u8) -> Result<(), Fault> {
+    sweep(
+        rt,
+        "merge",
+        |alloc| Merging::new(alloc, names),
+        |alloc, merging: &mut Merging| {
+            let Pair { a, b, answers, .. } = &merging.pair;
+            merging.merged = Some(merge(alloc, a, b, answers, &merging.gone, &[])?);
+            Ok(())
+        },
+    )
+}
