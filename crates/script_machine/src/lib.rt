@@ -8,8 +8,6 @@ mod labels;
 mod machine;
 mod reply;
 mod showing;
-#[cfg(test)]
-mod tests;
 mod uploading;
 
 pub use labels::Label;
