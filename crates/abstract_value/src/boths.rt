@@ -4,8 +4,6 @@ ghost use Rattle.abstract_value.specs.SignedWords.{IsNormal};
 mod exact;
 mod halves;
 mod rows;
-#[cfg(test)]
-mod tests;
 
 use crate::{Domain, Interval};
 pub use exact::both_is_exact_theorem;

@@ -8,8 +8,6 @@ mod intervals;
 mod pending;
 mod stack;
 mod states;
-#[cfg(test)]
-mod tests;
 
 pub use boths::{Both, both_is_exact_theorem};
 pub use domains::Domain;

@@ -105,55 +105,58 @@ fn code(alloc: Global, slots: &str) -> io::Result<String> {
     Ok(text)
 }
 
+// Code, whose last slot X is `exit`, and what is printed of its verdict on the clash `db`.
+const ON_DB: [(&'static str, &'static str); 19] = [
+    ("b700000001000000 X", "first in 2 steps\n"),
+    (STAMPS, "second in 6 steps\n"),
+    ("7910780000000000 X", "none in 2 steps\n"),
+    ("7910790000000000 X", "none in 2 steps\n"),
+    ("7910980000000000 X", "none in 2 steps\n"),
+    (
+        "7112080000000000 570200001f000000 0f21000000000000 7110080000000000 X",
+        "none in 5 steps\n",
+    ),
+    (
+        "7112080000000000 570200007f000000 0f21000000000000 7110080000000000 X",
+        "none in 5 steps\n",
+    ),
+    ("b4000000ffffffff 0400000001000000 X", "none in 3 steps\n"),
+    (
+        "b7000000f3ffffff 9700010003000000 0700000002000000 X",
+        "first in 4 steps\n",
+    ),
+    ("b700000007000000 3700000000000000 X", "none in 3 steps\n"),
+    ("7a0af8ff02000000 79a0f8ff00000000 X", "second in 3 steps\n"),
+    ("7a0a3cfe02000000 79a03cfe00000000 X", "second in 3 steps\n"),
+    ("720a00fe01000000 71a000fe00000000 X", "first in 3 steps\n"),
+    (
+        "7112080000000000 b700000000000000 2502020077000000 0f21000000000000 7110080000000000 X",
+        "none in 6 steps\n",
+    ),
+    (
+        "7112080000000000 b700000000000000 2502020078000000 0f21000000000000 7110080000000000 X",
+        "none in 6 steps\n",
+    ),
+    (
+        "7112080000000000 b700000000000000 2502020097000000 0f21000000000000 7110080000000000 X",
+        "none in 6 steps\n",
+    ),
+    (
+        "b700000001000000 1500010001000000 bf20000000000000 X",
+        "first in 3 steps\n",
+    ),
+    ("1800000001000000 0000000002000000 X", "none in 2 steps\n"),
+    (
+        "bfa2000000000000 07020000f8ffffff 7a02000002000000 7920000000000000 X",
+        "second in 5 steps\n",
+    ),
+];
+
 #[test]
 fn code_on_db(rt: HostRuntime) -> Result<(), Fail> {
     let alloc = rt.alloc();
     let clash = db(alloc, NAME, "05", "09")?;
-    for (slots, line) in [
-        ("b700000001000000 X", "first in 2 steps\n"),
-        (STAMPS, "second in 6 steps\n"),
-        ("7910780000000000 X", "none in 2 steps\n"),
-        ("7910790000000000 X", "none in 2 steps\n"),
-        ("7910980000000000 X", "none in 2 steps\n"),
-        (
-            "7112080000000000 570200001f000000 0f21000000000000 7110080000000000 X",
-            "none in 5 steps\n",
-        ),
-        (
-            "7112080000000000 570200007f000000 0f21000000000000 7110080000000000 X",
-            "none in 5 steps\n",
-        ),
-        ("b4000000ffffffff 0400000001000000 X", "none in 3 steps\n"),
-        (
-            "b7000000f3ffffff 9700010003000000 0700000002000000 X",
-            "first in 4 steps\n",
-        ),
-        ("b700000007000000 3700000000000000 X", "none in 3 steps\n"),
-        ("7a0af8ff02000000 79a0f8ff00000000 X", "second in 3 steps\n"),
-        ("7a0a3cfe02000000 79a03cfe00000000 X", "second in 3 steps\n"),
-        ("720a00fe01000000 71a000fe00000000 X", "first in 3 steps\n"),
-        (
-            "7112080000000000 b700000000000000 2502020077000000 0f21000000000000 7110080000000000 X",
-            "none in 6 steps\n",
-        ),
-        (
-            "7112080000000000 b700000000000000 2502020078000000 0f21000000000000 7110080000000000 X",
-            "none in 6 steps\n",
-        ),
-        (
-            "7112080000000000 b700000000000000 2502020097000000 0f21000000000000 7110080000000000 X",
-            "none in 6 steps\n",
-        ),
-        (
-            "b700000001000000 1500010001000000 bf20000000000000 X",
-            "first in 3 steps\n",
-        ),
-        ("1800000001000000 0000000002000000 X", "none in 2 steps\n"),
-        (
-            "bfa2000000000000 07020000f8ffffff 7a02000002000000 7920000000000000 X",
-            "second in 5 steps\n",
-        ),
-    ] {
+    for (slots, line) in ON_DB {
         let text = code(alloc, slots)?;
         let (code, clash) = (text.as_str(), clash.as_str());
         let question = Question::Judge { code, clash };

@@ -9,8 +9,6 @@ mod line;
 mod mnemonic;
 mod number;
 mod operand;
-#[cfg(test)]
-mod tests;
 
 pub use assembler::{assemble, line_theorem, text_theorem};
 pub use disassembler::disassemble;

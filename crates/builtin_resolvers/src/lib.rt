@@ -6,8 +6,6 @@
 
 mod notice;
 mod telling;
-#[cfg(test)]
-mod tests;
 mod verdicts;
 
 pub use notice::{Notice, Notices};

@@ -7,8 +7,6 @@ mod names;
 mod orders;
 mod records;
 mod registrations;
-#[cfg(test)]
-mod tests;
 
 pub use instruction_set::RECORD_LEN;
 pub use names::naming::name;

@@ -4,8 +4,6 @@
 mod faults;
 mod grammar;
 mod reading;
-#[cfg(test)]
-mod tests;
 
 pub use faults::CommandFault;
 pub use reading::{command, plain_words_theorem};

@@ -16,8 +16,6 @@ mod shown_rows;
 mod side;
 mod side_id;
 mod state;
-#[cfg(test)]
-mod tests;
 
 pub use calls::MAX_EVENTS;
 pub use fault::{MissingPart, SideFault};

@@ -1,9 +1,7 @@
-//! Hostile use of the crates together: tests alone, of changed codes, of the longest run, of an exchange that is abandoned
-//! after each of its steps, and of two sides in a random walk.
+//! Hostile use of the crates together: tests alone, of changed codes, of the longest run, and of two sides in a random
+//! walk.
 #![tactic(auto)]
 
-#[cfg(test)]
-mod abandoned;
 #[cfg(test)]
 mod dice;
 #[cfg(test)]

@@ -17,16 +17,18 @@ fn never_jumping(alloc: Global) -> Result<Vec<u8>, Fail> {
     Ok(bytes)
 }
 
+// How many instructions the code has, and what a run of it on a record of zeros ends with, after how many steps.
+fn ended(alloc: Global, bytes: &[u8]) -> Result<(usize, u64, u32), Fail> {
+    let program = read_program(alloc, bytes)?;
+    let ended = run(&program, &record_of([0; 160]));
+    Ok((program.code().len(), ended.r0, ended.steps))
+}
+
 #[test]
 fn every_test_is_carried_out(rt: HostRuntime) -> Result<(), Fail> {
     let bytes = never_jumping(rt.alloc())?;
-    assert_eq!(rt;
-        bytes.get(8..16),
-        Some(&[0x45, 0, 0xfd, 0x03, 0, 0, 0, 0][..])
-    );
-    let program = read_program(rt.alloc(), &bytes)?;
-    assert_eq!(rt; program.code().len(), 1024);
-    let ended = run(&program, &record_of([0; 160]));
-    assert_eq!(rt; (ended.r0, ended.steps), (0, 1024));
+    let first_test = [0x45, 0, 0xfd, 0x03, 0, 0, 0, 0];
+    assert_eq!(rt; bytes.get(8..16), Some(&first_test[..]));
+    assert_eq!(rt; ended(rt.alloc(), &bytes)?, (1024, 0, 1024));
     Ok(())
 }

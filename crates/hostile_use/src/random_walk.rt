@@ -96,6 +96,17 @@ impl Walk {
         }
     }
 
+    /// Goes so many steps, up to the first after which something is wrong: its place, and what is.
+    fn first_wrong(&mut self, steps: u32) -> Result<Option<(u32, Wrong)>, Fail> {
+        for step in 0..steps {
+            self.step()?;
+            if let Some(wrong) = self.between.log.wrong {
+                return Ok(Some((step, wrong)));
+            }
+        }
+        Ok(None)
+    }
+
     /// Goes on with two new sides. The messages of the old ones stay under way: the numbers from now on are others.
     fn renew(&mut self) {
         let alloc = self.between.alloc;
@@ -376,14 +387,17 @@ impl Between {
 #[test]
 fn sides_that_finish_hold_one_table(rt: HostRuntime) -> Result<(), Fail> {
     let mut walk = Walk::new(rt.alloc(), SEED)?;
-    for step in 0..STEPS {
-        walk.step()?;
-        let wrong = walk.between.log.wrong;
-        assert_eq!(rt; wrong, None, "at step {step} of the walk of seed {SEED}");
-    }
+    assert_eq!(rt;
+        walk.first_wrong(STEPS)?,
+        None,
+        "in the walk of seed {SEED}"
+    );
     let log = &walk.between.log;
-    assert!(rt; log.agreed >= 500, "{} exchanges", log.agreed);
-    assert!(rt; log.judged >= 500, "{} clashes", log.judged);
+    let (agreed, judged) = (log.agreed, log.judged);
+    assert!(rt;
+        agreed >= 500 && judged >= 500,
+        "{agreed} exchanges, {judged} clashes"
+    );
     assert_eq!(rt; log.first_unseen(), None);
     Ok(())
 }

@@ -5,8 +5,6 @@ mod decoder;
 mod encoder;
 mod fault;
 mod slot_fields;
-#[cfg(test)]
-mod tests;
 
 pub use decoder::{decode, one_reading_theorem};
 pub use encoder::encode;

@@ -14,8 +14,6 @@ mod order;
 mod paired;
 mod programs;
 mod table;
-#[cfg(test)]
-mod tests;
 mod verdict;
 
 pub use clash::{Clash, ClashList};

@@ -3,8 +3,6 @@
 
 mod fault;
 mod reading;
-#[cfg(test)]
-mod tests;
 
 pub use fault::ProgramFault;
 pub use reading::{Profile, read_program, read_program_over};

@@ -5,7 +5,5 @@ mod crew;
 mod fault;
 mod running;
 mod serving;
-#[cfg(test)]
-mod tests;
 
 pub use running::run_script;

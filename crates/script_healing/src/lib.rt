@@ -9,8 +9,6 @@ mod healing;
 mod plan;
 mod printing;
 mod settling;
-#[cfg(test)]
-mod tests;
 
 pub use cluster::Cluster;
 pub use fault::HealFault;

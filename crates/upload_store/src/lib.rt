@@ -3,8 +3,6 @@
 
 mod fault;
 mod store;
-#[cfg(test)]
-mod tests;
 
 pub use fault::UploadFault;
 pub use store::{MAX_PROGRAMS, UploadStore};

@@ -9,8 +9,6 @@ mod pointer_moves;
 mod refusal;
 mod rule;
 mod structure;
-#[cfg(test)]
-mod tests;
 mod transfer;
 mod verified;
 mod verify_code;

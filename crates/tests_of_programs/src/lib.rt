@@ -1,0 +1,24 @@
+//! Tests alone, through public calls: what operations compute, codes as bytes and as listings, ranges and abstract states, and
+//! programs that are verified.
+#![tactic(auto)]
+
+#[cfg(test)]
+mod abstract_states;
+#[cfg(test)]
+mod code_bytes;
+#[cfg(test)]
+mod domain_calls;
+#[cfg(test)]
+mod fault_words;
+#[cfg(test)]
+mod listings;
+#[cfg(test)]
+mod operations;
+#[cfg(test)]
+mod ranges;
+#[cfg(test)]
+mod sample_codes;
+#[cfg(test)]
+mod signed_ranges;
+#[cfg(test)]
+mod verified_codes;

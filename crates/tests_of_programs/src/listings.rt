@@ -1,0 +1,145 @@
+//! Listings that are read, listings that are refused, and listings that are written.
+use assembler_text::{assemble, disassemble};
+use numbered::{Numbered, Place};
+use std::alloc::Global;
+use std::test::Fail;
+
+const GREATER_TEXT: &str =
+    "ldxdw r2, [r1+56]\nldxdw r3, [r1+96]\nmov64 r0, 1\njge r2, r3, +1\nmov64 r0, 2\nexit\n";
+
+/// The same code as docs/TEXT.md writes it.
+const COMMENTED: &str =
+    "; the registration with the later stamp keeps the name; of equal ones the first
+        ldxdw r2, [r1+56]      ; the first stamp
+        ldxdw r3, [r1+96]      ; the second stamp
+        mov64 r0, 0x1
+        jge r2, r3, +1         ; past the next slot
+        mov64 r0, 2
+        exit
+";
+
+/// A listing with the number of its refusal, and the line.
+const REFUSED: [(&str, u32, usize); 38] = [
+    ("foo", 60, 1),
+    ("mov", 60, 1),
+    ("mov64s64 r0, r1", 60, 1),
+    ("ldxsdw r0, [r1+0]", 60, 1),
+    ("exit,", 60, 1),
+    ("ja+1", 60, 1),
+    ("exit\r", 60, 1),
+    ("\r", 60, 1),
+    ("mov64", 61, 1),
+    ("mov64 r0", 61, 1),
+    ("mov64 r11, 1", 61, 1),
+    ("mov64 r0, -0", 61, 1),
+    ("mov64 r0, 01", 61, 1),
+    ("mov64 r0, 1x", 61, 1),
+    ("mov64 r0, +1", 61, 1),
+    ("mov64 r0, 0x", 61, 1),
+    ("mov64 r0, 0X1", 61, 1),
+    ("mov64 r0 1", 61, 1),
+    ("mov64 r0, , 1", 61, 1),
+    ("mov64 r0, x 2", 61, 1),
+    ("mov64 r11, 2147483648", 61, 1),
+    ("ja 1", 61, 1),
+    ("lddw r0, -1", 61, 1),
+    ("ldxb r0, [r1]", 61, 1),
+    ("ldxb r0, [r1-0]", 61, 1),
+    ("ldxb r0, [r1+ 1]", 61, 1),
+    ("ldxb r0, [r1+99999", 61, 1),
+    ("ldxb r0, [r1+99999]", 62, 1),
+    ("mov64 r0, 2147483648", 62, 1),
+    ("mov64 r0, 0x100000000 2", 62, 1),
+    ("ja +32768", 62, 1),
+    ("lddw r0, 18446744073709551616", 62, 1),
+    ("mov64 r0, 1 2", 63, 1),
+    ("exit r1", 63, 1),
+    ("; c\n\nexit r1", 63, 3),
+    ("; c", 1, 1),
+    ("", 1, 1),
+    ("exit\nfoo\nja 1", 60, 2),
+];
+
+/// A listing with the one that is written of its code.
+const ACCEPTED: [(&str, &str); 11] = [
+    (GREATER_TEXT, GREATER_TEXT),
+    ("mov64 r0, 0x0000000001", "mov64 r0, 1\n"),
+    ("mov64 r0, 0xFfFfFfFf", "mov64 r0, -1\n"),
+    ("mov64 r0, -2147483648", "mov64 r0, -2147483648\n"),
+    ("\t mov64\tr0 ,\t1 ; 1", "mov64 r0, 1\n"),
+    ("exit;", "exit\n"),
+    ("ja -32768;x", "ja -32768\n"),
+    ("jal +2147483647", "jal +2147483647\n"),
+    ("stb [r1-1], 0x7F", "stb [r1-1], 127\n"),
+    (
+        "lddw r10, 0x00ffffffffffffffff",
+        "lddw r10, 18446744073709551615\n",
+    ),
+    ("jslt32 r1,r2,+0", "jslt32 r1, r2, +0\n"),
+];
+
+/// The number and the line of a refusal; line 0 where it names none.
+fn refusal(alloc: Global, text: &str) -> Option<(u32, usize)> {
+    let fault = assemble(alloc, text).err()?;
+    match fault.place() {
+        Some(Place::Line(line)) => Some((fault.number(), line)),
+        _ => Some((fault.number(), 0)),
+    }
+}
+
+#[test]
+fn refused(rt: HostRuntime) {
+    for (text, number, line) in REFUSED {
+        assert_eq!(rt; refusal(rt.alloc(), text), Some((number, line)), "{text}");
+    }
+}
+
+/// Whether this listing is written of the code of the first.
+fn is_written_as(alloc: Global, text: &str, written: &str) -> bool {
+    let Ok(code) = assemble(alloc, text) else {
+        return false;
+    };
+    disassemble(alloc, &code).is_ok_and(|text| text.as_str() == written)
+}
+
+#[test]
+fn accepted(rt: HostRuntime) {
+    for (text, written) in ACCEPTED {
+        assert!(rt; is_written_as(rt.alloc(), text, written), "{text}");
+    }
+}
+
+/// How many instructions the first listing has, and whether the second has the same code.
+fn len_and_same(alloc: Global, text: &str, other: &str) -> Option<(usize, bool)> {
+    let code = assemble(alloc, text).ok()?;
+    let same = assemble(alloc, other).is_ok_and(|other| other == code);
+    Some((code.len(), same))
+}
+
+#[test]
+fn comments_change_nothing(rt: HostRuntime) {
+    let seen = len_and_same(rt.alloc(), GREATER_TEXT, COMMENTED);
+    assert_eq!(rt; seen, Some((6, true)));
+}
+
+/// What is refused of a listing that goes on so after 1,024 lines of one slot each.
+fn refusal_after_1024(alloc: Global, goes_on: &str) -> Result<Option<(u32, usize)>, Fail> {
+    let mut text = String::new(alloc);
+    for _ in 0..1024 {
+        text.push_str("exit\n")?;
+    }
+    text.push_str(goes_on)?;
+    Ok(refusal(alloc, text.as_str()))
+}
+
+#[test]
+fn too_many_slots(rt: HostRuntime) -> Result<(), Fail> {
+    for (goes_on, refused) in [
+        ("", None),
+        ("exit", Some((2, 1025))),
+        ("exit r1", Some((63, 1025))),
+    ] {
+        assert_eq!(rt; refusal_after_1024(rt.alloc(), goes_on)?, refused);
+    }
+    Ok(())
+}

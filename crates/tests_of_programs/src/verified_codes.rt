@@ -1,0 +1,68 @@
+//! Codes that are verified: how many states are held at a time, and what is accepted over ranges in both orders alone.
+use crate::sample_codes::{GREATER, longest_code};
+use abstract_value::{Both, Domain, Interval};
+use insn_codec::decode;
+use program::read_program;
+use std::alloc::Global;
+use std::test::Fail;
+use verifier::{Refusal, Rule, VerifyFault, verify, verify_peak, wider_theorem};
+
+/// How many slots the code of these bytes has, and the greatest number of states that were held, of code that is
+/// accepted.
+fn slots_and_peak<D: Domain>(alloc: Global, bytes: &[u8]) -> Result<(usize, u32), Fail> {
+    let code = decode(alloc, bytes)?;
+    let slots = code.slot_count();
+    let (answer, peak) = verify_peak::<D>(alloc, code);
+    answer?;
+    Ok((slots, peak))
+}
+
+#[test]
+fn states_are_held_where_code_jumps(rt: HostRuntime) -> Result<(), Fail> {
+    let straight = slots_and_peak::<Both>(rt.alloc(), &longest_code())?;
+    assert_eq!(rt; straight, (1024, 1));
+    let jumping = slots_and_peak::<Interval>(rt.alloc(), &GREATER)?;
+    assert_eq!(rt; jumping, (6, 2));
+    Ok(())
+}
+
+#[test]
+fn reads_a_program(rt: HostRuntime) -> Result<(), Fail> {
+    let bytes = [0xb7, 0, 0, 0, 1, 0, 0, 0, 0x95, 0, 0, 0, 0, 0, 0, 0];
+    assert_eq!(rt; read_program(rt.alloc(), &bytes)?.code().len(), 2);
+    Ok(())
+}
+
+/// How many instructions are accepted, or what is refused.
+fn judged<D: Domain>(alloc: Global, bytes: &[u8]) -> Result<Result<usize, Refusal>, Fail> {
+    match verify::<D>(alloc, decode(alloc, bytes)?) {
+        Ok(program) => Ok(Ok(program.code().len())),
+        Err(VerifyFault::Refused(refusal)) => Ok(Err(refusal)),
+        Err(VerifyFault::OutOfMemory) => Err(Fail::from("out of memory")),
+    }
+}
+
+#[test]
+fn signed_bounds_are_enough_in_both_orders(rt: HostRuntime) -> Result<(), Fail> {
+    wider_theorem();
+    // A number between two signed tests, and a byte with its sign: each is added to an address.
+    let tested = [
+        0x79, 0x12, 0x40, 0, 0, 0, 0, 0, 0xb7, 0, 0, 0, 0, 0, 0, 0, 0xc5, 0x02, 0x03, 0, 0, 0, 0,
+        0, 0x65, 0x02, 0x02, 0, 0x3f, 0, 0, 0, 0x0f, 0x21, 0, 0, 0, 0, 0, 0, 0x71, 0x10, 0x08, 0,
+        0, 0, 0, 0, 0x95, 0, 0, 0, 0, 0, 0, 0,
+    ];
+    let loaded = [
+        0x91, 0x12, 0x08, 0, 0, 0, 0, 0, 0xb7, 0, 0, 0, 0, 0, 0, 0, 0x75, 0x02, 0x03, 0, 0, 0, 0,
+        0, 0xbf, 0xa3, 0, 0, 0, 0, 0, 0, 0x0f, 0x23, 0, 0, 0, 0, 0, 0, 0x72, 0x03, 0, 0, 0x01, 0,
+        0, 0, 0x95, 0, 0, 0, 0, 0, 0, 0,
+    ];
+    let refusal = Refusal {
+        slot: 4,
+        rule: Rule::PointerRange,
+    };
+    for bytes in [tested, loaded] {
+        assert_eq!(rt; judged::<Interval>(rt.alloc(), &bytes)?, Err(refusal));
+        assert_eq!(rt; judged::<Both>(rt.alloc(), &bytes)?, Ok(7));
+    }
+    Ok(())
+}

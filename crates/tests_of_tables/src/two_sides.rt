@@ -1,0 +1,302 @@
+//! Two sides, what they sent, and calls on them as rows of data.
+use crate::registrations::{by, numbered_name, of};
+use builtin_resolvers::Verdict3;
+use clash_record::{Name, Registration, ResolverId, name};
+use exchange_core::{Finished, Offer, Side, SideFault, SideId, Withdrawals};
+use numbered::Numbered;
+use partition_table::{ClashList, Ruling, Verdict, clashes};
+use std::alloc::{AllocError, Global};
+use std::test::Fail;
+use upload_store::UploadStore;
+
+// The nodes of the owners of each side's names. Their serial number is 1.
+const NODE_OF_A: u32 = 1;
+
+const NODE_OF_B: u32 = 2;
+
+/// A call on a side.
+#[derive(Clone, Copy)]
+pub(crate) enum Call {
+    /// Registers the name for the side's owner, with this resolver.
+    Register(&'static str, ResolverId),
+    Unregister(&'static str),
+    /// Begins this number with this seed. Side A has been up for 3, side B for 4.
+    Begin(u64, u64),
+    /// Hears the offer of this side and number.
+    Hear(SideId, u64),
+    /// Takes, under this number, the ruling of this clash of the first two offers at this word.
+    Take(u64, u32, u64),
+    Withdraw(&'static str),
+    CloseList,
+    /// Hears the list of this side and number.
+    HearList(SideId, u64),
+    Finish,
+    Abandon,
+}
+
+/// Why a call is refused, and the number of that. None where it is carried out.
+pub(crate) type Refusal = Option<(SideFault, u32)>;
+
+/// A side, a call on it, and whether it is refused.
+pub(crate) type Row = (SideId, Call, Refusal);
+
+/// Two sides, and what stands between them.
+#[derive(Drop)]
+pub(crate) struct TwoSides {
+    a: Side,
+    b: Side,
+    sent: Sent,
+}
+
+/// What both sides sent, and what they finished with, the earliest first.
+#[derive(Drop)]
+struct Sent {
+    alloc: Global,
+    store: UploadStore,
+    offers: Vec<Offer>,
+    lists: Vec<Withdrawals>,
+    finished: Vec<Finished>,
+}
+
+impl TwoSides {
+    /// Two sides with these names, each registered by the side's owner.
+    pub(crate) fn new(alloc: Global, names: &[&str]) -> Result<TwoSides, Fail> {
+        let mut two = TwoSides {
+            a: Side::new(alloc, SideId::A),
+            b: Side::new(alloc, SideId::B),
+            sent: Sent::new(alloc),
+        };
+        for text in names {
+            let name = name(text.as_bytes())?;
+            two.register(name, name)?;
+        }
+        Ok(two)
+    }
+
+    // Registers one name on each side.
+    fn register(&mut self, on_a: Name, on_b: Name) -> Result<(), Fail> {
+        self.a.register(on_a, of(NODE_OF_A, 1), &self.sent.store)?;
+        self.b.register(on_b, of(NODE_OF_B, 1), &self.sent.store)?;
+        Ok(())
+    }
+
+    /// Registers so many names on each side, none of them on both.
+    pub(crate) fn register_apart(&mut self, count: u16) -> Result<(), Fail> {
+        for number in 0..count {
+            self.register(numbered_name(b'x', number)?, numbered_name(b'y', number)?)?;
+        }
+        Ok(())
+    }
+
+    /// The side of this name.
+    pub(crate) fn side(&self, id: SideId) -> &Side {
+        match id {
+            SideId::A => &self.a,
+            SideId::B => &self.b,
+        }
+    }
+
+    /// What this side shows the name as registered with.
+    pub(crate) fn registration(
+        &self,
+        id: SideId,
+        text: &str,
+    ) -> Result<Option<Registration>, Fail> {
+        Ok(self.side(id).whereis(&name(text.as_bytes())?).copied())
+    }
+
+    /// Whether side A shows the name, and whether side B does.
+    pub(crate) fn shows(&self, text: &str) -> Result<(bool, bool), Fail> {
+        let name = name(text.as_bytes())?;
+        Ok((
+            self.a.whereis(&name).is_some(),
+            self.b.whereis(&name).is_some(),
+        ))
+    }
+
+    /// Whether this side shows any row.
+    pub(crate) fn has_rows(&self, id: SideId) -> bool {
+        self.side(id).rows().next().is_some()
+    }
+
+    /// Whether both finished, each with the same table, and with the same tables of sides A and B before.
+    pub(crate) fn agree(&self) -> bool {
+        let (Some(one), Some(other)) = (self.finished(0), self.finished(1)) else {
+            return false;
+        };
+        one.table() == other.table() && one.a() == other.a() && one.b() == other.b()
+    }
+
+    /// How long sides A and B had been up, as the first that finished has it.
+    pub(crate) fn uptimes_of_first(&self) -> Option<(u64, u64)> {
+        let finished = self.finished(0)?;
+        Some((finished.uptime_a(), finished.uptime_b()))
+    }
+
+    /// The answer of this clash, as the second that finished has it.
+    pub(crate) fn answer_of_second(&self, k: usize) -> Option<Verdict3> {
+        Some(self.finished(1)?.rulings().get(k)?.answer)
+    }
+
+    /// How many names the table has that the last to finish made. It is taken away.
+    pub(crate) fn take_table_len(&mut self) -> Option<usize> {
+        Some(self.sent.finished.pop()?.into_table().len())
+    }
+
+    fn finished(&self, place: usize) -> Option<&Finished> {
+        self.sent.finished.get(place)
+    }
+
+    /// Carries the rows out in turn, up to the first that answers otherwise: its place, and what it answered.
+    pub(crate) fn first_other(&mut self, rows: &[Row]) -> Result<Option<(usize, Refusal)>, Fail> {
+        for (place, (id, call, expected)) in rows.iter().enumerate() {
+            let fault = match id {
+                SideId::A => self.sent.carry_out(&mut self.a, *call)?,
+                SideId::B => self.sent.carry_out(&mut self.b, *call)?,
+            };
+            let refusal = refusal(fault);
+            if refusal != *expected {
+                return Ok(Some((place, refusal)));
+            }
+        }
+        Ok(None)
+    }
+
+    /// Carries out the rows of one part after the other, as `first_other` does.
+    pub(crate) fn first_other_in(
+        &mut self,
+        parts: &[&[Row]],
+    ) -> Result<Option<(usize, Refusal)>, Fail> {
+        for part in parts {
+            let other = self.first_other(part)?;
+            if other.is_some() {
+                return Ok(other);
+            }
+        }
+        Ok(None)
+    }
+}
+
+// Why it is refused, with its number.
+fn refusal(fault: Option<SideFault>) -> Refusal {
+    fault.map(|fault| (fault, fault.number()))
+}
+
+impl Sent {
+    fn new(alloc: Global) -> Sent {
+        Sent {
+            alloc,
+            store: UploadStore::new(alloc),
+            offers: Vec::new(alloc),
+            lists: Vec::new(alloc),
+            finished: Vec::new(alloc),
+        }
+    }
+
+    fn offer_of(&self, sender: SideId, number: u64) -> Option<&Offer> {
+        self.offers
+            .iter()
+            .find(|offer| offer.side() == sender && offer.number() == number)
+    }
+
+    fn list_of(&self, sender: SideId, number: u64) -> Option<&Withdrawals> {
+        self.lists
+            .iter()
+            .find(|list| list.side() == sender && list.number() == number)
+    }
+
+    // Carries the call out on this side, and keeps what it sends. Answers why it is refused, if it is.
+    fn carry_out(&mut self, side: &mut Side, call: Call) -> Result<Option<SideFault>, Fail> {
+        match call {
+            Call::Register(text, resolver) => self.register(side, text, resolver),
+            Call::Unregister(text) => Ok(side.unregister(&name(text.as_bytes())?).err()),
+            Call::Begin(number, seed) => self.begin(side, number, seed),
+            Call::Hear(sender, number) => {
+                let offer = self.offer_of(sender, number).ok_or("no such offer")?;
+                Ok(side.hear(self.alloc, offer).err())
+            }
+            Call::Take(number, k, at) => self.take(side, number, k, at),
+            Call::Withdraw(text) => Ok(side.withdraw(&name(text.as_bytes())?).err()),
+            Call::CloseList => self.close_list(side),
+            Call::HearList(sender, number) => {
+                let list = self.list_of(sender, number).ok_or("no such list")?;
+                Ok(side.hear_list(list).err())
+            }
+            Call::Finish => self.finish(side),
+            Call::Abandon => Ok(side.abandon().err()),
+        }
+    }
+
+    fn register(
+        &self,
+        side: &mut Side,
+        text: &str,
+        resolver: ResolverId,
+    ) -> Result<Option<SideFault>, Fail> {
+        let node = match side.id() {
+            SideId::A => NODE_OF_A,
+            SideId::B => NODE_OF_B,
+        };
+        let registered = side.register(name(text.as_bytes())?, by(node, 1, resolver), &self.store);
+        Ok(registered.err())
+    }
+
+    fn begin(
+        &mut self,
+        side: &mut Side,
+        number: u64,
+        seed: u64,
+    ) -> Result<Option<SideFault>, Fail> {
+        let uptime = match side.id() {
+            SideId::A => 3,
+            SideId::B => 4,
+        };
+        match side.begin(self.alloc, number, seed, uptime) {
+            Ok(offer) => keep(&mut self.offers, offer),
+            Err(fault) => Ok(Some(fault)),
+        }
+    }
+
+    fn take(
+        &self,
+        side: &mut Side,
+        number: u64,
+        k: u32,
+        at: u64,
+    ) -> Result<Option<SideFault>, Fail> {
+        let all = self.clashes()?;
+        let Some(clash) = all.get(k) else {
+            return Err(Fail::from("no such clash"));
+        };
+        let verdict = Verdict::judged(clash, at);
+        Ok(side.take(Ruling { number, k, verdict }).err())
+    }
+
+    // The clashes of the tables in the first two offers.
+    fn clashes(&self) -> Result<ClashList, Fail> {
+        let (Some(a), Some(b)) = (self.offers.get(0), self.offers.get(1)) else {
+            return Err(Fail::from("no two offers"));
+        };
+        Ok(clashes(self.alloc, a.table(), a.uptime(), b.table(), b.uptime())?)
+    }
+
+    fn close_list(&mut self, side: &mut Side) -> Result<Option<SideFault>, Fail> {
+        match side.close_list(self.alloc) {
+            Ok(list) => keep(&mut self.lists, list),
+            Err(fault) => Ok(Some(fault)),
+        }
+    }
+
+    fn finish(&mut self, side: &mut Side) -> Result<Option<SideFault>, Fail> {
+        match side.finish(self.alloc) {
+            Ok(finished) => keep(&mut self.finished, finished),
+            Err(fault) => Ok(Some(fault)),
+        }
+    }
+}
+
+// Puts it last. Nothing is refused.
+fn keep<T: Drop>(all: &mut Vec<T>, latest: T) -> Result<Option<SideFault>, Fail> {
+    all.push(latest).map_err(AllocError::from)?;
+    Ok(None)
+}
