@@ -8,8 +8,6 @@ mod judging;
 mod round;
 mod scoped;
 mod serving;
-#[cfg(test)]
-mod tests;
 
 pub use done::Done;
 pub use healing::{RoundDone, heal_round};

@@ -2,7 +2,7 @@
 
 use crate::comparing::is_same_option;
 use crate::fault::Fault;
-use crate::sweep::{Subject, sweep};
+use crate::sweep::{Call, Subject, sweep};
 use assembler_text::{assemble, disassemble};
 use insn_codec::{Code, decode, encode};
 use program::{Profile, read_program};
@@ -66,53 +66,72 @@ impl Subject for Coded {
                 is_same_verified,
             )
     }
-
-    fn go_on(&mut self, _alloc: Global) -> Result<(), Fault> {
-        Ok(())
-    }
 }
 
 fn is_same_verified(one: &Verified, other: &Verified) -> bool {
     one.code() == other.code() && one.stores() == other.stores()
 }
 
+/// The calls that read and write programs.
+#[derive(Clone, Copy)]
+enum CodeCall {
+    Decode,
+    Encode,
+    Assemble,
+    Disassemble,
+    Verify,
+    VerifyPeak,
+    ReadProgram,
+}
+
+impl Call<Coded> for CodeCall {
+    fn name(&self) -> &'static str {
+        match self {
+            CodeCall::Decode => "decode",
+            CodeCall::Encode => "encode",
+            CodeCall::Assemble => "assemble",
+            CodeCall::Disassemble => "disassemble",
+            CodeCall::Verify => "verify",
+            CodeCall::VerifyPeak => "verify_peak",
+            CodeCall::ReadProgram => "read_program",
+        }
+    }
+
+    fn prepare(&self, alloc: Global) -> Result<Coded, Fault> {
+        Coded::new(alloc)
+    }
+
+    fn make(&self, alloc: Global, coded: &mut Coded) -> Result<(), Fault> {
+        match self {
+            CodeCall::Decode => coded.read = Some(decode(alloc, &coded.bytes)?),
+            CodeCall::Encode => coded.written = Some(encode(alloc, &coded.code)?),
+            CodeCall::Assemble => coded.read = Some(assemble(alloc, TEXT)?),
+            CodeCall::Disassemble => coded.text = Some(disassemble(alloc, &coded.code)?),
+            CodeCall::Verify => {
+                coded.accepted = Some(verify::<Profile>(alloc, coded.hand_over()?)?);
+            }
+            CodeCall::VerifyPeak => {
+                let (verified, _) = verify_peak::<Profile>(alloc, coded.hand_over()?);
+                coded.accepted = Some(verified?);
+            }
+            CodeCall::ReadProgram => coded.accepted = Some(read_program(alloc, &coded.bytes)?),
+        }
+        Ok(())
+    }
+}
+
 /// Sweeps the calls that read and write programs.
 pub(crate) fn sweep_codes(rt: &HostRuntime) -> Result<(), Fault> {
-    sweep_spellings(rt)?;
-    sweep_verifying(rt)
-}
-
-fn sweep_spellings(rt: &HostRuntime) -> Result<(), Fault> {
-    sweep(rt, "decode", Coded::new, |alloc, coded: &mut Coded| {
-        coded.read = Some(decode(alloc, &coded.bytes)?);
-        Ok(())
-    })?;
-    sweep(rt, "encode", Coded::new, |alloc, coded: &mut Coded| {
-        coded.written = Some(encode(alloc, &coded.code)?);
-        Ok(())
-    })?;
-    sweep(rt, "assemble", Coded::new, |alloc, coded: &mut Coded| {
-        coded.read = Some(assemble(alloc, TEXT)?);
-        Ok(())
-    })?;
-    sweep(rt, "disassemble", Coded::new, |alloc, coded: &mut Coded| {
-        coded.text = Some(disassemble(alloc, &coded.code)?);
-        Ok(())
-    })
-}
-
-fn sweep_verifying(rt: &HostRuntime) -> Result<(), Fault> {
-    sweep(rt, "verify", Coded::new, |alloc, coded: &mut Coded| {
-        coded.accepted = Some(verify::<Profile>(alloc, coded.hand_over()?)?);
-        Ok(())
-    })?;
-    sweep(rt, "verify_peak", Coded::new, |alloc, coded: &mut Coded| {
-        let (verified, _) = verify_peak::<Profile>(alloc, coded.hand_over()?);
-        coded.accepted = Some(verified?);
-        Ok(())
-    })?;
-    sweep(rt, "read_program", Coded::new, |alloc, coded: &mut Coded| {
-        coded.accepted = Some(read_program(alloc, &coded.bytes)?);
-        Ok(())
-    })
+    for call in [
+        CodeCall::Decode,
+        CodeCall::Encode,
+        CodeCall::Assemble,
+        CodeCall::Disassemble,
+        CodeCall::Verify,
+        CodeCall::VerifyPeak,
+        CodeCall::ReadProgram,
+    ] {
+        sweep(rt, &call)?;
+    }
+    Ok(())
 }

@@ -20,15 +20,15 @@ pub(crate) const SEED: u64 = 5;
 #[derive(Drop)]
 pub(crate) struct Exchange {
     pub(crate) side: Side,
-    pub(crate) store: UploadStore,
+    store: UploadStore,
     pub(crate) program: ProgramId,
     pub(crate) of_other: Offer,
     pub(crate) list_of_other: Withdrawals,
     clashes: Option<ClashList>,
-    pub(crate) unregistered: Option<Registration>,
-    pub(crate) offer: Option<Offer>,
-    pub(crate) list: Option<Withdrawals>,
-    pub(crate) finished: Option<Finished>,
+    unregistered: Option<Registration>,
+    offer: Option<Offer>,
+    list: Option<Withdrawals>,
+    finished: Option<Finished>,
 }
 
 impl Exchange {
@@ -57,7 +57,7 @@ impl Exchange {
     /// The same once the side has begun.
     pub(crate) fn begun(alloc: Global, names: u8) -> Result<Exchange, Fault> {
         let mut exchange = Exchange::idle(alloc, names)?;
-        exchange.offer = Some(exchange.side.begin(alloc, NUMBER, SEED, 0)?);
+        exchange.begin(alloc)?;
         exchange.list_clashes(alloc)?;
         Ok(exchange)
     }
@@ -82,15 +82,42 @@ impl Exchange {
         for k in 0..names {
             exchange.take(u32::from(k))?;
         }
-        exchange.list = Some(exchange.side.close_list(alloc)?);
+        exchange.close_list(alloc)?;
         exchange.side.hear_list(&exchange.list_of_other)?;
         Ok(exchange)
     }
 
-    /// Finishes the exchange.
-    pub(crate) fn finish(self, alloc: Global) -> Result<Finished, Fault> {
-        let mut side = self.side;
-        Ok(side.finish(alloc)?)
+    /// What a side finished that had all that it needs.
+    pub(crate) fn finished(alloc: Global, names: u8) -> Result<Finished, Fault> {
+        let mut exchange = Exchange::complete(alloc, names)?;
+        Ok(exchange.side.finish(alloc)?)
+    }
+
+    pub(crate) fn register(&mut self, number: u8, registration: Registration) -> Result<(), Fault> {
+        Ok(
+            self.side
+                .register(numbered_name(number)?, registration, &self.store)?,
+        )
+    }
+
+    pub(crate) fn unregister(&mut self, number: u8) -> Result<(), Fault> {
+        self.unregistered = Some(self.side.unregister(&numbered_name(number)?)?);
+        Ok(())
+    }
+
+    pub(crate) fn begin(&mut self, alloc: Global) -> Result<(), Fault> {
+        self.offer = Some(self.side.begin(alloc, NUMBER, SEED, 0)?);
+        Ok(())
+    }
+
+    pub(crate) fn close_list(&mut self, alloc: Global) -> Result<(), Fault> {
+        self.list = Some(self.side.close_list(alloc)?);
+        Ok(())
+    }
+
+    pub(crate) fn finish(&mut self, alloc: Global) -> Result<(), Fault> {
+        self.finished = Some(self.side.finish(alloc)?);
+        Ok(())
     }
 
     /// The side takes the ruling of clash `k` at its word in the first round. Takes no memory of its own.
@@ -139,19 +166,13 @@ impl Subject for Exchange {
 
     // Goes on to the end of the exchange. What was done already, or can't be done any more, is refused.
     fn go_on(&mut self, alloc: Global) -> Result<(), Fault> {
-        if let Ok(offer) = self.side.begin(alloc, NUMBER, SEED, 0) {
-            self.offer = Some(offer);
-        }
+        let _ = self.begin(alloc);
         self.list_clashes(alloc)?;
         let _ = self.side.hear(alloc, &self.of_other);
         self.take_all();
-        if let Ok(list) = self.side.close_list(alloc) {
-            self.list = Some(list);
-        }
+        let _ = self.close_list(alloc);
         let _ = self.side.hear_list(&self.list_of_other);
-        if let Ok(finished) = self.side.finish(alloc) {
-            self.finished = Some(finished);
-        }
+        let _ = self.finish(alloc);
         Ok(())
     }
 }

@@ -5,7 +5,7 @@ ghost use Rattle.partition_table.specs.Tables.{clash_names};
 use crate::comparing::is_same_table;
 use crate::fault::Fault;
 use crate::rows::{numbered_name, stored, table};
-use crate::sweep::{Subject, sweep};
+use crate::sweep::{Call, Subject, sweep};
 use builtin_resolvers::Verdict3;
 use clash_record::{Name, ResolverId};
 use partition_table::{Table, clashes, merge};
@@ -57,22 +57,31 @@ impl Subject for Merging {
             && self.pair.b == other.pair.b
             && is_same_table(self.merged.as_ref(), other.merged.as_ref())
     }
+}
 
-    fn go_on(&mut self, _alloc: Global) -> Result<(), Fault> {
+/// The merge of two tables with so many names.
+#[derive(Clone, Copy)]
+struct MergeCall {
+    names: u8,
+}
+
+impl Call<Merging> for MergeCall {
+    fn name(&self) -> &'static str {
+        "merge"
+    }
+
+    fn prepare(&self, alloc: Global) -> Result<Merging, Fault> {
+        Merging::new(alloc, self.names)
+    }
+
+    fn make(&self, alloc: Global, merging: &mut Merging) -> Result<(), Fault> {
+        let Pair { a, b, answers, .. } = &merging.pair;
+        merging.merged = Some(merge(alloc, a, b, answers, &merging.gone, &[])?);
         Ok(())
     }
 }
 
 /// Sweeps the merge of tables with so many names.
 pub(crate) fn sweep_merging(rt: &HostRuntime, names: u8) -> Result<(), Fault> {
-    sweep(
-        rt,
-        "merge",
-        |alloc| Merging::new(alloc, names),
-        |alloc, merging: &mut Merging| {
-            let Pair { a, b, answers, .. } = &merging.pair;
-            merging.merged = Some(merge(alloc, a, b, answers, &merging.gone, &[])?);
-            Ok(())
-        },
-    )
+    sweep(rt, &MergeCall { names })
 }

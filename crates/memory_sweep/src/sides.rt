@@ -1,110 +1,108 @@
 //! Calls of a side.
 
-use crate::exchange::{Exchange, NUMBER, SEED};
+use crate::exchange::Exchange;
 use crate::fault::Fault;
 use crate::rows::{by, numbered_name, of};
-use crate::sweep::sweep;
+use crate::sweep::{Call, sweep};
 use clash_record::ResolverId;
+use std::alloc::Global;
 
 /// How many names a side has before the call, so that at one of them its journal is to grow.
 const SIZES: [u8; 4] = [1, 2, 3, 4];
 
+/// A call of a side that has so many names.
+#[derive(Clone, Copy)]
+struct SideCall {
+    kind: SideCallKind,
+    names: u8,
+}
+
+#[derive(Clone, Copy)]
+enum SideCallKind {
+    RegisterBuiltin,
+    RegisterProgram,
+    Unregister,
+    Begin,
+    Hear,
+    HearList,
+    Take,
+    Withdraw,
+    CloseList,
+    Finish,
+    Abandon,
+}
+
+impl Call<Exchange> for SideCall {
+    fn name(&self) -> &'static str {
+        match self.kind {
+            SideCallKind::RegisterBuiltin => "Side::register of a built-in",
+            SideCallKind::RegisterProgram => "Side::register of a program",
+            SideCallKind::Unregister => "Side::unregister",
+            SideCallKind::Begin => "Side::begin",
+            SideCallKind::Hear => "Side::hear",
+            SideCallKind::HearList => "Side::hear_list",
+            SideCallKind::Take => "Side::take",
+            SideCallKind::Withdraw => "Side::withdraw",
+            SideCallKind::CloseList => "Side::close_list",
+            SideCallKind::Finish => "Side::finish",
+            SideCallKind::Abandon => "Side::abandon",
+        }
+    }
+
+    fn prepare(&self, alloc: Global) -> Result<Exchange, Fault> {
+        match self.kind {
+            SideCallKind::RegisterBuiltin
+            | SideCallKind::RegisterProgram
+            | SideCallKind::Unregister
+            | SideCallKind::Begin => Exchange::idle(alloc, self.names),
+            SideCallKind::Hear | SideCallKind::HearList | SideCallKind::Withdraw => {
+                Exchange::begun(alloc, self.names)
+            }
+            SideCallKind::Take => Exchange::heard(alloc, self.names),
+            SideCallKind::CloseList | SideCallKind::Abandon => {
+                Exchange::withdrawn(alloc, self.names)
+            }
+            SideCallKind::Finish => Exchange::complete(alloc, self.names),
+        }
+    }
+
+    fn make(&self, alloc: Global, exchange: &mut Exchange) -> Result<(), Fault> {
+        match self.kind {
+            SideCallKind::RegisterBuiltin => exchange.register(self.names, of(1)),
+            SideCallKind::RegisterProgram => {
+                exchange.register(self.names, by(1, ResolverId::Program(exchange.program)))
+            }
+            SideCallKind::Unregister => exchange.unregister(0),
+            SideCallKind::Begin => exchange.begin(alloc),
+            SideCallKind::Hear => Ok(exchange.side.hear(alloc, &exchange.of_other)?),
+            SideCallKind::HearList => Ok(exchange.side.hear_list(&exchange.list_of_other)?),
+            SideCallKind::Take => exchange.take(0),
+            SideCallKind::Withdraw => Ok(exchange.side.withdraw(&numbered_name(0)?)?),
+            SideCallKind::CloseList => exchange.close_list(alloc),
+            SideCallKind::Finish => exchange.finish(alloc),
+            SideCallKind::Abandon => Ok(exchange.side.abandon()?),
+        }
+    }
+}
+
 /// Sweeps the calls of a side.
 pub(crate) fn sweep_sides(rt: &HostRuntime) -> Result<(), Fault> {
     for names in SIZES {
-        sweep_idle(rt, names)?;
-        sweep_hearing(rt, names)?;
-        sweep_withdrawing(rt, names)?;
-        sweep_ending(rt, names)?;
+        for kind in [
+            SideCallKind::RegisterBuiltin,
+            SideCallKind::RegisterProgram,
+            SideCallKind::Unregister,
+            SideCallKind::Begin,
+            SideCallKind::Hear,
+            SideCallKind::HearList,
+            SideCallKind::Take,
+            SideCallKind::Withdraw,
+            SideCallKind::CloseList,
+            SideCallKind::Finish,
+            SideCallKind::Abandon,
+        ] {
+            sweep(rt, &SideCall { kind, names })?;
+        }
     }
     Ok(())
-}
-
-/// The calls of a side without an open exchange.
-fn sweep_idle(rt: &HostRuntime, names: u8) -> Result<(), Fault> {
-    let idle = |alloc| Exchange::idle(alloc, names);
-    sweep(
-        rt,
-        "Side::register of a built-in",
-        idle,
-        |_, exchange: &mut Exchange| {
-            let name = numbered_name(names)?;
-            Ok(exchange.side.register(name, of(1), &exchange.store)?)
-        },
-    )?;
-    sweep(
-        rt,
-        "Side::register of a program",
-        idle,
-        |_, exchange: &mut Exchange| {
-            let name = numbered_name(names)?;
-            let registration = by(1, ResolverId::Program(exchange.program));
-            Ok(exchange.side.register(name, registration, &exchange.store)?)
-        },
-    )?;
-    sweep(rt, "Side::unregister", idle, |_, exchange: &mut Exchange| {
-        exchange.unregistered = Some(exchange.side.unregister(&numbered_name(0)?)?);
-        Ok(())
-    })?;
-    sweep(rt, "Side::begin", idle, |alloc, exchange: &mut Exchange| {
-        exchange.offer = Some(exchange.side.begin(alloc, NUMBER, SEED, 0)?);
-        Ok(())
-    })
-}
-
-/// The calls that hear the other side, and take a ruling.
-fn sweep_hearing(rt: &HostRuntime, names: u8) -> Result<(), Fault> {
-    let begun = |alloc| Exchange::begun(alloc, names);
-    let heard = |alloc| Exchange::heard(alloc, names);
-    sweep(rt, "Side::hear", begun, |alloc, exchange: &mut Exchange| {
-        Ok(exchange.side.hear(alloc, &exchange.of_other)?)
-    })?;
-    sweep(rt, "Side::hear_list", begun, |_, exchange: &mut Exchange| {
-        Ok(exchange.side.hear_list(&exchange.list_of_other)?)
-    })?;
-    sweep(
-        rt,
-        "Side::take",
-        heard,
-        |_, exchange: &mut Exchange| exchange.take(0),
-    )
-}
-
-/// The calls that take names out of an open exchange.
-fn sweep_withdrawing(rt: &HostRuntime, names: u8) -> Result<(), Fault> {
-    let begun = |alloc| Exchange::begun(alloc, names);
-    let withdrawn = |alloc| Exchange::withdrawn(alloc, names);
-    sweep(rt, "Side::withdraw", begun, |_, exchange: &mut Exchange| {
-        Ok(exchange.side.withdraw(&numbered_name(0)?)?)
-    })?;
-    sweep(
-        rt,
-        "Side::close_list",
-        withdrawn,
-        |alloc, exchange: &mut Exchange| {
-            exchange.list = Some(exchange.side.close_list(alloc)?);
-            Ok(())
-        },
-    )
-}
-
-/// The calls that close an exchange.
-fn sweep_ending(rt: &HostRuntime, names: u8) -> Result<(), Fault> {
-    let withdrawn = |alloc| Exchange::withdrawn(alloc, names);
-    let complete = |alloc| Exchange::complete(alloc, names);
-    sweep(
-        rt,
-        "Side::finish",
-        complete,
-        |alloc, exchange: &mut Exchange| {
-            exchange.finished = Some(exchange.side.finish(alloc)?);
-            Ok(())
-        },
-    )?;
-    sweep(
-        rt,
-        "Side::abandon",
-        withdrawn,
-        |_, exchange: &mut Exchange| { Ok(exchange.side.abandon()?) },
-    )
 }

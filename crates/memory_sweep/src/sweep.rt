@@ -18,8 +18,22 @@ pub(crate) trait Subject: Drop {
     /// Whether all that is seen of the two is the same.
     fn is_same(&self, other: &Self) -> bool;
 
-    /// Goes on with ample memory, so that what the call left out of sight is seen.
-    fn go_on(&mut self, alloc: Global) -> Result<(), Fault>;
+    /// Goes on with ample memory, so that what the call left out of sight is seen. Most leave nothing out of sight.
+    fn go_on(&mut self, _alloc: Global) -> Result<(), Fault> {
+        Ok(())
+    }
+}
+
+/// A call on such a subject.
+pub(crate) trait Call<S> {
+    /// The call's name, as it is printed.
+    fn name(&self) -> &'static str;
+
+    /// What the call is made on.
+    fn prepare(&self, alloc: Global) -> Result<S, Fault>;
+
+    /// Makes the call, and keeps its answer in the subject.
+    fn make(&self, alloc: Global, subject: &mut S) -> Result<(), Fault>;
 }
 
 /// What a call did one of whose requests was to be refused.
@@ -34,18 +48,11 @@ enum Outcome {
 }
 
 /// Makes the call with each of its requests for memory refused in turn, and prints whether it is right.
-pub(crate) fn sweep<
-    S: Subject,
-    P: Fn(Global) -> Result<S, Fault>,
-    C: Fn(Global, &mut S) -> Result<(), Fault>,
->(rt: &HostRuntime, name: &str, prepare: P, call: C) -> Result<(), Fault>
-    requires prepare { P.IsAlwaysCallable prepare }
-    requires call { C.IsAlwaysCallable call }
-{
-    println!(rt; "call {name}")?;
+pub(crate) fn sweep<S: Subject, C: Call<S>>(rt: &HostRuntime, call: &C) -> Result<(), Fault> {
+    println!(rt; "call {}", call.name())?;
     let mut answered: u32 = 0;
     for request in 1..MOST_REQUESTS {
-        match refuse_one(rt, request, &prepare, &call)? {
+        match refuse_one(rt, request, call)? {
             Outcome::Refused => answered = 0,
             Outcome::Answered => answered = answered.wrapping_add(1),
             Outcome::Wrong(what) => {
@@ -63,24 +70,20 @@ pub(crate) fn sweep<
 }
 
 /// Makes the call with this request refused, and prints what it answered.
-fn refuse_one<
-    S: Subject,
-    P: Fn(Global) -> Result<S, Fault>,
-    C: Fn(Global, &mut S) -> Result<(), Fault>,
->(rt: &HostRuntime, request: u32, prepare: &P, call: &C) -> Result<Outcome, Fault>
-    requires prepare { P.IsAlwaysCallable prepare.now }
-    requires call { C.IsAlwaysCallable call.now }
-{
+fn refuse_one<S: Subject, C: Call<S>>(
+    rt: &HostRuntime,
+    request: u32,
+    call: &C,
+) -> Result<Outcome, Fault> {
     let alloc = rt.alloc();
-    let mut subject = prepare(alloc)?;
+    let mut subject = call.prepare(alloc)?;
     println!(rt; "refuse {request}")?;
-    let answer = call(alloc, &mut subject);
+    let answer = call.make(alloc, &mut subject);
     println!(rt; "ample")?;
     match answer {
         Ok(()) => {
             println!(rt; "answered")?;
-            let is_right = is_as_unrefused(alloc, subject, prepare, call)?;
-            Ok(if is_right {
+            Ok(if is_as_unrefused(alloc, subject, call)? {
                 Outcome::Answered
             } else {
                 Outcome::Wrong("it left something else than it always leaves")
@@ -88,31 +91,26 @@ fn refuse_one<
         }
         Err(fault) if fault.is_want_of_memory() => {
             println!(rt; "refused")?;
-            make_again(alloc, subject, prepare, call)
+            make_again(alloc, subject, call)
         }
         Err(_) => Ok(Outcome::Wrong("it was refused for something else than memory")),
     }
 }
 
 /// Makes a call again that was refused.
-fn make_again<
-    S: Subject,
-    P: Fn(Global) -> Result<S, Fault>,
-    C: Fn(Global, &mut S) -> Result<(), Fault>,
->(alloc: Global, refused: S, prepare: &P, call: &C) -> Result<Outcome, Fault>
-    requires prepare { P.IsAlwaysCallable prepare.now }
-    requires call { C.IsAlwaysCallable call.now }
-{
+fn make_again<S: Subject, C: Call<S>>(
+    alloc: Global,
+    refused: S,
+    call: &C,
+) -> Result<Outcome, Fault> {
     let mut subject = refused;
-    let before = prepare(alloc)?;
-    if !subject.is_same(&before) {
+    if !subject.is_same(&call.prepare(alloc)?) {
         return Ok(Outcome::Wrong("the refused call changed something"));
     }
-    if call(alloc, &mut subject).is_err() {
+    if call.make(alloc, &mut subject).is_err() {
         return Ok(Outcome::Wrong("it was refused again with ample memory"));
     }
-    let is_right = is_as_unrefused(alloc, subject, prepare, call)?;
-    Ok(if is_right {
+    Ok(if is_as_unrefused(alloc, subject, call)? {
         Outcome::Refused
     } else {
         Outcome::Wrong("made again it left something else")
@@ -120,17 +118,14 @@ fn make_again<
 }
 
 /// Whether the call left what it leaves with ample memory, also once both go on.
-fn is_as_unrefused<
-    S: Subject,
-    P: Fn(Global) -> Result<S, Fault>,
-    C: Fn(Global, &mut S) -> Result<(), Fault>,
->(alloc: Global, called: S, prepare: &P, call: &C) -> Result<bool, Fault>
-    requires prepare { P.IsAlwaysCallable prepare.now }
-    requires call { C.IsAlwaysCallable call.now }
-{
+fn is_as_unrefused<S: Subject, C: Call<S>>(
+    alloc: Global,
+    called: S,
+    call: &C,
+) -> Result<bool, Fault> {
     let mut subject = called;
-    let mut wanted = prepare(alloc)?;
-    call(alloc, &mut wanted)?;
+    let mut wanted = call.prepare(alloc)?;
+    call.make(alloc, &mut wanted)?;
     if !subject.is_same(&wanted) {
         return Ok(false);
     }
@@ -139,24 +134,30 @@ fn is_as_unrefused<
     Ok(subject.is_same(&wanted))
 }
 
-/// Makes a call that takes no memory while each request is refused, and prints whether its answer is the wanted one.
-pub(crate) fn without_memory<A: PartialEq + Drop, C: FnOnce() -> A>(
-    rt: &HostRuntime,
-    name: &str,
-    call: C,
-    wanted: A,
-) -> Result<(), Fault>
-    requires { C.IsAlwaysCallable call }
-{
+/// A call that is made while each request for memory is refused.
+#[derive(Clone, Copy)]
+pub(crate) struct Refusing<'r> {
+    rt: &'r HostRuntime,
+}
+
+/// Refuses each request for memory from now on, for a call of this name.
+pub(crate) fn refuse_all<'r>(rt: &'r HostRuntime, name: &str) -> Result<Refusing<'r>, Fault> {
     println!(rt; "call {name}")?;
     println!(rt; "refuse all")?;
-    let answer = call();
-    println!(rt; "ample")?;
-    println!(rt; "answered")?;
-    if answer == wanted {
-        println!(rt; "right")?;
-    } else {
-        println!(rt; "wrong: it answered something else")?;
+    Ok(Refusing { rt })
+}
+
+impl Refusing<'_> {
+    /// Refuses none any more, and prints whether the call's answer is the wanted one.
+    pub(crate) fn gave<A: PartialEq + Drop>(self, answer: A, wanted: A) -> Result<(), Fault> {
+        let rt = self.rt;
+        println!(rt; "ample")?;
+        println!(rt; "answered")?;
+        if answer == wanted {
+            println!(rt; "right")?;
+        } else {
+            println!(rt; "wrong: it answered something else")?;
+        }
+        Ok(())
     }
-    Ok(())
 }

@@ -4,48 +4,14 @@ use crate::comparing::{is_same_option, is_same_program, is_same_table};
 use crate::fault::Fault;
 use crate::merging::sweep_merging;
 use crate::rows::{FIRST, by, numbered_name, of, stored, table};
-use crate::sweep::{Subject, sweep};
-use clash_record::{ProgramId, ResolverId};
+use crate::sweep::{Call, Subject, sweep};
+use clash_record::{ProgramId, Registration, ResolverId};
 use partition_table::{Clash, ClashList, Table, clashes};
 use std::alloc::Global;
 use upload_store::UploadStore;
 
 /// How many names a table has before the call: none, and so many that the next one splits a node of its tree.
 const SIZES: [u8; 2] = [0, 11];
-
-/// A store with one program, and what the upload of another answered.
-#[derive(Drop)]
-struct Uploading {
-    store: UploadStore,
-    kept: ProgramId,
-    answer: Option<ProgramId>,
-}
-
-impl Uploading {
-    fn new(alloc: Global) -> Result<Uploading, Fault> {
-        let (store, kept) = stored(alloc)?;
-        Ok(Uploading {
-            store,
-            kept,
-            answer: None,
-        })
-    }
-
-    /// The ids that the store may have.
-    fn ids(&self) -> [ProgramId; 2] {
-        [self.kept, self.answer.unwrap_or(self.kept)]
-    }
-}
-
-impl Subject for Uploading {
-    fn is_same(&self, other: &Uploading) -> bool {
-        self.answer == other.answer && is_same_store(&self.store, &other.store, &self.ids())
-    }
-
-    fn go_on(&mut self, _alloc: Global) -> Result<(), Fault> {
-        Ok(())
-    }
-}
 
 /// Whether the two stores have as many programs, and the same ones under these ids.
 fn is_same_store(one: &UploadStore, other: &UploadStore, ids: &[ProgramId]) -> bool {
@@ -55,13 +21,14 @@ fn is_same_store(one: &UploadStore, other: &UploadStore, ids: &[ProgramId]) -> b
             .all(|id| is_same_program(one.get(id), other.get(id)))
 }
 
-/// A table, a store, and what a call of the table gave.
+/// A table, a store with one program, and what a call of either gave.
 #[derive(Drop)]
 struct Tabled {
     table: Table,
     other: Table,
     store: UploadStore,
     program: ProgramId,
+    uploaded: Option<ProgramId>,
     given: Option<Table>,
     clashes: Option<ClashList>,
 }
@@ -76,9 +43,23 @@ impl Tabled {
             other: table(alloc, names, 2, resolver, &store)?,
             store,
             program,
+            uploaded: None,
             given: None,
             clashes: None,
         })
+    }
+
+    /// Registers the name of this number.
+    fn register(&mut self, number: u8, registration: Registration) -> Result<(), Fault> {
+        Ok(
+            self.table
+                .register(numbered_name(number)?, registration, &self.store)?,
+        )
+    }
+
+    /// The ids that the store may have.
+    fn ids(&self) -> [ProgramId; 2] {
+        [self.program, self.uploaded.unwrap_or(self.program)]
     }
 }
 
@@ -87,13 +68,10 @@ impl Subject for Tabled {
         self.table == other.table
             && self.other == other.other
             && self.table.len() == other.table.len()
-            && is_same_store(&self.store, &other.store, &[self.program])
+            && self.uploaded == other.uploaded
+            && is_same_store(&self.store, &other.store, &self.ids())
             && is_same_table(self.given.as_ref(), other.given.as_ref())
             && is_same_option(self.clashes.as_ref(), other.clashes.as_ref(), is_same_list)
-    }
-
-    fn go_on(&mut self, _alloc: Global) -> Result<(), Fault> {
-        Ok(())
     }
 }
 
@@ -112,70 +90,81 @@ fn is_same_clash(one: &Clash, other: &Clash) -> bool {
         && is_same_program(one.program(), other.program())
 }
 
+/// A call of a store or of a table that has so many names.
+#[derive(Clone, Copy)]
+struct TableCall {
+    kind: TableCallKind,
+    names: u8,
+}
+
+#[derive(Clone, Copy)]
+enum TableCallKind {
+    Upload,
+    RegisterBuiltin,
+    RegisterProgram,
+    TryClone,
+    Clashes,
+}
+
+impl Call<Tabled> for TableCall {
+    fn name(&self) -> &'static str {
+        match self.kind {
+            TableCallKind::Upload => "UploadStore::upload",
+            TableCallKind::RegisterBuiltin => "Table::register of a built-in",
+            TableCallKind::RegisterProgram => "Table::register of a program",
+            TableCallKind::TryClone => "Table::try_clone",
+            TableCallKind::Clashes => "clashes",
+        }
+    }
+
+    fn prepare(&self, alloc: Global) -> Result<Tabled, Fault> {
+        Tabled::new(alloc, self.names)
+    }
+
+    fn make(&self, alloc: Global, tabled: &mut Tabled) -> Result<(), Fault> {
+        match self.kind {
+            TableCallKind::Upload => tabled.uploaded = Some(tabled.store.upload(alloc, &FIRST)?),
+            TableCallKind::RegisterBuiltin => tabled.register(self.names, of(1))?,
+            TableCallKind::RegisterProgram => {
+                tabled.register(self.names, by(1, ResolverId::Program(tabled.program)))?;
+            }
+            TableCallKind::TryClone => tabled.given = Some(tabled.table.try_clone()?),
+            TableCallKind::Clashes => {
+                tabled.clashes = Some(clashes(alloc, &tabled.table, 0, &tabled.other, 0)?);
+            }
+        }
+        Ok(())
+    }
+}
+
 /// Sweeps the calls of a store and of tables.
 pub(crate) fn sweep_tables(rt: &HostRuntime) -> Result<(), Fault> {
-    sweep_uploads(rt)?;
+    sweep_kinds(rt, 1, &[TableCallKind::Upload])?;
     for names in SIZES {
-        sweep_registering(rt, names)?;
+        sweep_kinds(
+            rt,
+            names,
+            &[
+                TableCallKind::RegisterBuiltin,
+                TableCallKind::RegisterProgram,
+            ],
+        )?;
     }
     for names in [1, 12] {
-        sweep_pairs(rt, names)?;
+        sweep_kinds(
+            rt,
+            names,
+            &[TableCallKind::TryClone, TableCallKind::Clashes],
+        )?;
         sweep_merging(rt, names)?;
     }
     Ok(())
 }
 
-fn sweep_uploads(rt: &HostRuntime) -> Result<(), Fault> {
-    sweep(
-        rt,
-        "UploadStore::upload",
-        Uploading::new,
-        |alloc, uploading: &mut Uploading| {
-            uploading.answer = Some(uploading.store.upload(alloc, &FIRST)?);
-            Ok(())
-        },
-    )
-}
-
-fn sweep_registering(rt: &HostRuntime, names: u8) -> Result<(), Fault> {
-    sweep(
-        rt,
-        "Table::register of a built-in",
-        |alloc| Tabled::new(alloc, names),
-        |_, tabled: &mut Tabled| {
-            let name = numbered_name(names)?;
-            Ok(tabled.table.register(name, of(1), &tabled.store)?)
-        },
-    )?;
-    sweep(
-        rt,
-        "Table::register of a program",
-        |alloc| Tabled::new(alloc, names),
-        |_, tabled: &mut Tabled| {
-            let registration = by(1, ResolverId::Program(tabled.program));
-            let name = numbered_name(names)?;
-            Ok(tabled.table.register(name, registration, &tabled.store)?)
-        },
-    )
-}
-
-fn sweep_pairs(rt: &HostRuntime, names: u8) -> Result<(), Fault> {
-    sweep(
-        rt,
-        "Table::try_clone",
-        |alloc| Tabled::new(alloc, names),
-        |_, tabled: &mut Tabled| {
-            tabled.given = Some(tabled.table.try_clone()?);
-            Ok(())
-        },
-    )?;
-    sweep(
-        rt,
-        "clashes",
-        |alloc| Tabled::new(alloc, names),
-        |alloc, tabled: &mut Tabled| {
-            tabled.clashes = Some(clashes(alloc, &tabled.table, 0, &tabled.other, 0)?);
-            Ok(())
-        },
-    )
+/// Sweeps these calls, made on tables with so many names.
+fn sweep_kinds(rt: &HostRuntime, names: u8, kinds: &[TableCallKind]) -> Result<(), Fault> {
+    for kind in kinds {
+        sweep(rt, &TableCall { kind: *kind, names })?;
+    }
+    Ok(())
 }

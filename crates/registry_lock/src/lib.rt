@@ -8,8 +8,6 @@ mod inbox;
 mod meeting;
 mod partition;
 mod telling;
-#[cfg(test)]
-mod tests;
 
 pub use fault::MeetFault;
 pub use healed::Healed;
