@@ -39,8 +39,8 @@ impl<'p> Boarded<'p> {
         let caller = self.caller.take().ok_or(Fault::Unprepared)?;
         let (caller, is_kept, seen) = caller.post();
         self.caller = Some(caller);
-        self.seen = Some(seen);
         self.is_kept = is_kept.ok_or(AllocError)?;
+        self.seen = Some(seen);
         Ok(())
     }
 }
