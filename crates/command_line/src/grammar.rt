@@ -1,7 +1,7 @@
 //! The command line as clap knows it.
 ghost use Rattle.std.specs.Prelude.{◌≡◌, IfOk, false};
 ghost use Rattle.clap.specs.Words.{app_of, rule_of};
-ghost use Rattle.command_line.specs.Asked.{check_app, heal_app, judge_app, needed, one_app, profile_option, run_app, workers_option};
+ghost use Rattle.command_line.specs.Asked.{asm_app, check_app, dis_app, heal_app, judge_app, needed, one_app, profile_option, run_app, workers_option};
 ghost use Rattle.command_line.specs.model.Apps.{IsApp};
 
 use clap::builder::ValueParser;
@@ -141,6 +141,22 @@ fn judge_command<'a>(alloc: Global) -> Result<Command<'a>, AllocError>
         .arg(clash)
 }
 
+// The text of code.
+fn asm_command<'a>(alloc: Global) -> Result<Command<'a>, AllocError>
+    ensures { IfOk result (λ c. IsApp c asm_app) }
+{
+    let file = "A file that holds the text of code";
+    one_command(alloc, "asm", "Prints the code of a text", "FILE", file)
+}
+
+// Code alone.
+fn dis_command<'a>(alloc: Global) -> Result<Command<'a>, AllocError>
+    ensures { IfOk result (λ c. IsApp c dis_app) }
+{
+    let about = "Prints the text of code";
+    one_command(alloc, "dis", about, "HEX", "Code, in hex digits")
+}
+
 // A subcommand with one argument.
 fn one_command<'a>(
     alloc: Global,
@@ -160,25 +176,18 @@ fn one_command<'a>(
 pub(crate) fn heal<'a>(alloc: Global) -> Result<Command<'a>, AllocError>
     ensures { IfOk result (λ c. app_of c ≡ heal_app) }
 {
-    let check = check_command(alloc)?;
-    let judge = judge_command(alloc)?;
-    let file = "A file that holds the text of code";
-    let asm = one_command(alloc, "asm", "Prints the code of a text", "FILE", file)?;
-    let dis = one_command(
-        alloc,
-        "dis",
-        "Prints the text of code",
-        "HEX",
-        "Code, in hex digits",
-    )?;
-    let run = run_command(alloc)?;
-    let heal = Command::new(alloc, "heal")
+    let named = Command::new(alloc, "heal")
         .bin_name("heal")?
-        .after_help(REFUSALS)
-        .subcommand(check)?
-        .subcommand(judge)?
-        .subcommand(asm)?
-        .subcommand(dis)?
-        .subcommand(run)?;
-    Ok(heal.subcommand_required(true))
+        .after_help(REFUSALS);
+    let check = check_command(alloc)?;
+    let checking = named.subcommand(check)?;
+    let judge = judge_command(alloc)?;
+    let judging = checking.subcommand(judge)?;
+    let asm = asm_command(alloc)?;
+    let assembling = judging.subcommand(asm)?;
+    let dis = dis_command(alloc)?;
+    let disassembling = assembling.subcommand(dis)?;
+    let run = run_command(alloc)?;
+    let running = disassembling.subcommand(run)?;
+    Ok(running.subcommand_required(true))
 }

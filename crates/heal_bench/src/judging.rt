@@ -3,7 +3,7 @@ ghost use Rattle.std.specs.Prelude.{◌<◌, ◌≤◌, IfOk};
 
 use crate::registry::{Fault, numbered_name, registration};
 use clash_record::ResolverId;
-use judge_pool::{Ear, Gate, heal_round};
+use judge_pool::{Ear, OpenGate, heal_round};
 use partition_table::{ClashList, Ruling, Table, clashes};
 use std::alloc::Global;
 use std::fmt;
@@ -39,14 +39,6 @@ impl fmt::Display for RoundTime {
     }
 }
 
-/// Holds no post.
-#[derive(Drop)]
-struct Open;
-
-impl Gate for Open {
-    fn before_post<R: Wait>(&self, _rt: &R, _round: u32, _k: u32) {}
-}
-
 /// Drops what it is told.
 #[derive(Drop)]
 struct Deaf;
@@ -68,7 +60,7 @@ pub(crate) fn measure<R: Threads + Wait + Clock + AllocGlobal + Sync>(
     for _ in 0..ROUNDS {
         let (board, seats) = open(rt.alloc(), NUMBER, SEED, &list, workers)?;
         let start = Instant::now(rt)?;
-        let done = heal_round(rt, rt.alloc(), &board, seats, 0, &Open, &Deaf, &Deaf);
+        let done = heal_round(rt, rt.alloc(), &board, seats, 0, &OpenGate, &Deaf, &Deaf);
         total = total.wrapping_add(start.elapsed(rt)?.as_nanos());
         kept = kept.wrapping_add(done.kept);
     }

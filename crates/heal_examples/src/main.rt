@@ -1,19 +1,12 @@
 //! Runs the scripts under examples/, and says which of them answer as is written beside them.
 #![tactic(auto)]
 
-use judge_pool::Gate;
+use judge_pool::OpenGate;
 use script_engine::run_script;
 use std::rt::Files;
 use std::sync::Wait;
 use std::thread::Threads;
 use std::{fs, io};
-
-// Holds no post back.
-struct OpenGate;
-
-impl Gate for OpenGate {
-    fn before_post<R: Wait>(&self, _rt: &R, _round: u32, _k: u32) {}
-}
 
 // The example's bytes with this ending of its name.
 fn bytes_of<R: Files + AllocGlobal>(rt: &R, example: &str, ending: &str) -> io::Result<Vec<u8>> {

@@ -4,7 +4,7 @@ ghost use Rattle.output.specs.Sending.{AppendsFront};
 ghost use Rattle.heal_main.specs.Obeying.{Obeys, RunsFile, TellsUnopened};
 
 use answers::reply_to;
-use judge_pool::Gate;
+use judge_pool::OpenGate;
 use output::send;
 use script_engine::run_script;
 use std::fs;
@@ -13,13 +13,6 @@ use std::rt::Files;
 use std::sync::Wait;
 use std::thread::Threads;
 use task::{Task, Workers};
-
-// Holds no post back.
-struct OpenGate;
-
-impl Gate for OpenGate {
-    fn before_post<R: Wait>(&self, _rt: &R, _round: u32, _k: u32) {}
-}
 
 /// Carries a task out, and answers the program's status: 0, or 2 where it or a line of a script was refused, or 3 where
 /// memory ran out, or a file could not be read, or the writer failed. What was written is handed on before it ends.

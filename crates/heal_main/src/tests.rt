@@ -97,49 +97,53 @@ fn no_task(rt: HostRuntime) -> Result<(), Fail> {
     Ok(())
 }
 
-// What is told begins with, has, and ends with.
+/// Words, and what is told for them begins with, has, and ends with.
+const TOLD: [(&[&str], [&str; 3]); 5] = [
+    (
+        &["./heal"],
+        [
+            "error: 'heal' requires a subcommand but one was not provided\n",
+            "\nUsage: heal <COMMAND>\n",
+            "\n",
+        ],
+    ),
+    (
+        &["./heal", "check"],
+        [
+            "error: the following required arguments were not provided:\n  <HEX>\n",
+            "\nUsage: heal check <HEX>\n",
+            "\n",
+        ],
+    ),
+    (
+        &["./heal", "--help"],
+        [
+            "Usage: heal <COMMAND>\n",
+            "\n  judge  Judges a clash by code: first, second or neither keeps the name\n",
+            "\n  90  memory ran out\n",
+        ],
+    ),
+    (
+        &["./heal", "--help"],
+        [
+            "Usage: heal <COMMAND>\n",
+            "\n  21  an access that may leave the record\n",
+            "\n",
+        ],
+    ),
+    (
+        &["./heal", "judge", "--help"],
+        [
+            "Judges a clash",
+            "\n  <RECORDHEX>  The record of the clash, in hex digits\n",
+            "\n",
+        ],
+    ),
+];
+
 #[test]
 fn what_is_told(rt: HostRuntime) -> Result<(), Fail> {
-    let help = "Usage: heal <COMMAND>\n";
-    let rows: [(&[&str], [&str; 3]); 5] = [
-        (
-            &["./heal"],
-            [
-                "error: 'heal' requires a subcommand but one was not provided\n",
-                "\nUsage: heal <COMMAND>\n",
-                "\n",
-            ],
-        ),
-        (
-            &["./heal", "check"],
-            [
-                "error: the following required arguments were not provided:\n  <HEX>\n",
-                "\nUsage: heal check <HEX>\n",
-                "\n",
-            ],
-        ),
-        (
-            &["./heal", "--help"],
-            [
-                help,
-                "\n  judge  Judges a clash by code: first, second or neither keeps the name\n",
-                "\n  90  memory ran out\n",
-            ],
-        ),
-        (
-            &["./heal", "--help"],
-            [help, "\n  21  an access that may leave the record\n", "\n"],
-        ),
-        (
-            &["./heal", "judge", "--help"],
-            [
-                "Judges a clash",
-                "\n  <RECORDHEX>  The record of the clash, in hex digits\n",
-                "\n",
-            ],
-        ),
-    ];
-    for (words, [begin, part, end]) in rows {
+    for (words, [begin, part, end]) in TOLD {
         let (status, _, errors) = answered(&rt, words)?;
         let told = str::from_utf8(&errors).unwrap_or_default();
         assert!(rt;

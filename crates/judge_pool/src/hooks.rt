@@ -12,6 +12,14 @@ pub trait Gate {
     fn before_post<R: Wait>(&self, rt: &R, round: u32, k: u32);
 }
 
+/// Holds no post back.
+#[derive(Clone, Copy)]
+pub struct OpenGate;
+
+impl Gate for OpenGate {
+    fn before_post<R: Wait>(&self, _rt: &R, _round: u32, _k: u32) {}
+}
+
 /// Who is told rulings.
 pub trait Ear {
     /// A ruling that the pass has seen.

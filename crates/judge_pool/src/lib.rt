@@ -11,7 +11,7 @@ mod serving;
 
 pub use done::Done;
 pub use healing::{RoundDone, heal_round};
-pub use hooks::{Ear, Gate};
+pub use hooks::{Ear, Gate, OpenGate};
 pub use judging::judge;
 pub use partition_table::word;
 pub use serving::work;

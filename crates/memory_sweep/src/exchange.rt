@@ -19,11 +19,11 @@ pub(crate) const SEED: u64 = 5;
 /// A side, what it hears of the other, and what its calls answered.
 #[derive(Drop)]
 pub(crate) struct Exchange {
-    pub(crate) side: Side,
+    side: Side,
     store: UploadStore,
     pub(crate) program: ProgramId,
-    pub(crate) of_other: Offer,
-    pub(crate) list_of_other: Withdrawals,
+    of_other: Offer,
+    list_of_other: Withdrawals,
     clashes: Option<ClashList>,
     unregistered: Option<Registration>,
     offer: Option<Offer>,
@@ -31,15 +31,35 @@ pub(crate) struct Exchange {
     finished: Option<Finished>,
 }
 
+/// How far an exchange has come.
+#[derive(Clone, Copy)]
+pub(crate) enum Stage {
+    /// The side hasn't begun.
+    Idle,
+    Begun,
+    /// It has begun and heard the other.
+    Heard,
+    /// It has begun and withdrawn its first name.
+    Withdrawn,
+    /// It has all that it needs to finish.
+    Complete,
+    Finished,
+}
+
 impl Exchange {
+    /// An exchange that has come so far, of a side with so many names.
+    pub(crate) fn at(alloc: Global, stage: Stage, names: u8) -> Result<Exchange, Fault> {
+        let mut exchange = Exchange::idle(alloc, names)?;
+        exchange.advance(alloc, stage, names)?;
+        Ok(exchange)
+    }
+
     /// A side with so many names, and another that has the same names with owners of its own and has closed its list.
-    pub(crate) fn idle(alloc: Global, names: u8) -> Result<Exchange, Fault> {
+    fn idle(alloc: Global, names: u8) -> Result<Exchange, Fault> {
         let (store, program) = stored(alloc)?;
         let resolver = ResolverId::Program(program);
         let side = side_with(alloc, SideId::A, names, 1, resolver, &store)?;
-        let mut other = side_with(alloc, SideId::B, names, 2, resolver, &store)?;
-        let of_other = other.begin(alloc, NUMBER, SEED, 0)?;
-        let list_of_other = other.close_list(alloc)?;
+        let (of_other, list_of_other) = sent_by_other(alloc, names, resolver, &store)?;
         Ok(Exchange {
             side,
             store,
@@ -54,43 +74,38 @@ impl Exchange {
         })
     }
 
-    /// The same once the side has begun.
-    pub(crate) fn begun(alloc: Global, names: u8) -> Result<Exchange, Fault> {
-        let mut exchange = Exchange::idle(alloc, names)?;
-        exchange.begin(alloc)?;
-        exchange.list_clashes(alloc)?;
-        Ok(exchange)
-    }
-
-    /// The same once the side has heard the other.
-    pub(crate) fn heard(alloc: Global, names: u8) -> Result<Exchange, Fault> {
-        let mut exchange = Exchange::begun(alloc, names)?;
-        exchange.side.hear(alloc, &exchange.of_other)?;
-        Ok(exchange)
-    }
-
-    /// A side that has begun and withdrawn its first name.
-    pub(crate) fn withdrawn(alloc: Global, names: u8) -> Result<Exchange, Fault> {
-        let mut exchange = Exchange::begun(alloc, names)?;
-        exchange.side.withdraw(&numbered_name(0)?)?;
-        Ok(exchange)
-    }
-
-    /// A side that has all that it needs to finish.
-    pub(crate) fn complete(alloc: Global, names: u8) -> Result<Exchange, Fault> {
-        let mut exchange = Exchange::heard(alloc, names)?;
-        for k in 0..names {
-            exchange.take(u32::from(k))?;
+    // Goes on from where the side hasn't begun.
+    fn advance(&mut self, alloc: Global, stage: Stage, names: u8) -> Result<(), Fault> {
+        if matches!(stage, Stage::Idle) {
+            return Ok(());
         }
-        exchange.close_list(alloc)?;
-        exchange.side.hear_list(&exchange.list_of_other)?;
-        Ok(exchange)
+        self.begin(alloc)?;
+        self.list_clashes(alloc)?;
+        match stage {
+            Stage::Idle | Stage::Begun => Ok(()),
+            Stage::Heard => self.hear(alloc),
+            Stage::Withdrawn => self.withdraw(0),
+            Stage::Complete => self.complete(alloc, names),
+            Stage::Finished => {
+                self.complete(alloc, names)?;
+                self.finish(alloc)
+            }
+        }
     }
 
-    /// What a side finished that had all that it needs.
+    fn complete(&mut self, alloc: Global, names: u8) -> Result<(), Fault> {
+        self.hear(alloc)?;
+        for k in 0..names {
+            self.take(u32::from(k))?;
+        }
+        self.close_list(alloc)?;
+        self.hear_list()
+    }
+
+    /// What a side of so many names finished with.
     pub(crate) fn finished(alloc: Global, names: u8) -> Result<Finished, Fault> {
-        let mut exchange = Exchange::complete(alloc, names)?;
-        Ok(exchange.side.finish(alloc)?)
+        let mut exchange = Exchange::at(alloc, Stage::Finished, names)?;
+        exchange.finished.take().ok_or(Fault::Unprepared)
     }
 
     pub(crate) fn register(&mut self, number: u8, registration: Registration) -> Result<(), Fault> {
@@ -108,6 +123,22 @@ impl Exchange {
     pub(crate) fn begin(&mut self, alloc: Global) -> Result<(), Fault> {
         self.offer = Some(self.side.begin(alloc, NUMBER, SEED, 0)?);
         Ok(())
+    }
+
+    pub(crate) fn hear(&mut self, alloc: Global) -> Result<(), Fault> {
+        Ok(self.side.hear(alloc, &self.of_other)?)
+    }
+
+    pub(crate) fn hear_list(&mut self) -> Result<(), Fault> {
+        Ok(self.side.hear_list(&self.list_of_other)?)
+    }
+
+    pub(crate) fn withdraw(&mut self, number: u8) -> Result<(), Fault> {
+        Ok(self.side.withdraw(&numbered_name(number)?)?)
+    }
+
+    pub(crate) fn abandon(&mut self) -> Result<(), Fault> {
+        Ok(self.side.abandon()?)
     }
 
     pub(crate) fn close_list(&mut self, alloc: Global) -> Result<(), Fault> {
@@ -168,10 +199,10 @@ impl Subject for Exchange {
     fn go_on(&mut self, alloc: Global) -> Result<(), Fault> {
         let _ = self.begin(alloc);
         self.list_clashes(alloc)?;
-        let _ = self.side.hear(alloc, &self.of_other);
+        let _ = self.hear(alloc);
         self.take_all();
         let _ = self.close_list(alloc);
-        let _ = self.side.hear_list(&self.list_of_other);
+        let _ = self.hear_list();
         let _ = self.finish(alloc);
         Ok(())
     }
@@ -191,6 +222,18 @@ fn side_with(
         side.register(numbered_name(number)?, by(node, resolver), store)?;
     }
     Ok(side)
+}
+
+/// The offer and the list of a side with so many names of owners on node 2, all judged by this resolver.
+fn sent_by_other(
+    alloc: Global,
+    names: u8,
+    resolver: ResolverId,
+    store: &UploadStore,
+) -> Result<(Offer, Withdrawals), Fault> {
+    let mut other = side_with(alloc, SideId::B, names, 2, resolver, store)?;
+    let offer = other.begin(alloc, NUMBER, SEED, 0)?;
+    Ok((offer, other.close_list(alloc)?))
 }
 
 fn has_same_rows(one: &Side, other: &Side) -> bool {

@@ -1,8 +1,8 @@
 //! Calls of a side.
 
-use crate::exchange::Exchange;
+use crate::exchange::{Exchange, Stage};
 use crate::fault::Fault;
-use crate::rows::{by, numbered_name, of};
+use crate::rows::{by, of};
 use crate::sweep::{Call, sweep};
 use clash_record::ResolverId;
 use std::alloc::Global;
@@ -50,20 +50,17 @@ impl Call<Exchange> for SideCall {
     }
 
     fn prepare(&self, alloc: Global) -> Result<Exchange, Fault> {
-        match self.kind {
+        let stage = match self.kind {
             SideCallKind::RegisterBuiltin
             | SideCallKind::RegisterProgram
             | SideCallKind::Unregister
-            | SideCallKind::Begin => Exchange::idle(alloc, self.names),
-            SideCallKind::Hear | SideCallKind::HearList | SideCallKind::Withdraw => {
-                Exchange::begun(alloc, self.names)
-            }
-            SideCallKind::Take => Exchange::heard(alloc, self.names),
-            SideCallKind::CloseList | SideCallKind::Abandon => {
-                Exchange::withdrawn(alloc, self.names)
-            }
-            SideCallKind::Finish => Exchange::complete(alloc, self.names),
-        }
+            | SideCallKind::Begin => Stage::Idle,
+            SideCallKind::Hear | SideCallKind::HearList | SideCallKind::Withdraw => Stage::Begun,
+            SideCallKind::Take => Stage::Heard,
+            SideCallKind::CloseList | SideCallKind::Abandon => Stage::Withdrawn,
+            SideCallKind::Finish => Stage::Complete,
+        };
+        Exchange::at(alloc, stage, self.names)
     }
 
     fn make(&self, alloc: Global, exchange: &mut Exchange) -> Result<(), Fault> {
@@ -74,13 +71,13 @@ impl Call<Exchange> for SideCall {
             }
             SideCallKind::Unregister => exchange.unregister(0),
             SideCallKind::Begin => exchange.begin(alloc),
-            SideCallKind::Hear => Ok(exchange.side.hear(alloc, &exchange.of_other)?),
-            SideCallKind::HearList => Ok(exchange.side.hear_list(&exchange.list_of_other)?),
+            SideCallKind::Hear => exchange.hear(alloc),
+            SideCallKind::HearList => exchange.hear_list(),
             SideCallKind::Take => exchange.take(0),
-            SideCallKind::Withdraw => Ok(exchange.side.withdraw(&numbered_name(0)?)?),
+            SideCallKind::Withdraw => exchange.withdraw(0),
             SideCallKind::CloseList => exchange.close_list(alloc),
             SideCallKind::Finish => exchange.finish(alloc),
-            SideCallKind::Abandon => Ok(exchange.side.abandon()?),
+            SideCallKind::Abandon => exchange.abandon(),
         }
     }
 }

@@ -5,6 +5,7 @@
 
 use crate::fault::Fault;
 use std::alloc::Global;
+use std::io;
 
 /// More requests than any of the calls makes.
 const MOST_REQUESTS: u32 = 200;
@@ -134,30 +135,61 @@ fn is_as_unrefused<S: Subject, C: Call<S>>(
     Ok(subject.is_same(&wanted))
 }
 
-/// A call that is made while each request for memory is refused.
-#[derive(Clone, Copy)]
-pub(crate) struct Refusing<'r> {
+/// Calls that are made while each request for memory is refused, and whether all could be printed so far.
+#[derive(Drop)]
+pub(crate) struct Starved<'r> {
     rt: &'r HostRuntime,
+    printed: Result<(), io::Error>,
 }
 
-/// Refuses each request for memory from now on, for a call of this name.
-pub(crate) fn refuse_all<'r>(rt: &'r HostRuntime, name: &str) -> Result<Refusing<'r>, Fault> {
-    println!(rt; "call {name}")?;
-    println!(rt; "refuse all")?;
-    Ok(Refusing { rt })
-}
-
-impl Refusing<'_> {
-    /// Refuses none any more, and prints whether the call's answer is the wanted one.
-    pub(crate) fn gave<A: PartialEq + Drop>(self, answer: A, wanted: A) -> Result<(), Fault> {
-        let rt = self.rt;
-        println!(rt; "ample")?;
-        println!(rt; "answered")?;
-        if answer == wanted {
-            println!(rt; "right")?;
-        } else {
-            println!(rt; "wrong: it answered something else")?;
+impl<'r> Starved<'r> {
+    pub(crate) fn new(rt: &'r HostRuntime) -> Starved<'r> {
+        Starved {
+            rt,
+            printed: Ok(()),
         }
-        Ok(())
+    }
+
+    /// Of this a call's subjects are made, before memory is refused.
+    pub(crate) fn alloc(&self) -> Global {
+        self.rt.alloc()
+    }
+
+    /// Refuses each request for memory from now on, for a call of this name.
+    pub(crate) fn refuse(&mut self, name: &str) {
+        if self.printed.is_ok() {
+            self.printed = print_refusal(self.rt, name);
+        }
+    }
+
+    /// Refuses none any more, and prints whether the call's answer is the wanted one.
+    pub(crate) fn gave<A: PartialEq + Drop>(&mut self, answer: A, wanted: A) {
+        if self.printed.is_ok() {
+            self.printed = print_answer(self.rt, answer, wanted);
+        }
+    }
+
+    /// Why something couldn't be printed, if so.
+    pub(crate) fn end(self) -> Result<(), Fault> {
+        Ok(self.printed?)
+    }
+}
+
+fn print_refusal(rt: &HostRuntime, name: &str) -> Result<(), io::Error> {
+    println!(rt; "call {name}")?;
+    println!(rt; "refuse all")
+}
+
+fn print_answer<A: PartialEq + Drop>(
+    rt: &HostRuntime,
+    answer: A,
+    wanted: A,
+) -> Result<(), io::Error> {
+    println!(rt; "ample")?;
+    println!(rt; "answered")?;
+    if answer == wanted {
+        println!(rt; "right")
+    } else {
+        println!(rt; "wrong: it answered something else")
     }
 }

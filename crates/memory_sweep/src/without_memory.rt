@@ -4,10 +4,12 @@ use crate::callers::{Caller, Drawer, Gatherer};
 use crate::exchange::{Exchange, SEED};
 use crate::fault::Fault;
 use crate::rows::{BY_WORD, by, clashing, numbered_name, of, stored, table};
-use crate::sweep::refuse_all;
+use crate::sweep::Starved;
 use abstract_value::{Both, Domain};
 use builtin_resolvers::{Notice, Verdict3, decide, notices};
-use clash_record::{Builtin, Facts, Owner, RECORD_LEN, ResolverId, name, record, record_of};
+use clash_record::{
+    Builtin, Facts, Name, RECORD_LEN, Registration, ResolverId, name, record, record_of,
+};
 use exchange_core::{Side, SideId};
 use instruction_set::{AluOp, EndKind, Size, Test, Width, alu, end, movsx, neg, test};
 use interpreter::{Ended, run};
@@ -21,15 +23,19 @@ const WORD: u64 = 7;
 
 /// Makes the calls that take no memory.
 pub(crate) fn sweep_without_memory(rt: &HostRuntime) -> Result<(), Fault> {
-    records(rt)?;
-    judging(rt)?;
-    stores(rt)?;
-    tables(rt)?;
-    sides(rt)?;
-    boards(rt)?;
-    operations(rt)?;
-    sets_of_words(rt)?;
-    operations_on_sets(rt)
+    let mut calls = Starved::new(rt);
+    records(&mut calls)?;
+    runs(&mut calls)?;
+    answers(&mut calls)?;
+    verdicts(&mut calls)?;
+    stores(&mut calls)?;
+    tables(&mut calls)?;
+    sides(&mut calls)?;
+    boards(&mut calls)?;
+    operations(&mut calls);
+    sets_of_words(&mut calls);
+    operations_on_sets(&mut calls);
+    calls.end()
 }
 
 /// The facts of a half with one name, up for as long as is given.
@@ -58,73 +64,111 @@ fn record_bytes() -> [u8; RECORD_LEN] {
     bytes
 }
 
-fn records(rt: &HostRuntime) -> Result<(), Fault> {
-    let named = refuse_all(rt, "name")?;
-    named.gave(name(b"db").map(|name| name.as_str() == "db"), Ok(true))?;
-    refuse_all(rt, "name of no name")?.gave(name(b"d b").is_err(), true)?;
+fn records(calls: &mut Starved<'_>) -> Result<(), Fault> {
     let db = name(b"db")?;
-    let recorded = refuse_all(rt, "record")?;
+    calls.refuse("name");
+    calls.gave(name(b"db").map(|name| name.as_str() == "db"), Ok(true));
+    calls.refuse("name of no name");
+    calls.gave(name(b"d b").is_err(), true);
+    calls.refuse("record");
     let clash = record(&db, &of(1), &of(2), WORD, up_for(3), up_for(4));
-    recorded.gave(*clash.bytes(), record_bytes())?;
-    refuse_all(rt, "record_of")?.gave(*record_of(record_bytes()).bytes(), record_bytes())
+    calls.gave(*clash.bytes(), record_bytes());
+    calls.refuse("record_of");
+    calls.gave(*record_of(record_bytes()).bytes(), record_bytes());
+    Ok(())
 }
 
-fn judging(rt: &HostRuntime) -> Result<(), Fault> {
-    let program = read_program(rt.alloc(), &BY_WORD)?;
+fn runs(calls: &mut Starved<'_>) -> Result<(), Fault> {
+    let program = read_program(calls.alloc(), &BY_WORD)?;
     let record = record_of(record_bytes());
-    refuse_all(rt, "run")?.gave(run(&program, &record), Ended { r0: 2, steps: 4 })?;
-    refuse_all(rt, "decide")?.gave(decide(Builtin::Exit, WORD), Verdict3::Second)?;
+    calls.refuse("run");
+    calls.gave(run(&program, &record), Ended { r0: 2, steps: 4 });
+    Ok(())
+}
+
+fn answers(calls: &mut Starved<'_>) -> Result<(), Fault> {
+    calls.refuse("decide");
+    calls.gave(decide(Builtin::Exit, WORD), Verdict3::Second);
     let (first, second) = (of(1).owner, of(2).owner);
     let db = name(b"db")?;
-    let told = refuse_all(rt, "notices")?;
-    let notified = notices(Builtin::Exit, &db, first, second, Verdict3::First);
-    told.gave(
-        notified.as_slice() == [Notice::Exit(second)].as_slice(),
-        true,
-    )?;
-    let list = clashing(rt.alloc(), 1)?;
+    calls.refuse("notices");
+    let told = notices(Builtin::Exit, &db, first, second, Verdict3::First);
+    calls.gave(told.as_slice() == [Notice::Exit(second)].as_slice(), true);
+    Ok(())
+}
+
+fn verdicts(calls: &mut Starved<'_>) -> Result<(), Fault> {
+    let list = clashing(calls.alloc(), 1)?;
     let clash = list.get(0).ok_or(Fault::Unprepared)?;
-    let judged = refuse_all(rt, "Verdict::judged")?;
-    judged.gave(Verdict::judged(clash, WORD).answer(), Verdict3::Second)?;
-    refuse_all(rt, "word")?.gave(word(5, 2, 3, 1), 12)
+    calls.refuse("Verdict::judged");
+    calls.gave(Verdict::judged(clash, WORD).answer(), Verdict3::Second);
+    calls.refuse("word");
+    calls.gave(word(5, 2, 3, 1), 12);
+    Ok(())
 }
 
-fn stores(rt: &HostRuntime) -> Result<(), Fault> {
-    let alloc = rt.alloc();
-    refuse_all(rt, "UploadStore::new")?.gave(UploadStore::new(alloc).len(), 0)?;
+fn stores(calls: &mut Starved<'_>) -> Result<(), Fault> {
+    let alloc = calls.alloc();
+    calls.refuse("UploadStore::new");
+    calls.gave(UploadStore::new(alloc).len(), 0);
     let (store, id) = stored(alloc)?;
-    refuse_all(rt, "UploadStore::len")?.gave(store.len(), 1)?;
-    let got = refuse_all(rt, "UploadStore::get")?;
-    got.gave(
-        store.get(&id).map(|program| program.code().slot_count()),
-        Some(4),
-    )
+    calls.refuse("UploadStore::len");
+    calls.gave(store.len(), 1);
+    calls.refuse("UploadStore::get");
+    let slots = store.get(&id).map(|program| program.code().slot_count());
+    calls.gave(slots, Some(4));
+    Ok(())
 }
 
-fn tables(rt: &HostRuntime) -> Result<(), Fault> {
-    let alloc = rt.alloc();
-    refuse_all(rt, "Table::new")?.gave(Table::new(alloc).len(), 0)?;
+fn tables(calls: &mut Starved<'_>) -> Result<(), Fault> {
+    let alloc = calls.alloc();
+    calls.refuse("Table::new");
+    calls.gave(Table::new(alloc).len(), 0);
     let (store, program) = stored(alloc)?;
     let resolver = ResolverId::Program(program);
     let mut table = table(alloc, 12, 1, resolver, &store)?;
-    let first = numbered_name(0)?;
-    let registration = by(1, resolver);
-    refuse_all(rt, "Table::len")?.gave(table.len(), 12)?;
-    refuse_all(rt, "Table::whereis")?.gave(table.whereis(&first).copied(), Some(registration))?;
-    refuse_all(rt, "Table::rows")?.gave(table.rows().count(), 12)?;
-    refuse_all(rt, "Table::unregister")?.gave(table.unregister(&first), Ok(registration))?;
-    refuse_all(rt, "Table::len")?.gave(table.len(), 11)
+    calls_of_table(calls, &mut table, numbered_name(0)?, by(1, resolver));
+    Ok(())
 }
 
-fn sides(rt: &HostRuntime) -> Result<(), Fault> {
-    let alloc = rt.alloc();
-    refuse_all(rt, "Side::new")?.gave(Side::new(alloc, SideId::A).events(), 0)?;
+/// The table has 12 names, the first of them with this registration.
+fn calls_of_table(
+    calls: &mut Starved<'_>,
+    table: &mut Table,
+    first: Name,
+    registration: Registration,
+) {
+    calls.refuse("Table::len");
+    calls.gave(table.len(), 12);
+    calls.refuse("Table::whereis");
+    calls.gave(table.whereis(&first).copied(), Some(registration));
+    calls.refuse("Table::rows");
+    calls.gave(table.rows().count(), 12);
+    calls.refuse("Table::unregister");
+    calls.gave(table.unregister(&first), Ok(registration));
+    calls.refuse("Table::len");
+    calls.gave(table.len(), 11);
+}
+
+fn sides(calls: &mut Starved<'_>) -> Result<(), Fault> {
+    let alloc = calls.alloc();
+    calls.refuse("Side::new");
+    calls.gave(Side::new(alloc, SideId::A).events(), 0);
     let mut side = Side::new(alloc, SideId::A);
     let db = name(b"db")?;
     side.register(db, of(1), &UploadStore::new(alloc))?;
-    refuse_all(rt, "Side::events")?.gave(side.events(), 1)?;
-    refuse_all(rt, "Side::whereis")?.gave(side.whereis(&db).copied(), Some(of(1)))?;
-    refuse_all(rt, "Side::rows")?.gave(count_rows(&side), 1)
+    calls_of_side(calls, &side, &db);
+    Ok(())
+}
+
+/// The side has one name, registered by the owner on node 1.
+fn calls_of_side(calls: &mut Starved<'_>, side: &Side, registered: &Name) {
+    calls.refuse("Side::events");
+    calls.gave(side.events(), 1);
+    calls.refuse("Side::whereis");
+    calls.gave(side.whereis(registered).copied(), Some(of(1)));
+    calls.refuse("Side::rows");
+    calls.gave(count_rows(side), 1);
 }
 
 fn count_rows(side: &Side) -> usize {
@@ -135,60 +179,82 @@ fn count_rows(side: &Side) -> usize {
     count
 }
 
-fn boards(rt: &HostRuntime) -> Result<(), Fault> {
-    let alloc = rt.alloc();
-    let list = clashing(alloc, 1)?;
-    let drawer = Drawer::new(alloc, &list)?;
-    refuse_all(rt, "Board::draw")?.gave(drawer.draw(), Draw::Clash(0))?;
-    let gatherer = Gatherer::new(alloc, &list)?;
-    refuse_all(rt, "Board::gather")?.gave(gatherer.gather(), [0; 4])?;
-    let (caller, _, _) = Caller::new(alloc, &list)?.post();
-    refuse_all(rt, "Board::read")?.gave(caller.read(), Some(SEED))?;
-    meeting(rt, &list)
+fn boards(calls: &mut Starved<'_>) -> Result<(), Fault> {
+    let list = clashing(calls.alloc(), 1)?;
+    draws(calls, &list)?;
+    reads(calls, &list)?;
+    meetings(calls, &list)
 }
 
-fn meeting(rt: &HostRuntime, list: &ClashList) -> Result<(), Fault> {
-    let alloc = rt.alloc();
+fn draws(calls: &mut Starved<'_>, list: &ClashList) -> Result<(), Fault> {
+    let drawer = Drawer::new(calls.alloc(), list)?;
+    calls.refuse("Board::draw");
+    calls.gave(drawer.draw(), Draw::Clash(0));
+    let gatherer = Gatherer::new(calls.alloc(), list)?;
+    calls.refuse("Board::gather");
+    calls.gave(gatherer.gather(), [0; 4]);
+    Ok(())
+}
+
+fn reads(calls: &mut Starved<'_>, list: &ClashList) -> Result<(), Fault> {
+    let (caller, _, _) = Caller::new(calls.alloc(), list)?.post();
+    calls.refuse("Board::read");
+    calls.gave(caller.read(), Some(SEED));
+    Ok(())
+}
+
+fn meetings(calls: &mut Starved<'_>, list: &ClashList) -> Result<(), Fault> {
+    let alloc = calls.alloc();
     let (caller, _, _) = Caller::new(alloc, list)?.post();
     let first = Exchange::finished(alloc, 1)?;
     let second = Exchange::finished(alloc, 1)?;
-    refuse_all(rt, "meet")?.gave(caller.meet(first, second), Some(1))
+    calls.refuse("meet");
+    calls.gave(caller.meet(first, second), Some(1));
+    Ok(())
 }
 
-fn operations(rt: &HostRuntime) -> Result<(), Fault> {
-    refuse_all(rt, "alu")?.gave(alu(Width::W64, AluOp::Div, 7, 0), 0)?;
-    refuse_all(rt, "neg")?.gave(neg(Width::W32, 1), 0xffff_ffff)?;
-    refuse_all(rt, "movsx")?.gave(movsx(Width::W64, 8, 0x80), 0xffff_ffff_ffff_ff80)?;
-    refuse_all(rt, "end")?.gave(end(EndKind::Big, 16, 0x1234), 0x3412)?;
-    refuse_all(rt, "test")?.gave(test(Width::W64, Test::Jslt, u64::MAX, 0), true)
+fn operations(calls: &mut Starved<'_>) {
+    calls.refuse("alu");
+    calls.gave(alu(Width::W64, AluOp::Div, 7, 0), 0);
+    calls.refuse("neg");
+    calls.gave(neg(Width::W32, 1), 0xffff_ffff);
+    calls.refuse("movsx");
+    calls.gave(movsx(Width::W64, 8, 0x80), 0xffff_ffff_ffff_ff80);
+    calls.refuse("end");
+    calls.gave(end(EndKind::Big, 16, 0x1234), 0x3412);
+    calls.refuse("test");
+    calls.gave(test(Width::W64, Test::Jslt, u64::MAX, 0), true);
 }
 
-fn sets_of_words(rt: &HostRuntime) -> Result<(), Fault> {
+fn sets_of_words(calls: &mut Starved<'_>) {
     let one = Both::single(1);
     let three = Both::single(3);
     let up_to_three = one.join(&three);
-    refuse_all(rt, "Both::full")?.gave(Both::full().bounds(), (0, u64::MAX))?;
-    refuse_all(rt, "Both::single")?.gave(Both::single(3).bounds(), (3, 3))?;
-    refuse_all(rt, "Both::below")?.gave(one.below(&up_to_three), true)?;
-    refuse_all(rt, "Both::join")?.gave(one.join(&three).bounds(), (1, 3))?;
-    let refined = refuse_all(rt, "Both::refine")?;
+    calls.refuse("Both::full");
+    calls.gave(Both::full().bounds(), (0, u64::MAX));
+    calls.refuse("Both::single");
+    calls.gave(Both::single(3).bounds(), (3, 3));
+    calls.refuse("Both::below");
+    calls.gave(one.below(&up_to_three), true);
+    calls.refuse("Both::join");
+    calls.gave(one.join(&three).bounds(), (1, 3));
+    calls.refuse("Both::refine");
     let above = Both::refine(Width::W64, Test::Jgt, true, &up_to_three, &one);
-    refined.gave(above.map(|(above, _)| above.bounds()), Some((2, 3)))
+    calls.gave(above.map(|(above, _)| above.bounds()), Some((2, 3)));
 }
 
-fn operations_on_sets(rt: &HostRuntime) -> Result<(), Fault> {
+fn operations_on_sets(calls: &mut Starved<'_>) {
     let one = Both::single(1);
-    let sum = refuse_all(rt, "Both::alu")?;
-    sum.gave(
-        Both::alu(Width::W64, AluOp::Add, &one, &one).bounds(),
-        (2, 2),
-    )?;
-    let negated = refuse_all(rt, "Both::neg")?;
-    negated.gave(
-        Both::neg(Width::W32, &one).bounds(),
-        (0xffff_ffff, 0xffff_ffff),
-    )?;
-    refuse_all(rt, "Both::movsx")?.gave(Both::movsx(Width::W64, 8, &one).bounds(), (1, 1))?;
-    refuse_all(rt, "Both::end")?.gave(Both::end(EndKind::Little, 16, &one).bounds(), (1, 1))?;
-    refuse_all(rt, "Both::load")?.gave(Both::load(Size::Byte, false).bounds(), (0, 255))
+    calls.refuse("Both::alu");
+    let sum = Both::alu(Width::W64, AluOp::Add, &one, &one);
+    calls.gave(sum.bounds(), (2, 2));
+    calls.refuse("Both::neg");
+    let negated = Both::neg(Width::W32, &one);
+    calls.gave(negated.bounds(), (0xffff_ffff, 0xffff_ffff));
+    calls.refuse("Both::movsx");
+    calls.gave(Both::movsx(Width::W64, 8, &one).bounds(), (1, 1));
+    calls.refuse("Both::end");
+    calls.gave(Both::end(EndKind::Little, 16, &one).bounds(), (1, 1));
+    calls.refuse("Both::load");
+    calls.gave(Both::load(Size::Byte, false).bounds(), (0, 255));
 }

@@ -1,16 +1,9 @@
-//! Gates of a round: one that holds no post, and one that holds the posts until all are asked for.
+//! A gate of a round that holds the posts until all are asked for.
 use judge_pool::Gate;
 use std::sync::Wait;
 use std::sync::atomic::{AtomicU64, Ordering};
 use std::thread;
 use std::time::{Clock, Duration};
-
-/// Holds no post.
-pub(crate) struct Open;
-
-impl Gate for Open {
-    fn before_post<R: Wait>(&self, _rt: &R, _round: u32, _k: u32) {}
-}
 
 /// Holds each post until it was asked for so many, for at most 10,000 turns.
 #[derive(Drop)]

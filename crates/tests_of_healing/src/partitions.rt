@@ -2,11 +2,10 @@
 ghost use Rattle.std.specs.Prelude.{◌≡◌, ◌<◌, ◌≤◌, All};
 
 use crate::exchanging::{Ended, NUMBER, SEED, begin_both, finish_both};
-use crate::gates::Open;
 use crate::registering::{Names, of};
 use clash_record::{Builtin, name};
 use exchange_core::{SideFault, SideId};
-use judge_pool::heal_round;
+use judge_pool::{OpenGate, heal_round};
 use partition_table::ClashList;
 use registry_lock::Partition;
 use std::alloc::Global;
@@ -76,7 +75,7 @@ impl Partitions {
             board,
             seats,
             0,
-            &Open,
+            &OpenGate,
             &self.left,
             &self.right,
         );

@@ -2,12 +2,12 @@
 ghost use Rattle.std.specs.Prelude.{◌≡◌, ◌<◌, ◌≤◌, All};
 
 use crate::exchanging::{Ended, NUMBER, SEED, begin_both, finish_both};
-use crate::gates::{Open, Together};
+use crate::gates::Together;
 use crate::registering::Names;
 use builtin_resolvers::Verdict3;
 use clash_record::{Owner, name};
 use exchange_core::{Judged, Side, SideId};
-use judge_pool::Gate;
+use judge_pool::{Gate, OpenGate};
 use partition_table::ClashList;
 use registry_lock::tell_round;
 use std::alloc::Global;
@@ -131,7 +131,7 @@ fn heal<G: Gate + Sync, R: Threads + Wait + Sync>(
 
 #[test]
 fn two_told_sides_meet(rt: HostRuntime) -> Result<(), Fail> {
-    let healed = heal(&rt, rt.alloc(), Names::DbAndWeb, 2, &Open)?;
+    let healed = heal(&rt, rt.alloc(), Names::DbAndWeb, 2, &OpenGate)?;
     assert_eq!(rt; (healed.started, healed.kept), (2, 1));
     assert_eq!(rt; healed.events, (4, 5));
     assert_eq!(rt; healed.names, 2);
@@ -145,7 +145,7 @@ fn two_told_sides_meet(rt: HostRuntime) -> Result<(), Fail> {
 
 #[test]
 fn three_clashes_are_told_in_order(rt: HostRuntime) -> Result<(), Fail> {
-    let healed = heal(&rt, rt.alloc(), Names::Three, 2, &Open)?;
+    let healed = heal(&rt, rt.alloc(), Names::Three, 2, &OpenGate)?;
     let ruling = |word, answer| Some(Judged { word, answer });
     let rulings = [
         ruling(0, Verdict3::First),

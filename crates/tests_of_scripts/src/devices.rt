@@ -1,7 +1,7 @@
 //! Devices that give and take a few bytes a call, and what a script answers over them.
 ghost use Rattle.std.specs.Prelude.{Some};
 
-use judge_pool::Gate;
+use judge_pool::OpenGate;
 use script_engine::run_script;
 use std::io;
 use std::io::{ErrorKind, Read, Write};
@@ -73,13 +73,6 @@ impl Write for PieceWriter {
     }
 }
 
-/// Holds no post back.
-struct OpenGate;
-
-impl Gate for OpenGate {
-    fn before_post<R: Wait>(&self, _rt: &R, _round: u32, _k: u32) {}
-}
-
 /// Whether a script, carried out by four workers over these devices, ends with this status once just this was written.
 pub(crate) fn is_answered<T: Threads + Wait + Sync + AllocGlobal>(
     rt: &T,
@@ -97,4 +90,21 @@ pub(crate) fn is_answered<T: Threads + Wait + Sync + AllocGlobal>(
     };
     let ended = run_script(rt, &mut reader, &mut writer, 4, &OpenGate);
     ended == status && writer.written.as_slice() == said
+}
+
+/// A script, the status that it ends with, and what is said to its lines.
+pub(crate) type Said = (&'static str, u8, &'static str);
+
+/// The first of these scripts that is answered otherwise, over devices that never fail.
+pub(crate) fn first_other<T: Threads + Wait + Sync + AllocGlobal>(
+    rt: &T,
+    scripts: &[Said],
+) -> Option<&'static str> {
+    for (script, status, said) in scripts {
+        let wanted = (*status, said.as_bytes());
+        if !is_answered(rt, script.as_bytes(), (GOOD, GOOD), wanted) {
+            return Some(script);
+        }
+    }
+    None
 }

@@ -1,8 +1,8 @@
 //! Splits that heal, and what is said of it.
-use crate::devices::{GOOD, is_answered};
+use crate::devices::{Said, first_other};
 
-/// A script, the status that it ends with, and what is said to its lines.
-const SCRIPTS: [(&str, u8, &str); 11] = [
+/// Scripts that heal a split, or are refused.
+const SCRIPTS: [Said; 11] = [
     // Both halves have the merge: the clash `db`, and `web` of one half.
     (
         "register a db 1.10 5 0 - exit\nregister b db 2.20 9 0 - exit\nregister b web 2.21 1 0 - notify-all\nheal 0\nshow a\nshow b\n",
@@ -71,15 +71,5 @@ const SCRIPTS: [(&str, u8, &str); 11] = [
 
 #[test]
 fn splits_heal(rt: HostRuntime) {
-    for (script, status, said) in SCRIPTS {
-        assert!(&rt;
-            is_answered(
-                &rt,
-                script.as_bytes(),
-                (GOOD, GOOD),
-                (status, said.as_bytes())
-            ),
-            "{script}"
-        );
-    }
+    assert_eq!(&rt; first_other(&rt, &SCRIPTS), None);
 }

@@ -8,7 +8,7 @@ const A: SideId = SideId::A;
 const B: SideId = SideId::B;
 
 /// A number is begun once, and none while another is open. Three calls are carried out.
-pub(crate) const NUMBERS: [Row; 7] = [
+pub(crate) const NUMBERS: &[Row] = &[
     (A, Call::Begin(7, 0), None),
     (A, Call::Abandon, None),
     (A, Call::Begin(7, 0), Some((SideFault::StaleNumber, 35))),
@@ -23,7 +23,7 @@ pub(crate) const NUMBERS: [Row; 7] = [
 ];
 
 /// What comes behind it. One call is carried out.
-pub(crate) const NUMBERS_LEFT: [Row; 3] = [
+pub(crate) const NUMBERS_LEFT: &[Row] = &[
     (A, Call::Abandon, None),
     (A, Call::Abandon, Some((SideFault::NotHealing, 34))),
     (
@@ -34,7 +34,7 @@ pub(crate) const NUMBERS_LEFT: [Row; 3] = [
 ];
 
 /// An offer of another seed, an own offer, an own list, and offers of another number and of none that is open.
-pub(crate) const STRANGE_OFFERS: [Row; 12] = [
+pub(crate) const STRANGE_OFFERS: &[Row] = &[
     (A, Call::Begin(1, 5), None),
     (B, Call::Begin(1, 6), None),
     (A, Call::Hear(B, 1), Some((SideFault::SeedDiffers, 36))),
@@ -54,14 +54,14 @@ pub(crate) const STRANGE_OFFERS: [Row; 12] = [
 ];
 
 /// Both sides begin, and one can't hear the other.
-pub(crate) const TOO_MANY: [Row; 3] = [
+pub(crate) const TOO_MANY: &[Row] = &[
     (A, Call::Begin(1, 0), None),
     (B, Call::Begin(1, 0), None),
     (A, Call::Hear(B, 1), Some((SideFault::TooManyNames, 37))),
 ];
 
 /// Three clashes: rulings in any order and repeated, offers and lists heard twice, and each part missed in turn.
-pub(crate) const ONE_TABLE: [Row; 27] = [
+pub(crate) const ONE_TABLE: &[Row] = &[
     (A, Call::Begin(1, 0), None),
     (B, Call::Begin(1, 0), None),
     (
@@ -109,7 +109,7 @@ pub(crate) const ONE_TABLE: [Row; 27] = [
 ];
 
 /// One finishes 1 while the other has abandoned it and goes on to 2.
-pub(crate) const ALONE: [Row; 11] = [
+pub(crate) const ALONE: &[Row] = &[
     (A, Call::Begin(1, 0), None),
     (B, Call::Begin(1, 0), None),
     (B, Call::CloseList, None),
@@ -124,13 +124,13 @@ pub(crate) const ALONE: [Row; 11] = [
 ];
 
 /// The other abandons that too, and can't begin 1 again.
-pub(crate) const ALONE_LEFT: [Row; 2] = [
+pub(crate) const ALONE_LEFT: &[Row] = &[
     (B, Call::Abandon, None),
     (B, Call::Begin(1, 0), Some((SideFault::StaleNumber, 35))),
 ];
 
 /// Both begin, and side A withdraws the name.
-pub(crate) const GONE_ON_A: [Row; 4] = [
+pub(crate) const GONE_ON_A: &[Row] = &[
     (A, Call::Begin(1, 0), None),
     (B, Call::Begin(1, 0), None),
     (A, Call::Withdraw("db"), None),
@@ -138,14 +138,14 @@ pub(crate) const GONE_ON_A: [Row; 4] = [
 ];
 
 /// Both begin, and side B withdraws the name.
-pub(crate) const GONE_ON_B: [Row; 3] = [
+pub(crate) const GONE_ON_B: &[Row] = &[
     (A, Call::Begin(1, 0), None),
     (B, Call::Begin(1, 0), None),
     (B, Call::Withdraw("db"), None),
 ];
 
 /// Both begin, and both withdraw the name.
-pub(crate) const GONE_ON_BOTH: [Row; 5] = [
+pub(crate) const GONE_ON_BOTH: &[Row] = &[
     (A, Call::Begin(1, 0), None),
     (B, Call::Begin(1, 0), None),
     (A, Call::Withdraw("db"), None),
@@ -154,7 +154,7 @@ pub(crate) const GONE_ON_BOTH: [Row; 5] = [
 ];
 
 /// What comes behind it, up to the end on both sides.
-pub(crate) const WITHDRAWN: [Row; 12] = [
+pub(crate) const WITHDRAWN: &[Row] = &[
     (A, Call::Withdraw("x"), Some((SideFault::NoSuchName, 31))),
     (A, Call::Hear(B, 1), None),
     (B, Call::Hear(A, 1), None),
@@ -170,14 +170,14 @@ pub(crate) const WITHDRAWN: [Row; 12] = [
 ];
 
 /// An exchange of which side A takes the steps below, or the first few of them.
-pub(crate) const TO_BE_ABANDONED: [Row; 3] = [
+pub(crate) const TO_BE_ABANDONED: &[Row] = &[
     (A, Call::Begin(1, 0), None),
     (B, Call::Begin(1, 0), None),
     (B, Call::CloseList, None),
 ];
 
 /// Its steps on side A, in which the name is withdrawn first.
-pub(crate) const STEPS: [Row; 5] = [
+pub(crate) const STEPS: &[Row] = &[
     (A, Call::Withdraw("db"), None),
     (A, Call::Hear(B, 1), None),
     (A, Call::Take(1, 0, 0), None),
@@ -186,7 +186,7 @@ pub(crate) const STEPS: [Row; 5] = [
 ];
 
 /// Both abandon it and go on to the next number, under which what was sent of it is refused.
-pub(crate) const NEXT_NUMBER: [Row; 9] = [
+pub(crate) const NEXT_NUMBER: &[Row] = &[
     (A, Call::Begin(1, 0), Some((SideFault::StaleNumber, 35))),
     (B, Call::Abandon, None),
     (A, Call::Begin(2, 0), None),
@@ -199,13 +199,13 @@ pub(crate) const NEXT_NUMBER: [Row; 9] = [
 ];
 
 /// The rulings of the next number, where the name is on both sides still.
-pub(crate) const NEXT_RULINGS: [Row; 2] = [
+pub(crate) const NEXT_RULINGS: &[Row] = &[
     (A, Call::Take(2, 0, 0), None),
     (B, Call::Take(2, 0, 0), None),
 ];
 
 /// The end of the next number on both sides.
-pub(crate) const NEXT_END: [Row; 5] = [
+pub(crate) const NEXT_END: &[Row] = &[
     (A, Call::CloseList, None),
     (A, Call::HearList(B, 2), None),
     (B, Call::HearList(A, 2), None),
@@ -214,19 +214,19 @@ pub(crate) const NEXT_END: [Row; 5] = [
 ];
 
 /// Side A abandons what is open.
-pub(crate) const ABANDON: [Row; 1] = [(A, Call::Abandon, None)];
+pub(crate) const ABANDON: &[Row] = &[(A, Call::Abandon, None)];
 
 /// A name comes and goes.
-pub(crate) const COME_AND_GO: [Row; 2] = [
+pub(crate) const COME_AND_GO: &[Row] = &[
     (A, Call::Register("db", EXIT), None),
     (A, Call::Unregister("db"), None),
 ];
 
 /// The last event that the journal holds.
-pub(crate) const LAST_EVENT: [Row; 1] = [(A, Call::Register("db", EXIT), None)];
+pub(crate) const LAST_EVENT: &[Row] = &[(A, Call::Register("db", EXIT), None)];
 
 /// What is refused once the journal is full, the least refusal first.
-pub(crate) const FULL_JOURNAL: [Row; 4] = [
+pub(crate) const FULL_JOURNAL: &[Row] = &[
     (
         A,
         Call::Register("db", EXIT),

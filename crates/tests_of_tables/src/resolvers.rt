@@ -1,6 +1,6 @@
 //! The resolvers that need no program: verdicts and notices, row by row.
 use builtin_resolvers::{Notice, Verdict3, decide, notices};
-use clash_record::{BadName, Builtin, Owner, name};
+use clash_record::{BadName, Builtin, Name, Owner, name};
 
 const FIRST: Owner = Owner { node: 1, serial: 1 };
 
@@ -32,58 +32,53 @@ fn verdicts_by_answer(rt: HostRuntime) {
     }
 }
 
-// Exit and notify tell the loser's owner, notify_all both; the other verdicts bring no notice.
+/// What is told of the name `m`: nothing, the loser's owner, or both.
+#[derive(Clone, Copy)]
+enum Told {
+    Nothing,
+    Exit(Owner),
+    Conflict(Owner),
+    Both,
+}
+
+impl Told {
+    fn notices(self, m: Name) -> [Option<Notice>; 2] {
+        match self {
+            Told::Nothing => [None, None],
+            Told::Exit(owner) => [Some(Notice::Exit(owner)), None],
+            Told::Conflict(owner) => [Some(Notice::Conflict(m, owner)), None],
+            Told::Both => [
+                Some(Notice::ConflictWith(m, FIRST, SECOND)),
+                Some(Notice::ConflictWith(m, SECOND, FIRST)),
+            ],
+        }
+    }
+}
+
+/// Exit and notify tell the loser's owner, notify-all both; the other verdicts bring no notice.
+const NOTICES: [(Builtin, Verdict3, Told); 9] = [
+    (Builtin::Exit, Verdict3::First, Told::Exit(SECOND)),
+    (Builtin::Exit, Verdict3::Second, Told::Exit(FIRST)),
+    (Builtin::Notify, Verdict3::First, Told::Conflict(SECOND)),
+    (Builtin::Notify, Verdict3::Second, Told::Conflict(FIRST)),
+    (Builtin::NotifyAll, Verdict3::Neither, Told::Both),
+    (Builtin::Exit, Verdict3::Neither, Told::Nothing),
+    (Builtin::Notify, Verdict3::Neither, Told::Nothing),
+    (Builtin::NotifyAll, Verdict3::First, Told::Nothing),
+    (Builtin::NotifyAll, Verdict3::Second, Told::Nothing),
+];
+
 #[test]
 fn notices_of_each_verdict(rt: HostRuntime) -> Result<(), BadName> {
     let m = name(b"m")?;
-    let with_second = Notice::ConflictWith(m, FIRST, SECOND);
-    let with_first = Notice::ConflictWith(m, SECOND, FIRST);
-    for (resolver, verdict, count, first, second) in [
-        (
-            Builtin::Exit,
-            Verdict3::First,
-            1,
-            Some(Notice::Exit(SECOND)),
-            None,
-        ),
-        (
-            Builtin::Exit,
-            Verdict3::Second,
-            1,
-            Some(Notice::Exit(FIRST)),
-            None,
-        ),
-        (
-            Builtin::Notify,
-            Verdict3::First,
-            1,
-            Some(Notice::Conflict(m, SECOND)),
-            None,
-        ),
-        (
-            Builtin::Notify,
-            Verdict3::Second,
-            1,
-            Some(Notice::Conflict(m, FIRST)),
-            None,
-        ),
-        (
-            Builtin::NotifyAll,
-            Verdict3::Neither,
-            2,
-            Some(with_second),
-            Some(with_first),
-        ),
-        (Builtin::Exit, Verdict3::Neither, 0, None, None),
-        (Builtin::Notify, Verdict3::Neither, 0, None, None),
-        (Builtin::NotifyAll, Verdict3::First, 0, None, None),
-        (Builtin::NotifyAll, Verdict3::Second, 0, None, None),
-    ] {
-        let told = notices(resolver, &m, FIRST, SECOND, verdict);
-        let all = told.as_slice();
-        let counted = (all.len(), told.len(), told.is_empty());
+    for (resolver, verdict, told) in NOTICES {
+        let wanted = told.notices(m);
+        let count = wanted.iter().flatten().count();
+        let got = notices(resolver, &m, FIRST, SECOND, verdict);
+        let all = got.as_slice();
+        let counted = (all.len(), got.len(), got.is_empty());
         assert_eq!(rt; counted, (count, count, count == 0));
-        assert_eq!(rt; (all.get(0).copied(), all.get(1).copied()), (first, second));
+        assert_eq!(rt; [all.get(0).copied(), all.get(1).copied()], wanted);
     }
     Ok(())
 }

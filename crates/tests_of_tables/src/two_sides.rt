@@ -1,7 +1,7 @@
 //! Two sides, what they sent, and calls on them as rows of data.
 use crate::registrations::{by, numbered_name, of};
 use builtin_resolvers::Verdict3;
-use clash_record::{Name, Registration, ResolverId, name};
+use clash_record::{Name, ResolverId, name};
 use exchange_core::{Finished, Offer, Side, SideFault, SideId, Withdrawals};
 use numbered::Numbered;
 use partition_table::{ClashList, Ruling, Verdict, clashes};
@@ -40,9 +40,62 @@ pub(crate) type Refusal = Option<(SideFault, u32)>;
 /// A side, a call on it, and whether it is refused.
 pub(crate) type Row = (SideId, Call, Refusal);
 
+/// A part of what is done with two sides.
+#[derive(Clone, Copy)]
+pub(crate) enum Part {
+    /// So many names are registered on each side, none of them on both.
+    NamesApart(u16),
+    /// The rows are carried out in turn.
+    Calls(&'static [Row]),
+    /// The same, so many times.
+    Repeated(u32, &'static [Row]),
+    /// Nothing is done. This is seen.
+    Seen(Seen),
+}
+
+/// What is seen of two sides.
+#[derive(Clone, Copy)]
+pub(crate) enum Seen {
+    /// This side counts so many events.
+    Events(SideId, usize),
+    /// Whether side A shows the name, and whether side B does.
+    Shown(&'static str, bool, bool),
+    /// Whether this side shows any row.
+    Rows(SideId, bool),
+    /// This side shows the name with the registration of the owner on this node.
+    OwnerOn(SideId, &'static str, u32),
+    /// Both finished, each with the same table, and with the same tables of sides A and B before.
+    Agreed,
+    /// How long sides A and B had been up, as the first that finished has it.
+    Uptimes(u64, u64),
+    /// The answer of this clash, as the second that finished has it.
+    Answer(usize, Verdict3),
+    /// So many names has the table that the last to finish made. It is taken away.
+    LatestTable(usize),
+}
+
+/// Where two sides did otherwise first: at this row of this part, where the call was refused so.
+#[derive(Clone, Copy, Debug, PartialEq)]
+pub(crate) struct Other {
+    part: usize,
+    row: usize,
+    refusal: Refusal,
+}
+
+/// Begins with two sides that have these names, each registered by the side's owner, and goes through the parts up to
+/// the first where something is otherwise.
+pub(crate) fn first_other(
+    alloc: Global,
+    names: &[&str],
+    parts: &[Part],
+) -> Result<Option<Other>, Fail> {
+    let mut two = TwoSides::new(alloc, names)?;
+    two.go_through(parts)
+}
+
 /// Two sides, and what stands between them.
 #[derive(Drop)]
-pub(crate) struct TwoSides {
+struct TwoSides {
     a: Side,
     b: Side,
     sent: Sent,
@@ -59,8 +112,7 @@ struct Sent {
 }
 
 impl TwoSides {
-    /// Two sides with these names, each registered by the side's owner.
-    pub(crate) fn new(alloc: Global, names: &[&str]) -> Result<TwoSides, Fail> {
+    fn new(alloc: Global, names: &[&str]) -> Result<TwoSides, Fail> {
         let mut two = TwoSides {
             a: Side::new(alloc, SideId::A),
             b: Side::new(alloc, SideId::B),
@@ -80,75 +132,41 @@ impl TwoSides {
         Ok(())
     }
 
-    /// Registers so many names on each side, none of them on both.
-    pub(crate) fn register_apart(&mut self, count: u16) -> Result<(), Fail> {
+    fn register_apart(&mut self, count: u16) -> Result<(), Fail> {
         for number in 0..count {
             self.register(numbered_name(b'x', number)?, numbered_name(b'y', number)?)?;
         }
         Ok(())
     }
 
-    /// The side of this name.
-    pub(crate) fn side(&self, id: SideId) -> &Side {
+    fn side(&self, id: SideId) -> &Side {
         match id {
             SideId::A => &self.a,
             SideId::B => &self.b,
         }
     }
 
-    /// What this side shows the name as registered with.
-    pub(crate) fn registration(
-        &self,
-        id: SideId,
-        text: &str,
-    ) -> Result<Option<Registration>, Fail> {
-        Ok(self.side(id).whereis(&name(text.as_bytes())?).copied())
+    fn go_through(&mut self, parts: &[Part]) -> Result<Option<Other>, Fail> {
+        for (part, what) in parts.iter().enumerate() {
+            let other = match what {
+                Part::NamesApart(count) => {
+                    self.register_apart(*count)?;
+                    None
+                }
+                Part::Calls(rows) => self.carry_out(rows)?,
+                Part::Repeated(times, rows) => self.repeat(*times, rows)?,
+                Part::Seen(seen) if self.is_seen(*seen)? => None,
+                Part::Seen(_) => Some((0, None)),
+            };
+            if let Some((row, refusal)) = other {
+                return Ok(Some(Other { part, row, refusal }));
+            }
+        }
+        Ok(None)
     }
 
-    /// Whether side A shows the name, and whether side B does.
-    pub(crate) fn shows(&self, text: &str) -> Result<(bool, bool), Fail> {
-        let name = name(text.as_bytes())?;
-        Ok((
-            self.a.whereis(&name).is_some(),
-            self.b.whereis(&name).is_some(),
-        ))
-    }
-
-    /// Whether this side shows any row.
-    pub(crate) fn has_rows(&self, id: SideId) -> bool {
-        self.side(id).rows().next().is_some()
-    }
-
-    /// Whether both finished, each with the same table, and with the same tables of sides A and B before.
-    pub(crate) fn agree(&self) -> bool {
-        let (Some(one), Some(other)) = (self.finished(0), self.finished(1)) else {
-            return false;
-        };
-        one.table() == other.table() && one.a() == other.a() && one.b() == other.b()
-    }
-
-    /// How long sides A and B had been up, as the first that finished has it.
-    pub(crate) fn uptimes_of_first(&self) -> Option<(u64, u64)> {
-        let finished = self.finished(0)?;
-        Some((finished.uptime_a(), finished.uptime_b()))
-    }
-
-    /// The answer of this clash, as the second that finished has it.
-    pub(crate) fn answer_of_second(&self, k: usize) -> Option<Verdict3> {
-        Some(self.finished(1)?.rulings().get(k)?.answer)
-    }
-
-    /// How many names the table has that the last to finish made. It is taken away.
-    pub(crate) fn take_table_len(&mut self) -> Option<usize> {
-        Some(self.sent.finished.pop()?.into_table().len())
-    }
-
-    fn finished(&self, place: usize) -> Option<&Finished> {
-        self.sent.finished.get(place)
-    }
-
-    /// Carries the rows out in turn, up to the first that answers otherwise: its place, and what it answered.
-    pub(crate) fn first_other(&mut self, rows: &[Row]) -> Result<Option<(usize, Refusal)>, Fail> {
+    // The first row that is otherwise, and why it was refused, if it was.
+    fn carry_out(&mut self, rows: &[Row]) -> Result<Option<(usize, Refusal)>, Fail> {
         for (place, (id, call, expected)) in rows.iter().enumerate() {
             let fault = match id {
                 SideId::A => self.sent.carry_out(&mut self.a, *call)?,
@@ -162,18 +180,62 @@ impl TwoSides {
         Ok(None)
     }
 
-    /// Carries out the rows of one part after the other, as `first_other` does.
-    pub(crate) fn first_other_in(
-        &mut self,
-        parts: &[&[Row]],
-    ) -> Result<Option<(usize, Refusal)>, Fail> {
-        for part in parts {
-            let other = self.first_other(part)?;
+    fn repeat(&mut self, times: u32, rows: &[Row]) -> Result<Option<(usize, Refusal)>, Fail> {
+        for _ in 0..times {
+            let other = self.carry_out(rows)?;
             if other.is_some() {
                 return Ok(other);
             }
         }
         Ok(None)
+    }
+
+    fn is_seen(&mut self, seen: Seen) -> Result<bool, Fail> {
+        Ok(match seen {
+            Seen::Events(id, count) => self.side(id).events() == count,
+            Seen::Shown(text, on_a, on_b) => self.shows(text)? == (on_a, on_b),
+            Seen::Rows(id, any) => self.side(id).rows().next().is_some() == any,
+            Seen::OwnerOn(id, text, node) => {
+                let name = name(text.as_bytes())?;
+                self.side(id).whereis(&name).copied() == Some(of(node, 1))
+            }
+            Seen::Agreed => self.agree(),
+            Seen::Uptimes(a, b) => self.uptimes_of_first() == Some((a, b)),
+            Seen::Answer(k, answer) => self.answer_of_second(k) == Some(answer),
+            Seen::LatestTable(count) => self.take_table_len() == Some(count),
+        })
+    }
+
+    fn shows(&self, text: &str) -> Result<(bool, bool), Fail> {
+        let name = name(text.as_bytes())?;
+        Ok((
+            self.a.whereis(&name).is_some(),
+            self.b.whereis(&name).is_some(),
+        ))
+    }
+
+    fn agree(&self) -> bool {
+        let (Some(one), Some(other)) = (self.finished(0), self.finished(1)) else {
+            return false;
+        };
+        one.table() == other.table() && one.a() == other.a() && one.b() == other.b()
+    }
+
+    fn uptimes_of_first(&self) -> Option<(u64, u64)> {
+        let finished = self.finished(0)?;
+        Some((finished.uptime_a(), finished.uptime_b()))
+    }
+
+    fn answer_of_second(&self, k: usize) -> Option<Verdict3> {
+        Some(self.finished(1)?.rulings().get(k)?.answer)
+    }
+
+    fn take_table_len(&mut self) -> Option<usize> {
+        Some(self.sent.finished.pop()?.into_table().len())
+    }
+
+    fn finished(&self, place: usize) -> Option<&Finished> {
+        self.sent.finished.get(place)
     }
 }
 

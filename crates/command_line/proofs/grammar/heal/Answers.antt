@@ -19,22 +19,22 @@ disassembling = with_subcommand assembling dis_app.top
 
 pub returns : goal.returns
 returns c =
-    let none : app_of c.after_help.result ≡ new_app (codes "heal") =
-    ap app_of_fields c.after_help.ensures ∙ ap app_of_fields c.in_ok-bin_name.ensures.0 ∙ c.new.ensures.app in
-    let one : app_of c.in_ok-subcommand.field-0 ≡ checking =
-    c.in_ok-subcommand.ensures.shape c.in_ok-check.ensures.1
+    let none : app_of c.after_help-named.result ≡ new_app (codes "heal") =
+    ap app_of_fields c.after_help-named.ensures ∙ ap app_of_fields c.in_ok-bin_name.ensures.0 ∙ c.new.ensures.app in
+    let one : app_of c.in_ok-checking.checking ≡ checking =
+    c.in_ok-checking.ensures.shape c.in_ok-check.ensures.1
     ∙ ap₂ with_subcommand none (ap (λ (a : App). a.top) c.in_ok-check.ensures.0) in
-    let two : app_of c.in_ok-subcommand-2.field-0 ≡ judging =
-    c.in_ok-subcommand-2.ensures.shape c.in_ok-judge.ensures.1
+    let two : app_of c.in_ok-judging.judging ≡ judging =
+    c.in_ok-judging.ensures.shape c.in_ok-judge.ensures.1
     ∙ ap₂ with_subcommand one (ap (λ (a : App). a.top) c.in_ok-judge.ensures.0) in
-    let three : app_of c.in_ok-subcommand-3.field-0 ≡ assembling =
-    c.in_ok-subcommand-3.ensures.shape c.in_ok-asm.ensures.1
+    let three : app_of c.in_ok-assembling.assembling ≡ assembling =
+    c.in_ok-assembling.ensures.shape c.in_ok-asm.ensures.1
     ∙ ap₂ with_subcommand two (ap (λ (a : App). a.top) c.in_ok-asm.ensures.0) in
-    let four : app_of c.in_ok-subcommand-4.field-0 ≡ disassembling =
-    c.in_ok-subcommand-4.ensures.shape c.in_ok-dis.ensures.1
+    let four : app_of c.in_ok-disassembling.disassembling ≡ disassembling =
+    c.in_ok-disassembling.ensures.shape c.in_ok-dis.ensures.1
     ∙ ap₂ with_subcommand three (ap (λ (a : App). a.top) c.in_ok-dis.ensures.0) in
-    let five : app_of c.in_ok-heal.heal ≡ subcommands_app =
-    c.in_ok-heal.ensures.shape c.in_ok-run.ensures.1
+    let five : app_of c.in_ok-running.running ≡ subcommands_app =
+    c.in_ok-running.ensures.shape c.in_ok-run.ensures.1
     ∙ ap₂ with_subcommand four (ap (λ (a : App). a.top) c.in_ok-run.ensures.0) in
     ap app_of_fields c.subcommand_required.ensures
     ∙ ap (λ (a : App). record a { top = record a.top { subcommand_required = true } }) five
