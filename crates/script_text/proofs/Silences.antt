@@ -15,6 +15,7 @@ pub never_silent : (line first : List ℕ) (words : List (List ℕ)) → words_o
     → begins_comment first ≡ false → list_all is_printable line ≡ true → asked_of line ≡ Ok None → ⊥
 never_silent line first words parts plain shown said =
     let asked = ap (asked_of_words (list_all is_printable line)) parts
-    ∙ (ap (λ b. if b then Ok None else (if list_all is_printable line then some_asked (asked_by first words) else Err Word)) plain
+    ∙ (ap (λ b. if b then Ok None
+    else (if list_all is_printable line then some_asked (asked_by first words) else Err Word)) plain
     ∙ ap (λ b. if b then some_asked (asked_by first words) else Err Word) shown)
     in asks_something (asked_by first words) (sym asked ∙ said)

@@ -1,5 +1,5 @@
-//! Healing across the crates, by tests alone: the draws and verdicts of a board, workers beside each other, sides that are
-//! told a round, and partitions under locks that are told one.
+//! Healing across the crates, by tests alone: the draws and verdicts of a board, workers beside each other, sides that
+//! are told a round, and partitions under locks that are told one.
 #![tactic(auto)]
 
 #[cfg(test)]

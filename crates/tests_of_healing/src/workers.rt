@@ -122,8 +122,8 @@ impl<'a, R: Threads + Wait + Clock + Sync> Listeners<'a, R> {
     }
 }
 
-// What came of a round: what the workers did, how many posts the gate was asked for and how many it gave up to hold, and
-// whether both were told each clash once.
+// What came of a round: what the workers did, how many posts the gate was asked for and how many it gave up to hold,
+// and whether both were told each clash once.
 #[derive(Clone, Copy)]
 struct Outcome {
     worked: Worked,

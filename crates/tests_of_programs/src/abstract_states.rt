@@ -41,8 +41,8 @@ fn states_join(rt: HostRuntime) {
     assert_eq!(rt; state.stack().is_written(504), false);
 }
 
-/// Whether states are held just for the slots that have had one and aren't passed, and the greatest number held, once two
-/// slots have had one and both are passed.
+/// Whether states are held just for the slots that have had one and aren't passed, and the greatest number held, once
+/// two slots have had one and both are passed.
 fn peak_of_two<D: Domain>(alloc: Global) -> Result<(bool, u32), AllocError> {
     let mut pending = Pending::<D>::new(alloc, 3)?;
     pending.put(1, Box::new(alloc, State::entry())?);

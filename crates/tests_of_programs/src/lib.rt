@@ -1,5 +1,5 @@
-//! Tests alone, through public calls: what operations compute, codes as bytes and as listings, ranges and abstract states, and
-//! programs that are verified.
+//! Tests alone, through public calls: what operations compute, codes as bytes and as listings, ranges and abstract
+//! states, and programs that are verified.
 #![tactic(auto)]
 
 #[cfg(test)]

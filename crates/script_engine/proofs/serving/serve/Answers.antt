@@ -36,7 +36,8 @@ returns-in-Err g c =
 pub returns-in-Ok-None : goal.returns-in-Ok-None
 returns-in-Ok-None g c =
     let machine = machine_of c.args.machine.now in
-    let due = c.in-Ok-None.ensures.asked ∙ ap (λ (o : Option Command). Ok (option_map asked o)) c.in-Ok-None.field-0-is in
+    let due = c.in-Ok-None.ensures.asked
+    ∙ ap (λ (o : Option Command). Ok (option_map asked o)) c.in-Ok-None.field-0-is in
     said _ _ _ _ Silent c.say-in-Ok-None.result
     (subst (λ (long : Bool). Step machine (seen_line long c.args.line.now) (Says Silent) machine)
     (sym c.if-is_long.false)
