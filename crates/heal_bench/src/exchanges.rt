@@ -35,62 +35,80 @@ impl fmt::Display for ExchangeTimes {
 /// Takes the times of one exchange of two sides with so many names, each of which clashes.
 pub(crate) fn measure(rt: &HostRuntime, rows: &str) -> Result<ExchangeTimes, Fault> {
     let rows = row_count(rows)?;
-    let a = side(rt.alloc(), SideId::A, rows, 1)?;
-    let b = side(rt.alloc(), SideId::B, rows, 2)?;
-    let start = Instant::now(rt)?;
-    let mut exchange = Exchange::begun(rt.alloc(), a, b)?;
-    Ok(ExchangeTimes {
-        begin: start.elapsed(rt)?.as_nanos(),
-        hear: exchange.hear(rt)?,
-        take: exchange.take(rt)?,
-        finish: exchange.finish(rt)?,
-    })
+    let mut a = side(rt.alloc(), SideId::A, rows, 1)?;
+    let mut b = side(rt.alloc(), SideId::B, rows, 2)?;
+    let (offers, begin) = begin(rt, &mut a, &mut b)?;
+    go_on(rt, &mut a, &mut b, &offers, begin)
 }
 
-/// Two sides that began one number, and their offers.
+/// What two sides offered.
 #[derive(Drop)]
-struct Exchange {
-    a: Side,
-    b: Side,
+struct Offers {
     of_a: Offer,
     of_b: Offer,
 }
 
-impl Exchange {
-    fn begun(alloc: Global, mut a: Side, mut b: Side) -> Result<Exchange, Fault> {
-        let of_a = a.begin(alloc, NUMBER, SEED, 0)?;
-        let of_b = b.begin(alloc, NUMBER, SEED, 0)?;
-        Ok(Exchange { a, b, of_a, of_b })
-    }
+/// Both sides begin one number.
+fn begin(rt: &HostRuntime, a: &mut Side, b: &mut Side) -> Result<(Offers, u128), Fault> {
+    let start = Instant::now(rt)?;
+    let of_a = a.begin(rt.alloc(), NUMBER, SEED, 0)?;
+    let of_b = b.begin(rt.alloc(), NUMBER, SEED, 0)?;
+    let offers = Offers { of_a, of_b };
+    Ok((offers, start.elapsed(rt)?.as_nanos()))
+}
 
-    /// Each side hears the other's offer.
-    fn hear(&mut self, rt: &HostRuntime) -> Result<u128, Fault> {
-        let start = Instant::now(rt)?;
-        self.a.hear(rt.alloc(), &self.of_b)?;
-        self.b.hear(rt.alloc(), &self.of_a)?;
-        Ok(start.elapsed(rt)?.as_nanos())
-    }
+/// The times of the whole exchange, of which beginning took so long.
+fn go_on(
+    rt: &HostRuntime,
+    a: &mut Side,
+    b: &mut Side,
+    offers: &Offers,
+    begin: u128,
+) -> Result<ExchangeTimes, Fault> {
+    Ok(ExchangeTimes {
+        begin,
+        hear: hear(rt, a, b, offers)?,
+        take: take(rt, a, b, offers)?,
+        finish: finish(rt, a, b)?,
+    })
+}
 
-    /// Each clash is judged at its first word, and each side takes the rulings.
-    fn take(&mut self, rt: &HostRuntime) -> Result<u128, Fault> {
-        let list = clashes(rt.alloc(), self.of_a.table(), 0, self.of_b.table(), 0)?;
-        let start = Instant::now(rt)?;
-        take_all(&mut self.a, &list)?;
-        take_all(&mut self.b, &list)?;
-        Ok(start.elapsed(rt)?.as_nanos())
-    }
+/// Each side hears the other's offer.
+fn hear(rt: &HostRuntime, a: &mut Side, b: &mut Side, offers: &Offers) -> Result<u128, Fault> {
+    let start = Instant::now(rt)?;
+    a.hear(rt.alloc(), &offers.of_b)?;
+    b.hear(rt.alloc(), &offers.of_a)?;
+    Ok(start.elapsed(rt)?.as_nanos())
+}
 
-    /// Each side closes its list, hears the other's, and finishes.
-    fn finish(&mut self, rt: &HostRuntime) -> Result<u128, Fault> {
-        let start = Instant::now(rt)?;
-        let gone_of_a = self.a.close_list(rt.alloc())?;
-        let gone_of_b = self.b.close_list(rt.alloc())?;
-        self.a.hear_list(&gone_of_b)?;
-        self.b.hear_list(&gone_of_a)?;
-        self.a.finish(rt.alloc())?;
-        self.b.finish(rt.alloc())?;
-        Ok(start.elapsed(rt)?.as_nanos())
-    }
+/// Each clash is judged at its first word, and each side takes the rulings.
+fn take(rt: &HostRuntime, a: &mut Side, b: &mut Side, offers: &Offers) -> Result<u128, Fault> {
+    let list = clashes(rt.alloc(), offers.of_a.table(), 0, offers.of_b.table(), 0)?;
+    take_both(rt, a, b, &list)
+}
+
+fn take_both(
+    rt: &HostRuntime,
+    a: &mut Side,
+    b: &mut Side,
+    list: &ClashList,
+) -> Result<u128, Fault> {
+    let start = Instant::now(rt)?;
+    take_all(a, list)?;
+    take_all(b, list)?;
+    Ok(start.elapsed(rt)?.as_nanos())
+}
+
+/// Each side closes its list, hears the other's, and finishes.
+fn finish(rt: &HostRuntime, a: &mut Side, b: &mut Side) -> Result<u128, Fault> {
+    let start = Instant::now(rt)?;
+    let gone_of_a = a.close_list(rt.alloc())?;
+    b.hear_list(&gone_of_a)?;
+    let gone_of_b = b.close_list(rt.alloc())?;
+    a.hear_list(&gone_of_b)?;
+    a.finish(rt.alloc())?;
+    b.finish(rt.alloc())?;
+    Ok(start.elapsed(rt)?.as_nanos())
 }
 
 /// A side with so many names, all of an owner on this node.

@@ -1,19 +1,16 @@
 //! Calls of a board.
 
-use crate::callers::{Caller, word_shown};
+use crate::callers::Caller;
 use crate::comparing::is_same_option;
-use crate::exchange::{NUMBER, SEED};
 use crate::fault::Fault;
 use crate::rows::clashing;
 use crate::sweep::{Call, Subject, sweep};
 use partition_table::ClashList;
 use std::alloc::{AllocError, Global};
-use verdict_board::{Board, Seat, open};
 
-/// A board with its seats, a caller of a board, and what a call answered.
+/// A caller of a board, and what a call answered.
 #[derive(Drop)]
 struct Boarded<'p> {
-    opened: Option<(Board<'p>, Vec<Seat>)>,
     caller: Option<Caller<'p>>,
     /// Whether what was posted was kept.
     is_kept: bool,
@@ -23,15 +20,13 @@ struct Boarded<'p> {
 
 impl<'p> Boarded<'p> {
     fn open(&mut self, alloc: Global, list: &'p ClashList) -> Result<(), Fault> {
-        self.opened = Some(open(alloc, NUMBER, SEED, list, 2)?);
+        self.caller = Some(Caller::new(alloc, list)?);
         Ok(())
     }
 
     fn pass(&mut self) -> Result<(), Fault> {
-        let (board, _) = self.opened.as_ref().ok_or(Fault::Unprepared)?;
-        let mut pass = board.pass()?;
-        let ruling = board.read(0, &mut pass);
-        self.seen = Some(ruling.map(|ruling| ruling.verdict.word()));
+        let caller = self.caller.as_ref().ok_or(Fault::Unprepared)?;
+        self.seen = Some(caller.word_shown()?);
         Ok(())
     }
 
@@ -49,19 +44,10 @@ impl<'p> Subject for Boarded<'p> {
     fn is_same(&self, other: &Boarded<'p>) -> bool {
         self.is_kept == other.is_kept
             && self.seen == other.seen
-            && is_same_option(self.opened.as_ref(), other.opened.as_ref(), is_same_board)
             && is_same_option(self.caller.as_ref(), other.caller.as_ref(), |one, other| {
-                one.word_shown() == other.word_shown()
+                one.is_same(other)
             })
     }
-}
-
-fn is_same_board<'p>(one: &(Board<'p>, Vec<Seat>), other: &(Board<'p>, Vec<Seat>)) -> bool {
-    one.0.number() == other.0.number()
-        && one.0.seed() == other.0.seed()
-        && one.0.clashes().len() == other.0.clashes().len()
-        && one.1.len() == other.1.len()
-        && word_shown(&one.0) == word_shown(&other.0)
 }
 
 /// A call of a board of these clashes.
@@ -73,6 +59,7 @@ struct BoardCall<'p> {
 
 #[derive(Clone, Copy)]
 enum BoardCallKind {
+    /// A board is opened, and a first pass given.
     Open,
     Pass,
     Post,
@@ -88,18 +75,15 @@ impl<'p> Call<Boarded<'p>> for BoardCall<'p> {
     }
 
     fn prepare(&self, alloc: Global) -> Result<Boarded<'p>, Fault> {
-        let mut boarded = Boarded {
-            opened: None,
-            caller: None,
+        let caller = match self.kind {
+            BoardCallKind::Open => None,
+            BoardCallKind::Pass | BoardCallKind::Post => Some(Caller::new(alloc, self.list)?),
+        };
+        Ok(Boarded {
+            caller,
             is_kept: false,
             seen: None,
-        };
-        match self.kind {
-            BoardCallKind::Open => {}
-            BoardCallKind::Pass => boarded.open(alloc, self.list)?,
-            BoardCallKind::Post => boarded.caller = Some(Caller::new(alloc, self.list)?),
-        }
-        Ok(boarded)
+        })
     }
 
     fn make(&self, alloc: Global, boarded: &mut Boarded<'p>) -> Result<(), Fault> {

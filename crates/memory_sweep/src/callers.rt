@@ -1,8 +1,7 @@
-//! Callers of a board: one with a pass of it, one with a seat, and one with all seats.
+//! A caller of a board: one that has its seats and a pass of it.
 ghost use Rattle.std.specs.Prelude.{◌≡◌, All, vec_len};
 
 use crate::exchange::{NUMBER, SEED};
-use crate::fault::Fault;
 use exchange_core::Finished;
 use judge_pool::judge;
 use partition_table::{ClashList, word};
@@ -10,29 +9,37 @@ use registry_lock::meet;
 use std::alloc::{AllocError, Global};
 use verdict_board::{Board, Draw, Pass, Posted, Seat, open};
 
-/// A board and a pass of it.
+/// A board with two seats, and a pass of it.
 #[derive(Drop)]
 pub(crate) struct Caller<'p> {
     board: Board<'p>,
+    seats: Vec<Seat>,
     pass: Pass<'p>,
     ghost of_board: { pass.place ≡ board.place },
+    ghost all: { vec_len seats ≡ board.seats },
+    ghost seats_of_board: { All (λ seat. seat.draws ≡ board.draws) seats.items },
 }
 
 impl<'p> Caller<'p> {
     /// A board of these clashes, and a pass that has seen nothing.
     pub(crate) fn new(alloc: Global, list: &'p ClashList) -> Result<Caller<'p>, AllocError> {
-        let (board, _) = open(alloc, NUMBER, SEED, list, 2)?;
+        let (board, seats) = open(alloc, NUMBER, SEED, list, 2)?;
         let pass = board.pass()?;
-        Ok(Caller { board, pass })
+        Ok(Caller { board, seats, pass })
     }
 
     /// Posts the verdict of the first clash at its word in the first round, and tells whether it was kept, unless it
     /// was refused, and the word that the pass then has seen.
     pub(crate) fn post(self) -> (Caller<'p>, Option<bool>, Option<u64>) {
-        let Caller { board, mut pass } = self;
+        let Caller {
+            board,
+            seats,
+            mut pass,
+            ..
+        } = self;
         let list = board.clashes();
         if list.len() == 0 {
-            return (Caller { board, pass }, None, None);
+            return (Caller { board, seats, pass }, None, None);
         }
         let verdict = judge(list, 0, word(board.seed(), 0, list.len() as u32, 0));
         let is_kept = match board.post(0, verdict, &mut pass) {
@@ -43,78 +50,61 @@ impl<'p> Caller<'p> {
         };
         let seen = board.read(0, &mut pass);
         let seen = seen.map(|ruling| ruling.verdict.word());
-        (Caller { board, pass }, is_kept, seen)
+        (Caller { board, seats, pass }, is_kept, seen)
     }
 
     /// The word of the first clash that the pass is shown.
     pub(crate) fn read(self) -> Option<u64> {
-        let Caller { board, mut pass } = self;
+        let Caller {
+            board,
+            mut pass,
+            ..
+        } = self;
         let ruling = board.read(0, &mut pass)?;
         Some(ruling.verdict.word())
     }
 
-    /// The word of the first clash that a new pass is shown.
-    pub(crate) fn word_shown(&self) -> Option<u64> {
-        word_shown(&self.board)
+    /// The word of the first clash that a new pass is shown, unless there is no memory for one.
+    pub(crate) fn word_shown(&self) -> Result<Option<u64>, AllocError> {
+        let mut pass = self.board.pass()?;
+        let ruling = self.board.read(0, &mut pass);
+        Ok(ruling.map(|ruling| ruling.verdict.word()))
+    }
+
+    /// Whether the boards are of one exchange, have as many clashes and seats, and show the same of the first clash.
+    pub(crate) fn is_same(&self, other: &Caller<'p>) -> bool {
+        self.board.number() == other.board.number()
+            && self.board.seed() == other.board.seed()
+            && self.board.clashes().len() == other.board.clashes().len()
+            && self.seats.len() == other.seats.len()
+            && self.word_shown() == other.word_shown()
     }
 
     /// How many names the table has of two that finished and meet.
     pub(crate) fn meet(self, first: Finished, second: Finished) -> Option<usize> {
-        let Caller { board, mut pass } = self;
+        let Caller {
+            board,
+            mut pass,
+            ..
+        } = self;
         let healed = meet(&board, &mut pass, first, second).ok()?;
         Some(healed.table().len())
     }
-}
 
-/// The word of the first clash that a new pass is shown.
-pub(crate) fn word_shown(board: &Board<'_>) -> Option<u64> {
-    let mut pass = board.pass().ok()?;
-    let ruling = board.read(0, &mut pass)?;
-    Some(ruling.verdict.word())
-}
-
-/// A board and one of its seats.
-#[derive(Drop)]
-pub(crate) struct Drawer<'p> {
-    board: Board<'p>,
-    seat: Seat,
-    ghost of_board: { seat.draws ≡ board.draws },
-}
-
-impl<'p> Drawer<'p> {
-    /// A board of these clashes, and one of its two seats.
-    pub(crate) fn new(alloc: Global, list: &'p ClashList) -> Result<Drawer<'p>, Fault> {
-        let (board, mut seats) = open(alloc, NUMBER, SEED, list, 2)?;
-        let seat = seats.pop().ok_or(Fault::Unprepared)?;
-        Ok(Drawer { board, seat })
-    }
-
-    /// What the seat draws first in the first round.
-    pub(crate) fn draw(self) -> Draw {
-        let Drawer { board, mut seat } = self;
-        board.draw(&mut seat, 0)
-    }
-}
-
-/// A board and all of its seats.
-#[derive(Drop)]
-pub(crate) struct Gatherer<'p> {
-    board: Board<'p>,
-    seats: Vec<Seat>,
-    ghost all: { vec_len seats ≡ board.seats },
-    ghost of_board: { All (λ seat. seat.draws ≡ board.draws) seats.items },
-}
-
-impl<'p> Gatherer<'p> {
-    /// A board of these clashes, and its two seats.
-    pub(crate) fn new(alloc: Global, list: &'p ClashList) -> Result<Gatherer<'p>, AllocError> {
-        let (board, seats) = open(alloc, NUMBER, SEED, list, 2)?;
-        Ok(Gatherer { board, seats })
+    /// What the last seat draws first in the first round.
+    pub(crate) fn draw(self) -> Option<Draw> {
+        let Caller {
+            board,
+            mut seats,
+            ..
+        } = self;
+        let mut seat = seats.pop()?;
+        Some(board.draw(&mut seat, 0))
     }
 
     /// How many numbers were drawn in each round.
     pub(crate) fn gather(self) -> [u64; 4] {
-        let Gatherer { board, seats } = self;
+        let Caller { board, seats, .. } = self;
         board.gather(seats)
     }
 }

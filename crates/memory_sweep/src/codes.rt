@@ -1,6 +1,5 @@
 //! Calls on the bytes, the text and the code of a program.
 
-use crate::comparing::is_same_option;
 use crate::fault::Fault;
 use crate::sweep::{Call, Subject, sweep};
 use assembler_text::{assemble, disassemble};
@@ -18,58 +17,50 @@ const TEXT: &'static str =
 struct Coded {
     code: Code,
     bytes: Vec<u8>,
-    // Code to be handed over, when the call is made and when it is made again.
-    handed: Option<Code>,
-    handed_again: Option<Code>,
-    read: Option<Code>,
-    written: Option<Vec<u8>>,
-    text: Option<String>,
-    accepted: Option<Verified>,
+    given: Given,
+}
+
+/// What a call gave, if it was made.
+#[derive(Drop)]
+enum Given {
+    Nothing,
+    Code(Code),
+    Bytes(Vec<u8>),
+    Text(String),
+    Accepted(Verified),
+}
+
+impl Given {
+    fn is_same(&self, other: &Given) -> bool {
+        match (self, other) {
+            (Given::Nothing, Given::Nothing) => true,
+            (Given::Code(one), Given::Code(other)) => one == other,
+            (Given::Bytes(one), Given::Bytes(other)) => one == other,
+            (Given::Text(one), Given::Text(other)) => one == other,
+            (Given::Accepted(one), Given::Accepted(other)) => {
+                one.code() == other.code() && one.stores() == other.stores()
+            }
+            _ => false,
+        }
+    }
 }
 
 impl Coded {
     fn new(alloc: Global) -> Result<Coded, Fault> {
         let code = assemble(alloc, TEXT)?;
         let bytes = encode(alloc, &code)?;
-        let handed = Some(decode(alloc, &bytes)?);
-        let handed_again = Some(decode(alloc, &bytes)?);
         Ok(Coded {
             code,
             bytes,
-            handed,
-            handed_again,
-            read: None,
-            written: None,
-            text: None,
-            accepted: None,
+            given: Given::Nothing,
         })
-    }
-
-    fn hand_over(&mut self) -> Result<Code, Fault> {
-        match self.handed.take() {
-            Some(code) => Ok(code),
-            None => self.handed_again.take().ok_or(Fault::Unprepared),
-        }
     }
 }
 
 impl Subject for Coded {
     fn is_same(&self, other: &Coded) -> bool {
-        self.code == other.code
-            && self.bytes == other.bytes
-            && self.read == other.read
-            && self.written == other.written
-            && self.text == other.text
-            && is_same_option(
-                self.accepted.as_ref(),
-                other.accepted.as_ref(),
-                is_same_verified,
-            )
+        self.code == other.code && self.bytes == other.bytes && self.given.is_same(&other.given)
     }
-}
-
-fn is_same_verified(one: &Verified, other: &Verified) -> bool {
-    one.code() == other.code() && one.stores() == other.stores()
 }
 
 /// The calls that read and write programs.
@@ -101,21 +92,22 @@ impl Call<Coded> for CodeCall {
         Coded::new(alloc)
     }
 
+    // What is verified is decoded first, since `verify` takes it over.
     fn make(&self, alloc: Global, coded: &mut Coded) -> Result<(), Fault> {
-        match self {
-            CodeCall::Decode => coded.read = Some(decode(alloc, &coded.bytes)?),
-            CodeCall::Encode => coded.written = Some(encode(alloc, &coded.code)?),
-            CodeCall::Assemble => coded.read = Some(assemble(alloc, TEXT)?),
-            CodeCall::Disassemble => coded.text = Some(disassemble(alloc, &coded.code)?),
+        coded.given = match self {
+            CodeCall::Decode => Given::Code(decode(alloc, &coded.bytes)?),
+            CodeCall::Encode => Given::Bytes(encode(alloc, &coded.code)?),
+            CodeCall::Assemble => Given::Code(assemble(alloc, TEXT)?),
+            CodeCall::Disassemble => Given::Text(disassemble(alloc, &coded.code)?),
             CodeCall::Verify => {
-                coded.accepted = Some(verify::<Profile>(alloc, coded.hand_over()?)?);
+                Given::Accepted(verify::<Profile>(alloc, decode(alloc, &coded.bytes)?)?)
             }
             CodeCall::VerifyPeak => {
-                let (verified, _) = verify_peak::<Profile>(alloc, coded.hand_over()?);
-                coded.accepted = Some(verified?);
+                let (verified, _) = verify_peak::<Profile>(alloc, decode(alloc, &coded.bytes)?);
+                Given::Accepted(verified?)
             }
-            CodeCall::ReadProgram => coded.accepted = Some(read_program(alloc, &coded.bytes)?),
-        }
+            CodeCall::ReadProgram => Given::Accepted(read_program(alloc, &coded.bytes)?),
+        };
         Ok(())
     }
 }

@@ -2,7 +2,7 @@
 
 use crate::comparing::is_same_option;
 use crate::fault::Fault;
-use crate::rows::{by, numbered_name, stored};
+use crate::rows::{by, numbered_name, of, stored};
 use crate::sweep::Subject;
 use clash_record::{ProgramId, Registration, ResolverId};
 use exchange_core::{Finished, Offer, Side, SideId, Withdrawals};
@@ -16,57 +16,77 @@ pub(crate) const NUMBER: u64 = 1;
 /// The seed of its words.
 pub(crate) const SEED: u64 = 5;
 
+/// What a side does in an exchange.
+#[derive(Clone, Copy)]
+pub(crate) enum Step {
+    /// It registers one name more.
+    RegisterBuiltin,
+    RegisterProgram,
+    /// It unregisters its first name.
+    Unregister,
+    Begin,
+    Hear,
+    HearList,
+    /// It takes the ruling of the first clash.
+    Take,
+    /// It takes the ruling of each clash.
+    TakeAll,
+    /// It withdraws its first name.
+    Withdraw,
+    CloseList,
+    Finish,
+    Abandon,
+}
+
+/// The steps of an exchange that finishes.
+pub(crate) const WHOLE: [Step; 6] = [
+    Step::Begin,
+    Step::Hear,
+    Step::TakeAll,
+    Step::CloseList,
+    Step::HearList,
+    Step::Finish,
+];
+
 /// A side, what it hears of the other, and what its calls answered.
 #[derive(Drop)]
 pub(crate) struct Exchange {
+    /// How many names the side has when the exchange begins.
+    names: u8,
     side: Side,
     store: UploadStore,
-    pub(crate) program: ProgramId,
+    program: ProgramId,
     of_other: Offer,
     list_of_other: Withdrawals,
-    clashes: Option<ClashList>,
     unregistered: Option<Registration>,
     offer: Option<Offer>,
     list: Option<Withdrawals>,
     finished: Option<Finished>,
 }
 
-/// How far an exchange has come.
-#[derive(Clone, Copy)]
-pub(crate) enum Stage {
-    /// The side hasn't begun.
-    Idle,
-    Begun,
-    /// It has begun and heard the other.
-    Heard,
-    /// It has begun and withdrawn its first name.
-    Withdrawn,
-    /// It has all that it needs to finish.
-    Complete,
-    Finished,
-}
-
 impl Exchange {
-    /// An exchange that has come so far, of a side with so many names.
-    pub(crate) fn at(alloc: Global, stage: Stage, names: u8) -> Result<Exchange, Fault> {
+    /// A side with so many names after these steps, and another that has the same names with owners of its own and has
+    /// closed its list.
+    pub(crate) fn after(alloc: Global, names: u8, steps: &[Step]) -> Result<Exchange, Fault> {
         let mut exchange = Exchange::idle(alloc, names)?;
-        exchange.advance(alloc, stage, names)?;
+        for step in steps {
+            exchange.step(alloc, *step)?;
+        }
         Ok(exchange)
     }
 
-    /// A side with so many names, and another that has the same names with owners of its own and has closed its list.
     fn idle(alloc: Global, names: u8) -> Result<Exchange, Fault> {
         let (store, program) = stored(alloc)?;
         let resolver = ResolverId::Program(program);
         let side = side_with(alloc, SideId::A, names, 1, resolver, &store)?;
         let (of_other, list_of_other) = sent_by_other(alloc, names, resolver, &store)?;
         Ok(Exchange {
+            names,
             side,
             store,
             program,
             of_other,
             list_of_other,
-            clashes: None,
             unregistered: None,
             offer: None,
             list: None,
@@ -74,110 +94,79 @@ impl Exchange {
         })
     }
 
-    // Goes on from where the side hasn't begun.
-    fn advance(&mut self, alloc: Global, stage: Stage, names: u8) -> Result<(), Fault> {
-        if matches!(stage, Stage::Idle) {
-            return Ok(());
-        }
-        self.begin(alloc)?;
-        self.list_clashes(alloc)?;
-        match stage {
-            Stage::Idle | Stage::Begun => Ok(()),
-            Stage::Heard => self.hear(alloc),
-            Stage::Withdrawn => self.withdraw(0),
-            Stage::Complete => self.complete(alloc, names),
-            Stage::Finished => {
-                self.complete(alloc, names)?;
-                self.finish(alloc)
-            }
-        }
-    }
-
-    fn complete(&mut self, alloc: Global, names: u8) -> Result<(), Fault> {
-        self.hear(alloc)?;
-        for k in 0..names {
-            self.take(u32::from(k))?;
-        }
-        self.close_list(alloc)?;
-        self.hear_list()
-    }
-
     /// What a side of so many names finished with.
     pub(crate) fn finished(alloc: Global, names: u8) -> Result<Finished, Fault> {
-        let mut exchange = Exchange::at(alloc, Stage::Finished, names)?;
+        let mut exchange = Exchange::after(alloc, names, &WHOLE)?;
         exchange.finished.take().ok_or(Fault::Unprepared)
     }
 
-    pub(crate) fn register(&mut self, number: u8, registration: Registration) -> Result<(), Fault> {
-        Ok(
-            self.side
-                .register(numbered_name(number)?, registration, &self.store)?,
-        )
+    pub(crate) fn side(&self) -> &Side {
+        &self.side
     }
 
-    pub(crate) fn unregister(&mut self, number: u8) -> Result<(), Fault> {
-        self.unregistered = Some(self.side.unregister(&numbered_name(number)?)?);
+    /// The program that judges each of the names.
+    pub(crate) fn program(&self) -> ProgramId {
+        self.program
+    }
+
+    pub(crate) fn step(&mut self, alloc: Global, step: Step) -> Result<(), Fault> {
+        match step {
+            Step::RegisterBuiltin => self.register(of(1)),
+            Step::RegisterProgram => self.register(by(1, ResolverId::Program(self.program))),
+            Step::Unregister => self.unregister(),
+            Step::Begin => self.begin(alloc),
+            Step::Hear => Ok(self.side.hear(alloc, &self.of_other)?),
+            Step::HearList => Ok(self.side.hear_list(&self.list_of_other)?),
+            Step::Take => self.take(alloc, 1),
+            Step::TakeAll => self.take(alloc, u32::MAX),
+            Step::Withdraw => Ok(self.side.withdraw(&numbered_name(0)?)?),
+            Step::CloseList => self.close_list(alloc),
+            Step::Finish => self.finish(alloc),
+            Step::Abandon => Ok(self.side.abandon()?),
+        }
+    }
+
+    fn register(&mut self, registration: Registration) -> Result<(), Fault> {
+        let name = numbered_name(self.names)?;
+        Ok(self.side.register(name, registration, &self.store)?)
+    }
+
+    fn unregister(&mut self) -> Result<(), Fault> {
+        self.unregistered = Some(self.side.unregister(&numbered_name(0)?)?);
         Ok(())
     }
 
-    pub(crate) fn begin(&mut self, alloc: Global) -> Result<(), Fault> {
+    fn begin(&mut self, alloc: Global) -> Result<(), Fault> {
         self.offer = Some(self.side.begin(alloc, NUMBER, SEED, 0)?);
         Ok(())
     }
 
-    pub(crate) fn hear(&mut self, alloc: Global) -> Result<(), Fault> {
-        Ok(self.side.hear(alloc, &self.of_other)?)
-    }
-
-    pub(crate) fn hear_list(&mut self) -> Result<(), Fault> {
-        Ok(self.side.hear_list(&self.list_of_other)?)
-    }
-
-    pub(crate) fn withdraw(&mut self, number: u8) -> Result<(), Fault> {
-        Ok(self.side.withdraw(&numbered_name(number)?)?)
-    }
-
-    pub(crate) fn abandon(&mut self) -> Result<(), Fault> {
-        Ok(self.side.abandon()?)
-    }
-
-    pub(crate) fn close_list(&mut self, alloc: Global) -> Result<(), Fault> {
+    fn close_list(&mut self, alloc: Global) -> Result<(), Fault> {
         self.list = Some(self.side.close_list(alloc)?);
         Ok(())
     }
 
-    pub(crate) fn finish(&mut self, alloc: Global) -> Result<(), Fault> {
+    fn finish(&mut self, alloc: Global) -> Result<(), Fault> {
         self.finished = Some(self.side.finish(alloc)?);
         Ok(())
     }
 
-    /// The side takes the ruling of clash `k` at its word in the first round. Takes no memory of its own.
-    pub(crate) fn take(&mut self, k: u32) -> Result<(), Fault> {
-        let list = self.clashes.as_ref().ok_or(Fault::Unprepared)?;
-        let clash = list.get(k).ok_or(Fault::Unprepared)?;
-        let verdict = Verdict::judged(clash, word(SEED, 0, list.len() as u32, k));
-        self.side.take(Ruling {
-            number: NUMBER,
-            k,
-            verdict,
-        })?;
-        Ok(())
-    }
-
-    /// Lists the clashes of what the two sides offered.
-    fn list_clashes(&mut self, alloc: Global) -> Result<(), Fault> {
-        if let Some(offer) = &self.offer {
-            self.clashes = Some(clashes(alloc, offer.table(), 0, self.of_other.table(), 0)?);
+    /// Lists the clashes of what the two sides offered, and has the side take the rulings of the first so many of them.
+    /// It is told all of these, and answers the first refusal.
+    fn take(&mut self, alloc: Global, most: u32) -> Result<(), Fault> {
+        let offer = self.offer.as_ref().ok_or(Fault::Unprepared)?;
+        let list = clashes(alloc, offer.table(), 0, self.of_other.table(), 0)?;
+        let mut taken = Ok(());
+        for k in 0..most {
+            let Some(ruling) = first_ruling(&list, k) else {
+                break;
+            };
+            let answer = self.side.take(ruling);
+            if taken.is_ok() {
+                taken = answer;
+            }
         }
-        Ok(())
-    }
-
-    /// Takes a ruling of each clash. What the side refuses it has or doesn't want.
-    fn take_all(&mut self) {
-        let count = self.clashes.as_ref().map_or(0, |list| list.len() as u32);
-        for k in 0..count {
-            let _ = self.take(k);
-        }
+        Ok(taken?)
     }
 }
 
@@ -197,15 +186,21 @@ impl Subject for Exchange {
 
     // Goes on to the end of the exchange. What was done already, or can't be done any more, is refused.
     fn go_on(&mut self, alloc: Global) -> Result<(), Fault> {
-        let _ = self.begin(alloc);
-        self.list_clashes(alloc)?;
-        let _ = self.hear(alloc);
-        self.take_all();
-        let _ = self.close_list(alloc);
-        let _ = self.hear_list();
-        let _ = self.finish(alloc);
+        for step in WHOLE {
+            let _ = self.step(alloc, step);
+        }
         Ok(())
     }
+}
+
+/// The ruling of clash `k` at its word in the first round, where there is such a clash.
+fn first_ruling(list: &ClashList, k: u32) -> Option<Ruling<'_>> {
+    let clash = list.get(k)?;
+    Some(Ruling {
+        number: NUMBER,
+        k,
+        verdict: Verdict::judged(clash, word(SEED, 0, list.len() as u32, k)),
+    })
 }
 
 /// A side with so many names of an owner on this node, all judged by this resolver.

@@ -9,56 +9,86 @@ use partition_table::TableFault;
 use program::ProgramFault;
 use std::alloc::AllocError;
 use std::io;
-use thiserror::Error;
 use upload_store::UploadFault;
 use verifier::VerifyFault;
 
+/// The number of want of memory.
+const WANT_OF_MEMORY: u32 = 90;
+
 /// Why a call gave no answer.
-#[derive(Debug, Drop, Error)]
+#[derive(Clone, Copy, Debug)]
 pub(crate) enum Fault {
-    #[error(transparent)]
-    Codec(#[from] CodecFault),
-    #[error(transparent)]
-    Verify(#[from] VerifyFault),
-    #[error(transparent)]
-    Program(#[from] ProgramFault),
-    #[error(transparent)]
-    Line(#[from] LineFault),
-    #[error(transparent)]
-    Upload(#[from] UploadFault),
-    #[error(transparent)]
-    Name(#[from] BadName),
-    #[error(transparent)]
-    Table(#[from] TableFault),
-    #[error(transparent)]
-    Side(#[from] SideFault),
-    #[error("out of memory")]
-    Memory(#[from] AllocError),
-    #[error("nothing can be printed: {0}")]
-    Output(#[from] io::Error),
-    /// What a call is to be made on isn't there.
-    #[error("the call has nothing to be made on")]
+    /// It was refused with this number.
+    Refused(u32),
+    /// Nothing can be printed.
+    Output,
+    /// What it is to be made on isn't there.
     Unprepared,
 }
 
 impl Fault {
     /// Whether a request for memory was refused.
-    pub(crate) fn is_want_of_memory(&self) -> bool {
-        self.number() == Some(90)
+    pub(crate) fn is_want_of_memory(self) -> bool {
+        matches!(self, Fault::Refused(WANT_OF_MEMORY))
     }
+}
 
-    fn number(&self) -> Option<u32> {
-        match self {
-            Fault::Codec(fault) => Some(fault.number()),
-            Fault::Verify(fault) => Some(fault.number()),
-            Fault::Program(fault) => Some(fault.number()),
-            Fault::Line(fault) => Some(fault.number()),
-            Fault::Upload(fault) => Some(fault.number()),
-            Fault::Name(fault) => Some(fault.number()),
-            Fault::Table(fault) => Some(fault.number()),
-            Fault::Side(fault) => Some(fault.number()),
-            Fault::Memory(_) => Some(90),
-            Fault::Output(_) | Fault::Unprepared => None,
-        }
+impl From<CodecFault> for Fault {
+    fn from(refusal: CodecFault) -> Fault {
+        Fault::Refused(refusal.number())
+    }
+}
+
+impl From<VerifyFault> for Fault {
+    fn from(refusal: VerifyFault) -> Fault {
+        Fault::Refused(refusal.number())
+    }
+}
+
+impl From<ProgramFault> for Fault {
+    fn from(refusal: ProgramFault) -> Fault {
+        Fault::Refused(refusal.number())
+    }
+}
+
+impl From<LineFault> for Fault {
+    fn from(refusal: LineFault) -> Fault {
+        Fault::Refused(refusal.number())
+    }
+}
+
+impl From<UploadFault> for Fault {
+    fn from(refusal: UploadFault) -> Fault {
+        Fault::Refused(refusal.number())
+    }
+}
+
+impl From<BadName> for Fault {
+    fn from(refusal: BadName) -> Fault {
+        Fault::Refused(refusal.number())
+    }
+}
+
+impl From<TableFault> for Fault {
+    fn from(refusal: TableFault) -> Fault {
+        Fault::Refused(refusal.number())
+    }
+}
+
+impl From<SideFault> for Fault {
+    fn from(refusal: SideFault) -> Fault {
+        Fault::Refused(refusal.number())
+    }
+}
+
+impl From<AllocError> for Fault {
+    fn from(_: AllocError) -> Fault {
+        Fault::Refused(WANT_OF_MEMORY)
+    }
+}
+
+impl From<io::Error> for Fault {
+    fn from(_: io::Error) -> Fault {
+        Fault::Output
     }
 }

@@ -5,7 +5,6 @@
 
 use crate::fault::Fault;
 use std::alloc::Global;
-use std::io;
 
 /// More requests than any of the calls makes.
 const MOST_REQUESTS: u32 = 200;
@@ -54,8 +53,14 @@ pub(crate) fn sweep<S: Subject, C: Call<S>>(rt: &HostRuntime, call: &C) -> Resul
     let mut answered: u32 = 0;
     for request in 1..MOST_REQUESTS {
         match refuse_one(rt, request, call)? {
-            Outcome::Refused => answered = 0,
-            Outcome::Answered => answered = answered.wrapping_add(1),
+            Outcome::Refused => {
+                println!(rt; "refused")?;
+                answered = 0;
+            }
+            Outcome::Answered => {
+                println!(rt; "answered")?;
+                answered = answered.wrapping_add(1);
+            }
             Outcome::Wrong(what) => {
                 println!(rt; "wrong: {what}")?;
                 return Ok(());
@@ -70,7 +75,7 @@ pub(crate) fn sweep<S: Subject, C: Call<S>>(rt: &HostRuntime, call: &C) -> Resul
     Ok(())
 }
 
-/// Makes the call with this request refused, and prints what it answered.
+/// Makes the call with this request refused, and looks at what it answered and left.
 fn refuse_one<S: Subject, C: Call<S>>(
     rt: &HostRuntime,
     request: u32,
@@ -78,24 +83,28 @@ fn refuse_one<S: Subject, C: Call<S>>(
 ) -> Result<Outcome, Fault> {
     let alloc = rt.alloc();
     let mut subject = call.prepare(alloc)?;
-    println!(rt; "refuse {request}")?;
-    let answer = call.make(alloc, &mut subject);
-    println!(rt; "ample")?;
-    match answer {
-        Ok(()) => {
-            println!(rt; "answered")?;
-            Ok(if is_as_unrefused(alloc, subject, call)? {
-                Outcome::Answered
-            } else {
-                Outcome::Wrong("it left something else than it always leaves")
-            })
-        }
-        Err(fault) if fault.is_want_of_memory() => {
-            println!(rt; "refused")?;
-            make_again(alloc, subject, call)
-        }
+    match make_refused(rt, request, call, &mut subject)? {
+        Ok(()) => Ok(if is_as_unrefused(alloc, subject, call)? {
+            Outcome::Answered
+        } else {
+            Outcome::Wrong("it left something else than it always leaves")
+        }),
+        Err(fault) if fault.is_want_of_memory() => make_again(alloc, subject, call),
         Err(_) => Ok(Outcome::Wrong("it was refused for something else than memory")),
     }
+}
+
+/// Makes the call with this request refused.
+fn make_refused<S: Subject, C: Call<S>>(
+    rt: &HostRuntime,
+    request: u32,
+    call: &C,
+    subject: &mut S,
+) -> Result<Result<(), Fault>, Fault> {
+    println!(rt; "refuse {request}")?;
+    let answer = call.make(rt.alloc(), subject);
+    println!(rt; "ample")?;
+    Ok(answer)
 }
 
 /// Makes a call again that was refused.
@@ -139,7 +148,7 @@ fn is_as_unrefused<S: Subject, C: Call<S>>(
 #[derive(Drop)]
 pub(crate) struct Starved<'r> {
     rt: &'r HostRuntime,
-    printed: Result<(), io::Error>,
+    printed: Result<(), Fault>,
 }
 
 impl<'r> Starved<'r> {
@@ -171,25 +180,26 @@ impl<'r> Starved<'r> {
 
     /// Why something couldn't be printed, if so.
     pub(crate) fn end(self) -> Result<(), Fault> {
-        Ok(self.printed?)
+        self.printed
     }
 }
 
-fn print_refusal(rt: &HostRuntime, name: &str) -> Result<(), io::Error> {
+fn print_refusal(rt: &HostRuntime, name: &str) -> Result<(), Fault> {
     println!(rt; "call {name}")?;
-    println!(rt; "refuse all")
+    println!(rt; "refuse all")?;
+    Ok(())
 }
 
-fn print_answer<A: PartialEq + Drop>(
-    rt: &HostRuntime,
-    answer: A,
-    wanted: A,
-) -> Result<(), io::Error> {
+fn print_answer<A: PartialEq + Drop>(rt: &HostRuntime, answer: A, wanted: A) -> Result<(), Fault> {
     println!(rt; "ample")?;
     println!(rt; "answered")?;
-    if answer == wanted {
-        println!(rt; "right")
-    } else {
-        println!(rt; "wrong: it answered something else")
-    }
+    println!(rt;
+        "{}",
+        if answer == wanted {
+            "right"
+        } else {
+            "wrong: it answered something else"
+        }
+    )?;
+    Ok(())
 }

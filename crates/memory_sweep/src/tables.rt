@@ -75,7 +75,8 @@ impl Subject for Tabled {
     }
 }
 
-fn is_same_list(one: &ClashList, other: &ClashList) -> bool {
+/// Whether both lists have the same clashes.
+pub(crate) fn is_same_list(one: &ClashList, other: &ClashList) -> bool {
     one.len() == other.len()
         && one
             .iter()

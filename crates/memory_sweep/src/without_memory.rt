@@ -1,11 +1,13 @@
 //! Calls that take no memory.
 
-use crate::callers::{Caller, Drawer, Gatherer};
-use crate::exchange::{Exchange, SEED};
+use crate::callers::Caller;
+use crate::exchange::{Exchange, SEED, WHOLE};
 use crate::fault::Fault;
 use crate::rows::{BY_WORD, by, clashing, numbered_name, of, stored, table};
-use crate::sweep::Starved;
+use crate::sweep::{Starved, Subject};
+use crate::tables::is_same_list;
 use abstract_value::{Both, Domain};
+use answers::judge_one;
 use builtin_resolvers::{Notice, Verdict3, decide, notices};
 use clash_record::{
     Builtin, Facts, Name, RECORD_LEN, Registration, ResolverId, name, record, record_of,
@@ -13,6 +15,7 @@ use clash_record::{
 use exchange_core::{Side, SideId};
 use instruction_set::{AluOp, EndKind, Size, Test, Width, alu, end, movsx, neg, test};
 use interpreter::{Ended, run};
+use judge_pool::judge;
 use partition_table::{ClashList, Table, Verdict, word};
 use program::read_program;
 use upload_store::UploadStore;
@@ -31,6 +34,7 @@ pub(crate) fn sweep_without_memory(rt: &HostRuntime) -> Result<(), Fault> {
     stores(&mut calls)?;
     tables(&mut calls)?;
     sides(&mut calls)?;
+    parts(&mut calls)?;
     boards(&mut calls)?;
     operations(&mut calls);
     sets_of_words(&mut calls);
@@ -83,6 +87,12 @@ fn runs(calls: &mut Starved<'_>) -> Result<(), Fault> {
     let record = record_of(record_bytes());
     calls.refuse("run");
     calls.gave(run(&program, &record), Ended { r0: 2, steps: 4 });
+    calls.refuse("judge_one");
+    let answered = judge_one(&program, &record);
+    calls.gave(
+        (answered.verdict(), answered.steps()),
+        (Verdict3::Second, 4),
+    );
     Ok(())
 }
 
@@ -99,9 +109,16 @@ fn answers(calls: &mut Starved<'_>) -> Result<(), Fault> {
 
 fn verdicts(calls: &mut Starved<'_>) -> Result<(), Fault> {
     let list = clashing(calls.alloc(), 1)?;
+    if list.len() == 0 {
+        return Err(Fault::Unprepared);
+    }
     let clash = list.get(0).ok_or(Fault::Unprepared)?;
     calls.refuse("Verdict::judged");
     calls.gave(Verdict::judged(clash, WORD).answer(), Verdict3::Second);
+    calls.refuse("judge");
+    calls.gave(judge(&list, 0, WORD).answer(), Verdict3::Second);
+    calls.refuse("the parts of a list of clashes");
+    calls.gave(is_same_list(&list, &list), true);
     calls.refuse("word");
     calls.gave(word(5, 2, 3, 1), 12);
     Ok(())
@@ -154,19 +171,20 @@ fn sides(calls: &mut Starved<'_>) -> Result<(), Fault> {
     let alloc = calls.alloc();
     calls.refuse("Side::new");
     calls.gave(Side::new(alloc, SideId::A).events(), 0);
-    let mut side = Side::new(alloc, SideId::A);
-    let db = name(b"db")?;
-    side.register(db, of(1), &UploadStore::new(alloc))?;
-    calls_of_side(calls, &side, &db);
+    let registered = numbered_name(0)?;
+    let exchange = Exchange::after(alloc, 1, &[])?;
+    calls_of_side(calls, &exchange, &registered);
     Ok(())
 }
 
-/// The side has one name, registered by the owner on node 1.
-fn calls_of_side(calls: &mut Starved<'_>, side: &Side, registered: &Name) {
+/// The exchange's side has this name alone, judged by a program.
+fn calls_of_side(calls: &mut Starved<'_>, exchange: &Exchange, registered: &Name) {
+    let side = exchange.side();
+    let registration = by(1, ResolverId::Program(exchange.program()));
     calls.refuse("Side::events");
     calls.gave(side.events(), 1);
     calls.refuse("Side::whereis");
-    calls.gave(side.whereis(registered).copied(), Some(of(1)));
+    calls.gave(side.whereis(registered).copied(), Some(registration));
     calls.refuse("Side::rows");
     calls.gave(count_rows(side), 1);
 }
@@ -179,6 +197,16 @@ fn count_rows(side: &Side) -> usize {
     count
 }
 
+/// All that two exchanges lend that finished alike.
+fn parts(calls: &mut Starved<'_>) -> Result<(), Fault> {
+    let alloc = calls.alloc();
+    let one = Exchange::after(alloc, 2, &WHOLE)?;
+    let other = Exchange::after(alloc, 2, &WHOLE)?;
+    calls.refuse("the parts of an exchange");
+    calls.gave(one.is_same(&other), true);
+    Ok(())
+}
+
 fn boards(calls: &mut Starved<'_>) -> Result<(), Fault> {
     let list = clashing(calls.alloc(), 1)?;
     draws(calls, &list)?;
@@ -187,10 +215,10 @@ fn boards(calls: &mut Starved<'_>) -> Result<(), Fault> {
 }
 
 fn draws(calls: &mut Starved<'_>, list: &ClashList) -> Result<(), Fault> {
-    let drawer = Drawer::new(calls.alloc(), list)?;
+    let drawer = Caller::new(calls.alloc(), list)?;
     calls.refuse("Board::draw");
-    calls.gave(drawer.draw(), Draw::Clash(0));
-    let gatherer = Gatherer::new(calls.alloc(), list)?;
+    calls.gave(drawer.draw(), Some(Draw::Clash(0)));
+    let gatherer = Caller::new(calls.alloc(), list)?;
     calls.refuse("Board::gather");
     calls.gave(gatherer.gather(), [0; 4]);
     Ok(())
