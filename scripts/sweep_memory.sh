@@ -37,26 +37,29 @@ is_right() {
 sweep() {
     run "REFUSE_COUNT=$out/count" "$@"
     ample="$status $said"
-    local requests
+    local requests words="$*"
     requests=$(requests_made)
     for n in $(seq "$requests"); do
         for settings in "REFUSE_ALONE=$n" "REFUSE_FROM=$n"; do
             run "$settings" "$@"
-            is_right || { echo "$settings of $requests: '$said', status $status, for: ${*:0:200}" >&2; exit 1; }
+            is_right || { echo "$settings of $requests: '$said', status $status, for: ${words:0:200}" >&2; exit 1; }
         done
     done
     echo "$1 $requests requests"
 }
 
 # Whether each line that a script said is one that it says with ample memory, or tells of a refusal or of what one leaves. Where
-# none says 90, memory was wanted in the rounds of a `heal` alone.
+# none says 90, memory was wanted in the rounds of a `heal` alone, and then no name is lost.
 is_right_script() {
     [ "$status $said" = "$ample" ] && return
     [ "$status" = 3 ] && { [ "$said" = "refused 90" ] || grep -q 'out of memory' "$out/errors"; } && return
-    case "$said" in *"refused 90"*) [ "$status" = 3 ] || return 1 ;; *) [ "$status" = 2 ] || [ "$status" = 0 ] || return 1 ;; esac
-    ! printf '%s\n' "$said" | grep -vxF "${ample#* }" \
-        | grep -vxE 'line [0-9]+: refused (30|31|33|39|40|41|90)|healed [0-9]+ names|[a-z]+ (first|second|none) word [0-9]+|exit [0-9]+\.[0-9]+|conflict .*|[a-z]+ [0-9]+\.[0-9]+ .*|end|undefined|withdrew .*' \
-        | grep -q .
+    local lines='line [0-9]+: refused (39|41|90)|[a-z]+ (first|second|none) word [0-9]+|exit [0-9]+\.[0-9]+'
+    lines="$lines"'|conflict .*|[a-z]+ [0-9]+\.[0-9]+ .*'
+    case "$said" in
+        *"refused 90"*) [ "$status" = 3 ] || return 1; lines="$lines|healed [0-9]+ names" ;;
+        *) [ "$status" = 2 ] || [ "$status" = 0 ] || return 1 ;;
+    esac
+    ! printf '%s\n' "$said" | grep -vxF "${ample#* }" | grep -vxE "$lines" | grep -q .
 }
 
 # Reads what memory_sweep and the library say, and prints for each call how many requests it makes and how many refused ones it

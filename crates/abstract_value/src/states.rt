@@ -10,7 +10,9 @@ use std::alloc::AllocError;
 /// Offsets in bytes from `lo` to `hi`, both among them, and none further than 65,536 from 0.
 #[derive(Clone, Copy, Debug, PartialEq, Eq)]
 pub struct Span {
+    /// The least offset.
     pub lo: i32,
+    /// The greatest offset.
     pub hi: i32,
     ghost ordered: { lo ≤ℤ hi },
     ghost near_below: { negsuc 65535 ≤ℤ lo },

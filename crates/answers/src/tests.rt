@@ -12,12 +12,6 @@ use task::{Profile, Question};
 
 const EXIT: &'static str = "9500000000000000";
 
-/// The name `db`, word 7, first 1.10 with stamp 5, second 2.20 with stamp 9, in front of 128 bytes.
-const NAME: &'static str =
-    "02000000000000006462000000000000000000000000000000000000000000000000000000000000";
-
-const REST: &'static str = "0700000000000000010000000a000000";
-
 /// Judges by the stamps.
 const STAMPS: &'static str =
     "7912380000000000 7913600000000000 b700000001000000 3d32010000000000 b700000002000000 X";
@@ -25,6 +19,72 @@ const STAMPS: &'static str =
 /// The same as text.
 const LISTING: &'static str =
     "ldxdw r2, [r1+56]\nldxdw r3, [r1+96]\nmov64 r0, 1\njge r2, r3, +1\nmov64 r0, 2\nexit\n";
+
+/// The code that judges by the stamps, as it is written.
+const WRITTEN: &'static str =
+    "79123800000000007913600000000000b7000000010000003d32010000000000b7000000020000009500000000000000\n";
+
+/// The names `db` and `x` in a record.
+const DB: &'static str =
+    "02000000000000006462000000000000000000000000000000000000000000000000000000000000";
+
+const X: &'static str =
+    "01000000000000007800000000000000000000000000000000000000000000000000000000000000";
+
+/// So many bytes of zero.
+const ZEROS_14: &'static str = "0000000000000000000000000000";
+
+const ZEROS_16: &'static str = "00000000000000000000000000000000";
+
+const ZEROS_31: &'static str = "00000000000000000000000000000000000000000000000000000000000000";
+
+/// The record of a clash at word 7, whose first is 1.10 and whose second is 2.20. Each part is given in hex digits: the
+/// name, the lowest bytes of the two stamps, the highest byte of the first's weight, and what follows the registrations.
+#[derive(Clone, Copy)]
+struct Clash {
+    name: &'static str,
+    stamps: (&'static str, &'static str),
+    weight: &'static str,
+    facts: &'static str,
+}
+
+/// The name `db`, with stamps 5 and 9.
+const ON_DB: Clash = Clash {
+    name: DB,
+    stamps: ("05", "09"),
+    weight: "00",
+    facts: "",
+};
+
+impl Clash {
+    /// Its hex digits.
+    fn digits(self, alloc: Global) -> io::Result<String> {
+        let mut text = String::new(alloc);
+        for part in [
+            self.name,
+            "0700000000000000010000000a000000",
+            self.stamps.0,
+            ZEROS_14,
+            self.weight,
+            ZEROS_16,
+            "0200000014000000",
+            self.stamps.1,
+            ZEROS_31,
+            self.facts,
+        ] {
+            text.push_str(part)?;
+        }
+        Ok(text)
+    }
+}
+
+/// What is asked of code.
+#[derive(Clone, Copy)]
+enum Ask {
+    Judge(Clash),
+    Check(Profile),
+    Dis,
+}
 
 /// A device that takes so many bytes a call, and fails from a call on.
 #[derive(Drop)]
@@ -57,38 +117,6 @@ impl Write for Device {
     }
 }
 
-/// The record `db` with these two stamps below ten.
-fn db(alloc: Global, name: &str, first: &str, second: &str) -> io::Result<String> {
-    weighted(alloc, name, first, second, "00")
-}
-
-/// The same with the highest byte of the first registration's weight.
-fn weighted(
-    alloc: Global,
-    name: &str,
-    first: &str,
-    second: &str,
-    weight: &str,
-) -> io::Result<String> {
-    let mut text = String::new(alloc);
-    text.push_str(name)?;
-    text.push_str(REST)?;
-    text.push_str(first)?;
-    for _ in 0..14u8 {
-        text.push_str("00")?;
-    }
-    text.push_str(weight)?;
-    for _ in 0..16u8 {
-        text.push_str("00")?;
-    }
-    text.push_str("0200000014000000")?;
-    text.push_str(second)?;
-    for _ in 0..31u8 {
-        text.push_str("00")?;
-    }
-    Ok(text)
-}
-
 /// Whether the question is answered by this status and this text.
 fn is_answered(rt: &HostRuntime, question: &Question<'_>, status: u8, text: &str) -> bool {
     let mut out = Vec::new(rt.alloc());
@@ -105,8 +133,42 @@ fn code(alloc: Global, slots: &str) -> io::Result<String> {
     Ok(text)
 }
 
+/// Whether code of these slots is answered by this status and this text where this is asked of it.
+fn is_said(rt: &HostRuntime, ask: Ask, slots: &str, status: u8, text: &str) -> Result<bool, Fail> {
+    let alloc = rt.alloc();
+    let code = code(alloc, slots)?;
+    match ask {
+        Ask::Judge(clash) => is_judged(rt, clash, code.as_str(), status, text),
+        Ask::Check(profile) => {
+            let code = code.as_str();
+            Ok(is_answered(rt, &Question::Check { code, profile }, status, text))
+        }
+        Ask::Dis => Ok(is_answered(
+            rt,
+            &Question::Dis {
+                code: code.as_str(),
+            },
+            status,
+            text,
+        )),
+    }
+}
+
+/// Whether the judging of the clash by code is answered by this status and this text.
+fn is_judged(
+    rt: &HostRuntime,
+    clash: Clash,
+    code: &str,
+    status: u8,
+    text: &str,
+) -> Result<bool, Fail> {
+    let clash = clash.digits(rt.alloc())?;
+    let clash = clash.as_str();
+    Ok(is_answered(rt, &Question::Judge { code, clash }, status, text))
+}
+
 // Code, whose last slot X is `exit`, and what is printed of its verdict on the clash `db`.
-const ON_DB: [(&'static str, &'static str); 19] = [
+const VERDICTS: [(&'static str, &'static str); 19] = [
     ("b700000001000000 X", "first in 2 steps\n"),
     (STAMPS, "second in 6 steps\n"),
     ("7910780000000000 X", "none in 2 steps\n"),
@@ -154,36 +216,48 @@ const ON_DB: [(&'static str, &'static str); 19] = [
 
 #[test]
 fn code_on_db(rt: HostRuntime) -> Result<(), Fail> {
-    let alloc = rt.alloc();
-    let clash = db(alloc, NAME, "05", "09")?;
-    for (slots, line) in ON_DB {
-        let text = code(alloc, slots)?;
-        let (code, clash) = (text.as_str(), clash.as_str());
-        let question = Question::Judge { code, clash };
-        assert!(rt; is_answered(&rt, &question, 0, line), "at {slots}");
+    for (slots, line) in VERDICTS {
+        assert!(rt;
+            is_said(&rt, Ask::Judge(ON_DB), slots, 0, line)?,
+            "at {slots}"
+        );
     }
     Ok(())
 }
 
+/// Reads the byte of the name that its eighth byte counts, if there is one.
+const BRANCH: &'static str =
+    "7112080000000000 b700000000000000 2502020077000000 0f21000000000000 7110080000000000 X";
+
+/// Reads the size of the first's table.
+const SIZE_OF_FIRST: &'static str = "7910800000000000 X";
+
+// A record of 128 bytes has zeros where the facts stand in the longer one.
 #[test]
 fn other_records(rt: HostRuntime) -> Result<(), Fail> {
-    let alloc = rt.alloc();
-    let stamps = code(alloc, STAMPS)?;
-    let branch = code(
-        alloc,
-        "7112080000000000 b700000000000000 2502020077000000 0f21000000000000 7110080000000000 X",
-    )?;
-    let named_x =
-        "01000000000000007800000000000000000000000000000000000000000000000000000000000000";
-    for (text, name, first, second, line) in [
-        (stamps.as_str(), NAME, "09", "05", "first in 5 steps\n"),
-        (stamps.as_str(), NAME, "05", "05", "first in 5 steps\n"),
-        (branch.as_str(), named_x, "05", "09", "none in 4 steps\n"),
+    let with_size: &'static str =
+        "0200000000000000000000000000000000000000000000000000000000000000";
+    for (slots, name, stamps, facts, line) in [
+        (STAMPS, DB, ("09", "05"), "", "first in 5 steps\n"),
+        (STAMPS, DB, ("05", "05"), "", "first in 5 steps\n"),
+        (BRANCH, X, ("05", "09"), "", "none in 4 steps\n"),
+        (SIZE_OF_FIRST, DB, ("05", "09"), "", "none in 2 steps\n"),
+        (
+            SIZE_OF_FIRST,
+            DB,
+            ("05", "09"),
+            with_size,
+            "second in 2 steps\n",
+        ),
     ] {
-        let clash = db(alloc, name, first, second)?;
-        let (code, clash) = (text, clash.as_str());
+        let clash = Clash {
+            name,
+            stamps,
+            weight: "00",
+            facts,
+        };
         assert!(rt;
-            is_answered(&rt, &Question::Judge { code, clash }, 0, line),
+            is_said(&rt, Ask::Judge(clash), slots, 0, line)?,
             "at {line}"
         );
     }
@@ -204,24 +278,14 @@ const NO_CODE: [(&'static str, &'static str); 8] = [
 
 #[test]
 fn no_code(rt: HostRuntime) -> Result<(), Fail> {
-    let alloc = rt.alloc();
-    let clash = db(alloc, NAME, "05", "09")?;
     for (slots, line) in NO_CODE {
-        let text = code(alloc, slots)?;
-        let (code, clash) = (text.as_str(), clash.as_str());
-        for question in [
-            Question::Judge { code, clash },
-            Question::Check {
-                code,
-                profile: Profile::Unsigned,
-            },
-            Question::Check {
-                code,
-                profile: Profile::Both,
-            },
-            Question::Dis { code },
+        for ask in [
+            Ask::Judge(ON_DB),
+            Ask::Check(Profile::Unsigned),
+            Ask::Check(Profile::Both),
+            Ask::Dis,
         ] {
-            assert!(rt; is_answered(&rt, &question, 2, line), "at {question:?}");
+            assert!(rt; is_said(&rt, ask, slots, 2, line)?, "at {slots}");
         }
     }
     Ok(())
@@ -287,26 +351,27 @@ const UNSAFE: [(&'static str, u32, u32); 32] = [
     ("bf10000000000000 X", 26, 1),
 ];
 
+/// Whether code of these slots is refused by this number at this slot where this is asked of it.
+fn is_refused(
+    rt: &HostRuntime,
+    ask: Ask,
+    slots: &str,
+    number: u32,
+    slot: u32,
+) -> Result<bool, Fail> {
+    let line = format!(in rt.alloc(); "refused {number} at slot {slot}\n")?;
+    is_said(rt, ask, slots, 2, line.as_str())
+}
+
 #[test]
 fn unsafe_code(rt: HostRuntime) -> Result<(), Fail> {
-    let alloc = rt.alloc();
-    let clash = db(alloc, NAME, "05", "09")?;
     for (slots, number, slot) in UNSAFE {
-        let text = code(alloc, slots)?;
-        let line = format!(in alloc; "refused {number} at slot {slot}\n")?;
-        let (code, clash) = (text.as_str(), clash.as_str());
-        for question in [
-            Question::Judge { code, clash },
-            Question::Check {
-                code,
-                profile: Profile::Unsigned,
-            },
-            Question::Check {
-                code,
-                profile: Profile::Both,
-            },
+        for ask in [
+            Ask::Judge(ON_DB),
+            Ask::Check(Profile::Unsigned),
+            Ask::Check(Profile::Both),
         ] {
-            assert!(rt; is_answered(&rt, &question, 2, &line), "at {question:?}");
+            assert!(rt; is_refused(&rt, ask, slots, number, slot)?, "at {slots}");
         }
     }
     Ok(())
@@ -314,7 +379,6 @@ fn unsafe_code(rt: HostRuntime) -> Result<(), Fail> {
 
 #[test]
 fn accepted_code(rt: HostRuntime) -> Result<(), Fail> {
-    let alloc = rt.alloc();
     for (slots, line) in [
         ("b700000001000000 X", "accepted 2 instructions\n"),
         (STAMPS, "accepted 6 instructions\n"),
@@ -327,11 +391,9 @@ fn accepted_code(rt: HostRuntime) -> Result<(), Fail> {
             "accepted 2 instructions\n",
         ),
     ] {
-        let text = code(alloc, slots)?;
         for profile in [Profile::Unsigned, Profile::Both] {
-            let code = text.as_str();
             assert!(rt;
-                is_answered(&rt, &Question::Check { code, profile }, 0, line),
+                is_said(&rt, Ask::Check(profile), slots, 0, line)?,
                 "at {slots}"
             );
         }
@@ -339,51 +401,59 @@ fn accepted_code(rt: HostRuntime) -> Result<(), Fail> {
     Ok(())
 }
 
-/// Code whose bounds are signed: a number between two signed tests, and a byte with its sign, are added to an address.
-const SIGNED: [(&'static str, &'static str); 2] = [
-    (
-        "7912400000000000 b700000000000000 c502030000000000 650202003f000000 0f21000000000000 7110080000000000 X",
-        "none in 7 steps\n",
-    ),
-    (
-        "9112080000000000 b700000000000000 7502030000000000 bfa3000000000000 0f23000000000000 7203000001000000 X",
-        "none in 4 steps\n",
-    ),
-];
+/// Between two signed tests a number is added to an address.
+const SIGNED_TESTS: &'static str =
+    "7912400000000000 b700000000000000 c502030000000000 650202003f000000 0f21000000000000 7110080000000000 X";
 
+/// A byte is added to an address with its sign.
+const SIGNED_BYTE: &'static str =
+    "9112080000000000 b700000000000000 7502030000000000 bfa3000000000000 0f23000000000000 7203000001000000 X";
+
+// A weight of 2^63 is below zero where it is read as a signed number.
 #[test]
 fn signed_bounds(rt: HostRuntime) -> Result<(), Fail> {
-    let alloc = rt.alloc();
-    let clash = db(alloc, NAME, "05", "09")?;
-    for (slots, line) in SIGNED {
-        let text = code(alloc, slots)?;
-        let (code, clash) = (text.as_str(), clash.as_str());
-        for (profile, status, said) in [
-            (Profile::Unsigned, 2, "refused 18 at slot 4\n"),
-            (Profile::Both, 0, "accepted 7 instructions\n"),
-        ] {
-            assert!(rt; is_answered(&rt, &Question::Check { code, profile }, status, said));
-        }
-        assert!(rt; is_answered(&rt, &Question::Judge { code, clash }, 0, line));
-    }
-    // A weight of 2^63 is below zero where it is read as a signed number.
-    let text = code(alloc, SIGNED[0].0)?;
-    let clash = weighted(alloc, NAME, "05", "09", "80")?;
-    let (code, clash) = (text.as_str(), clash.as_str());
-    assert!(rt;
-        is_answered(
-            &rt,
-            &Question::Judge { code, clash },
+    let heavy = Clash {
+        name: DB,
+        stamps: ("05", "09"),
+        weight: "80",
+        facts: "",
+    };
+    for (slots, ask, status, line) in [
+        (
+            SIGNED_TESTS,
+            Ask::Check(Profile::Unsigned),
+            2,
+            "refused 18 at slot 4\n",
+        ),
+        (
+            SIGNED_TESTS,
+            Ask::Check(Profile::Both),
             0,
-            "none in 4 steps\n"
-        )
-    );
+            "accepted 7 instructions\n",
+        ),
+        (SIGNED_TESTS, Ask::Judge(ON_DB), 0, "none in 7 steps\n"),
+        (SIGNED_TESTS, Ask::Judge(heavy), 0, "none in 4 steps\n"),
+        (
+            SIGNED_BYTE,
+            Ask::Check(Profile::Unsigned),
+            2,
+            "refused 18 at slot 4\n",
+        ),
+        (
+            SIGNED_BYTE,
+            Ask::Check(Profile::Both),
+            0,
+            "accepted 7 instructions\n",
+        ),
+        (SIGNED_BYTE, Ask::Judge(ON_DB), 0, "none in 4 steps\n"),
+    ] {
+        assert!(rt; is_said(&rt, ask, slots, status, line)?, "at {slots}");
+    }
     Ok(())
 }
 
 #[test]
 fn code_as_text(rt: HostRuntime) -> Result<(), Fail> {
-    let alloc = rt.alloc();
     for (slots, text) in [
         (STAMPS, LISTING),
         (
@@ -394,9 +464,7 @@ fn code_as_text(rt: HostRuntime) -> Result<(), Fail> {
         // It need not be accepted.
         ("bf20000000000000 X", "mov64 r0, r2\nexit\n"),
     ] {
-        let hex = code(alloc, slots)?;
-        let question = Question::Dis { code: hex.as_str() };
-        assert!(rt; is_answered(&rt, &question, 0, text), "at {slots}");
+        assert!(rt; is_said(&rt, Ask::Dis, slots, 0, text)?, "at {slots}");
     }
     Ok(())
 }
@@ -435,11 +503,8 @@ fn is_assembled(alloc: Global, bytes: &[u8], status: u8, text: &str) -> Result<b
 
 #[test]
 fn text_as_code(rt: HostRuntime) -> Result<(), Fail> {
-    let alloc = rt.alloc();
-    let stamps = code(alloc, STAMPS)?;
-    let stamps = format!(in alloc; "{stamps}\n")?;
     for (text, status, line) in [
-        (LISTING, 0, stamps.as_str()),
+        (LISTING, 0, WRITTEN),
         (
             "mov64 r0, 0xffffffff\nexit\n",
             0,
@@ -465,30 +530,64 @@ fn text_as_code(rt: HostRuntime) -> Result<(), Fail> {
         ("", 2, "refused 1 at line 1\n"),
     ] {
         assert!(rt;
-            is_assembled(alloc, text.as_bytes(), status, line)?,
+            is_assembled(rt.alloc(), text.as_bytes(), status, line)?,
             "at {text}"
         );
     }
     Ok(())
 }
 
+/// Whether a file is answered by this text and status 2 that begins so and goes on with a piece so many times.
+fn is_refused_file(
+    alloc: Global,
+    first: &[u8],
+    piece: &[u8],
+    count: usize,
+    text: &str,
+) -> Result<bool, Fail> {
+    let mut file = Vec::new(alloc);
+    file.extend_from_slice(first)?;
+    for _ in 0..count {
+        file.extend_from_slice(piece)?;
+    }
+    is_assembled(alloc, &file, 2, text)
+}
+
+// The byte 255 stands in no text.
 #[test]
 fn long_files(rt: HostRuntime) -> Result<(), Fail> {
-    let alloc = rt.alloc();
-    let mut exits = String::new(alloc);
-    for _ in 0..1025u32 {
-        exits.push_str("exit\n")?;
+    for (first, piece, count, text) in [
+        (
+            "".as_bytes(),
+            "exit\n".as_bytes(),
+            1025,
+            "refused 2 at line 1025\n",
+        ),
+        (
+            "".as_bytes(),
+            " ".as_bytes(),
+            MAX_FILE_LEN,
+            "refused 1 at line 1\n",
+        ),
+        (
+            "".as_bytes(),
+            " ".as_bytes(),
+            MAX_FILE_LEN + 1,
+            "refused 57\n",
+        ),
+        (
+            [0xff].as_slice(),
+            " ".as_bytes(),
+            MAX_FILE_LEN,
+            "refused 57\n",
+        ),
+        ([0xff].as_slice(), " ".as_bytes(), 8, "refused 56\n"),
+    ] {
+        assert!(rt;
+            is_refused_file(rt.alloc(), first, piece, count, text)?,
+            "at {count}"
+        );
     }
-    assert!(rt; is_assembled(alloc, exits.as_bytes(), 2, "refused 2 at line 1025\n")?);
-    let mut blanks = Vec::new(alloc);
-    blanks.resize(MAX_FILE_LEN, b' ')?;
-    assert!(rt; is_assembled(alloc, &blanks, 2, "refused 1 at line 1\n")?);
-    blanks.push(b' ')?;
-    assert!(rt; is_assembled(alloc, &blanks, 2, "refused 57\n")?);
-    blanks[0] = 0xff;
-    assert!(rt; is_assembled(alloc, &blanks, 2, "refused 57\n")?);
-    assert!(rt; is_assembled(alloc, &blanks[1..], 2, "refused 1 at line 1\n")?);
-    assert!(rt; is_assembled(alloc, &blanks[..9], 2, "refused 56\n")?);
     Ok(())
 }
 
@@ -533,26 +632,21 @@ fn a_file(rt: HostRuntime) -> Result<(), Fail> {
     Ok(())
 }
 
+/// Whether code of so many moves and an `exit` judges with this status and text.
+fn is_long_judging(rt: &HostRuntime, moves: u32, status: u8, text: &str) -> Result<bool, Fail> {
+    let mut code = String::new(rt.alloc());
+    for _ in 0..moves {
+        code.push_str("b700000001000000")?;
+    }
+    code.push_str(EXIT)?;
+    is_judged(rt, ON_DB, code.as_str(), status, text)
+}
+
 #[test]
 fn the_longest_code(rt: HostRuntime) -> Result<(), Fail> {
-    let alloc = rt.alloc();
-    let clash = db(alloc, NAME, "05", "09")?;
-    let mut text = String::new(alloc);
-    for _ in 0..1023u32 {
-        text.push_str("b700000001000000")?;
+    for (moves, status, text) in [(1023, 0, "first in 1024 steps\n"), (1024, 2, "refused 2\n")] {
+        assert!(rt; is_long_judging(&rt, moves, status, text)?, "at {moves}");
     }
-    text.push_str(EXIT)?;
-    let question = Question::Judge {
-        code: text.as_str(),
-        clash: clash.as_str(),
-    };
-    assert!(rt; is_answered(&rt, &question, 0, "first in 1024 steps\n"));
-    text.push_str(EXIT)?;
-    let question = Question::Judge {
-        code: text.as_str(),
-        clash: clash.as_str(),
-    };
-    assert!(rt; is_answered(&rt, &question, 2, "refused 2\n"));
     Ok(())
 }
 
@@ -586,28 +680,6 @@ fn records_of_other_lengths(rt: HostRuntime) -> Result<(), Fail> {
     Ok(())
 }
 
-/// The size of the first's table stands at 128; a record of 128 bytes has zeros there.
-#[test]
-fn facts_behind_the_registrations(rt: HostRuntime) -> Result<(), Fail> {
-    let alloc = rt.alloc();
-    let size_of_first = code(alloc, "7910800000000000 X")?;
-    let shorter = db(alloc, NAME, "05", "09")?;
-    let mut whole = db(alloc, NAME, "05", "09")?;
-    whole.push_str("02")?;
-    whole.push_str(zeros(alloc, 31)?.as_str())?;
-    for (clash, line) in [
-        (shorter.as_str(), "none in 2 steps\n"),
-        (whole.as_str(), "second in 2 steps\n"),
-    ] {
-        let code = size_of_first.as_str();
-        assert!(rt;
-            is_answered(&rt, &Question::Judge { code, clash }, 0, line),
-            "at {line}"
-        );
-    }
-    Ok(())
-}
-
 #[test]
 fn wrong_records(rt: HostRuntime) -> Result<(), Fail> {
     let short = zeros(rt.alloc(), 127)?;
@@ -625,25 +697,37 @@ fn wrong_records(rt: HostRuntime) -> Result<(), Fail> {
     Ok(())
 }
 
-#[test]
-fn a_failing_device(rt: HostRuntime) -> Result<(), Fail> {
-    let alloc = rt.alloc();
-    let clash = db(alloc, NAME, "05", "09")?;
+/// What is answered to a device that takes a byte a call and fails after so many, and whether it holds the beginning of
+/// the line that it took.
+fn reply_to_device(rt: &HostRuntime, calls: usize, line: &[u8]) -> Result<(u8, bool), Fail> {
+    let clash = ON_DB.digits(rt.alloc())?;
     let question = Question::Judge {
         code: "b7000000010000009500000000000000",
         clash: clash.as_str(),
     };
+    let mut device = Device {
+        held: Vec::new(rt.alloc()),
+        step: 1,
+        calls_left: calls,
+        interrupts: 2,
+    };
+    let status = reply_to(rt, &question, &mut device);
+    Ok((
+        status,
+        device.held.as_slice() == &line[..calls.min(line.len())],
+    ))
+}
+
+#[test]
+fn a_failing_device(rt: HostRuntime) -> Result<(), Fail> {
     let line = b"first in 2 steps\n";
     for calls in 0..=line.len() {
-        let mut device = Device {
-            held: Vec::new(alloc),
-            step: 1,
-            calls_left: calls,
-            interrupts: 2,
-        };
         let status = if calls == line.len() { 0 } else { 3 };
-        assert_eq!(rt; reply_to(&rt, &question, &mut device), status, "at {calls}");
-        assert!(rt; device.held.as_slice() == &line[..calls], "at {calls}");
+        assert_eq!(rt;
+            reply_to_device(&rt, calls, line)?,
+            (status, true),
+            "at {calls}"
+        );
     }
     Ok(())
 }

@@ -237,7 +237,7 @@ pub fn disassemble(alloc: Global, code: &Code) -> Result<String, AllocError>
     // It is a text of the code.
     ensures text { IfOk result (λ text. IsTextOf (string_bytes text) code.now) }
 {
-    // Its instructions are listed.
+    // For the prover alone: its instructions are listed.
     code.known();
     lines(alloc, code.insns())
 }

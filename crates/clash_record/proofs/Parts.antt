@@ -29,7 +29,7 @@ four_parts old n w a b ln lw la =
     ∙ ap (λ (x : List ℕ). (front ++ b) ++ x) (drop_of_length-le rest short)
     ∙ simp (append-nil, append_assoc)
 
--- a part and two of 16 bytes behind it do so too
+-- a part and two of 16 bytes after it do so too
 pub three_parts : (old front a b : List ℕ) → length front ≡ 128 → length a ≡ 16
     → put_mid 144 (length (put_mid 128 16 (front ++ drop 128 old) a) - 144) (put_mid 128 16 (front ++ drop 128 old) a) b
     ≡ front ++ (a ++ b)

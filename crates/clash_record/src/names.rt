@@ -10,7 +10,6 @@ pub(crate) mod naming;
 
 use numbered::{Numbered, Place};
 use std::cmp::Ordering;
-use std::fmt;
 use std::marker::Model;
 use thiserror::Error;
 
@@ -83,12 +82,6 @@ impl Name {
         ensures length { length result.now ≡ name_limit }
     {
         &self.bytes
-    }
-}
-
-impl fmt::Display for Name {
-    fn fmt<W: fmt::Write>(&self, f: &mut fmt::Formatter<W>) -> fmt::Result {
-        f.write_str(self.as_str())
     }
 }
 

@@ -5,7 +5,9 @@ ghost use Rattle.std.specs.declared.cmp.Ordering.TheVariants.{Less};
 /// Who owns a name: a serial number on a node.
 #[derive(Clone, Copy, Debug, PartialEq, Eq, PartialOrd, Ord)]
 pub struct Owner {
+    /// The node.
     pub node: u32,
+    /// The number on that node.
     pub serial: u32,
 }
 
@@ -27,13 +29,16 @@ pub enum Builtin {
 /// Who judges a clash.
 #[derive(Clone, Copy, Debug, PartialEq, Eq, PartialOrd, Ord)]
 pub enum ResolverId {
+    /// A resolver that every half has.
     Builtin(Builtin),
+    /// A program that was uploaded.
     Program(ProgramId),
 }
 
 /// What a table holds for a name.
 #[derive(Clone, Copy, Debug, PartialEq, Eq, PartialOrd, Ord)]
 pub struct Registration {
+    /// Who owns the name.
     pub owner: Owner,
     /// When the name was registered, as the registrar counts time.
     pub stamp: u64,
@@ -41,6 +46,7 @@ pub struct Registration {
     pub weight: u64,
     /// Further bytes for a program to judge by.
     pub extra: [u8; 16],
+    /// Who judges a clash of the name.
     pub resolver: ResolverId,
 }
 

@@ -1,6 +1,6 @@
 //! The command line as clap knows it.
 ghost use Rattle.std.specs.Prelude.{◌≡◌, IfOk, false};
-ghost use Rattle.clap.specs.Words.{app_of, rule_of};
+ghost use Rattle.clap.specs.Words.{App, app_of, rule_of, with_subcommand};
 ghost use Rattle.command_line.specs.Asked.{asm_app, check_app, dis_app, heal_app, judge_app, needed, one_app, profile_option, run_app, workers_option};
 ghost use Rattle.command_line.specs.model.Apps.{IsApp};
 
@@ -57,7 +57,7 @@ const REFUSALS: &'static str = "Refusals:
   50  a text that isn't hex digits, as many as have to be
   51  an unknown word, another count of words, or a character that isn't printable
   52  a number that isn't decimal digits without zeros in front, or is too big
-  53  a label that is in use or isn't 1 to 32 visible characters of ASCII
+  53  a label that is in use, a built-in resolver's word, or not 1 to 32 visible characters of ASCII
   54  a line of more than 20,000 bytes
   55  a record that has neither 160 nor 128 bytes
   56  a file that isn't UTF-8
@@ -172,6 +172,17 @@ fn one_command<'a>(
         .arg(needed_arg(alloc, id, help))
 }
 
+// The command with this subcommand too. It takes the result, so that nothing is held where a subcommand lacks memory.
+fn with_command<'a>(
+    command: Command<'a>,
+    subcommand: Result<Command<'a>, AllocError>,
+) -> Result<Command<'a>, AllocError>
+    ensures { (app : App) → IfOk subcommand.entry (λ s. IsApp s app)
+        → IfOk result (λ c. app_of c ≡ with_subcommand (app_of command.entry) app.top) }
+{
+    command.subcommand(subcommand?)
+}
+
 // The whole command line, with its help.
 pub(crate) fn heal<'a>(alloc: Global) -> Result<Command<'a>, AllocError>
     ensures { IfOk result (λ c. app_of c ≡ heal_app) }
@@ -179,15 +190,10 @@ pub(crate) fn heal<'a>(alloc: Global) -> Result<Command<'a>, AllocError>
     let named = Command::new(alloc, "heal")
         .bin_name("heal")?
         .after_help(REFUSALS);
-    let check = check_command(alloc)?;
-    let checking = named.subcommand(check)?;
-    let judge = judge_command(alloc)?;
-    let judging = checking.subcommand(judge)?;
-    let asm = asm_command(alloc)?;
-    let assembling = judging.subcommand(asm)?;
-    let dis = dis_command(alloc)?;
-    let disassembling = assembling.subcommand(dis)?;
-    let run = run_command(alloc)?;
-    let running = disassembling.subcommand(run)?;
+    let checking = with_command(named, check_command(alloc))?;
+    let judging = with_command(checking, judge_command(alloc))?;
+    let assembling = with_command(judging, asm_command(alloc))?;
+    let disassembling = with_command(assembling, dis_command(alloc))?;
+    let running = with_command(disassembling, run_command(alloc))?;
     Ok(running.subcommand_required(true))
 }

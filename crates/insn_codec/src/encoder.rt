@@ -13,7 +13,7 @@ pub fn encode(alloc: Global, code: &Code) -> Result<Vec<u8>, AllocError>
     ensures spelled { IfOk result (λ bytes. Spells bytes.items code.now) }
     ensures bytes { IfOk result (λ bytes. bytes.items ≡ flat_map insn_bytes code.now) }
 {
-    // Its instructions are listed.
+    // For the prover alone: its instructions are listed.
     code.known();
     let mut bytes = Vec::with_capacity(alloc, SLOT_LEN * code.slot_count())?;
     let insns = code.insns();

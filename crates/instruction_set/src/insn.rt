@@ -207,7 +207,9 @@ impl Insn {
         }
     }
 
-    /// Its numbers have the widths of their fields. It does nothing when run.
+    /// Its numbers have the widths of their fields.
+    ///
+    /// It does nothing when it runs: its contract is the law.
     pub fn known(self)
         ensures { NumbersFit self }
     {

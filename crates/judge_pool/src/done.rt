@@ -7,9 +7,13 @@ use verdict_board::{Posted, Seat};
 /// A worker's seat, and how many of its posts were answered by each of `Posted`.
 #[derive(Drop)]
 pub struct Done {
+    /// The worker's seat.
     pub seat: Seat,
+    /// How many posts were kept.
     pub kept: u32,
+    /// How many came after another verdict of their clash.
     pub earlier: u32,
+    /// How many were refused for want of memory.
     pub refused: u32,
 }
 

@@ -15,10 +15,15 @@ use verdict_board::{Board, Seat};
 /// posts were answered by each of `Posted`.
 #[derive(Drop)]
 pub struct RoundDone {
+    /// The seats that came back: one of a worker that couldn't be started may be lost.
     pub seats: Vec<Seat>,
+    /// How many workers were started.
     pub started: u32,
+    /// How many posts were kept.
     pub kept: u32,
+    /// How many came after another verdict of their clash.
     pub earlier: u32,
+    /// How many were refused for want of memory.
     pub refused: u32,
 }
 

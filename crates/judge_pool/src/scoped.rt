@@ -91,6 +91,7 @@ fn join_workers<W: Worker, R: Threads>(
     ensures back { result.started ≤ vec_len result.seats }
     ensures none { result.started ≡ 0 → round_posts result ≡ 0 }
 {
+    // The worker stands for the board of which the clauses speak.
     let _ = worker;
     let mut all = RoundDone::new(room);
     let mut rest = children;

@@ -258,6 +258,8 @@ fn is_same_finished(one: &Finished, other: &Finished) -> bool {
         && one.seed() == other.seed()
         && one.a() == other.a()
         && one.b() == other.b()
+        && one.uptime_a() == other.uptime_a()
+        && one.uptime_b() == other.uptime_b()
         && one.gone_a() == other.gone_a()
         && one.gone_b() == other.gone_b()
         && one.rulings() == other.rulings()

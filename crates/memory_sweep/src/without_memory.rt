@@ -34,7 +34,6 @@ pub(crate) fn sweep_without_memory(rt: &HostRuntime) -> Result<(), Fault> {
     stores(&mut calls)?;
     tables(&mut calls)?;
     sides(&mut calls)?;
-    parts(&mut calls)?;
     boards(&mut calls)?;
     operations(&mut calls);
     sets_of_words(&mut calls);
@@ -172,17 +171,19 @@ fn sides(calls: &mut Starved<'_>) -> Result<(), Fault> {
     calls.refuse("Side::new");
     calls.gave(Side::new(alloc, SideId::A).events(), 0);
     let registered = numbered_name(0)?;
-    let exchange = Exchange::after(alloc, 1, &[])?;
+    let exchange = Exchange::after(alloc, 1, &WHOLE)?;
     calls_of_side(calls, &exchange, &registered);
+    calls.refuse("the parts of an exchange");
+    calls.gave(exchange.is_same(&exchange), true);
     Ok(())
 }
 
-/// The exchange's side has this name alone, judged by a program.
+/// The exchange finished with this name alone, which the second kept.
 fn calls_of_side(calls: &mut Starved<'_>, exchange: &Exchange, registered: &Name) {
     let side = exchange.side();
-    let registration = by(1, ResolverId::Program(exchange.program()));
+    let registration = by(2, ResolverId::Program(exchange.program()));
     calls.refuse("Side::events");
-    calls.gave(side.events(), 1);
+    calls.gave(side.events(), 7);
     calls.refuse("Side::whereis");
     calls.gave(side.whereis(registered).copied(), Some(registration));
     calls.refuse("Side::rows");
@@ -195,16 +196,6 @@ fn count_rows(side: &Side) -> usize {
         count = count.wrapping_add(1);
     }
     count
-}
-
-/// All that two exchanges lend that finished alike.
-fn parts(calls: &mut Starved<'_>) -> Result<(), Fault> {
-    let alloc = calls.alloc();
-    let one = Exchange::after(alloc, 2, &WHOLE)?;
-    let other = Exchange::after(alloc, 2, &WHOLE)?;
-    calls.refuse("the parts of an exchange");
-    calls.gave(one.is_same(&other), true);
-    Ok(())
 }
 
 fn boards(calls: &mut Starved<'_>) -> Result<(), Fault> {

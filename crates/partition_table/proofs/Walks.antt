@@ -51,7 +51,7 @@ module _ {Y : Type 0} where
           let turned = flipped e.0 n Greater is in
           rw (is, turned, is) (sym (below_least n e.0 es turned (and_parts _ _ h).0))
 
-  -- what comes before a name isn't looked for behind it
+  -- what comes before a name isn't looked for after it
   found_behind : (n q : Name) (es : List (Name × Y)) → name_cmp n q ≡ Less
       → find name_cmp q (drop_before n es) ≡ find name_cmp q es
   found_behind n q [] less = refl

@@ -17,7 +17,10 @@ pub struct Verdict<'a> {
 /// A verdict of clash `k` of the exchange `number`.
 #[derive(Clone, Copy)]
 pub struct Ruling<'a> {
+    /// The number of the exchange.
     pub number: u64,
+    /// The clash, counted from 0 in the order of names.
     pub k: u32,
+    /// What its resolver answers, and the word at which it does.
     pub verdict: Verdict<'a>,
 }

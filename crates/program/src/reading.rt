@@ -27,12 +27,12 @@ pub fn read_program_over<D: Domain>(alloc: Global, bytes: &[u8]) -> Result<Verif
     // Whatever is wrong is told, unless memory runs out; there is only one such fault.
     ensures told { (fault : ProgramFault) → IsProgramFaultOver D.ops bytes.now fault → Answers result (Err fault) }
 {
-    // Bytes are read in one way, and code is judged in one way.
+    // For the prover alone: bytes are read in one way, and code is judged in one way.
     one_reading_theorem();
     one_verdict_theorem::<D>();
     let code = decode(alloc, bytes)?;
     let program = verify::<D>(alloc, code)?;
-    // What it lends is safe.
+    // For the prover alone: what it lends is safe.
     program.code();
     Ok(program)
 }

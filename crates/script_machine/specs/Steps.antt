@@ -125,11 +125,12 @@ UnregisterStep old id name reply new =
 
 -- ---- questions
 
--- the table that a side shows: without the names that it withdrew while its exchange is open
+-- what is said of what is registered under a name
 abbrev pub owned : Option Registration → Reply
 owned (Some registration) = Owned registration.owner
 owned None = Undefined
 
+-- of the table that a side shows: without the names that it withdrew while its exchange is open
 abbrev pub whereis_reply : Machine → SideId → Name → Reply
 whereis_reply machine id name =
     owned (option_map (λ row. row.registration) (get (shown_table (at machine.cluster id).side) name))

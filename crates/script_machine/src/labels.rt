@@ -12,7 +12,9 @@ use clash_record::{Builtin, Name, ProgramId, ResolverId, name};
 /// A word that names an uploaded program: 1 to 32 visible characters of ASCII, as a name has.
 #[derive(Clone, Copy, Debug)]
 pub struct Label {
+    /// The word.
     pub text: Name,
+    /// The program that it names.
     pub program: ProgramId,
 }
 

@@ -6,6 +6,7 @@ use program::{ProgramFault, read_program};
 use std::alloc::Global;
 use std::fmt::Display;
 use std::test::Fail;
+use verifier::Rule;
 
 /// Whether these words are written of the fault.
 fn is_told_as<F: Display>(alloc: Global, fault: &F, words: &str) -> Result<bool, Fail> {
@@ -91,6 +92,50 @@ fn of_programs(rt: HostRuntime) -> Result<(), Fail> {
         let fault = program_fault(rt.alloc(), bytes)?;
         assert_eq!(rt; (fault.number(), fault.place()), (number, place));
         assert!(rt; is_told_as(rt.alloc(), &fault, words)?, "{words}");
+    }
+    Ok(())
+}
+
+/// Each rule in words.
+const RULES: [(Rule, &'static str); 17] = [
+    (Rule::Backward, "a jump leads back"),
+    (Rule::Outside, "a jump leads past the end"),
+    (
+        Rule::IntoWide,
+        "a jump leads into the second slot of a wide load",
+    ),
+    (
+        Rule::FallsOff,
+        "the code ends after an instruction that goes on",
+    ),
+    (Rule::NoEdge, "no instruction leads here"),
+    (Rule::Unreadable, "a register is read that can't be"),
+    (Rule::WritesR10, "R10 is written"),
+    (
+        Rule::PointerOperation,
+        "an operation takes an address as a number",
+    ),
+    (
+        Rule::PointerRange,
+        "an address is moved too far, or by a number that isn't known well enough",
+    ),
+    (Rule::PointerCompared, "an address is compared"),
+    (Rule::PointerStored, "an address is stored"),
+    (Rule::OutsideRecord, "an access lies outside the record"),
+    (Rule::WritesRecord, "the record is written"),
+    (Rule::OutsideStack, "an access lies outside the stack"),
+    (
+        Rule::UnwrittenStack,
+        "a byte of the stack is read that was not written",
+    ),
+    (Rule::ScalarAddress, "a number is used as an address"),
+    (Rule::PointerResult, "an address is the answer"),
+];
+
+#[test]
+fn of_rules(rt: HostRuntime) -> Result<(), Fail> {
+    for (rule, words) in RULES {
+        assert!(rt; is_told_as(rt.alloc(), &rule, words)?, "{words}");
     }
     Ok(())
 }

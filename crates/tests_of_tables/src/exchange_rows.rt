@@ -22,7 +22,7 @@ pub(crate) const NUMBERS: &[Row] = &[
     (A, Call::Unregister("db"), Some((SideFault::NoSuchName, 31))),
 ];
 
-/// What comes behind it. One call is carried out.
+/// What comes after it. One call is carried out.
 pub(crate) const NUMBERS_LEFT: &[Row] = &[
     (A, Call::Abandon, None),
     (A, Call::Abandon, Some((SideFault::NotHealing, 34))),
@@ -153,7 +153,7 @@ pub(crate) const GONE_ON_BOTH: &[Row] = &[
     (B, Call::Withdraw("db"), None),
 ];
 
-/// What comes behind it, up to the end on both sides.
+/// What comes after it, up to the end on both sides.
 pub(crate) const WITHDRAWN: &[Row] = &[
     (A, Call::Withdraw("x"), Some((SideFault::NoSuchName, 31))),
     (A, Call::Hear(B, 1), None),

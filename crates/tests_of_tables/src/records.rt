@@ -45,7 +45,7 @@ fn record_of_db(rt: HostRuntime) -> Result<(), Fail> {
     Ok(())
 }
 
-// Sizes and uptimes stand behind the registrations, little-endian, those of the first registration's half first.
+// Sizes and uptimes stand after the registrations, little-endian, those of the first registration's half first.
 #[rattlefmt::skip]
 const FACTS: [u8; 32] = [
     0x02, 0x01, 0x00, 0x00, 0x00, 0x00, 0x00, 0x00, 0x03, 0x00, 0x00, 0x00, 0x00, 0x00, 0x00, 0x80,

@@ -24,7 +24,7 @@ pub(crate) fn by(node: u32, serial: u32, resolver: ResolverId) -> Registration {
     }
 }
 
-/// The name of four letters that spells the number, behind a letter.
+/// The name of four letters that spells the number, after a letter.
 pub(crate) fn numbered_name(first: u8, number: u16) -> Result<Name, Fail> {
     let digit = |shift: u16| b'a' + (number >> shift & 0xf) as u8;
     Ok(name(&[first, digit(12), digit(8), digit(4), digit(0)])?)

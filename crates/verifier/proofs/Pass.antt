@@ -31,7 +31,7 @@ pub insn_first : (code : List Insn) → 1 ≤ slot_count code → IsSome (insn_a
 insn_first [] h = absurd (omega arith)
 insn_first (i ∷ code) h = refl
 
--- behind an instruction that isn't the last stands another
+-- after an instruction that isn't the last stands another
 pub insn_next : (code : List Insn) (slot : ℕ) (i : Insn) → insn_at code slot ≡ Some i
     → slot + slots_of i < slot_count code → IsSome (insn_at code (slot + slots_of i))
 insn_next [] slot i e h = absurd (cc)

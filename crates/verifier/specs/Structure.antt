@@ -1,4 +1,4 @@
--- The rules of structure, 10 to 14: where jumps lead, what stands behind an instruction, and what leads to it.
+-- The rules of structure, 10 to 14: where jumps lead, what stands after an instruction, and what leads to it.
 use Rattle.std.specs.Prelude.{◌≡◌, ℕ, ◌+◌, ◌<◌, ◌⊎◌, ℤ, pos, negsuc, Option, Some, None, IfSome, IsSome, List, Bool, true, false}
 use Rattle.instruction_set.specs.Machine.{slots_of, insn_at, slot_count}
 use Rattle.instruction_set.specs.declared.insn.Insn.{Insn}

@@ -71,7 +71,7 @@ pub(crate) fn bytes_of(size: Size) -> usize
     }
 }
 
-/// The offset of the first byte that an access may reach through an address, and the one behind the last.
+/// The offset of the first byte that an access may reach through an address, and the one after the last.
 fn reach(span: Span, offset: i16, size: Size) -> (i32, i32)
     ensures first { result.0 ≡ (reach_of span offset size).lo }
     ensures end { result.1 ≡ (reach_of span offset size).hi +ℤ pos (bytes_of size) }

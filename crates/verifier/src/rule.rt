@@ -32,13 +32,13 @@ pub enum Rule {
     #[error("an operation takes an address as a number")]
     PointerOperation,
     /// An address is moved too far, or by a number that isn't known well enough.
-    #[error("an address is moved_span too far, or by a number that isn't known well enough")]
+    #[error("an address is moved too far, or by a number that isn't known well enough")]
     PointerRange,
     /// An address is compared.
     #[error("an address is compared")]
     PointerCompared,
     /// An address is stored.
-    #[error("an address is after_store")]
+    #[error("an address is stored")]
     PointerStored,
     /// An access lies outside the record.
     #[error("an access lies outside the record")]

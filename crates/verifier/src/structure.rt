@@ -124,7 +124,7 @@ fn visit(code: &Code, slot: usize, insn: &Insn, reached: &mut [bool]) -> Option<
 pub(crate) fn check_structure(code: &Code) -> Option<Refusal>
     ensures { MatchOption result (IsStructured code.now) (λ r. IsIllStructured code.now r.slot r.rule) }
 {
-    // It has few slots.
+    // For the prover alone: it has few slots.
     code.known();
     let mut reached = [false; MAX_SLOTS];
     mark(&mut reached, Some(0));

@@ -206,6 +206,7 @@ pub(crate) fn fall<D: Domain>(insn: Insn, state: &mut State<D>) -> bool
     requires passes { Passes D.ops insn (view state.old) }
     ensures { if_live result (view state.new) ≡ fall D.ops insn (view state.old) }
 {
+    // For the prover alone: its numbers have the widths of their fields.
     insn.known();
     match insn {
         Insn::JumpIf {

@@ -93,7 +93,7 @@ fn visit<D: Domain>(
     ensures kept { peak_of pending.old ≤ peak_of pending.new }
     ensures peak { peak_of pending.new ≤ max (peak_of pending.old) (1 + widest code.now) }
 {
-    // Its instructions are listed.
+    // For the prover alone: its instructions are listed.
     code.known();
     let state = match pending.take(at) {
         Some(state) => state,
@@ -123,7 +123,7 @@ fn pass<D: Domain>(
     ensures some { OnOk result (1 ≤ peak_of pending.new) }
     ensures peak { peak_of pending.new ≤ 1 + widest code.now }
 {
-    // It has few slots, and at least one.
+    // For the prover alone: it has few slots, and at least one.
     code.known();
     pending.put(0, Box::new(alloc, State::entry())?);
     let insns = code.insns();
@@ -155,7 +155,7 @@ pub fn verify_peak<D: Domain>(alloc: Global, code: Code) -> (Result<Verified, Ve
     if let Some(refusal) = check_structure(&code) {
         return (Err(VerifyFault::Refused(refusal)), 0);
     }
-    // It has few slots, and its instructions are listed.
+    // For the prover alone: it has few slots, and its instructions are listed.
     code.known();
     let mut pending: Pending<D> = match Pending::new(alloc, code.slot_count()) {
         Ok(pending) => pending,

@@ -18,7 +18,7 @@ abbrev pub holds_as : Option Row → Registration → Bool
 holds_as (Some r) kept = same_registration r.registration kept
 holds_as None kept = false
 
--- the next answer, and those behind it
+-- the next answer, and those after it
 abbrev pub first_answer : List Verdict3 → Verdict3
 first_answer [] = Neither
 first_answer (x ∷ xs) = x
