@@ -1,6 +1,8 @@
 //! The meeting of two sides that finished the exchange of one board.
-ghost use Rattle.std.specs.Prelude.{◌≡◌, IfOk, IfErr};
-ghost use Rattle.registry_lock.specs.Meeting.{Keeps, AgreesWith, IsHealed, IsFault, IsOfRuling};
+ghost use Rattle.std.specs.Prelude.{◌≡◌, IfOk, IfErr, OnOk};
+ghost use Rattle.exchange_core.specs.Finished.{IsFinished};
+ghost use Rattle.registry_lock.specs.Meeting.{Keeps, AgreesWith, HaveSeed, HaveNumber, SamePair};
+ghost use Rattle.registry_lock.specs.Meeting.{IsHealed, IsFault, IsOfRuling};
 
 use crate::comparing::{compare, same_pair};
 use crate::fault::MeetFault;
@@ -31,19 +33,42 @@ pub fn meet<'p>(
     ensures seen { AgreesWith pass.old first.rulings → AgreesWith pass.old second.rulings
         → IfErr result (λ fault. ¬ IsOfRuling fault) }
 {
+    agree(board, pass, &first, &second)?;
+    Ok(Healed {
+        table: first.into_table(),
+    })
+}
+
+// Refuses two sides whose exchanges aren't one.
+fn agree<'p>(
+    board: &Board<'p>,
+    pass: &mut Pass<'p>,
+    first: &Finished,
+    second: &Finished,
+) -> Result<(), MeetFault>
+    requires board { pass.old.place ≡ board.now.place }
+    ensures keeps { Keeps pass.old pass.new }
+    ensures board { OnOk result (pass.new.place ≡ board.now.place) }
+    ensures seed { OnOk result (HaveSeed board.now.place first.now second.now) }
+    ensures number { OnOk result (HaveNumber board.now.place first.now second.now) }
+    ensures pair { OnOk result (SamePair first.now second.now) }
+    ensures finished { OnOk result (IsFinished first.now × IsFinished second.now) }
+    ensures agrees { OnOk result (AgreesWith pass.new first.now.rulings × AgreesWith pass.new second.now.rulings) }
+    ensures fault { IfErr result (λ fault. IsFault board.now.place pass.old pass.new first.now second.now fault) }
+    ensures seen { AgreesWith pass.old first.now.rulings → AgreesWith pass.old second.now.rulings
+        → IfErr result (λ fault. ¬ IsOfRuling fault) }
+{
     if first.seed() != board.seed() || second.seed() != board.seed() {
         return Err(MeetFault::SeedDiffers);
     }
     if first.number() != board.number() || second.number() != board.number() {
         return Err(MeetFault::OtherNumber);
     }
-    if !same_pair(&first, &second) {
+    if !same_pair(first, second) {
         return Err(MeetFault::OtherPair);
     }
-    if let Err(k) = compare(board, pass, &first, &second) {
+    if let Err(k) = compare(board, pass, first, second) {
         return Err(MeetFault::StrangeRuling(k));
     }
-    Ok(Healed {
-        table: first.into_table(),
-    })
+    Ok(())
 }

@@ -1,5 +1,5 @@
 //! The lines of a script, one after another.
-ghost use Rattle.std.specs.Prelude.{◌≡◌, ◌<◌, ◌≤◌, []};
+ghost use Rattle.std.specs.Prelude.{◌≡◌, ◌<◌, ◌≤◌, [], IfOk};
 ghost use Rattle.script_machine.specs.Machines.{machine_of, new_machine};
 ghost use Rattle.script_engine.specs.Runs.{IsScriptRun};
 
@@ -9,6 +9,7 @@ use judge_pool::Gate;
 use output::send_after;
 use script_machine::Machine;
 use script_text::{LineBuffer, ReadBuffer, Stop, next_line};
+use std::alloc::{AllocError, Global};
 use std::io::{Read, Write};
 use std::sync::Wait;
 use std::thread::Threads;
@@ -31,18 +32,23 @@ where
         (W.contents writer.new) result }
 {
     let alloc = rt.alloc();
-    let mut machine = Machine::new(alloc);
+    let Ok((mut buffer, mut line)) = buffers(alloc) else {
+        // That the device takes less doesn't change the status.
+        let _ = send_after(Ok(()), writer, b"refused 90\n");
+        return 3;
+    };
     let crew = Crew { rt, workers, gate };
-    match (ReadBuffer::new(alloc), LineBuffer::new(alloc)) {
-        (Ok(mut buffer), Ok(mut line)) => {
-            run_lines(&crew, &mut machine, &mut buffer, &mut line, reader, writer)
-        }
-        _ => {
-            // That the device takes less doesn't change the status.
-            let _ = send_after(Ok(()), writer, b"refused 90\n");
-            3
-        }
-    }
+    let mut machine = Machine::new(alloc);
+    run_lines(&crew, &mut machine, &mut buffer, &mut line, reader, writer)
+}
+
+// What waits to be cut into lines, and a line.
+fn buffers(alloc: Global) -> Result<(ReadBuffer, LineBuffer), AllocError>
+    ensures { IfOk result (λ buffers. (buffers.0 ≡ []) × (buffers.1 ≡ [])) }
+{
+    let buffer = ReadBuffer::new(alloc)?;
+    let line = LineBuffer::new(alloc)?;
+    Ok((buffer, line))
 }
 
 // The lines, until the input or their numbers end, or a device fails.

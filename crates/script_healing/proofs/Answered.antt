@@ -21,6 +21,10 @@ was_ok {X} {F} {D} r x e h = subst (λ (s : Result X F). OnOk s D) e h
 pub ok_has : {X F : Type 0} (P : X → Type 0) (r : Result X F) (x : X) → r ≡ Ok x → IfOk r P → P x
 ok_has {X} {F} P r x e h = subst (λ (s : Result X F). IfOk s P) e h
 
+pub if_ok : {X E : Type 0} {P Q : X → Type 0} (r : Result X E) → ((x : X) → P x → Q x) → IfOk r P → IfOk r Q
+if_ok (Ok x) f h = f x h
+if_ok (Err e) f h = tt
+
 pub on_err : {X E P : Type 0} (r : Result X E) → P → OnErr r P
 on_err (Ok x) h = tt
 on_err (Err e) h = h

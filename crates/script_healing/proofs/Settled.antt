@@ -5,12 +5,11 @@ use Rattle.exchange_core.specs.declared.judged.Judged.{Judged}
 use Rattle.exchange_core.specs.Sides.{Offer, shown_table}
 use Rattle.exchange_core.specs.Finished.{Finished, IsFinished}
 use Rattle.partition_table.specs.Tables.{Table, Clash, clashes}
-use Rattle.verdict_board.specs.Boards.{Place, Pass}
-use Rattle.registry_lock.specs.Meeting as meeting
+use Rattle.verdict_board.specs.Boards.{Place}
 use Rattle.script_healing.specs.Clusters.{Cluster}
 use Rattle.script_healing.specs.Healing.{Plan, finished_as, idle_side, IsHealed}
 use Rattle.exchange_core.specs.declared.side_id.SideId.TheVariants.{B}
-use Rattle.script_healing.specs.model.Stages.{AreInRounds, AreOffers}
+use Rattle.script_healing.specs.model.Stages.{AreInRounds, AreOffers, HaveMet}
 
 -- the clashes of the tables that both offered
 abbrev pub clashes_shown : Plan → Cluster → List Clash
@@ -26,18 +25,18 @@ offered_clashes plan was of_a of_b a b all offers is_a is_b is =
     is ∙ (λ i. clashes (same_a i) plan.uptimes.a (same_b i) plan.uptimes.b)
 
 pub settled : (plan : Plan) (was now : Cluster) (first second : Finished) (rulings : List Judged) (all : List Clash)
-    (count : ℕ) (place : Place) (pass : Pass) (table : Table) → AreInRounds plan was (Some first) (Some second) now →
-    rulings ≡ first.rulings → all ≡ clashes_shown plan was → count ≡ len table →
-    meeting.IsHealed place pass first second table → IsHealed plan was now all rulings count
-settled plan was now first second rulings all count place pass table rounds same_rulings same_clashes counted met =
+    (count : ℕ) (place : Place) → AreInRounds plan was (Some first) (Some second) now → all ≡ clashes_shown plan was →
+    HaveMet place first second rulings count → IsHealed plan was now all rulings count
+settled plan was now first second rulings all count place rounds same_clashes have =
+    let met = have.healed in
     let lawful : IsFinished (finished_as plan was rulings first.table) =
-    subst (λ (l : List Judged). IsFinished (finished_as plan was l first.table)) (sym same_rulings)
+    subst (λ (l : List Judged). IsFinished (finished_as plan was l first.table)) (sym have.same_rulings)
     (subst IsFinished rounds.a.is rounds.a.lawful) in
     record {
       table = first.table;
       lawful = lawful;
       clashes_are = same_clashes;
-      count_is = counted ∙ ap (λ (t : Table). len t) (sym met.first_has);
+      count_is = have.counted ∙ ap (λ (t : Table). len t) (sym met.first_has);
       a = rounds.a.idle;
       b =
           rounds.b.idle

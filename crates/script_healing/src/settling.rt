@@ -2,12 +2,14 @@
 ghost use Rattle.std.specs.Prelude.{◌≡◌, ◌<◌, ◌≤◌, All, Some, OnOk, OnErr, IfOk};
 ghost use Rattle.partition_table.specs.Tables as tables;
 ghost use Rattle.exchange_core.specs.Sides.{shown_table};
+ghost use Rattle.verdict_board.specs.Boards.{Pass};
+ghost use Rattle.registry_lock.specs.Meeting as meeting;
 ghost use Rattle.registry_lock.specs.Telling.{IsTold};
 ghost use Rattle.script_healing.specs.Clusters as shown_as;
 ghost use Rattle.script_healing.specs.Clusters.{cluster_of};
 ghost use Rattle.script_healing.specs.Healing as planned;
 ghost use Rattle.script_healing.specs.Healing.{plan_of, IsHealed, IsFailed};
-ghost use Rattle.script_healing.specs.model.Stages.{halves_of, AreSides, AreRested, AreTrying, AreInRounds};
+ghost use Rattle.script_healing.specs.model.Stages.{halves_of, AreSides, AreRested, AreTrying, AreInRounds, HaveMet};
 
 use crate::cluster::Cluster;
 use crate::fault::HealFault;
@@ -18,7 +20,7 @@ use crate::plan::Plan;
 use exchange_core::{Finished, Judged, Side, SideId};
 use judge_pool::Gate;
 use partition_table::{ClashList, clashes};
-use registry_lock::{meet, tell_round};
+use registry_lock::{Healed, meet, tell_round};
 use std::alloc::{AllocError, Global};
 use std::mem;
 use std::sync::Wait;
@@ -142,10 +144,7 @@ impl Halves {
     {
         let (board, seats) = open(alloc, plan.number, plan.seed, clashes, workers)?;
         let (first, second) = self.judge(rt, alloc, &board, seats, gate)?;
-        let rulings = copy(alloc, first.rulings())?;
-        let mut pass = board.pass()?;
-        let healed = meet(&board, &mut pass, first, second)?;
-        Ok((rulings, healed.table().len()))
+        meet_halves(alloc, &board, first, second)
     }
 
     // Rounds 0 to 3, until both halves have finished. Gives what they finished, A's first.
@@ -201,6 +200,28 @@ impl Halves {
         self.b = b;
         done.seats
     }
+}
+
+// The two halves meet. Gives the rulings, and the count of names of the one table.
+fn meet_halves(
+    alloc: Global,
+    board: &Board<'_>,
+    first: Finished,
+    second: Finished,
+) -> Result<(Vec<Judged>, usize), HealFault>
+    ensures { IfOk result (λ met. HaveMet board.now.place first second met.0.items met.1) }
+{
+    let rulings = copy(alloc, first.rulings())?;
+    let healed = meet_on(board, first, second)?;
+    Ok((rulings, healed.table().len()))
+}
+
+// The one table of the two, by a pass that looks at the board.
+fn meet_on(board: &Board<'_>, first: Finished, second: Finished) -> Result<Healed, HealFault>
+    ensures { IfOk result (λ healed. (pass : Pass) × meeting.IsHealed board.now.place pass first second healed) }
+{
+    let mut pass = board.pass()?;
+    Ok(meet(board, &mut pass, first, second)?)
 }
 
 // The same rulings again.

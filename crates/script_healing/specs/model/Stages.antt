@@ -1,12 +1,16 @@
 -- The two halves at each stage of an exchange.
 use Rattle.std.specs.Prelude.{◌≡◌, ℕ, ◌≤◌, List, length, Option, Some, None}
+use Rattle.std.specs.FinMap.{len}
 use Rattle.exchange_core.specs.declared.side.Side as code
 use Rattle.exchange_core.specs.declared.side_id.SideId.{SideId}
 use Rattle.exchange_core.specs.declared.side_id.SideId.TheVariants.{A, B}
 use Rattle.exchange_core.specs.Sides.{Side, Exchange, Heard, Offer, shown_table}
 use Rattle.exchange_core.specs.Finished.{Finished, IsFinished}
 use Rattle.exchange_core.specs.Shown.{calls}
-use Rattle.partition_table.specs.Tables.{Name}
+use Rattle.exchange_core.specs.declared.judged.Judged.{Judged}
+use Rattle.partition_table.specs.Tables.{Name, Table}
+use Rattle.verdict_board.specs.Boards.{Place, Pass}
+use Rattle.registry_lock.specs.Meeting as meeting
 use Rattle.script_text.specs.declared.command.Uptimes.{Uptimes}
 use Rattle.script_text.specs.declared.command.Withdrawal.{Withdrawal}
 use Rattle.script_healing.specs.declared.halves.Halves as halves
@@ -114,3 +118,13 @@ pub record AreInRounds (plan : Plan) (was : Cluster) (of_a of_b : Option Finishe
   pub a : IsInRounds plan was A of_a now.a.side
   pub b : IsInRounds plan was B of_b now.b.side
   pub grown : HasGrown was now
+
+-- ---- once they met
+
+-- two that finished have met over the board, by these rulings, and have a table of so many names
+pub record HaveMet (place : Place) (first second : Finished) (rulings : List Judged) (count : ℕ) : Type 0 where
+  pub same_rulings : rulings ≡ first.rulings
+  pub table : Table
+  pub counted : count ≡ len table
+  pub pass : Pass
+  pub healed : meeting.IsHealed place pass first second table

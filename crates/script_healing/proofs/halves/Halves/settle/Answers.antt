@@ -1,9 +1,7 @@
-use Rattle.std.proofs.Common.{Some, ap, ◌∙◌}
-use Rattle.std.specs.FinMap.{len}
-use Rattle.partition_table.specs.Tables.{Table}
+use Rattle.std.proofs.Common.{Some}
 use Rattle.script_healing.specs.Healing.{plan_of}
 use Rattle.script_healing.specs.model.Stages.{halves_of}
-use Rattle.script_healing.proofs.Answered.{on_err}
+use Rattle.script_healing.proofs.Answered.{if_ok, on_err}
 use Rattle.script_healing.proofs.Trying.{all_failed}
 use Rattle.script_healing.proofs.Rounds.{rounds_failed}
 use Rattle.script_healing.proofs.Settled.{settled}
@@ -17,30 +15,15 @@ pub returns-in_err-first-clause-failed : goal.returns-in_err-first-clause-failed
 returns-in_err-first-clause-failed g c = on_err c.from_residual-in_err-first.result (λ was sides trying.
     c.in_err-first.ensures.failed (plan_of c.args.plan.now) was sides trying)
 
-pub returns-in_err-rulings-clause-failed : goal.returns-in_err-rulings-clause-failed
-returns-in_err-rulings-clause-failed g c = on_err c.from_residual-in_err-rulings.result (λ was sides trying.
-    let plan = plan_of c.args.plan.now in
-    rounds_failed plan was (Some c.in_ok-first.first) (Some c.in_ok-first.second) (halves_of c.judge.new.self) sides
-    (c.in_ok-first.ensures.merged plan was trying))
-
-pub returns-in_err-pass-clause-failed : goal.returns-in_err-pass-clause-failed
-returns-in_err-pass-clause-failed g c = on_err c.from_residual-in_err-pass.result (λ was sides trying.
-    let plan = plan_of c.args.plan.now in
-    rounds_failed plan was (Some c.in_ok-first.first) (Some c.in_ok-first.second) (halves_of c.judge.new.self) sides
-    (c.in_ok-first.ensures.merged plan was trying))
-
-pub returns-in_err-healed-clause-failed : goal.returns-in_err-healed-clause-failed
-returns-in_err-healed-clause-failed g c = on_err c.from_residual-in_err-healed.result (λ was sides trying.
+pub returns-clause-failed : goal.returns-clause-failed
+returns-clause-failed g c = on_err c.meet_halves.result (λ was sides trying.
     let plan = plan_of c.args.plan.now in
     rounds_failed plan was (Some c.in_ok-first.first) (Some c.in_ok-first.second) (halves_of c.judge.new.self) sides
     (c.in_ok-first.ensures.merged plan was trying))
 
 pub returns-clause-healed : goal.returns-clause-healed
-returns-clause-healed g c = λ was sides trying clashes.
+returns-clause-healed g c = if_ok c.meet_halves.result (λ met have was sides trying clashes.
     let plan = plan_of c.args.plan.now in
-    let rounds = c.in_ok-first.ensures.merged plan was trying in
-    let count = c.len.ensures.count ∙ ap (λ (t : Table). len t) c.table.ensures in
-    settled plan was (halves_of c.judge.new.self) c.in_ok-first.first c.in_ok-first.second
-    c.in_ok-rulings.rulings.items c.args.clashes.now c.len.result c.in_ok-board.board.place c.meet.new.pass
-    c.in_ok-healed.healed rounds (c.in_ok-rulings.ensures ∙ c.rulings.ensures.rulings) clashes count
-    c.in_ok-healed.ensures.healed
+    settled plan was (halves_of c.judge.new.self) c.in_ok-first.first c.in_ok-first.second met.0.items
+    c.args.clashes.now met.1 c.in_ok-board.board.place (c.in_ok-first.ensures.merged plan was trying) clashes have)
+    c.meet_halves.ensures
