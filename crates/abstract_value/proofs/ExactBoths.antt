@@ -1,4 +1,4 @@
--- What ranges in both orders are and compute is what the words of signed numbers say.
+-- Ranges in both orders are exact in terms of signed numbers.
 use Rattle.std.specs.Prelude.{◌≡◌, ℕ, ◌+◌, ◌-◌, ◌*◌, ◌/◌, ◌≤◌, ◌<◌, ◌^◌, ◌⊎◌, min, max, Bool, true, false, if◌then◌else◌, refl, suc, pos, negsuc, ℤ, ◌≤ℤ◌, ◌<ℤ◌, ◌+ℤ◌, ◌-ℤ◌, Option, Some, None}
 use Rattle.std.specs.Int.{int_shr, int_min, int_max}
 use Rattle.std.proofs.Common.{arith, inl, inr, ◌∙◌, ap, sym, subst}
@@ -29,7 +29,7 @@ use Rattle.abstract_value.specs.laws.BothDomain.{alu_in_both, mov_sx_in_both, lo
 use Rattle.abstract_value.specs.declared.intervals.Interval.{Interval}
 use Rattle.abstract_value.specs.declared.boths.Both.{Both}
 
--- ---- turned words as numbers
+-- ---- flipped words as numbers
 
 turned_number : (v : ℕ) → v < 2 ^ 64 → signed W64 v ≡ number (flip v)
 turned_number v h =
@@ -264,7 +264,7 @@ loaded size true =
 
 -- ---- edges
 
--- two ranges of turned words from ends that are these numbers where there are words between them
+-- two ranges of flipped words from ends that are these numbers if any word lies between them
 pair_ends : (lo hi lo' hi' : ℕ) (x y x' y' : ℤ)
     → (lo ≤ hi → lo' ≤ hi' → (hi < 2 ^ 64) × (hi' < 2 ^ 64) × (number lo ≡ x) × (number hi ≡ y) × (number lo' ≡ x')
     × (number hi' ≡ y'))

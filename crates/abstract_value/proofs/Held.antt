@@ -1,4 +1,4 @@
--- A table of states that wait: how many it has, and what it holds for each slot.
+-- A table of pending states: its count, and its state for each slot.
 use Rattle.std.proofs.Common.{◌≡◌, ℕ, zero, suc, ◌+◌, ◌<◌, ◌≤◌, cond, ◌==◌, true, false, inl, inr, refl, ap, ◌∙◌, sym, List, length, get_or, set, replicate, Option, Some, None}
 use Rattle.std.specs.Prelude.{is_some}
 use Rattle.std.specs.Global.{Box}
@@ -12,9 +12,9 @@ use Rattle.abstract_value.specs.laws.Counting.{same_tells, count_within, count_s
 use Rattle.abstract_value.specs.declared.states.State.{State}
 use Rattle.abstract_value.specs.declared.pending.Pending.{Pending}
 
--- ---- how many states a table has
+-- ---- the number of states in a table
 
--- once a state is put at a place that has none
+-- after a state is put at an empty place
 pub held_more : {D : Type 0} (xs : List (Option (Box (State D)))) (i : ℕ) (b : Box (State D)) → i < length xs
     → is_some (get_or xs i None) ≡ false → held_in (set xs i (Some b)) ≡ held_in xs + 1
 held_more xs i b h e =
@@ -26,7 +26,7 @@ held_more xs i b h e =
 pub held_within : {D : Type 0} (xs : List (Option (Box (State D)))) → held_in xs ≤ length xs
 held_within xs = count_within (λ k. is_some (get_or xs k None)) (length xs)
 
--- once a place has none any more
+-- after a place is emptied
 pub held_less : {D : Type 0} (xs : List (Option (Box (State D)))) (i : ℕ) → i < length xs
     → is_some (get_or xs i None) ≡ true → held_in (set xs i None) + 1 ≡ held_in xs
 held_less xs i h e =
@@ -60,7 +60,7 @@ held_none D n =
     count_none (λ k. is_some (get_or (empty (Box (State D)) n) k None)) (length (empty (Box (State D)) n))
     (λ k. ap is_some (none_at (Box (State D)) n k))
 
--- ---- what a table holds for each slot
+-- ---- the state of each slot
 
 -- with one place changed
 pub held_set : {D : Type 0} (xs : List (Option (Box (State D)))) (i : ℕ) (v : Option (Box (State D))) → i < length xs
@@ -84,7 +84,7 @@ size_is p =
 pub held_nothing : (D : Type 0) (n : ℕ) → (λ k. boxed_view {D = D} (get_or (empty (Box (State D)) n) k None)) ≡ nothing
 held_nothing D n = fun_ext (λ k. ap boxed_view (none_at (Box (State D)) n k))
 
--- once a state has come and gone
+-- after a state is put and taken
 pub put_back : {X : Type 0} (f : ℕ → X) (i : ℕ) (v w : X) → put (put f i v) i w ≡ put f i w
 put_back f i v w =
     fun_ext (λ k. elim (k == i) as (λ b. cond b w (cond b v (f k)) ≡ cond b w (f k)) [ true ↦ refl | false ↦ refl ])

@@ -1,4 +1,4 @@
--- A join that is made place by place, and the views of two states.
+-- A join computed place by place, and the views of two states.
 use Rattle.std.proofs.Common.{◌≡◌, ℕ, ◌+◌, ◌≤◌, cond, ltb, ◌==◌, Bool, ap, ◌∙◌, sym, arith, inl, inr, refl, length}
 use Rattle.std.proofs.Math.Path.{fun_ext}
 use Rattle.std.proofs.lemmas.Bool.Decides.{nat_tests}
@@ -18,7 +18,7 @@ view_ext {D = D} s t h k =
 pub registers_past : {D : Type 0} (s : State D) (r : ℕ) → 11 ≤ r → (view s).registers r ≡ Unreadable
 registers_past s r h = let k : length s.registers ≡ 11 = s.eleven in get_or_past s.registers r Unreadable (omega arith)
 
--- what is done below i, and at i
+-- the places below i, and place i
 pub joined_more : {X : Type 0} (f s j j' : ℕ → X) (i : ℕ) (v : X) → ((r : ℕ) → j r ≡ cond (ltb r i) (f r) (s r))
     → ((r : ℕ) → j' r ≡ cond (r == i) v (j r)) → v ≡ f i → (r : ℕ) → j' r ≡ cond (ltb r (i + 1)) (f r) (s r)
 joined_more f s j j' i v h k e r =
@@ -27,11 +27,11 @@ joined_more f s j j' i v h k e r =
     let u : r ≡ i → f i ≡ f r = λ w. ap f (sym w) in
     grind (arith, nat_tests)
 
--- at i nothing is done yet
+-- place i is unchanged yet
 pub not_yet : {X : Type 0} (f s j : ℕ → X) (i : ℕ) → ((r : ℕ) → j r ≡ cond (ltb r i) (f r) (s r)) → j i ≡ s i
 not_yet f s j i h = let q = h i in grind (arith, nat_tests)
 
--- from n on there is nothing to do, so at n all is done
+-- nothing changes from n on, so at n the join is complete
 pub joined_all : {X : Type 0} (f s j : ℕ → X) (n i : ℕ) → n ≤ i → ((r : ℕ) → n ≤ r → f r ≡ s r)
     → ((r : ℕ) → j r ≡ cond (ltb r i) (f r) (s r)) → (r : ℕ) → j r ≡ f r
 joined_all f s j n i h past k r =

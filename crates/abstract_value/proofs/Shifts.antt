@@ -1,4 +1,4 @@
--- What a shift loses, and how many digits a word has.
+-- The bits that a shift loses, and the digits of a word.
 use Rattle.std.proofs.Common.{◌≡◌, ℕ, ◌+◌, ◌-◌, ◌*◌, ◌/◌, ◌%◌, ◌^◌, ◌<◌, ◌≤◌, arith, sym, ap, ◌∙◌, inl, inr, Option, Some, None}
 use Rattle.std.specs.Prelude.{SomeIff, unwrap_or}
 use Rattle.std.specs.Int.{w64, leading_zeros}
@@ -12,7 +12,7 @@ use Rattle.abstract_value.specs.laws.MadeRanges.{less_tells, width_fits}
 use Rattle.abstract_value.specs.Ranges.{make, lsh_row, bit_length}
 use Rattle.abstract_value.specs.declared.intervals.Interval.{Interval}
 
--- where the high end isn't above the greatest word shifted to the right, both ends keep their bits
+-- if the high end isn't above the greatest word shifted right, both ends keep their bits
 pub lsh_row_kept : (w : Width) (a b : Interval) (greatest by : ℕ) → greatest + 1 ≡ 2 ^ bits_of w
     → by ≡ shift_amount w b.lo → b.lo ≡ b.hi → a.hi ≤ greatest / 2 ^ by
     → lsh_row w a b ≡ make ((a.lo * 2 ^ by) % 2 ^ 64) ((a.hi * 2 ^ by) % 2 ^ 64)
@@ -45,7 +45,7 @@ ones_of_length n r None h e =
       | inr p ↦ let k : bit_length n ≡ 0 = omega arith in e ∙ sym (ap (λ k. 2 ^ k - 1) k)
     ]
 
--- all ones shifted until so many are left
+-- all ones shifted until n are left
 pub ones_left : (bits : ℕ) → bits ≤ 64 → 18446744073709551615 / 2 ^ (64 - bits) ≡ 2 ^ bits - 1
 ones_left bits h =
     let e : 64 - (64 - bits) ≡ bits = omega arith in

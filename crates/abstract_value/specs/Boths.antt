@@ -1,5 +1,5 @@
--- What pairs of ranges compute. The range u is the operation's on ranges of words, s is a row of its own, and then the
--- pair is brought to its normal form.
+-- The operations on pairs of ranges. The range u is the operation's on ranges of words, s has separate rows, and then
+-- the pair is normalized.
 use Rattle.std.specs.Prelude.{ℕ, ◌+◌, ◌-◌, ◌*◌, ◌/◌, ◌^◌, Bool, true, false, ◌&&◌, nat_lt, nat_le, if◌then◌else◌, Option, Some, None}
 use Rattle.instruction_set.specs.Machine.{bytes_of}
 use Rattle.instruction_set.specs.Operations.{shift_amount}
@@ -34,7 +34,7 @@ signed_sub a b =
     then make (a.lo + 2 ^ 63 - b.hi) (a.hi + 2 ^ 63 - b.lo)
     else full_at 64
 
--- by one amount: a turned word shifted is 2 ^ 63 / 2 ^ n in place of 2 ^ 63 above the number shifted
+-- by one amount: a flipped word shifted is 2 ^ 63 / 2 ^ n in place of 2 ^ 63 above the number shifted
 abbrev pub signed_shift : Interval → Interval → Interval
 signed_shift a by =
     let n = shift_amount W64 by.lo in
@@ -48,7 +48,7 @@ signed_alu W64 Sub a b = signed_sub a.s b.s
 signed_alu W64 Arsh a b = signed_shift a.s b.u
 signed_alu w op a b = full_at 64
 
--- the numbers of so many bits with a sign
+-- the signed numbers of a number of bits
 abbrev pub signed_bits : ℕ → Interval
 signed_bits bits = make (2 ^ 63 - 2 ^ (bits - 1)) (2 ^ 63 + 2 ^ (bits - 1) - 1)
 

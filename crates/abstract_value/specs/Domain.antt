@@ -1,4 +1,4 @@
--- What a domain computes, and the laws that it keeps.
+-- The operations of a domain, and their laws.
 use Rattle.std.specs.Prelude.{◌≡◌, ℕ, ◌*◌, ◌≤◌, ◌<◌, ◌^◌, Bool, true, false, IsTrue, Option, Some, None}
 use Rattle.instruction_set.specs.Machine.{bytes_of}
 use Rattle.instruction_set.specs.Operations.{alu_of, neg_of, mov_sx_of, end_of, is_taken, IsMovSxBits, IsEndBits}
@@ -9,7 +9,7 @@ use Rattle.instruction_set.specs.declared.insn.EndKind.{EndKind}
 use Rattle.instruction_set.specs.declared.insn.Size.{Size}
 use Rattle.instruction_set.specs.declared.insn.Test.{Test}
 
--- what each method computes on a value
+-- the result of each method
 pub record Ops (D : Type 0) : Type 1 where
   -- the words that a value holds
   pub holds : D → ℕ → Type 0
@@ -37,9 +37,9 @@ BelowPair o None q = Unit {0}
 BelowPair o (Some p) None = ⊥
 BelowPair o (Some p) (Some q) = IsTrue (o.below p.0 q.0) × IsTrue (o.below p.1 q.1)
 
--- the laws that the operations keep
+-- the laws of the operations
 pub record Laws {D : Type 0} (o : Ops D) : Type 0 where
-  -- below is an order, and what is above holds more
+  -- below is an order, and a greater value holds more
   pub below_same : (a : D) → IsTrue (o.below a a)
   pub below_through : (a b c : D) → IsTrue (o.below a b) → IsTrue (o.below b c) → IsTrue (o.below a c)
   pub below_both : (a b : D) → IsTrue (o.below a b) → IsTrue (o.below b a) → a ≡ b

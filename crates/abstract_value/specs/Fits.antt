@@ -1,4 +1,4 @@
--- The room that a state takes.
+-- The memory that a state takes.
 use Rattle.std.specs.Mem.{FitsInMemory}
 use denote.RattleType.{RattleType}
 use Rattle.abstract_value.specs.contracts.states.State.{the_row}

@@ -1,4 +1,4 @@
--- States that wait for their slots, as a map from slots to states.
+-- Pending states, as a map from slots to states.
 use Rattle.std.specs.Prelude.{ℕ, length, Option, Some, None, is_some, slice_index_or}
 use Rattle.std.specs.Global.{Box}
 use Rattle.abstract_value.specs.Domain.{Ops}
@@ -12,7 +12,7 @@ abbrev pub boxed_view : {D : Type 0} → Option (Box (State D)) → Option (View
 boxed_view None = None
 boxed_view (Some b) = Some (view b.value)
 
--- how many slots it has room for
+-- the number of slots that it has room for
 abbrev pub room : {D : Type 0} → Pending D → ℕ
 room p = length p.states.items
 
@@ -24,15 +24,15 @@ held p slot = boxed_view (slice_index_or p.states.items slot None)
 abbrev pub nothing : {D : Type 0} → ℕ → Option (View D)
 nothing slot = None
 
--- how many slots below n have a state
+-- the number of slots below n with a state
 abbrev pub count_held : {D : Type 0} → (ℕ → Option (View D)) → ℕ → ℕ
 count_held states n = count_below (λ slot. is_some (states slot)) n
 
--- for how many slots it holds a state
+-- the number of states that it holds
 abbrev pub size : {D : Type 0} → Pending D → ℕ
 size p = count_held (held p) (room p)
 
--- the greatest number of states that it has held at a time
+-- the peak number of states
 abbrev pub peak_of : {D : Type 0} → Pending D → ℕ
 peak_of p = p.peak
 

@@ -1,4 +1,4 @@
--- What ranges of words compute, row by row. A range stands for the words from its low end to its high end.
+-- The operations on ranges of words, row by row. A range represents the words from its low end to its high end.
 use Rattle.std.specs.Prelude.{ℕ, ◌+◌, ◌-◌, ◌*◌, ◌/◌, ◌%◌, ◌≤◌, ◌^◌, min, max, Bool, true, false, ◌&&◌, ◌==◌, nat_lt, nat_le, if◌then◌else◌, Option, Some, None}
 use Rattle.std.specs.Int.{w64, leading_zeros}
 use Rattle.instruction_set.specs.Machine.{bytes_of}
@@ -77,7 +77,7 @@ mod_row a b =
 abbrev pub and_row : Interval → Interval → Interval
 and_row a b = make 0 (min a.hi b.hi)
 
--- how many binary digits a word has
+-- the number of binary digits of a word
 abbrev pub bit_length : ℕ → ℕ
 bit_length n = 64 - leading_zeros w64 n
 
@@ -133,7 +133,7 @@ interval_alu w op a b = alu_of_cut w op (cut w a) (cut w b)
 
 -- ---- operations on one operand
 
--- nothing is known but of one word
+-- only a single word is tracked
 abbrev pub neg_of_cut : Width → Interval → Interval
 neg_of_cut w a = if is_single a then only (neg_of w a.lo) else full_at (bits_of w)
 

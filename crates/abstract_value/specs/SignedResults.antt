@@ -1,4 +1,4 @@
--- What ranges in both orders are and compute, in the words of signed numbers.
+-- The meaning and the results of ranges in both orders, in terms of signed numbers.
 use Rattle.std.specs.Prelude.{◌≡◌, ◌≢◌, ℕ, ◌-◌, ◌*◌, ◌≤◌, ◌^◌, ◌⊎◌, Bool, true, false, IsTrue, ℤ, pos, ◌+ℤ◌, ◌-ℤ◌, ◌≤ℤ◌, ◌<ℤ◌, Option, Some, None}
 use Rattle.std.specs.Int.{int_shr, int_min, int_max}
 use Rattle.instruction_set.specs.Machine.{bytes_of}
@@ -18,7 +18,7 @@ use Rattle.abstract_value.specs.declared.boths.Both.{Both}
 
 -- ---- signed ranges
 
--- the number that a word with its sign bit turned stands for
+-- the number that a word with its sign bit flipped represents
 abbrev pub number : ℕ → ℤ
 number n = pos n -ℤ pos (2 ^ 63)
 
@@ -33,7 +33,7 @@ pub record HasEnds (s : Interval) (lo hi : ℤ) : Type 0 where
   pub low : least s ≡ lo
   pub high : greatest s ≡ hi
 
--- the least and the greatest number of so many bits with a sign
+-- the least and the greatest signed number of a number of bits
 abbrev pub least_of : ℕ → ℤ
 least_of bits = pos 0 -ℤ pos (2 ^ (bits - 1))
 
@@ -55,12 +55,12 @@ pub record LiesIn (u s : Interval) (v : ℕ) : Type 0 where
   pub signed_from : least s ≤ℤ signed W64 v
   pub signed_to : signed W64 v ≤ℤ greatest s
 
--- a value stands for the words that lie in two ranges
+-- a value represents the words that lie in two ranges
 pub record StandsFor (u s : Interval) (a : Both) : Type 0 where
   pub kept : (v : ℕ) → LiesIn u s v → both_ops.holds a v
   pub exact : (v : ℕ) → both_ops.holds a v → LiesIn u s v
 
--- and each end of its own two ranges is such a word: they are the hulls of its words
+-- each end of its two ranges is such a word: the ranges are the hulls of its words
 pub record IsHull (a : Both) : Type 0 where
   pub low : both_ops.holds a a.u.lo
   pub high : both_ops.holds a a.u.hi
@@ -87,7 +87,7 @@ SignedAlu W64 Sub a b s = ExactOrAll (least a.s -ℤ greatest b.s) (greatest a.s
 SignedAlu W64 Arsh a b s = IsShifted a.s b.u s
 SignedAlu w op a b s = HasAll s
 
--- kept where it lies within the ends, else these
+-- the range if it lies within the ends, else these
 pub record KeptOrEnds (lo hi : ℤ) (a s : Interval) : Type 0 where
   pub inside : lo ≤ℤ least a → greatest a ≤ℤ hi → HasEnds s (least a) (greatest a)
   pub outside : (least a <ℤ lo) ⊎ (hi <ℤ greatest a) → HasEnds s lo hi
@@ -144,7 +144,7 @@ SignedCut W64 Jsle true a b x = IsAtMost a b x
 SignedCut W64 Jsle false a b x = IsGreater a b x
 SignedCut w test taken a b x = x ≡ Some (a, b)
 
--- both operands stand for the words of both their ranges; an edge on which one has no word is dead
+-- both operands represent the words of both their ranges; an edge on which one has no word is dead
 abbrev pub StandFor : Option (Interval × Interval) → Option (Interval × Interval) → Option (Both × Both) → Type 0
 StandFor (Some p) (Some q) (Some r) = StandsFor p.0 q.0 r.0 × StandsFor p.1 q.1 r.1
 StandFor (Some p) (Some q) None = ((v : ℕ) → LiesIn p.0 q.0 v → ⊥) ⊎ ((v : ℕ) → LiesIn p.1 q.1 v → ⊥)
@@ -153,7 +153,7 @@ StandFor p q r = r ≡ None
 -- ---- all of them
 
 pub record BothIsExact : Type 0 where
-  -- a value stands for the words of its ranges, which are their hulls
+  -- a value represents the words of its ranges, which are their hulls
   pub value : (a : Both) → StandsFor a.u a.s a
   pub hull : (a : Both) → IsHull a
   -- with the same words it is the same value, and what has no other words is below
@@ -165,7 +165,7 @@ pub record BothIsExact : Type 0 where
   pub high : (a : Both) → both_ops.high a ≡ a.u.hi
   pub join_u : (a b : Both) → (both_ops.join a b).u ≡ interval_ops.join a.u b.u
   pub join_s : (a b : Both) → (both_ops.join a b).s ≡ interval_ops.join a.s b.s
-  -- each operation gives u as for ranges of words, and s as said above
+  -- each operation computes u as for ranges of words, and s as above
   pub full : StandsFor (full_at 64) (full_at 64) both_ops.full
   pub single : (v : ℕ) → StandsFor (interval_ops.single v) (full_at 64) (both_ops.single v)
   pub alu : (w : Width) (op : AluOp) (a b : Both)

@@ -1,13 +1,13 @@
--- Words with their sign bit turned, and pairs of ranges: one of words, one of words with their sign bit turned.
+-- Words with their sign bit flipped, and pairs of ranges: one of words, one of flipped words.
 use Rattle.std.specs.Prelude.{ℕ, ◌+◌, ◌%◌, ◌^◌}
 use Rattle.abstract_value.specs.Ranges.{interval_ops}
 use Rattle.abstract_value.specs.declared.intervals.Interval.{Interval}
 
--- a word with its sign bit turned. Read as signed numbers, words stand in the order of these
+-- a word with its sign bit flipped. The order of flipped words is the order of the signed numbers
 unfoldable pub flip : ℕ → ℕ
 flip v = (v + 2 ^ 63) % 2 ^ 64
 
--- a word of u that is in s once its sign bit is turned
+-- a word of u that is in s after its sign bit is flipped
 abbrev pub InBoth : Interval → Interval → ℕ → Type 0
 InBoth u s v = interval_ops.holds u v × interval_ops.holds s (flip v)
 

@@ -15,11 +15,11 @@ put f i v k = if k == i then v else f k
 
 -- ---- spans of offsets
 
--- the offset from -65,536 to 65,536 that is next
+-- the nearest offset from -65,536 to 65,536
 abbrev pub near : ℤ → ℤ
 near z = int_max (negsuc 65535) (int_min z (pos 65536))
 
--- the offsets from lo to hi, where these are in order and near
+-- the offsets from lo to hi, if these are in order and in range
 abbrev pub make_span : ℤ → ℤ → Span
 make_span lo hi = record {
   lo = near (int_min lo hi);
@@ -39,7 +39,7 @@ span_join a b = make_span (int_min a.lo b.lo) (int_max a.hi b.hi)
 
 -- ---- registers
 
--- less may be in the register; anything may be in one that can't be read
+-- the register may hold less; an unreadable one may hold anything
 abbrev pub reg_below : {D : Type 0} → Ops D → RegState D → RegState D → Bool
 reg_below o a Unreadable = true
 reg_below o (Scalar a) (Scalar b) = o.below a b
@@ -56,12 +56,12 @@ reg_join o _ _ = Unreadable
 
 -- ---- states
 
--- what each register may hold, and which bytes of the stack, counted from its lowest, are written
+-- the possible contents of each register, and the written stack bytes, counted from the lowest
 pub record View (D : Type 0) : Type 0 where
   pub registers : ℕ → RegState D
   pub written : ℕ → Bool
 
--- a register that isn't there can't be read
+-- a register that doesn't exist is unreadable
 abbrev pub view : {D : Type 0} → State D → View D
 view s = record { registers = λ r. slice_index_or s.registers r Unreadable; written = is_written s.stack }
 
@@ -74,7 +74,7 @@ entry = record {
   written = λ k. false;
 }
 
--- less may be in each register, and more bytes are written
+-- each register may hold less, and more bytes are written
 pub record ViewBelow {D : Type 0} (o : Ops D) (s t : View D) : Type 0 where
   pub registers : (r : ℕ) → IsTrue (reg_below o (s.registers r) (t.registers r))
   pub written : (k : ℕ) → IsTrue (t.written k) → IsTrue (s.written k)

@@ -9,7 +9,7 @@ use crate::{Domain, Interval};
 pub use exact::both_is_exact_theorem;
 use instruction_set::{AluOp, EndKind, Size, Test, Width};
 
-/// The words of `u` that are in `s` once their sign bit is turned. Each end of `u` and of `s` is such a word.
+/// The words of `u` that are in `s` after their sign bit is flipped. Each end of `u` and of `s` is such a word.
 #[derive(Clone, Copy, Debug, PartialEq, Eq)]
 pub struct Both {
     u: Interval,
@@ -17,7 +17,7 @@ pub struct Both {
     ghost normal: { IsNormal u s },
 }
 
-/// Each operation gives `u` as for ranges of words, `s` by a row of its own, and both brought to their normal form.
+/// Each operation computes `u` as on ranges of words and `s` by a separate row, and normalizes the pair.
 impl Domain for Both {
     ghost use Rattle.abstract_value.specs.Boths.{both_ops};
     ghost use Rattle.abstract_value.specs.laws.BothDomain.{both_fits, both_laws};
@@ -80,8 +80,8 @@ impl Domain for Both {
     }
 
     #[inline]
-    fn load(size: Size, signed: bool) -> Both {
-        halves::shaped(&Interval::load(size, signed), &rows::load(size, signed))
+    fn loaded(size: Size, signed: bool) -> Both {
+        halves::shaped(&Interval::loaded(size, signed), &rows::loaded(size, signed))
     }
 
     #[inline]

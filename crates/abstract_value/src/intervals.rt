@@ -11,7 +11,7 @@ pub(crate) mod unary;
 use crate::Domain;
 use instruction_set::{AluOp, EndKind, Size, Test, Width};
 
-/// The words from `lo` to `hi`, both among them.
+/// The words from `lo` to `hi` inclusive.
 #[derive(Clone, Copy, Debug, PartialEq, Eq)]
 pub struct Interval {
     pub(crate) lo: u64,
@@ -20,7 +20,7 @@ pub struct Interval {
     ghost fits: { hi < 2 ^ 64 },
 }
 
-/// Each result is an exact range; a single word where all operands are single.
+/// Each result is a range; a single word if all operands are single words.
 impl Domain for Interval {
     ghost use Rattle.abstract_value.specs.Ranges.{interval_ops};
     ghost use Rattle.abstract_value.specs.laws.IntervalDomain.{interval_fits, interval_laws};
@@ -77,8 +77,8 @@ impl Domain for Interval {
     }
 
     #[inline]
-    fn load(size: Size, signed: bool) -> Interval {
-        unary::load(size, signed)
+    fn loaded(size: Size, signed: bool) -> Interval {
+        unary::loaded(size, signed)
     }
 
     #[inline]

@@ -1,5 +1,5 @@
-//! What a register and the stack may hold: a domain of sets of words with its laws, intervals as one of them,
-//! abstract states over any of them, and the states that wait for their slots.
+//! Domains of sets of words with their laws, two such domains (`Interval` and `Both`), abstract states over any domain,
+//! and the pending states of a pass.
 #![tactic(auto)]
 
 mod boths;

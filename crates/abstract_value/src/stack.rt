@@ -1,9 +1,9 @@
-//! Which bytes of the stack are written, one bit a byte.
+//! The set of written stack bytes, one bit per byte.
 ghost use Rattle.std.specs.Prelude.{◌≡◌, ℕ, ◌+◌, ◌<◌, ◌≤◌, false, ◌&&◌, ◌==◌, if◌then◌else◌, bit_and, length, slice_index};
 
 use instruction_set::STACK_LEN;
 
-/// The set of the bytes of the stack that are written, as eight words of 64 bits.
+/// The set of written stack bytes, as eight words of 64 bits.
 ///
 /// Bytes are counted from the stack's lowest: byte `k` is bit `k % 64` of word `k / 64`.
 #[derive(Clone, Copy, Debug, PartialEq, Eq)]
@@ -15,14 +15,14 @@ pub struct StackState {
 impl StackState {
     ghost use Rattle.abstract_value.specs.StackBytes.{is_written, all_written, with_marks};
 
-    /// No byte is written.
+    /// Returns the empty set.
     pub fn empty() -> StackState
         ensures { (k : ℕ) → is_written result k ≡ false }
     {
         StackState { words: [0; 8] }
     }
 
-    /// Whether a byte is written.
+    /// Returns whether a byte is written.
     pub fn is_written(&self, at: usize) -> bool
         requires { at < STACK_LEN }
         ensures { result ≡ is_written self.now at }
@@ -30,7 +30,7 @@ impl StackState {
         (self.words[at / 64] >> (at % 64)) & 1 == 1
     }
 
-    /// Whether so many bytes from one on are written.
+    /// Returns whether `count` bytes from `from` on are written.
     pub fn all_written(&self, from: usize, count: usize) -> bool
         requires { from + count ≤ STACK_LEN }
         ensures { result ≡ all_written (is_written self.now) from count }
@@ -43,7 +43,7 @@ impl StackState {
         true
     }
 
-    /// Adds so many bytes from one on.
+    /// Adds `count` bytes from `from` on.
     pub fn mark(&mut self, from: usize, count: usize)
         requires { from + count ≤ STACK_LEN }
         ensures { (k : ℕ) → is_written self.new k ≡ with_marks (is_written self.old) from count k }
@@ -53,7 +53,7 @@ impl StackState {
         }
     }
 
-    /// Adds one byte.
+    // Adds one byte.
     fn mark_one(&mut self, at: usize)
         requires { at < STACK_LEN }
         ensures { (k : ℕ) → is_written self.new k ≡ with_marks (is_written self.old) at 1 k }
@@ -61,7 +61,7 @@ impl StackState {
         self.words[at / 64] |= 1 << (at % 64);
     }
 
-    /// Leaves the bytes that the other has too.
+    /// Keeps only the bytes that `other` also has.
     pub fn intersect(&mut self, other: &StackState)
         ensures { (k : ℕ) → is_written self.new k ≡ (is_written self.old k && is_written other.now k) }
     {
@@ -70,7 +70,7 @@ impl StackState {
         }
     }
 
-    /// Leaves of one word the bytes that the other has too.
+    // Keeps only the bytes of one word that `other` also has.
     fn intersect_word(&mut self, i: usize, other: &StackState)
         requires { i < 8 }
         ensures { (j : ℕ) → slice_index self.new.words j

@@ -1,4 +1,4 @@
-//! Abstract states: what each register may hold, and which bytes of the stack are written.
+//! Abstract states: the possible contents of each register, and the written stack bytes.
 ghost use Rattle.std.specs.Prelude.{◌≡◌, ◌≤ℤ◌, pos, negsuc, length};
 
 mod ops;
@@ -7,7 +7,7 @@ use crate::StackState;
 pub use ops::state_order_theorem;
 use std::alloc::AllocError;
 
-/// Offsets in bytes from `lo` to `hi`, both among them, and none further than 65,536 from 0.
+/// Offsets in bytes from `lo` to `hi` inclusive, within -65,536 to 65,536.
 #[derive(Clone, Copy, Debug, PartialEq, Eq)]
 pub struct Span {
     /// The least offset.
@@ -19,7 +19,7 @@ pub struct Span {
     ghost near_above: { hi ≤ℤ pos 65536 },
 }
 
-/// What a register may hold.
+/// The possible contents of a register.
 #[derive(Clone, Copy, Debug)]
 pub enum RegState<D> {
     /// A number.
@@ -28,11 +28,11 @@ pub enum RegState<D> {
     Record(Span),
     /// The address just past the stack plus an offset.
     Stack(Span),
-    /// Anything, or nothing yet: it can't be read.
+    /// Unreadable: unset, or of several kinds.
     Unreadable,
 }
 
-/// What R0 to R10 may hold, and which bytes of the stack are written.
+/// The possible contents of R0 to R10, and the written stack bytes.
 #[derive(Copy, Debug)]
 pub struct State<D> {
     registers: [RegState<D>; 11],

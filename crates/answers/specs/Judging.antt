@@ -1,4 +1,4 @@
--- What code answers to a clash, and what may be wrong with the texts of both.
+-- The answer of a program to a clash, and the faults of their texts.
 use Rattle.std.specs.Prelude.{◌≡◌, ◌⊎◌, ℕ, ◌-◌, List, ◌++◌, length, replicate, nat_le, if◌then◌else◌, Ok, Err}
 use Rattle.hex.specs.Hex.{decode_of}
 use Rattle.hex.specs.declared.error.FromHexError.{FromHexError}
@@ -20,9 +20,9 @@ use Rattle.answers.specs.declared.failures.Failure.TheVariants.{Refused, OutOfMe
 use Rattle.answers.specs.declared.failures.InputFault.TheVariants.{HexText, RecordLength}
 use Rattle.answers.specs.Refusals.{refusal, IsInput}
 
--- ---- what is answered
+-- ---- the answer
 
--- what code answers to a clash
+-- the answer of a program to a clash
 pub record Ruling : Type 0 where
   pub code : List Insn
   pub bytes : List ℕ
@@ -32,14 +32,14 @@ pub record Ruling : Type 0 where
 abbrev pub ruling : List Insn → List ℕ → Verdict3 → ℕ → Ruling
 ruling code bytes verdict steps = record { code = code; bytes = bytes; verdict = verdict; steps = steps }
 
--- the verdict is that of the code's meaning, and the code ends with it in so many steps wherever record and stack lie
+-- the verdict is that of the code's meaning, and the code ends with it in this number of steps at every placement
 pub record IsRuling (r : Ruling) : Type 0 where
   pub verdict_is : r.verdict ≡ verdict_of_answer (meaning r.code r.bytes)
   pub steps_are : Ends r.code r.bytes (meaning r.code r.bytes) r.steps
 
--- ---- what is wrong
+-- ---- the faults of texts
 
--- the text isn't hex digits, two a byte
+-- the text isn't hex digits, two per byte
 pub record IsNoHex (text : List ℕ) (r : NumberedRefusal) : Type 0 where
   pub fault : FromHexError
   pub digits : decode_of text ≡ Err fault
@@ -51,30 +51,30 @@ pub record IsNoCode (bytes : List ℕ) (r : NumberedRefusal) : Type 0 where
   pub first : IsFirstFault bytes fault
   pub same : r ≡ refusal (fault_number fault) (fault_place fault)
 
--- the bytes are no program over a domain: this is wrong with them
+-- the bytes are no program over a domain: this is their fault
 pub record IsNoProgramOver {D : Type 0} (o : Ops D) (bytes : List ℕ) (r : NumberedRefusal) : Type 0 where
   pub fault : ProgramFault
   pub wrong : program.IsProgramFaultOver o bytes fault
   pub same : r ≡ refusal (program_fault_number fault) (program_fault_place fault)
 
--- the text is that of code
+-- the text is the hex digits of code
 pub record IsCodeText (text : List ℕ) (code : List Insn) : Type 0 where
   pub bytes : List ℕ
   pub digits : decode_of text ≡ Ok bytes
   pub spelled : Spells bytes code
 
--- the text is that of no code, for this reason
+-- the text isn't the hex digits of code, for this reason
 pub data IsCodeFault (text : List ℕ) (r : NumberedRefusal) : Type 0 where
   no_hex : IsNoHex text r → IsCodeFault text r
   no_code : (bytes : List ℕ) → decode_of text ≡ Ok bytes → IsNoCode bytes r → IsCodeFault text r
 
--- the text is that of code that is accepted over a domain
+-- the text is the hex digits of a program that is accepted over a domain
 pub record IsProgramOver {D : Type 0} (o : Ops D) (text : List ℕ) (code : List Insn) : Type 0 where
   pub bytes : List ℕ
   pub digits : decode_of text ≡ Ok bytes
   pub accepted : program.IsAcceptedOver o bytes code
 
--- the text is that of no accepted code, for this reason
+-- the text isn't the hex digits of an accepted program, for this reason
 pub data IsProgramFaultOver {D : Type 0} (o : Ops D) (text : List ℕ) (r : NumberedRefusal) : Type 0 where
   no_digits : IsNoHex text r → IsProgramFaultOver o text r
   no_program : (bytes : List ℕ) → decode_of text ≡ Ok bytes → IsNoProgramOver o bytes r → IsProgramFaultOver o text r
@@ -86,28 +86,28 @@ IsProgram = IsProgramOver program.profile
 abbrev pub IsProgramFault : List ℕ → NumberedRefusal → Type 0
 IsProgramFault = IsProgramFaultOver program.profile
 
--- a record has as many bytes as a clash record, or as many as the shorter one that came before
+-- a record has the length of a clash record, or of the earlier, shorter one
 abbrev pub IsRecordLength : ℕ → Type 0
 IsRecordLength n = (n ≡ record_len) ⊎ (n ≡ shorter_len)
 
--- the text is that of a record, with zeros put after it up to the length of a clash record
+-- the text is the hex digits of a record, which zeros extend to the length of a clash record
 pub record IsClashText (text clash : List ℕ) : Type 0 where
   pub bytes : List ℕ
   pub digits : decode_of text ≡ Ok bytes
   pub long : IsRecordLength (length bytes)
   pub whole : clash ≡ bytes ++ replicate (record_len - length bytes) 0
 
--- the text is that of no record, for this reason
+-- the text isn't the hex digits of a record, for this reason
 pub data IsClashFault (text : List ℕ) (r : NumberedRefusal) : Type 0 where
   no_bytes : IsNoHex text r → IsClashFault text r
   wrong_length : (bytes : List ℕ) → decode_of text ≡ Ok bytes → (IsRecordLength (length bytes) → ⊥)
       → IsInput RecordLength r → IsClashFault text r
 
--- the one with the lesser number
+-- the refusal with the lesser number
 abbrev pub least : NumberedRefusal → NumberedRefusal → NumberedRefusal
 least e f = if nat_le e.number f.number then e else f
 
--- the one of two that is told
+-- the failure to report of two
 abbrev pub first : Failure → Failure → Failure
 first (Refused e) (Refused f) = Refused (least e f)
 first (Refused e) OutOfMemory = OutOfMemory

@@ -1,5 +1,5 @@
--- What is printed for a question, and the status of the program.
-use Rattle.std.specs.Prelude.{◌≡◌, ◌⊎◌, ◌++◌, ℕ, List, length, codes, Option, Some, None, Result, Ok, Err}
+-- The answers to questions, what is printed for them, and the exit status.
+use Rattle.std.specs.Prelude.{◌≡◌, ◌⊎◌, ◌++◌, ℕ, List, length, codes, Option, None, Result, Ok, Err}
 use Rattle.std.specs.declared.alloc.AllocError.{AllocError}
 use Rattle.std.specs.Fmt.{decimal}
 use Rattle.std.specs.List.{flat_map}
@@ -17,8 +17,7 @@ use Rattle.task.specs.declared.Profile.{Profile}
 use Rattle.task.specs.declared.Profile.TheVariants.{Unsigned, Both}
 use Rattle.task.specs.declared.Question.{Question}
 use Rattle.task.specs.declared.Question.TheVariants.{Check, Judge, Asm, Dis}
-use Rattle.numbered.specs.declared.Place.{Place}
-use Rattle.numbered.specs.declared.Place.TheVariants.{Slot, Line}
+use Rattle.numbered.specs.Texts.{refusal_text}
 use Rattle.numbered.specs.declared.NumberedRefusal.{NumberedRefusal}
 use Rattle.answers.specs.declared.failures.Failure.{Failure}
 use Rattle.answers.specs.declared.failures.Failure.TheVariants as failure
@@ -28,9 +27,9 @@ use Rattle.answers.specs.Sources.{OfBytes, IsSource, IsNoSource}
 use Rattle.answers.specs.Judging.{IsCodeText, IsCodeFault, IsProgram, IsProgramOver, IsProgramFault, IsProgramFaultOver, IsClashText, IsClashFault, Ruling, IsRuling, least}
 use Rattle.output.specs.Sending.{AppendsFront}
 
--- ---- what is said
+-- ---- the answer
 
--- both texts are right, and this is what the code answers to the record
+-- both texts are valid, and this is the program's answer to the record
 pub record IsVerdict (code clash : List ℕ) (verdict : Verdict3) (steps : ℕ) : Type 0 where
   pub ruling : Ruling
   pub is_program : IsProgram code ruling.code
@@ -39,25 +38,25 @@ pub record IsVerdict (code clash : List ℕ) (verdict : Verdict3) (steps : ℕ) 
   pub verdict_is : verdict ≡ ruling.verdict
   pub steps_are : steps ≡ ruling.steps
 
--- one of the texts is wrong, or both are; of two reasons the lesser is told
+-- one of the texts is invalid, or both are, and then the refusal with the lesser number is returned
 pub data IsWrong (code clash : List ℕ) (r : NumberedRefusal) : Type 0 where
   code_alone : (bytes : List ℕ) → IsProgramFault code r → IsClashText clash bytes → IsWrong code clash r
   clash_alone : (program : List Insn) → IsProgram code program → IsClashFault clash r → IsWrong code clash r
   both : (e f : NumberedRefusal) → IsProgramFault code e → IsClashFault clash f → r ≡ least e f → IsWrong code clash r
 
--- what is said where a clash is judged
+-- the answer where a clash is judged
 abbrev pub IsJudged : List ℕ → List ℕ → Answer → Type 0
 IsJudged code clash (Ruled verdict steps) = IsVerdict code clash verdict steps
 IsJudged code clash (Refused r) = IsWrong code clash r
 IsJudged code clash said = ⊥
 
--- the code is accepted over a domain, and this is the count of its instructions
+-- the program is accepted over a domain, and has this number of instructions
 pub record IsCountOver {D : Type 0} (o : Ops D) (text : List ℕ) (count : ℕ) : Type 0 where
   pub code : List Insn
   pub is_program : IsProgramOver o text code
   pub count_is : count ≡ length code
 
--- what is said where code is checked over a domain
+-- the answer where a program is checked over a domain
 abbrev pub IsCheckedOver : {D : Type 0} → Ops D → List ℕ → Answer → Type 0
 IsCheckedOver o text (Accepted count) = IsCountOver o text count
 IsCheckedOver o text (Refused r) = IsProgramFaultOver o text r
@@ -68,46 +67,38 @@ abbrev pub IsChecked : Profile → List ℕ → Answer → Type 0
 IsChecked Unsigned = IsCheckedOver interval_ops
 IsChecked Both = IsCheckedOver both_ops
 
--- what is said where code is written as text
+-- the answer where code is disassembled
 abbrev pub IsDisassembled : List ℕ → Answer → Type 0
 IsDisassembled text (Disassembled code) = IsCodeText text code
 IsDisassembled text (Refused r) = IsCodeFault text r
 IsDisassembled text said = ⊥
 
--- what is said of the bytes of a file whose text is read as code
+-- the answer where the bytes of a file are assembled
 abbrev pub IsAssembled : List ℕ → Answer → Type 0
 IsAssembled bytes (Assembled code) = IsSource bytes code
 IsAssembled bytes (Refused r) = IsNoSource bytes r
 IsAssembled bytes said = ⊥
 
--- it is said of the bytes that a reader has, or of some bytes where it doesn't tell them; or reading failed
+-- the answer for the bytes of a reader, or for some bytes if they aren't known; or reading failed
 abbrev pub IsOfBytes : Option (List ℕ) → Answer → Type 0
 IsOfBytes known said = (said ≡ DeviceFault) ⊎ OfBytes known (λ bytes. IsAssembled bytes said)
 
--- what is said to a question; what a file has is known only by reading it
+-- the answer to a question; a file's content is known only by reading it
 abbrev pub IsAnswer : Question → Answer → Type 0
 IsAnswer (Check code profile) said = IsChecked profile code.now said
 IsAnswer (Judge code clash) said = IsJudged code.now clash.now said
 IsAnswer (Asm file) said = IsOfBytes None said
 IsAnswer (Dis code) said = IsDisassembled code.now said
 
--- what is said, where memory serves
+-- the answer, or out of memory
 abbrev pub answer_unless_memory : Result Answer Failure → Result Answer AllocError
 answer_unless_memory (Ok said) = Ok said
 answer_unless_memory (Err (failure.Refused r)) = Ok (Refused r)
 answer_unless_memory (Err failure.OutOfMemory) = Err (record {})
 
--- ---- how it is said
+-- ---- its text
 
--- a refusal, with the slot or the line that it names
-abbrev pub refused_line : ℕ → Option Place → List ℕ
-refused_line number None = codes "refused " ++ (decimal number ++ codes "\n")
-refused_line number (Some (Slot slot)) = codes "refused " ++ (decimal number
-    ++ (codes " at slot " ++ (decimal slot ++ codes "\n")))
-refused_line number (Some (Line line)) = codes "refused " ++ (decimal number
-    ++ (codes " at line " ++ (decimal line ++ codes "\n")))
-
--- the bytes of code in lower-case hex digits, on one line
+-- the bytes of code as lower-case hex digits, on one line
 abbrev pub hex_line : List Insn → List ℕ
 hex_line code = encode_lower (flat_map insn_bytes code) ++ codes "\n"
 
@@ -117,24 +108,24 @@ line_of (Accepted count) = codes "accepted " ++ (decimal count ++ codes " instru
 line_of (Ruled verdict steps) = verdict_text verdict ++ (codes " in " ++ (decimal steps ++ codes " steps\n"))
 line_of (Assembled code) = hex_line code
 line_of (Disassembled code) = flat_map text.line_of code
-line_of (Refused r) = refused_line r.number r.place
+line_of (Refused r) = refusal_text r ++ codes "\n"
 line_of DeviceFault = codes "device fault\n"
 
--- the status of the program
+-- the exit status
 abbrev pub status_of : Answer → ℕ
 status_of (Refused r) = 2
 status_of DeviceFault = 3
 status_of said = 0
 
--- this is said, with this status and text
+-- the answer has this status and text
 abbrev pub IsPrinted : Result Answer AllocError → ℕ → List ℕ → Type 0
 IsPrinted (Ok said) status line = (status ≡ status_of said) × (line ≡ line_of said)
 IsPrinted (Err e) status line = ⊥
 
--- ---- what goes out
+-- ---- what is written
 
--- all that is printed went out, with its status; or the status is 3, and a beginning of it went out, or of the line for
--- want of memory
+-- the whole text is written, with its status; or the status is 3, and a prefix of it is written, or of the line for out
+-- of memory
 pub data IsReply (question : Question) (old new : Option (List ℕ)) (status : ℕ) : Type 0 where
   replied : (said : Answer) → IsAnswer question said → status ≡ status_of said → Appends old new (line_of said)
       → IsReply question old new status

@@ -1,5 +1,6 @@
--- Why a question is refused: numbered refusals, and want of memory.
+-- The refusals of questions, and running out of memory.
 use Rattle.std.specs.Prelude.{ℕ, ◌==◌, if◌then◌else◌, ◌≡◌, Option, None}
+use Rattle.numbered.specs.Answers.{out_of_memory}
 use Rattle.numbered.specs.declared.Place.{Place}
 use Rattle.numbered.specs.declared.NumberedRefusal.{NumberedRefusal}
 use Rattle.answers.specs.declared.failures.Failure.{Failure}
@@ -10,9 +11,9 @@ use Rattle.answers.specs.declared.failures.InputFault.TheVariants.{HexText, Reco
 abbrev pub refusal : ℕ → Option Place → NumberedRefusal
 refusal number place = record { number = number; place = place }
 
--- 90 is want of memory
+-- the failure of a fault with this number and place
 abbrev pub failure_by : ℕ → Option Place → Failure
-failure_by number place = if number == 90 then OutOfMemory else Refused (refusal number place)
+failure_by number place = if number == out_of_memory then OutOfMemory else Refused (refusal number place)
 
 abbrev pub input_fault_number : InputFault → ℕ
 input_fault_number HexText = 50
@@ -23,11 +24,11 @@ input_fault_number FileTooLong = 57
 abbrev pub input_fault_place : InputFault → Option Place
 input_fault_place fault = None
 
--- want of memory says nothing of the texts
+-- a refusal has this property; running out of memory has none
 abbrev pub OnRefusal : (NumberedRefusal → Type 0) → Failure → Type 0
 OnRefusal P (Refused r) = P r
 OnRefusal P OutOfMemory = Unit {0}
 
--- the refusal of an input that has this fault
+-- the refusal of an input with this fault
 abbrev pub IsInput : InputFault → NumberedRefusal → Type 0
 IsInput fault r = r ≡ refusal (input_fault_number fault) None

@@ -1,4 +1,4 @@
--- The text of code in a file: what its bytes give, and what may be wrong with them.
+-- The text of a program in a file, and the faults of a file.
 use Rattle.std.specs.Prelude.{◌≡◌, ℕ, ◌+◌, ◌<◌, ◌≤◌, List, length, take, Option, Some, None, IfSome}
 use Rattle.std.specs.Str.{IsUtf8}
 use Rattle.instruction_set.specs.declared.insn.Insn.{Insn}
@@ -12,15 +12,15 @@ use Rattle.answers.specs.Refusals.{refusal, IsInput}
 
 -- ---- what reading gives
 
--- the greatest number of bytes that a file may have
+-- the maximum length of a file in bytes
 abbrev pub max_file_len : ℕ
 max_file_len = 1048576
 
--- the bytes are all that a reader has, or one more than a file may have, where it tells what it has
+-- if the content of the reader is known, the bytes are all of it, or one byte more than a file may have
 abbrev pub IsReading : Option (List ℕ) → List ℕ → Type 0
 IsReading known bytes = IfSome known (λ all. bytes ≡ take (max_file_len + 1) all)
 
--- it holds of the bytes that a reader has, or of some bytes where it doesn't tell them
+-- the property holds for the content of the reader, or for some bytes if that is not known
 abbrev pub OfBytes : Option (List ℕ) → (List ℕ → Type 0) → Type 0
 OfBytes (Some bytes) P = P bytes
 OfBytes None P = (bytes : List ℕ) × P bytes
@@ -32,12 +32,12 @@ pub record IsText (bytes : List ℕ) : Type 0 where
   pub few : length bytes ≤ max_file_len
   pub utf8 : IsUtf8 bytes
 
--- the bytes are no text, for this reason; that there are too many comes first
+-- the bytes are no text, for this reason; the length is checked first
 pub data IsNoText (bytes : List ℕ) (r : NumberedRefusal) : Type 0 where
   too_long : max_file_len < length bytes → IsInput FileTooLong r → IsNoText bytes r
   not_utf8 : length bytes ≤ max_file_len → ¬ IsUtf8 bytes → IsInput NotText r → IsNoText bytes r
 
--- the text is of no code: this is its first fault
+-- the text has this first fault
 pub record IsFaulty (text : List ℕ) (r : NumberedRefusal) : Type 0 where
   pub fault : LineFault
   pub first : IsFirstFault text fault
@@ -48,7 +48,7 @@ pub record IsSource (bytes : List ℕ) (code : List Insn) : Type 0 where
   pub is_text : IsText bytes
   pub is_code : IsTextOf bytes code
 
--- the bytes are the text of no code, for this reason
+-- the bytes are not the text of code, for this reason
 pub data IsNoSource (bytes : List ℕ) (r : NumberedRefusal) : Type 0 where
   no_text : IsNoText bytes r → IsNoSource bytes r
   faulty : IsText bytes → IsFaulty bytes r → IsNoSource bytes r

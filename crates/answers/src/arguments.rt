@@ -1,4 +1,4 @@
-//! What stands in the words of a question, in hex digits.
+//! Reads the hex arguments of a question.
 ghost use Rattle.std.specs.Prelude.{◌≡◌, Ok, IfOk, IfErr};
 ghost use Rattle.hex.specs.Hex.{decode_of};
 ghost use Rattle.insn_codec.specs.Encoding.{Spells};
@@ -15,7 +15,7 @@ use program::read_program_over;
 use std::alloc::Global;
 use verifier::{SHORTER_RECORD_LEN, Verified};
 
-/// The bytes of hex digits.
+// Decodes hex digits.
 fn bytes_of(alloc: Global, text: &str) -> Result<Vec<u8>, Failure>
     ensures ok { IfOk result (λ bytes. decode_of text.now ≡ Ok bytes.items) }
     ensures err { IfErr result (OnRefusal (IsNoHex text.now)) }
@@ -27,7 +27,7 @@ fn bytes_of(alloc: Global, text: &str) -> Result<Vec<u8>, Failure>
     }
 }
 
-/// The code that bytes spell.
+// Decodes bytes as code.
 fn code_in_bytes(alloc: Global, bytes: &[u8]) -> Result<Code, Failure>
     ensures ok { IfOk result (Spells bytes.now) }
     ensures err { IfErr result (OnRefusal (IsNoCode bytes.now)) }
@@ -38,7 +38,7 @@ fn code_in_bytes(alloc: Global, bytes: &[u8]) -> Result<Code, Failure>
     }
 }
 
-/// The program that bytes are over a domain.
+// Reads bytes as a program that is verified over a domain.
 fn program_in_bytes<D: Domain>(alloc: Global, bytes: &[u8]) -> Result<Verified, Failure>
     ensures ok { IfOk result (IsAcceptedOver D.ops bytes.now) }
     ensures err { IfErr result (OnRefusal (IsNoProgramOver D.ops bytes.now)) }
@@ -49,7 +49,7 @@ fn program_in_bytes<D: Domain>(alloc: Global, bytes: &[u8]) -> Result<Verified, 
     }
 }
 
-/// The code of hex digits.
+/// Reads hex digits as code.
 #[tactic(auto, using(crate::proofs::Wrongs::failures))]
 pub fn code_of(alloc: Global, text: &str) -> Result<Code, Failure>
     ensures ok { IfOk result (λ code. IsCodeText text.now code) }
@@ -59,7 +59,7 @@ pub fn code_of(alloc: Global, text: &str) -> Result<Code, Failure>
     code_in_bytes(alloc, &bytes)
 }
 
-/// The code of hex digits that is accepted over a domain.
+/// Reads hex digits as a program that is verified over a domain.
 #[tactic(auto, using(crate::proofs::Wrongs::failures))]
 pub fn program_of<D: Domain>(alloc: Global, text: &str) -> Result<Verified, Failure>
     ensures ok { IfOk result (λ program. IsProgramOver D.ops text.now program) }
@@ -69,7 +69,7 @@ pub fn program_of<D: Domain>(alloc: Global, text: &str) -> Result<Verified, Fail
     program_in_bytes::<D>(alloc, &bytes)
 }
 
-/// The record of hex digits: of 160 bytes, or of 128 with zeros put after them.
+/// Reads hex digits as a record: 160 bytes, or 128 that zeros extend.
 pub fn clash_of(alloc: Global, text: &str) -> Result<ClashRecord, Failure>
     ensures ok { IfOk result (λ clash. IsClashText text.now clash) }
     ensures err { IfErr result (OnRefusal (IsClashFault text.now)) }

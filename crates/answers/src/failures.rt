@@ -1,24 +1,21 @@
-//! Why a question is refused.
+//! The refusals of questions.
 ghost use Rattle.std.specs.Prelude.{◌≡◌};
 ghost use Rattle.answers.specs.Refusals.{failure_by, input_fault_number, input_fault_place};
 
-use numbered::{Numbered, NumberedRefusal, Place, refusal_of};
+use numbered::{Numbered, NumberedRefusal, OUT_OF_MEMORY, Place, refusal_of, words_of};
 use thiserror::Error;
 
-/// What is wrong with a word or a file, before it is read as code or as a record.
+/// The fault of a word or a file, before it is read as code or as a record.
 #[derive(Clone, Copy, Debug, PartialEq, Eq, Error)]
+#[error("{}", words_of(self.number()))]
 pub enum InputFault {
-    /// The text isn't hex digits, two a byte.
-    #[error("the text isn't hex digits, two a byte")]
+    /// Invalid hex digits, or an odd number of them.
     HexText,
-    /// A record has another number of bytes.
-    #[error("a record has another number of bytes")]
+    /// A record of neither 160 nor 128 bytes.
     RecordLength,
-    /// A file isn't UTF-8.
-    #[error("the file isn't UTF-8")]
+    /// A file that isn't UTF-8.
     NotText,
-    /// A file has more bytes than it may have.
-    #[error("the file has more than 1,048,576 bytes")]
+    /// A file of more than 1,048,576 bytes.
     FileTooLong,
 }
 
@@ -41,21 +38,21 @@ impl Numbered for InputFault {
     }
 }
 
-/// Why a text gave nothing.
+/// The reason why a question has no answer.
 #[derive(Clone, Copy, Debug, PartialEq, Eq)]
 pub enum Failure {
-    /// The text is wrong.
+    /// The question is refused.
     Refused(NumberedRefusal),
     /// Memory ran out.
     OutOfMemory,
 }
 
-/// The failure of a fault, of which number 90 is want of memory.
+/// Converts a fault to a failure: number 90 is out of memory, any other a refusal.
 pub fn failure_of<F: Numbered>(fault: &F) -> Failure
     ensures { result ≡ failure_by (F.number_of fault.now) (F.place_of fault.now) }
 {
     let refusal = refusal_of(fault);
-    if refusal.number == 90 {
+    if refusal.number == OUT_OF_MEMORY {
         Failure::OutOfMemory
     } else {
         Failure::Refused(refusal)

@@ -1,4 +1,4 @@
-//! The text of code that a file has.
+//! Reads the text of a program from a file.
 ghost use Rattle.std.specs.Prelude.{◌≡◌, IfOk, IfErr};
 ghost use Rattle.assembler_text.specs.Grammar.{IsTextOf};
 ghost use Rattle.answers.specs.Refusals.{OnRefusal};
@@ -11,10 +11,10 @@ use std::alloc::Global;
 use std::io;
 use std::io::Read;
 
-/// The greatest number of bytes that a file may have.
+/// The maximum length of a file in bytes.
 pub const MAX_FILE_LEN: usize = 1_048_576;
 
-/// All bytes that a reader has left, or one more than a file may have.
+/// Reads a reader to its end, or to one byte more than the maximum length of a file.
 pub fn read_whole<R: Read + Drop>(alloc: Global, reader: R) -> io::Result<Vec<u8>>
     ensures { IfOk result (λ bytes. IsReading (R.remaining reader) bytes.items) }
 {
@@ -25,7 +25,7 @@ pub fn read_whole<R: Read + Drop>(alloc: Global, reader: R) -> io::Result<Vec<u8
     Ok(bytes)
 }
 
-/// The text that a file's bytes are. That there are too many is looked for first.
+// Returns a file's bytes as text. Checks their number first.
 fn text_of(bytes: &[u8]) -> Result<&str, Failure>
     ensures ok { IfOk result (λ text. (text.now ≡ bytes.now) × IsText bytes.now) }
     ensures err { IfErr result (OnRefusal (IsNoText bytes.now)) }
@@ -39,7 +39,7 @@ fn text_of(bytes: &[u8]) -> Result<&str, Failure>
     }
 }
 
-/// The code of a text.
+// Assembles a text.
 fn code_of_text(alloc: Global, text: &str) -> Result<Code, Failure>
     ensures ok { IfOk result (IsTextOf text.now) }
     ensures err { IfErr result (OnRefusal (IsFaulty text.now)) }
@@ -50,7 +50,7 @@ fn code_of_text(alloc: Global, text: &str) -> Result<Code, Failure>
     }
 }
 
-/// The code that the bytes of a file give.
+/// Assembles the bytes of a file.
 #[tactic(auto, using(crate::proofs::Readings::sources))]
 pub fn code_in(alloc: Global, bytes: &[u8]) -> Result<Code, Failure>
     ensures ok { IfOk result (λ code. IsSource bytes.now code) }

@@ -1,4 +1,4 @@
-//! What heal answers to a question: a judging, a check, or code as text or as hex digits.
+//! Answers questions: judges a clash, checks a program, assembles and disassembles.
 #![tactic(auto)]
 
 mod arguments;

@@ -1,33 +1,33 @@
-//! What is said to a question, and how it is said.
+//! Answers to questions, and how they are printed.
 ghost use Rattle.std.specs.Prelude.{◌≡◌, IfOk, string_bytes};
-ghost use Rattle.answers.specs.Lines.{hex_line, line_of, refused_line, status_of, answer_unless_memory};
+ghost use Rattle.answers.specs.Lines.{hex_line, line_of, status_of, answer_unless_memory};
 
 use crate::failures::Failure;
 use assembler_text::disassemble;
 use builtin_resolvers::Verdict3;
 use insn_codec::encode;
 use instruction_set::Code;
-use numbered::{NumberedRefusal, Place};
+use numbered::NumberedRefusal;
 use std::alloc::{AllocError, Global};
 
-/// What is said to a question.
+/// The answer to a question.
 #[derive(Debug, Drop)]
 pub enum Answer {
-    /// The code is accepted, and has so many instructions.
+    /// The program is accepted, and has this number of instructions.
     Accepted { count: usize },
-    /// The verdict, and in how many steps it was found.
+    /// The verdict, and the number of executed instructions.
     Ruled { verdict: Verdict3, steps: u32 },
-    /// The code of a text, which is said in hex digits.
+    /// The code of a text, printed as hex digits.
     Assembled { code: Code },
-    /// The code of hex digits, which is said as text.
+    /// The code of hex digits, printed as text.
     Disassembled { code: Code },
-    /// The question was refused.
+    /// The question is refused.
     Refused(NumberedRefusal),
-    /// A file could not be read.
+    /// A file can't be read.
     DeviceFault,
 }
 
-/// What is said, where memory serves.
+/// Separates running out of memory from the other answers.
 pub fn answer_unless_memory(said: Result<Answer, Failure>) -> Result<Answer, AllocError>
     ensures { result ≡ answer_unless_memory said }
 {
@@ -38,19 +38,7 @@ pub fn answer_unless_memory(said: Result<Answer, Failure>) -> Result<Answer, All
     }
 }
 
-/// The line of a refusal.
-fn refused_line(alloc: Global, refusal: NumberedRefusal) -> Result<String, AllocError>
-    ensures { IfOk result (λ text. string_bytes text ≡ refused_line refusal.number refusal.place) }
-{
-    let number = refusal.number;
-    match refusal.place {
-        None => format!(in alloc; "refused {number}\n"),
-        Some(Place::Slot(slot)) => format!(in alloc; "refused {number} at slot {slot}\n"),
-        Some(Place::Line(line)) => format!(in alloc; "refused {number} at line {line}\n"),
-    }
-}
-
-/// The bytes of code in lower-case hex digits, on one line.
+// Returns the bytes of code as lower-case hex digits, on one line.
 fn hex_line(alloc: Global, code: &Code) -> Result<String, AllocError>
     ensures { IfOk result (λ text. string_bytes text ≡ hex_line code.now) }
 {
@@ -59,7 +47,7 @@ fn hex_line(alloc: Global, code: &Code) -> Result<String, AllocError>
     format!(in alloc; "{digits}\n")
 }
 
-/// What is printed.
+/// Returns the printed lines of an answer.
 pub fn line(alloc: Global, said: &Answer) -> Result<String, AllocError>
     ensures { IfOk result (λ text. string_bytes text ≡ line_of said.now) }
 {
@@ -71,12 +59,12 @@ pub fn line(alloc: Global, said: &Answer) -> Result<String, AllocError>
         }
         Answer::Assembled { code } => hex_line(alloc, code),
         Answer::Disassembled { code } => disassemble(alloc, code),
-        Answer::Refused(refusal) => refused_line(alloc, *refusal),
+        Answer::Refused(refusal) => format!(in alloc; "{refusal}\n"),
         Answer::DeviceFault => String::from_str(alloc, "device fault\n"),
     }
 }
 
-/// The status of the program.
+/// Returns the exit status: 0, or 2 for a refusal, or 3 for a file that can't be read.
 pub fn status(said: &Answer) -> u8
     ensures { result ≡ status_of said.now }
 {

@@ -1,4 +1,4 @@
-//! Replying to a question.
+//! Replies to a question.
 ghost use Rattle.std.specs.Prelude.{◌≡◌, ◌≢◌, None, IfOk, IfErr, codes, string_bytes};
 ghost use Rattle.answers.specs.Judging.{first};
 ghost use Rattle.output.specs.Sending.{AppendsFront};
@@ -19,7 +19,7 @@ use std::rt::Files;
 use std::{fs, io};
 use task::{Profile, Question};
 
-/// Of two failures the one that is told: want of memory, else the lesser number.
+// Returns the failure to report of two: out of memory, else the refusal with the lesser number.
 fn first(e: Failure, f: Failure) -> Failure
     ensures { result ≡ first e f }
 {
@@ -29,7 +29,7 @@ fn first(e: Failure, f: Failure) -> Failure
     }
 }
 
-/// Says that code is accepted over a domain, and how many instructions it has.
+// Checks a program over a domain, and counts its instructions.
 #[tactic(auto, using(crate::proofs::Wrongs::hex_wrongs))]
 fn check_over<D: Domain>(alloc: Global, code: &str) -> Result<Answer, Failure>
     ensures { IfOk (answer_unless_memory result) (IsCheckedOver D.ops code.now) }
@@ -40,7 +40,7 @@ fn check_over<D: Domain>(alloc: Global, code: &str) -> Result<Answer, Failure>
     })
 }
 
-/// Says the same over the ranges of a profile.
+// Checks a program over the ranges of a profile.
 fn check(alloc: Global, code: &str, profile: Profile) -> Result<Answer, Failure>
     ensures { IfOk (answer_unless_memory result) (IsChecked profile code.now) }
 {
@@ -50,7 +50,7 @@ fn check(alloc: Global, code: &str, profile: Profile) -> Result<Answer, Failure>
     }
 }
 
-/// Judges a clash by code. Of what is wrong with the two texts, the least number is said.
+// Judges a clash by a program. If both texts are faulty, it reports the lesser number.
 #[tactic(auto, using(crate::proofs::Wrongs::wrongs))]
 fn judge(alloc: Global, code: &str, clash: &str) -> Result<Answer, Failure>
     ensures { IfOk (answer_unless_memory result) (IsJudged code.now clash.now) }
@@ -72,7 +72,7 @@ fn judge(alloc: Global, code: &str, clash: &str) -> Result<Answer, Failure>
     }
 }
 
-/// Says code as text.
+// Disassembles hex digits.
 #[tactic(auto, using(crate::proofs::Wrongs::hex_wrongs))]
 fn dis(alloc: Global, code: &str) -> Result<Answer, Failure>
     ensures { IfOk (answer_unless_memory result) (IsDisassembled code.now) }
@@ -82,7 +82,7 @@ fn dis(alloc: Global, code: &str) -> Result<Answer, Failure>
     })
 }
 
-/// What is said where a file could not be read.
+// Converts an error of reading a file.
 fn reading_fault(kind: ErrorKind) -> Result<Answer, Failure>
     ensures device { IfOk result (λ said. (said ≡ DeviceFault) × (kind ≢ ErrorKind.OutOfMemory)) }
     ensures memory { IfErr result (λ failure. (failure ≡ OutOfMemory) × (kind ≡ ErrorKind.OutOfMemory)) }
@@ -94,10 +94,10 @@ fn reading_fault(kind: ErrorKind) -> Result<Answer, Failure>
     }
 }
 
-/// Says the code of the text that a reader gives, in hex digits.
+/// Assembles the reader's text.
 #[tactic(auto, using(crate::proofs::Readings::readings))]
 pub fn asm_from<R: Read + Drop>(alloc: Global, reader: R) -> Result<Answer, Failure>
-    // Where the reader tells its bytes, it is said of all of them, however many there are.
+    // If the reader's bytes are known, the answer is that of all of them.
     ensures { IfOk (answer_unless_memory result) (IsOfBytes (R.remaining reader)) }
 {
     let bytes = match read_whole(alloc, reader) {
@@ -109,7 +109,7 @@ pub fn asm_from<R: Read + Drop>(alloc: Global, reader: R) -> Result<Answer, Fail
     })
 }
 
-/// Says the code of a file's text, in hex digits.
+// Assembles a file's text.
 #[tactic(auto, using(crate::proofs::Readings::readings))]
 fn asm<R: Files + AllocGlobal>(rt: &R, file: &str) -> Result<Answer, Failure>
     ensures { IfOk (answer_unless_memory result) (IsOfBytes None) }
@@ -120,6 +120,7 @@ fn asm<R: Files + AllocGlobal>(rt: &R, file: &str) -> Result<Answer, Failure>
     }
 }
 
+// Answers a question.
 fn answer_to<R: Files + AllocGlobal>(rt: &R, question: &Question<'_>) -> Result<Answer, Failure>
     ensures { IfOk (answer_unless_memory result) (IsAnswer question.now) }
 {
@@ -132,7 +133,7 @@ fn answer_to<R: Files + AllocGlobal>(rt: &R, question: &Question<'_>) -> Result<
     }
 }
 
-/// What is said, as a status and a text.
+/// Returns the exit status and the printed text of an answer.
 pub fn status_and_text(
     alloc: Global,
     said: Result<Answer, Failure>,
@@ -143,18 +144,18 @@ pub fn status_and_text(
     Ok((status(&said), line(alloc, &said)?))
 }
 
-/// Says that memory ran out, and answers the status of that.
+/// Prints that memory ran out, and returns the exit status for that.
 pub(crate) fn refuse_memory<W: Write>(writer: &mut W) -> u8
     ensures status { result ≡ 3 }
     ensures text { AppendsFront (W.contents writer.old) (W.contents writer.new) (codes "refused 90\n") }
 {
-    // That a device takes less doesn't change the status.
+    // A failing writer doesn't change the status.
     let _ = send(writer, b"refused 90\n");
     3
 }
 
-/// Replies to a question, and answers the program's status: 0, or 2 where it was refused, or 3 where memory ran out,
-/// or a file could not be read, or the writer failed.
+/// Replies to a question, and returns the exit status: 0, or 2 for a refusal, or 3 when out of memory, when the file
+/// can't be read or when the writer fails.
 pub fn reply_to<R: Files + AllocGlobal, W: Write>(
     rt: &R,
     question: &Question<'_>,

@@ -1,4 +1,4 @@
-//! What code answers to a clash.
+//! Judges one clash by a program.
 ghost use Rattle.std.specs.Prelude.{◌≡◌};
 ghost use Rattle.answers.specs.Judging.{IsRuling};
 
@@ -8,7 +8,7 @@ use interpreter::run;
 use std::marker::Model;
 use verifier::Verified;
 
-/// Code, the record of a clash, and what the code answers to it.
+/// A program, the record of a clash, and the program's answer to it.
 #[derive(Debug, Drop)]
 pub struct Answered<'p> {
     program: &'p Verified,
@@ -30,21 +30,21 @@ impl<'p> Model for Answered<'p> {
 impl<'p> Answered<'p> {
     ghost use Rattle.answers.specs.Judging.{IsRuling};
 
-    /// The code that answered.
+    /// Returns the program.
     pub fn program(&self) -> &'p Verified
         ensures { result.now ≡ self.now.code }
     {
         self.program
     }
 
-    /// The record of the clash.
+    /// Returns the record of the clash.
     pub fn record(&self) -> &'p ClashRecord
         ensures { result.now ≡ self.now.bytes }
     {
         self.clash
     }
 
-    /// The verdict, which is that of the code's meaning on the record.
+    /// Returns the verdict: that of the program's meaning on the record.
     pub fn verdict(&self) -> Verdict3
         ensures value { result ≡ self.now.verdict }
         ensures ruling { IsRuling self.now }
@@ -52,7 +52,7 @@ impl<'p> Answered<'p> {
         self.verdict
     }
 
-    /// How many instructions are carried out, wherever record and stack lie.
+    /// Returns the number of executed instructions, which is the same at every placement.
     pub fn steps(&self) -> u32
         ensures value { result ≡ self.now.steps }
         ensures ruling { IsRuling self.now }
@@ -61,7 +61,7 @@ impl<'p> Answered<'p> {
     }
 }
 
-/// Runs the code on the record. Takes no memory, and can't fail.
+/// Runs the program on the record. Never fails and never allocates.
 pub fn judge_one<'p>(program: &'p Verified, clash: &'p ClashRecord) -> Answered<'p>
     ensures program { result.code ≡ program.now }
     ensures clash { result.bytes ≡ clash.now }

@@ -744,15 +744,18 @@ fn want_of_memory(rt: HostRuntime) -> Result<(), Fail> {
 #[test]
 fn words_of_faults(rt: HostRuntime) -> Result<(), Fail> {
     for (fault, words) in [
-        (InputFault::HexText, "the text isn't hex digits, two a byte"),
+        (
+            InputFault::HexText,
+            "invalid hex digits, or the wrong number of them",
+        ),
         (
             InputFault::RecordLength,
-            "a record has another number of bytes",
+            "a record of neither 160 nor 128 bytes",
         ),
-        (InputFault::NotText, "the file isn't UTF-8"),
+        (InputFault::NotText, "a file that isn't UTF-8"),
         (
             InputFault::FileTooLong,
-            "the file has more than 1,048,576 bytes",
+            "a file of more than 1,048,576 bytes",
         ),
     ] {
         assert_eq!(rt; format!(in rt.alloc(); "{fault}")?.as_str(), words);

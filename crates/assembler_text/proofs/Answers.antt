@@ -1,52 +1,46 @@
--- What is answered for a text, where memory may run out, and that lines and texts are read in one way.
+-- The answer for a text, where memory may run out; lines and texts have one reading.
 use Rattle.std.proofs.Common.{◌≡◌, ◌∙◌, sym, ℕ, List, Option, Result, Ok, Err, inl, inr, ◌⊎◌}
 use Rattle.std.specs.Prelude.{IfOk, IfErr}
+use Rattle.numbered.specs.Answers.{HasCause, ReturnsOrRunsOut}
 use Rattle.instruction_set.specs.declared.insn.Insn.{Insn}
 use Rattle.assembler_text.specs.declared.faults.Fault.{Fault}
 use Rattle.assembler_text.specs.declared.faults.LineFault.{LineFault}
-use Rattle.assembler_text.specs.declared.faults.LineFault.TheVariants as fault
 use Rattle.assembler_text.specs.Grammar.{lines_of, IsLine, IsTextOf}
 use Rattle.assembler_text.specs.Refusals.{IsLineFault, IsFirstFault}
-use Rattle.assembler_text.specs.Assembling.{AssemblesTo, AssemblyFailsWith, IsTextRefusal}
+use Rattle.assembler_text.specs.Faults.{line_fault_number}
 use Rattle.assembler_text.specs.model.Lines.{line_at}
-use Rattle.assembler_text.specs.model.Texts.{code_of, Answers}
-use Rattle.assembler_text.proofs.Results.{ok_is, err_is, not_err, clash, either_way, one_ok, one_err, not_both}
+use Rattle.assembler_text.specs.model.Texts.{code_of}
+use Rattle.assembler_text.proofs.Results.{either_way, one_ok, one_err, not_both}
 use Rattle.assembler_text.proofs.Lines.{line_is, line_reads, line_fault, line_told}
 use Rattle.assembler_text.proofs.TextOutcomes.{text_is, fault_is}
 use Rattle.assembler_text.proofs.TextReadings.{text_reads, first_told}
 
 -- ---- the answer
 
-pub answer_is : (r : Result (List Insn) LineFault) (text : List ℕ) → Answers r (code_of (lines_of text))
-    → IfOk r (IsTextOf text)
-answer_is (Ok code) text h = text_is text code h
+pub answer_is : (r : Result (List Insn) LineFault) (text : List ℕ)
+    → ReturnsOrRunsOut line_fault_number r (code_of (lines_of text)) → IfOk r (IsTextOf text)
+answer_is (Ok code) text (inl same) = text_is text code (sym same)
+answer_is (Ok code) text (inr out) = absurd out
 answer_is (Err f) text h = tt
 
-pub refusal_is : (r : Result (List Insn) LineFault) (text : List ℕ) → Answers r (code_of (lines_of text))
-    → IfErr r (IsTextRefusal text)
+pub refusal_is : (r : Result (List Insn) LineFault) (text : List ℕ)
+    → ReturnsOrRunsOut line_fault_number r (code_of (lines_of text))
+    → IfErr r (HasCause line_fault_number (IsFirstFault text))
 refusal_is (Ok code) text h = tt
-refusal_is (Err fault.OutOfMemory) text h = tt
-refusal_is (Err (fault.Line f line)) text h = fault_is text (fault.Line f line) h
-refusal_is (Err (fault.TooLong line)) text h = fault_is text (fault.TooLong line) h
-refusal_is (Err fault.Empty) text h = fault_is text fault.Empty h
+refusal_is (Err f) text (inl same) = inl (fault_is text f (sym same))
+refusal_is (Err f) text (inr out) = inr out
 
-pub code_answered : (r : Result (List Insn) LineFault) (text : List ℕ) → Answers r (code_of (lines_of text))
-    → (code : List Insn) → IsTextOf text code → AssemblesTo r code
-code_answered (Ok c) text h code g = ok_is c code (sym h ∙ text_reads text code g)
-code_answered (Err fault.OutOfMemory) text h code g = tt
-code_answered (Err (fault.Line f line)) text h code g =
-    not_err (fault.Line f line) code (sym h ∙ text_reads text code g)
-code_answered (Err (fault.TooLong line)) text h code g =
-    not_err (fault.TooLong line) code (sym h ∙ text_reads text code g)
-code_answered (Err fault.Empty) text h code g = not_err fault.Empty code (sym h ∙ text_reads text code g)
+pub code_answered : (r : Result (List Insn) LineFault) (text : List ℕ)
+    → ReturnsOrRunsOut line_fault_number r (code_of (lines_of text))
+    → (code : List Insn) → IsTextOf text code → ReturnsOrRunsOut line_fault_number r (Ok code)
+code_answered r text (inl same) code g = inl (same ∙ text_reads text code g)
+code_answered r text (inr out) code g = inr out
 
-pub fault_answered : (r : Result (List Insn) LineFault) (text : List ℕ) → Answers r (code_of (lines_of text))
-    → (f : LineFault) → IsFirstFault text f → AssemblyFailsWith r f
-fault_answered (Ok c) text h f g = clash c f (sym h ∙ first_told text f g)
-fault_answered (Err fault.OutOfMemory) text h f g = tt
-fault_answered (Err (fault.Line e line)) text h f g = err_is (fault.Line e line) f (sym h ∙ first_told text f g)
-fault_answered (Err (fault.TooLong line)) text h f g = err_is (fault.TooLong line) f (sym h ∙ first_told text f g)
-fault_answered (Err fault.Empty) text h f g = err_is fault.Empty f (sym h ∙ first_told text f g)
+pub fault_answered : (r : Result (List Insn) LineFault) (text : List ℕ)
+    → ReturnsOrRunsOut line_fault_number r (code_of (lines_of text))
+    → (f : LineFault) → IsFirstFault text f → ReturnsOrRunsOut line_fault_number r (Err f)
+fault_answered r text (inl same) f g = inl (same ∙ first_told text f g)
+fault_answered r text (inr out) f g = inr out
 
 -- ---- one way to read a line
 

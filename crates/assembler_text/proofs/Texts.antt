@@ -1,21 +1,23 @@
 -- A text and its lines.
-use Rattle.std.proofs.Common.{◌≡◌, ℕ, ◌+◌, ◌<◌, ◌≤◌, Bool, true, false, cond, List, [], ◌∷◌, length, drop, Result, Ok, Err, refl, sym, ap, ◌∙◌, arith, lit≤, length-drop}
+use Rattle.std.proofs.Common.{◌≡◌, ℕ, ◌+◌, ◌<◌, ◌≤◌, Bool, true, false, cond, List, [], ◌∷◌, length, drop, Result, Ok, Err, refl, sym, ap, ◌∙◌, inl, inr, arith, lit≤, length-drop}
 use Rattle.std.specs.Prelude.{◌==◌, not, sum_by}
 use Rattle.std.specs.List.{prefix_len}
 use Rattle.std.proofs.lemmas.List.Sums.{sum_by-cons}
+use Rattle.numbered.specs.Answers.{HasCause, ReturnsOrRunsOut}
 use Rattle.instruction_set.specs.Machine.{slots_of}
 use Rattle.instruction_set.specs.declared.insn.Insn.{Insn}
 use Rattle.instruction_set.specs.declared.insn.Insn.TheVariants.{LoadWide}
 use Rattle.assembler_text.specs.declared.faults.LineFault.{LineFault}
 use Rattle.assembler_text.specs.declared.faults.LineFault.TheVariants as fault
 use Rattle.assembler_text.specs.declared.lexer.Class.TheVariants as class
+use Rattle.assembler_text.specs.Faults.{line_fault_number}
 use Rattle.assembler_text.specs.Words.{is_in}
 use Rattle.assembler_text.specs.model.Words.{front, rest}
 use Rattle.assembler_text.specs.Grammar.{lines_of, with_first}
 use Rattle.assembler_text.specs.model.Lines.{line_at}
 use Rattle.assembler_text.proofs.Pieces.{by_test, front_in, front_out, rest_in, rest_out}
 use Rattle.assembler_text.specs.model.Results.{◌>>=◌}
-use Rattle.assembler_text.specs.model.Texts.{with_line, code_after, some_code, Tells}
+use Rattle.assembler_text.specs.model.Texts.{with_line, code_after, some_code, FailsWith}
 
 not_newline : (c : ℕ) (b : Bool) → (c == 10) ≡ b → is_in class.Line c ≡ not b
 not_newline c b h = ap not h
@@ -60,7 +62,7 @@ pub one_slot : (i : Insn) → 1 ≤ slots_of i
 one_slot (LoadWide dst value) = lit≤ tt
 one_slot _ = lit≤ tt
 
--- a line is read
+-- one more line is read
 pub goes_on : (number : ℕ) (code more : List Insn) (text : List ℕ) (total : Result (List Insn) LineFault)
     → 0 < length text
     → with_line (number + 1) code (line_at (front class.Line text)) ≡ Ok more
@@ -75,25 +77,16 @@ goes_on number code more text total some h so_far =
     (lines_of (drop 1 (rest class.Line text)))) h in
     sym one ∙ so_far
 
--- a faulty line is met
+-- a faulty line stops the reading
 pub stops : (e : LineFault) (number : ℕ) (code : List Insn) (text : List ℕ) (total : Result (List Insn) LineFault)
     → 0 < length text
-    → Tells e (with_line (number + 1) code (line_at (front class.Line text)))
-    → code_after number code (lines_of text) ≡ total → Tells e total
+    → HasCause line_fault_number (FailsWith (with_line (number + 1) code (line_at (front class.Line text)))) e
+    → code_after number code (lines_of text) ≡ total → ReturnsOrRunsOut line_fault_number (Err e) total
 unfolding code_after
-stops e number code text total some h so_far = from_fault e h
-  where
-    met : (f : LineFault) → with_line (number + 1) code (line_at (front class.Line text)) ≡ Err f → total ≡ Err f
-    met f k =
-        sym so_far ∙ ap (code_after number code) (first_line_of text some)
-        ∙ ap (λ r. r >>= λ c. code_after (number + 1) c (lines_of (drop 1 (rest class.Line text)))) k
-
-    from_fault : (f : LineFault) → Tells f (with_line (number + 1) code (line_at (front class.Line text)))
-        → Tells f total
-    from_fault fault.OutOfMemory k = tt
-    from_fault (fault.Line f line) k = met (fault.Line f line) k
-    from_fault (fault.TooLong line) k = met (fault.TooLong line) k
-    from_fault fault.Empty k = met fault.Empty k
+stops e number code text total some (inl met) so_far =
+    inl (sym (sym so_far ∙ ap (code_after number code) (first_line_of text some)
+    ∙ ap (λ r. r >>= λ c. code_after (number + 1) c (lines_of (drop 1 (rest class.Line text)))) met))
+stops e number code text total some (inr out) so_far = inr out
 
 pub at_end : (text : List ℕ) → length text ≡ 0 → lines_of text ≡ []
 at_end [] h = refl
@@ -104,7 +97,7 @@ pub is_done : (number : ℕ) (code : List Insn) (text : List ℕ) (total : Resul
 unfolding code_after
 is_done number code text total h so_far = sym so_far ∙ ap (code_after number code) (at_end text h)
 
--- no slot, no instruction
+-- code without slots has no instruction
 pub no_slots : (code : List Insn) → sum_by slots_of code ≡ 0 → some_code code ≡ Err fault.Empty
 no_slots [] h = refl
 no_slots (i ∷ code) h = absurd (omega (arith, sum_by-cons slots_of i code, one_slot i))

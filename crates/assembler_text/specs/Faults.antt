@@ -1,5 +1,6 @@
--- The numbers of the refusals, and the lines that they name.
+-- The numbers and the lines of the refusals.
 use Rattle.std.specs.Prelude.{ℕ, Option, Some, None}
+use Rattle.numbered.specs.Answers.{out_of_memory}
 use Rattle.numbered.specs.declared.Place.{Place}
 use Rattle.numbered.specs.declared.Place.TheVariants as place
 use Rattle.assembler_text.specs.declared.faults.Fault.{Fault}
@@ -13,7 +14,7 @@ fault_number fault.Operand = 61
 fault_number fault.NumberRange = 62
 fault_number fault.LineEnd = 63
 
--- a fault alone names no line
+-- a fault without its line
 abbrev pub fault_place : Fault → Option Place
 fault_place f = None
 
@@ -21,9 +22,9 @@ abbrev pub line_fault_number : LineFault → ℕ
 line_fault_number (Line f line) = fault_number f
 line_fault_number (TooLong line) = 2
 line_fault_number Empty = 1
-line_fault_number OutOfMemory = 90
+line_fault_number OutOfMemory = out_of_memory
 
--- the line, counted from 1: an empty text is told of line 1, want of memory of none
+-- the line, counted from 1: line 1 for an empty text, none for out of memory
 abbrev pub line_fault_place : LineFault → Option Place
 line_fault_place (Line f line) = Some (place.Line line)
 line_fault_place (TooLong line) = Some (place.Line line)

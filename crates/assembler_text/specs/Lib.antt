@@ -3,5 +3,4 @@ pub mod Words
 pub mod Text
 pub mod Grammar
 pub mod Refusals
-pub mod Assembling
 pub mod model

@@ -1,5 +1,6 @@
-//! Text to code.
-ghost use Rattle.std.specs.Prelude.{◌≡◌, ◌⊎◌, ℕ, List, Option, Some, Ok, IfOk, IfErr, OnOk, drop};
+//! Assembles text.
+ghost use Rattle.std.specs.Prelude.{◌≡◌, ◌⊎◌, ℕ, List, Option, Some, Ok, Err, IfOk, IfErr, OnOk, drop};
+ghost use Rattle.numbered.specs.Answers.{HasCause, ReturnsOrRunsOut};
 ghost use Rattle.instruction_set.specs.Slots.{IsListed, IsCode};
 ghost use Rattle.instruction_set.specs.declared.insn.Insn.{Insn};
 ghost use Rattle.instruction_set.specs.Machine.{slots_of};
@@ -8,9 +9,9 @@ ghost use Rattle.assembler_text.specs.declared.faults.LineFault.{LineFault};
 ghost use Rattle.assembler_text.specs.Text.{text_of, code_text};
 ghost use Rattle.assembler_text.specs.Grammar.{lines_of, IsLine, IsTextOf};
 ghost use Rattle.assembler_text.specs.Refusals.{IsLineFault, IsFirstFault};
-ghost use Rattle.assembler_text.specs.Assembling.{AssemblesTo, AssemblyFailsWith, IsTextRefusal};
+ghost use Rattle.assembler_text.specs.Faults.{line_fault_number};
 ghost use Rattle.assembler_text.specs.model.Lines.{line_at};
-ghost use Rattle.assembler_text.specs.model.Texts.{with_line, code_of, Tells, Answers};
+ghost use Rattle.assembler_text.specs.model.Texts.{with_line, code_of, FailsWith};
 
 use crate::faults::LineFault;
 use crate::lexer::{Class, split};
@@ -18,10 +19,10 @@ use crate::line::read;
 use instruction_set::{Code, CodeBuilder, Insn, MAX_SLOTS};
 use std::alloc::Global;
 
-/// Adds the instruction of a line, if it has one.
+// Appends the instruction of a line, if any.
 fn add(builder: &mut CodeBuilder, text: &[u8], line: usize) -> Result<(), LineFault>
     ensures ok { OnOk result (with_line line builder.old (line_at text.now) ≡ Ok builder.new) }
-    ensures err { IfErr result (λ fault. Tells fault (with_line line builder.old (line_at text.now))) }
+    ensures err { IfErr result (HasCause line_fault_number (FailsWith (with_line line builder.old (line_at text.now)))) }
 {
     let found = match read(text) {
         Ok(found) => found,
@@ -39,7 +40,7 @@ fn add(builder: &mut CodeBuilder, text: &[u8], line: usize) -> Result<(), LineFa
     }
 }
 
-/// The text after the LF at its front.
+// Returns the text after its leading LF.
 fn after_newline(text: &[u8]) -> &[u8]
     ensures { result.now ≡ drop 1 text.now }
 {
@@ -49,9 +50,9 @@ fn after_newline(text: &[u8]) -> &[u8]
     }
 }
 
-/// The code that reading the lines in order gives, or the first faulty line with the leftmost fault in it.
+// Reads the lines in order as code, or returns the first faulty line with its leftmost fault.
 fn read_lines(alloc: Global, text: &str) -> Result<Code, LineFault>
-    ensures { Answers result (code_of (lines_of text.now)) }
+    ensures { ReturnsOrRunsOut line_fault_number result (code_of (lines_of text.now)) }
 {
     let len = text.len();
     let Ok(mut builder) = CodeBuilder::with_capacity(alloc, MAX_SLOTS.min(len)) else {
@@ -71,22 +72,25 @@ fn read_lines(alloc: Global, text: &str) -> Result<Code, LineFault>
     Ok(builder.build())
 }
 
-/// The code whose instructions the lines of a text give in order, or the first faulty line with its leftmost fault.
+/// Assembles a text.
 ///
-/// A text without an instruction is refused at line 1, one of more than 1,024 slots at the line that passes them.
-/// Takes memory for the code's slots at most, and nothing else.
+/// Rejects the first faulty line with its leftmost fault (60 to 63, with the line), a text without an instruction (1, at
+/// line 1) and one of more than 1,024 slots (2, at the line that exceeds them). Returns 90 when out of memory: it
+/// allocates the code's slots.
 pub fn assemble(alloc: Global, text: &str) -> Result<Code, LineFault>
     ensures read { IfOk result (IsTextOf text.now) }
-    // Whatever code the text is of is answered, unless memory runs out.
-    ensures complete { (code : List Insn) → IsTextOf text.now code → AssemblesTo result code }
-    ensures refused { IfErr result (IsTextRefusal text.now) }
-    // Whatever fault is the first is told, unless memory runs out.
-    ensures told { (fault : LineFault) → IsFirstFault text.now fault → AssemblyFailsWith result fault }
+    // A text of code is assembled, unless memory runs out.
+    ensures complete { (code : List Insn) → IsTextOf text.now code → ReturnsOrRunsOut line_fault_number result (Ok code) }
+    ensures refused { IfErr result (HasCause line_fault_number (IsFirstFault text.now)) }
+    // The first fault is returned, unless memory runs out.
+    ensures told { (fault : LineFault) → IsFirstFault text.now fault
+        → ReturnsOrRunsOut line_fault_number result (Err fault) }
 {
     read_lines(alloc, text)
 }
 
-/// A line is read in one way: it gives one instruction, or none, or it has one leftmost fault.
+/// States that a line gives exactly one instruction, or none, or has exactly one leftmost fault. Does nothing at run
+/// time.
 pub fn line_theorem()
     ensures some { (line : List ℕ) → ((insn : Option Insn) × IsLine line insn) ⊎ ((f : Fault) × IsLineFault line f) }
     ensures either { (line : List ℕ) (insn : Option Insn) (f : Fault) → IsLine line insn → IsLineFault line f → ⊥ }
@@ -96,7 +100,7 @@ pub fn line_theorem()
     ensures written { (insn : Insn) → IsListed insn → IsLine (text_of insn) (Some insn) }
 {}
 
-/// A text is read in one way: it is the text of one code, or it has one first fault, never both and never neither.
+/// States that a text either is the text of exactly one code or has exactly one first fault. Does nothing at run time.
 pub fn text_theorem()
     ensures some { (text : List ℕ) → ((code : List Insn) × IsTextOf text code)
         ⊎ ((f : LineFault) × IsFirstFault text f) }

@@ -1,7 +1,7 @@
-//! Code to text.
+//! Disassembles code.
 ghost use Rattle.std.specs.Prelude.{◌≡◌, IfOk, Some, drop};
 ghost use Rattle.std.specs.String.{string_bytes};
-ghost use Rattle.assembler_text.specs.Text.{alu_name, width_name, size_name, order_name, test_name, test_width_name, mnemonic_of, source_text, step_text, OfAddress, operands_of, operand_text, first_text, others_text, code_text};
+ghost use Rattle.assembler_text.specs.Text.{alu_name, width_name, size_name, order_name, test_name, test_width_name, mnemonic_of, source_text, step_text, OfAddress, operands_of, operand_text, first_text, others_text, text_of, code_text};
 ghost use Rattle.assembler_text.specs.Grammar.{IsTextOf};
 
 use instruction_set::{AluOp, Code, EndKind, Insn, Register, Size, Source, Test, Width};
@@ -77,7 +77,7 @@ fn test_name(test: Test) -> &'static str
     }
 }
 
-/// A test of 64 bits has no width in its name.
+// A test of 64 bits has no width in its name.
 fn test_width_name(width: Width) -> &'static str
     ensures { result.now ≡ test_width_name width }
 {
@@ -87,7 +87,7 @@ fn test_width_name(width: Width) -> &'static str
     }
 }
 
-/// A second operand.
+// A second operand.
 #[derive(Clone, Copy)]
 struct SourceText(Source);
 
@@ -102,7 +102,7 @@ impl Display for SourceText {
     }
 }
 
-/// A number with its sign.
+// A number with its sign.
 #[derive(Clone, Copy)]
 struct Step(i32);
 
@@ -119,7 +119,7 @@ impl Display for Step {
     }
 }
 
-/// A register and an offset in brackets.
+// A register and an offset in brackets.
 #[derive(Clone, Copy)]
 struct Address(Register, i16);
 
@@ -131,7 +131,7 @@ impl Display for Address {
     }
 }
 
-/// The mnemonic of an instruction.
+// The mnemonic of an instruction.
 #[derive(Clone, Copy)]
 struct MnemonicText(Insn);
 
@@ -159,7 +159,7 @@ impl Display for MnemonicText {
     }
 }
 
-/// The first operand of an instruction after a space, if it has one.
+// The first operand of an instruction after a space, if any.
 #[derive(Clone, Copy)]
 struct FirstOperand(Insn);
 
@@ -185,7 +185,7 @@ impl Display for FirstOperand {
     }
 }
 
-/// The operands of an instruction after its first, each after a comma and a space.
+// The operands of an instruction after its first, each after a comma and a space.
 #[derive(Clone, Copy)]
 struct OtherOperands(Insn);
 
@@ -212,32 +212,43 @@ impl Display for OtherOperands {
     }
 }
 
-/// The lines of these instructions in order.
-#[tactic(auto, using(crate::proofs::Canonical::first_and_others), unfolding(crate::specs::Text::text_of))]
+/// Displays an instruction as its canonical text, without the end of the line.
+#[derive(Clone, Copy, Debug, PartialEq, Eq)]
+pub struct Listing(pub Insn);
+
+impl Display for Listing {
+    ghost output = { λ listing. Some (text_of listing.0) };
+
+    #[tactic(auto, using(crate::proofs::Canonical::first_and_others), unfolding(crate::specs::Text::text_of))]
+    fn fmt<W: Write>(&self, f: &mut Formatter<W>) -> fmt::Result {
+        write!(
+            f,
+            "{}{}{}",
+            MnemonicText(self.0),
+            FirstOperand(self.0),
+            OtherOperands(self.0)
+        )
+    }
+}
+
+// Returns the lines of these instructions in order.
 fn lines(alloc: Global, insns: &[Insn]) -> Result<String, AllocError>
     ensures { IfOk result (λ text. string_bytes text ≡ code_text insns.now) }
 {
     let mut text = String::new(alloc);
     for insn in insns {
-        let insn = *insn;
-        writeln!(
-            text,
-            "{}{}{}",
-            MnemonicText(insn),
-            FirstOperand(insn),
-            OtherOperands(insn)
-        )?;
+        writeln!(text, "{}", Listing(*insn))?;
     }
     Ok(text)
 }
 
-/// The text of code: the canonical line of each of its instructions, each ended by LF.
+/// Disassembles code: the canonical line of each instruction, ended by LF. Fails only when out of memory.
 pub fn disassemble(alloc: Global, code: &Code) -> Result<String, AllocError>
     ensures exact { IfOk result (λ text. string_bytes text ≡ code_text code.now) }
-    // It is a text of the code.
+    // The text assembles to the code.
     ensures text { IfOk result (λ text. IsTextOf (string_bytes text) code.now) }
 {
-    // For the prover alone: its instructions are listed.
+    // For the proof: its instructions are listed.
     code.known();
     lines(alloc, code.insns())
 }

@@ -1,40 +1,37 @@
-//! Why a text is no code.
+//! The faults of texts.
 ghost use Rattle.assembler_text.specs.Faults.{fault_number, fault_place, line_fault_number, line_fault_place};
 
-use numbered::{Numbered, Place};
+use numbered::{Numbered, OUT_OF_MEMORY, Place, words_of};
 use thiserror::Error;
 
-/// What is wrong with a line: the leftmost fault in it.
+/// The leftmost fault of a line.
 #[derive(Clone, Copy, Debug, PartialEq, Eq, Error)]
+#[error("{}", words_of(self.number()))]
 pub enum Fault {
-    /// No mnemonic stands in the mnemonic's place.
-    #[error("no such mnemonic")]
+    /// An unknown mnemonic.
     Mnemonic,
-    /// An operand is missing, or isn't what the mnemonic asks.
-    #[error("no such operand")]
+    /// A missing or invalid operand.
     Operand,
-    /// A well-formed number is out of its range.
-    #[error("a number is out of range")]
+    /// A well-formed number out of range.
     NumberRange,
-    /// Something stands after the last operand.
-    #[error("something stands after the last operand")]
+    /// Extra text after the last operand.
     LineEnd,
 }
 
-/// Why a text was not assembled, with the line where it is told, counted from 1.
+/// The reason why a text was not assembled, with the line, counted from 1.
 #[derive(Clone, Copy, Debug, PartialEq, Eq, Error)]
 pub enum LineFault {
-    /// The line isn't one of the language.
+    /// A faulty line.
     #[error("line {line}: {fault}")]
     Line { fault: Fault, line: usize },
-    /// With this line there are more than 1,024 slots.
-    #[error("line {line}: there are more than 1,024 slots")]
+    /// More than 1,024 slots, from this line on.
+    #[error("line {line}: {}", words_of(self.number()))]
     TooLong { line: usize },
-    /// No line has an instruction. It is told of the first line.
-    #[error("there is no instruction")]
+    /// No instruction in any line, reported at line 1.
+    #[error("line 1: {}", words_of(self.number()))]
     Empty,
-    /// Memory ran out. It is told of no line.
-    #[error("out of memory")]
+    /// Memory ran out.
+    #[error("{}", words_of(OUT_OF_MEMORY))]
     OutOfMemory,
 }
 
@@ -67,7 +64,7 @@ impl Numbered for LineFault {
             LineFault::Line { fault, .. } => fault.number(),
             LineFault::TooLong { .. } => 2,
             LineFault::Empty => 1,
-            LineFault::OutOfMemory => 90,
+            LineFault::OutOfMemory => OUT_OF_MEMORY,
         }
     }
 

@@ -1,25 +1,25 @@
-//! The pieces of a text: lines, comments, blanks and words.
+//! Splits text into lines, comments, blanks and words.
 ghost use Rattle.std.specs.Prelude.{◌≡◌, ◌≤◌, length, take, drop, map};
 ghost use Rattle.std.specs.List.{prefix_len};
 ghost use Rattle.assembler_text.specs.Words.{is_in};
 ghost use Rattle.assembler_text.specs.model.Words.{front, rest, lookup};
 
-/// What the characters of a piece of text are.
-#[derive(Clone, Copy, PartialEq, Eq)]
+/// The class of the characters of a piece of text.
+#[derive(Clone, Copy, Debug, PartialEq, Eq)]
 pub enum Class {
-    /// Space and tab.
+    /// Spaces and tabs.
     Blank,
-    /// What a mnemonic may consist of: all but blanks.
+    /// Characters of a mnemonic: all but blanks.
     Mnemonic,
-    /// What an operand may consist of: all but blanks and commas.
+    /// Characters of an operand: all but blanks and commas.
     Operand,
-    /// What stands before a closing bracket: all but `]`.
+    /// Characters before a closing bracket: all but `]`.
     Bracketed,
-    /// What stands before a sign: all but `+` and `-`.
+    /// Characters before a sign: all but `+` and `-`.
     Base,
-    /// What stands before a comment: all but `;`.
+    /// Characters before a comment: all but `;`.
     Instruction,
-    /// What stands in a line: all but LF.
+    /// Characters of a line: all but LF.
     Line,
 }
 
@@ -49,7 +49,7 @@ fn run_len(class: Class, text: &[u8]) -> usize
     len
 }
 
-/// The text up to the first character that isn't of the class, and the text from there on.
+/// Splits a text at the first character that isn't of the class.
 pub fn split(class: Class, text: &[u8]) -> (&[u8], &[u8])
     ensures front { result.0.now ≡ front class text.now }
     ensures rest { result.1.now ≡ rest class text.now }
@@ -58,14 +58,14 @@ pub fn split(class: Class, text: &[u8]) -> (&[u8], &[u8])
     text.split_at(len)
 }
 
-/// The text without the blanks at its front.
+/// Returns the text without its leading blanks.
 pub fn skip_blanks(text: &[u8]) -> &[u8]
     ensures { result.now ≡ rest Class.Blank text.now }
 {
     split(Class::Blank, text).1
 }
 
-/// What the table has under this name.
+/// Looks up a name in a table.
 pub fn lookup<T: Copy>(mut table: &[(&[u8], T)], name: &[u8]) -> Option<T>
     ensures { result ≡ lookup (map (λ e. (e.0.now, e.1)) table.entry.now) name.now }
 {

@@ -1,4 +1,4 @@
-//! The text of programs: lines read as code, and code written as lines.
+//! Assembles text to code and disassembles code to text.
 #![tactic(auto)]
 
 mod assembler;
@@ -11,5 +11,5 @@ mod number;
 mod operand;
 
 pub use assembler::{assemble, line_theorem, text_theorem};
-pub use disassembler::disassemble;
+pub use disassembler::{Listing, disassemble};
 pub use faults::{Fault, LineFault};

@@ -1,4 +1,4 @@
-//! A line read as an instruction.
+//! Parses a line as an instruction.
 ghost use Rattle.std.specs.Prelude.{◌≡◌, IfOk, IfSome};
 ghost use Rattle.instruction_set.specs.Slots.{IsSelected};
 ghost use Rattle.assembler_text.specs.declared.mnemonic.Mnemonic.TheVariants as mnemonic;
@@ -11,7 +11,7 @@ use crate::number::{imm, long_step, short_step, value};
 use crate::operand::{address, comma, end, register, source, word};
 use instruction_set::{AluOp, EndKind, Insn, Size, Test, Width};
 
-/// An operation on a register and a register or an immediate.
+// Parses an operation on a register and a register or an immediate.
 #[tactic(auto, unfolding(crate::specs::model::Lines::insn_at, crate::specs::model::Lines::operands_at))]
 fn alu(width: Width, op: AluOp, text: &[u8]) -> Result<Insn, Fault>
     ensures { result ≡ insn_at (mnemonic.Alu width op) text.now }
@@ -29,7 +29,7 @@ fn alu(width: Width, op: AluOp, text: &[u8]) -> Result<Insn, Fault>
     })
 }
 
-/// A negation of a register.
+// Parses a negation of a register.
 #[tactic(auto, unfolding(crate::specs::model::Lines::insn_at, crate::specs::model::Lines::operands_at))]
 fn neg(width: Width, text: &[u8]) -> Result<Insn, Fault>
     ensures { result ≡ insn_at (mnemonic.Neg width) text.now }
@@ -40,7 +40,7 @@ fn neg(width: Width, text: &[u8]) -> Result<Insn, Fault>
     Ok(Insn::Neg { width, dst })
 }
 
-/// A copy with its sign extended.
+// Parses a sign-extending move.
 #[tactic(auto, unfolding(crate::specs::model::Lines::insn_at, crate::specs::model::Lines::operands_at))]
 fn mov_sx(width: Width, bits: u32, text: &[u8]) -> Result<Insn, Fault>
     ensures { result ≡ insn_at (mnemonic.MovSx width bits) text.now }
@@ -58,7 +58,7 @@ fn mov_sx(width: Width, bits: u32, text: &[u8]) -> Result<Insn, Fault>
     })
 }
 
-/// A change of the order of bytes.
+// Parses a byte swap.
 #[tactic(auto, unfolding(crate::specs::model::Lines::insn_at, crate::specs::model::Lines::operands_at))]
 fn byte_order(kind: EndKind, bits: u32, text: &[u8]) -> Result<Insn, Fault>
     ensures { result ≡ insn_at (mnemonic.End kind bits) text.now }
@@ -69,7 +69,7 @@ fn byte_order(kind: EndKind, bits: u32, text: &[u8]) -> Result<Insn, Fault>
     Ok(Insn::End { kind, bits, dst })
 }
 
-/// A load of a value of 64 bits.
+// Parses a load of a 64-bit value.
 #[tactic(auto, unfolding(crate::specs::model::Lines::insn_at, crate::specs::model::Lines::operands_at))]
 fn load_wide(text: &[u8]) -> Result<Insn, Fault>
     ensures { result ≡ insn_at mnemonic.LoadWide text.now }
@@ -82,7 +82,7 @@ fn load_wide(text: &[u8]) -> Result<Insn, Fault>
     Ok(Insn::LoadWide { dst, value: number })
 }
 
-/// A load that extends by zeros.
+// Parses a zero-extending load.
 #[tactic(auto, unfolding(crate::specs::model::Lines::insn_at, crate::specs::model::Lines::operands_at))]
 fn load(size: Size, text: &[u8]) -> Result<Insn, Fault>
     ensures { result ≡ insn_at (mnemonic.Load size) text.now }
@@ -100,7 +100,7 @@ fn load(size: Size, text: &[u8]) -> Result<Insn, Fault>
     })
 }
 
-/// A load that extends by the sign.
+// Parses a sign-extending load.
 #[tactic(auto, unfolding(crate::specs::model::Lines::insn_at, crate::specs::model::Lines::operands_at))]
 fn load_sx(size: Size, text: &[u8]) -> Result<Insn, Fault>
     ensures { result ≡ insn_at (mnemonic.LoadSx size) text.now }
@@ -118,7 +118,7 @@ fn load_sx(size: Size, text: &[u8]) -> Result<Insn, Fault>
     })
 }
 
-/// A store of a register.
+// Parses a store of a register.
 #[tactic(auto, unfolding(crate::specs::model::Lines::insn_at, crate::specs::model::Lines::operands_at))]
 fn store(size: Size, text: &[u8]) -> Result<Insn, Fault>
     ensures { result ≡ insn_at (mnemonic.Store size) text.now }
@@ -136,7 +136,7 @@ fn store(size: Size, text: &[u8]) -> Result<Insn, Fault>
     })
 }
 
-/// A store of a number.
+// Parses a store of an immediate.
 #[tactic(auto, unfolding(crate::specs::model::Lines::insn_at, crate::specs::model::Lines::operands_at))]
 fn store_imm(size: Size, text: &[u8]) -> Result<Insn, Fault>
     ensures { result ≡ insn_at (mnemonic.StoreImm size) text.now }
@@ -154,7 +154,7 @@ fn store_imm(size: Size, text: &[u8]) -> Result<Insn, Fault>
     })
 }
 
-/// A jump of 16 bits.
+// Parses a jump of 16 bits.
 #[tactic(auto, unfolding(crate::specs::model::Lines::insn_at, crate::specs::model::Lines::operands_at))]
 fn jump(text: &[u8]) -> Result<Insn, Fault>
     ensures { result ≡ insn_at mnemonic.Jump text.now }
@@ -165,7 +165,7 @@ fn jump(text: &[u8]) -> Result<Insn, Fault>
     Ok(Insn::Jump { distance })
 }
 
-/// A jump of 32 bits.
+// Parses a jump of 32 bits.
 #[tactic(auto, unfolding(crate::specs::model::Lines::insn_at, crate::specs::model::Lines::operands_at))]
 fn jump_long(text: &[u8]) -> Result<Insn, Fault>
     ensures { result ≡ insn_at mnemonic.JumpLong text.now }
@@ -176,7 +176,7 @@ fn jump_long(text: &[u8]) -> Result<Insn, Fault>
     Ok(Insn::JumpLong { distance })
 }
 
-/// A jump where a test holds.
+// Parses a conditional jump.
 #[tactic(auto, unfolding(crate::specs::model::Lines::insn_at, crate::specs::model::Lines::operands_at))]
 fn jump_if(width: Width, test: Test, text: &[u8]) -> Result<Insn, Fault>
     ensures { result ≡ insn_at (mnemonic.JumpIf width test) text.now }
@@ -197,7 +197,7 @@ fn jump_if(width: Width, test: Test, text: &[u8]) -> Result<Insn, Fault>
     })
 }
 
-/// The end of the code.
+// Parses an exit.
 #[tactic(auto, unfolding(crate::specs::model::Lines::insn_at, crate::specs::model::Lines::operands_at))]
 fn exit(text: &[u8]) -> Result<Insn, Fault>
     ensures { result ≡ insn_at mnemonic.Exit text.now }
@@ -206,7 +206,7 @@ fn exit(text: &[u8]) -> Result<Insn, Fault>
     Ok(Insn::Exit)
 }
 
-/// The instruction of this mnemonic with the operands in the text.
+// Parses the operands of this mnemonic.
 fn insn(mnemonic: Mnemonic, text: &[u8]) -> Result<Insn, Fault>
     ensures { result ≡ insn_at mnemonic text.now }
 {
@@ -227,7 +227,7 @@ fn insn(mnemonic: Mnemonic, text: &[u8]) -> Result<Insn, Fault>
     }
 }
 
-/// The instruction of a line as the model reads it.
+// Parses a line as the model does.
 #[tactic(auto, unfolding(crate::specs::model::Lines::line_at))]
 fn line_insn(line: &[u8]) -> Result<Option<Insn>, Fault>
     ensures { result ≡ line_at line.now }
@@ -244,7 +244,7 @@ fn line_insn(line: &[u8]) -> Result<Option<Insn>, Fault>
     Ok(Some(insn(mnemonic, operands)?))
 }
 
-/// The instruction of a line, if it has one, or the leftmost fault in it.
+/// Parses the instruction of a line, if any, or returns the leftmost fault in it.
 pub fn read(line: &[u8]) -> Result<Option<Insn>, Fault>
     ensures value { result ≡ line_at line.now }
     ensures selected { IfOk result (λ insn. IfSome insn IsSelected) }

@@ -5,7 +5,7 @@ ghost use Rattle.assembler_text.specs.model.Mnemonics.{mnemonic_at};
 use crate::lexer::lookup;
 use instruction_set::{AluOp, EndKind, Size, Test, Width};
 
-/// What a mnemonic says of its instruction: all but the operands.
+/// An instruction without its operands, as its mnemonic names it.
 #[derive(Clone, Copy, Debug, PartialEq, Eq)]
 pub enum Mnemonic {
     Alu(Width, AluOp),
@@ -23,7 +23,7 @@ pub enum Mnemonic {
     Exit,
 }
 
-/// Each mnemonic with its spelling.
+/// The mnemonics with their spellings.
 const NAMES: [(&[u8], Mnemonic); 85] = [
     (b"add32", Mnemonic::Alu(Width::W32, AluOp::Add)),
     (b"add64", Mnemonic::Alu(Width::W64, AluOp::Add)),
@@ -113,7 +113,7 @@ const NAMES: [(&[u8], Mnemonic); 85] = [
 ];
 
 impl Mnemonic {
-    /// The mnemonic that is spelled so, if there is one.
+    /// Returns the mnemonic with this spelling, if any.
     #[tactic(auto, unfolding(crate::specs::model::Mnemonics::mnemonic_at))]
     pub fn of(word: &[u8]) -> Option<Mnemonic>
         ensures { result ≡ mnemonic_at word.now }

@@ -1,11 +1,11 @@
-//! Numbers in the text.
+//! Parses numbers.
 ghost use Rattle.std.specs.Prelude.{◌≡◌, ◌≤◌, ◌<◌, ◌^◌, ◌+◌, ◌≤ℤ◌, pos, neg_ℤ, IfOk, option_copied, FitsSigned};
 ghost use Rattle.std.specs.Int.{w16, w32};
 ghost use Rattle.assembler_text.specs.model.Reading.{number_at, decimal_at, negative_at, imm_at, value_at, step_at, strip, hex_digits};
 
 use crate::faults::Fault;
 
-/// The text after a character that it begins with.
+/// Strips a leading character, or returns `None` if the text doesn't begin with it.
 pub fn strip(byte: u8, text: &[u8]) -> Option<&[u8]>
     ensures { option_copied result ≡ strip byte text.now }
 {
@@ -15,7 +15,7 @@ pub fn strip(byte: u8, text: &[u8]) -> Option<&[u8]>
     }
 }
 
-/// The number that one digit or more write, if it is at most `most`.
+// Parses one or more digits as a number of at most `most`.
 #[tactic(auto, using(crate::proofs::Numbers::capped), unfolding(crate::specs::model::Reading::number_at))]
 fn number(radix: u32, most: u64, digits: &[u8]) -> Result<u64, Fault>
     requires radix { (2 ≤ radix) × (radix ≤ 16) }
@@ -38,7 +38,7 @@ fn number(radix: u32, most: u64, digits: &[u8]) -> Result<u64, Fault>
     Ok(number as u64)
 }
 
-/// The same of decimal digits without a leading zero.
+// Parses decimal digits without a leading zero as a number of at most `most`.
 #[tactic(auto, unfolding(crate::specs::model::Reading::decimal_at))]
 fn decimal(most: u64, digits: &[u8]) -> Result<u64, Fault>
     ensures value { result ≡ decimal_at most digits.now }
@@ -50,7 +50,7 @@ fn decimal(most: u64, digits: &[u8]) -> Result<u64, Fault>
     }
 }
 
-/// The number below zero whose digits these are.
+// Parses the digits of a negative number.
 #[tactic(auto, unfolding(crate::specs::model::Reading::negative_at))]
 fn negative(most: u32, digits: &[u8]) -> Result<i64, Fault>
     requires { most ≤ 2 ^ 31 }
@@ -63,7 +63,7 @@ fn negative(most: u32, digits: &[u8]) -> Result<i64, Fault>
     }
 }
 
-/// The digits after `0x`.
+// Returns the digits after `0x`.
 #[tactic(auto, unfolding(crate::specs::model::Reading::hex_digits))]
 fn hex_digits(word: &[u8]) -> Option<&[u8]>
     ensures { option_copied result ≡ hex_digits word.now }
@@ -71,7 +71,7 @@ fn hex_digits(word: &[u8]) -> Option<&[u8]>
     strip(b'x', strip(b'0', word)?)
 }
 
-/// An immediate: decimal, or the 32 bits in hex.
+/// Parses an immediate: decimal, or its 32 bits in hex.
 #[tactic(auto, unfolding(crate::specs::model::Reading::imm_at))]
 pub fn imm(word: &[u8]) -> Result<i32, Fault>
     ensures { result ≡ imm_at word.now }
@@ -86,7 +86,7 @@ pub fn imm(word: &[u8]) -> Result<i32, Fault>
     Ok(decimal((1 << 31) - 1, word)? as i32)
 }
 
-/// A value of 64 bits: decimal or in hex.
+/// Parses a 64-bit value, decimal or in hex.
 #[tactic(auto, unfolding(crate::specs::model::Reading::value_at))]
 pub fn value(word: &[u8]) -> Result<u64, Fault>
     ensures { result ≡ value_at word.now }
@@ -97,7 +97,7 @@ pub fn value(word: &[u8]) -> Result<u64, Fault>
     }
 }
 
-/// A signed step, at most `most` up and one more down.
+// Parses a signed step, at most `most` up and one more down.
 #[tactic(auto, unfolding(crate::specs::model::Reading::step_at))]
 fn step(most: u32, word: &[u8]) -> Result<i64, Fault>
     requires { most < 2 ^ 31 }
@@ -113,14 +113,14 @@ fn step(most: u32, word: &[u8]) -> Result<i64, Fault>
     }
 }
 
-/// An offset or a distance of 16 bits.
+/// Parses an offset or a distance of 16 bits.
 pub fn short_step(word: &[u8]) -> Result<i16, Fault>
     ensures { result ≡ step_at 32767 word.now }
 {
     Ok(step((1 << 15) - 1, word)? as i16)
 }
 
-/// A distance of 32 bits.
+/// Parses a distance of 32 bits.
 pub fn long_step(word: &[u8]) -> Result<i32, Fault>
     ensures { result ≡ step_at 2147483647 word.now }
 {

@@ -1,4 +1,4 @@
-//! Operands.
+//! Parses operands.
 ghost use Rattle.std.specs.Prelude.{◌≡◌, ◌≤◌, map, option_copied};
 ghost use Rattle.assembler_text.specs.model.Words.{word, after};
 ghost use Rattle.assembler_text.specs.model.Operands.{register_at, source_at, inner, address_at, comma, end_at};
@@ -9,7 +9,7 @@ use crate::lexer::{Class, lookup, skip_blanks, split};
 use crate::number::{imm, short_step, strip};
 use instruction_set::{Register, Source};
 
-/// The number of each register with its name.
+/// The registers' names and numbers.
 const REGISTERS: [(&[u8], u8); 11] = [
     (b"r0", 0),
     (b"r1", 1),
@@ -24,7 +24,7 @@ const REGISTERS: [(&[u8], u8); 11] = [
     (b"r10", 10),
 ];
 
-/// A register.
+/// Parses a register.
 #[tactic(auto, using(crate::proofs::Tables::known_register), unfolding(crate::specs::model::Operands::register_at, crate::specs::model::Operands::register_number))]
 pub fn register(word: &[u8]) -> Result<Register, Fault>
     ensures { result ≡ register_at word.now }
@@ -35,7 +35,7 @@ pub fn register(word: &[u8]) -> Result<Register, Fault>
     }
 }
 
-/// A register or an immediate.
+/// Parses a register or an immediate.
 #[tactic(auto, unfolding(crate::specs::model::Operands::source_at))]
 pub fn source(word: &[u8]) -> Result<Source, Fault>
     ensures { result ≡ source_at word.now }
@@ -46,7 +46,7 @@ pub fn source(word: &[u8]) -> Result<Source, Fault>
     }
 }
 
-/// What stands between brackets, all of the word.
+// Returns the text between brackets, which are the whole word.
 #[tactic(auto, unfolding(crate::specs::model::Operands::inner))]
 fn inner(word: &[u8]) -> Option<&[u8]>
     ensures { option_copied result ≡ inner word.now }
@@ -58,7 +58,7 @@ fn inner(word: &[u8]) -> Option<&[u8]>
     }
 }
 
-/// A register and an offset in brackets.
+/// Parses a register and an offset in brackets.
 #[tactic(auto, unfolding(crate::specs::model::Operands::address_at))]
 pub fn address(word: &[u8]) -> Result<(Register, i16), Fault>
     ensures { result ≡ address_at word.now }
@@ -71,7 +71,7 @@ pub fn address(word: &[u8]) -> Result<(Register, i16), Fault>
     Ok((base, short_step(offset)?))
 }
 
-/// The operand at the front, without the blanks around it, and the text after it.
+/// Splits off the leading operand, without the blanks around it.
 pub fn word(text: &[u8]) -> (&[u8], &[u8])
     ensures word { result.0.now ≡ word text.now }
     ensures after { result.1.now ≡ after text.now }
@@ -80,7 +80,7 @@ pub fn word(text: &[u8]) -> (&[u8], &[u8])
     (word, skip_blanks(rest))
 }
 
-/// The text after the comma that has to stand at its front.
+/// Returns the text after its leading comma, which is required.
 pub fn comma(text: &[u8]) -> Result<&[u8], Fault>
     ensures { Gives (λ t. t.now) result (comma text.now) }
 {
@@ -90,7 +90,7 @@ pub fn comma(text: &[u8]) -> Result<&[u8], Fault>
     }
 }
 
-/// Nothing may stand after the last operand.
+/// Rejects text after the last operand.
 pub fn end(text: &[u8]) -> Result<(), Fault>
     ensures { result ≡ end_at text.now }
 {

@@ -1,3 +1,4 @@
+pub mod Notices
 pub mod Telling
+pub mod Texts
 pub mod Verdicts
-pub mod model

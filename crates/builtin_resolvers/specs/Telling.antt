@@ -1,5 +1,6 @@
--- Whom the built-in resolvers tell, by resolver and verdict. A name is the list of its bytes.
-use Rattle.std.specs.Prelude.{ℕ, List, [], ◌∷◌}
+-- The notices of the built-in resolvers, by resolver and verdict.
+use Rattle.std.specs.Prelude.{List, [], ◌∷◌}
+use Rattle.clash_record.specs.Name.{Name}
 use Rattle.clash_record.specs.declared.registrations.Owner.{Owner}
 use Rattle.clash_record.specs.declared.registrations.Builtin.{Builtin}
 use Rattle.clash_record.specs.declared.registrations.Builtin.TheVariants as by
@@ -8,8 +9,8 @@ use Rattle.builtin_resolvers.specs.declared.notice.Notice.TheVariants.{Exit, Con
 use Rattle.builtin_resolvers.specs.declared.verdicts.Verdict3.{Verdict3}
 use Rattle.builtin_resolvers.specs.declared.verdicts.Verdict3.TheVariants.{First, Second, Neither}
 
--- exit and notify tell the owner that lost, and notify-all tells each of both owners, naming the other
-abbrev pub notices_of : Builtin → List ℕ → Owner → Owner → Verdict3 → List Notice
+-- exit and notify address the owner that lost, and notify-all each owner, naming the other
+abbrev pub notices_of : Builtin → Name → Owner → Owner → Verdict3 → List Notice
 notices_of by.Exit name first second First = Exit second ∷ []
 notices_of by.Exit name first second Second = Exit first ∷ []
 notices_of by.Exit name first second Neither = []

@@ -1,4 +1,4 @@
--- Who keeps the name of a clash, as a program or a built-in resolver answers.
+-- The verdicts of programs and of built-in resolvers.
 use Rattle.std.specs.Prelude.{ℕ, ◌%◌, ◌==◌, if◌then◌else◌, List, codes}
 use Rattle.clash_record.specs.declared.registrations.Builtin.{Builtin}
 use Rattle.clash_record.specs.declared.registrations.Builtin.TheVariants as by
@@ -19,7 +19,7 @@ builtin_verdict by.Exit word = by_lowest_bit word
 builtin_verdict by.Notify word = by_lowest_bit word
 builtin_verdict by.NotifyAll word = Neither
 
--- how a verdict is said
+-- how a verdict is printed
 abbrev pub verdict_text : Verdict3 → List ℕ
 verdict_text First = codes "first"
 verdict_text Second = codes "second"

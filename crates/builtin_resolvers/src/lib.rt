@@ -1,7 +1,7 @@
-//! The resolvers that need no program: what they answer, and whom they tell.
+//! The built-in resolvers: their verdicts and their notices.
 //!
-//! They are after `random_exit_name`, `random_notify_name` and `notify_all_name` of the module
-//! `global` of the OTP Kernel manual. Nothing here takes memory.
+//! They follow `random_exit_name`, `random_notify_name` and `notify_all_name` of the module
+//! `global` in the OTP Kernel manual. Nothing here allocates.
 #![tactic(auto)]
 
 mod notice;

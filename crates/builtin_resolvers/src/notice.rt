@@ -1,21 +1,38 @@
-//! Notices, and the few of them that a verdict brings.
-ghost use Rattle.std.specs.Prelude.{◌≡◌, ◌≤◌, ◌↔◌, [], ◌∷◌, length, IsTrue};
+//! Notices, and the at most two of them that a verdict brings.
+ghost use Rattle.std.specs.Prelude.{◌≡◌, ◌≤◌, ◌↔◌, [], ◌∷◌, length, IsTrue, Some};
 
 use clash_record::{Name, Owner};
+use std::fmt;
 use std::marker::Model;
 
-/// What an owner is told of a clash.
+/// A notice to an owner about a clash.
 #[derive(Clone, Copy, Debug, PartialEq, Eq)]
 pub enum Notice {
-    /// This owner is to exit.
+    /// This owner exits.
     Exit(Owner),
-    /// The name is no longer held by this owner.
+    /// This owner no longer holds the name.
     Conflict(Name, Owner),
-    /// The name is held by none: it was held by this owner, and by the other.
+    /// This owner no longer holds the name, and neither does the other.
     ConflictWith(Name, Owner, Owner),
 }
 
-/// The notices of one verdict, two at most. A contract sees them as a list.
+impl fmt::Display for Notice {
+    ghost use Rattle.builtin_resolvers.specs.Texts.{notice_text};
+
+    ghost output = { λ notice. Some (notice_text notice) };
+
+    fn fmt<W: fmt::Write>(&self, f: &mut fmt::Formatter<W>) -> fmt::Result {
+        match self {
+            Notice::Exit(owner) => write!(f, "exit {owner}"),
+            Notice::Conflict(name, owner) => write!(f, "conflict {name} to {owner}"),
+            Notice::ConflictWith(name, owner, other) => {
+                write!(f, "conflict {name} to {owner} other {other}")
+            }
+        }
+    }
+}
+
+/// The notices of one verdict, at most two. Contracts see them as a list.
 #[derive(Debug, Drop)]
 pub struct Notices {
     held: Held,
@@ -34,13 +51,13 @@ impl Model for Notices {
 
     ghost Value = { List Notice };
 
-    ghost use Rattle.builtin_resolvers.specs.model.Held.{held_notices};
+    ghost use Rattle.builtin_resolvers.specs.Notices.{held_notices};
 
     ghost view = { λ n. held_notices n.held };
 }
 
 impl Notices {
-    /// The notices, in the order in which they are told.
+    /// Returns the notices in their order.
     pub fn as_slice(&self) -> &[Notice]
         ensures value { result.now ≡ self.now }
         ensures few { length result.now ≤ 2 }
@@ -52,14 +69,14 @@ impl Notices {
         }
     }
 
-    /// How many there are.
+    /// Returns the number of notices.
     pub fn len(&self) -> usize
         ensures { result ≡ length self.now }
     {
         self.as_slice().len()
     }
 
-    /// Whether there is none.
+    /// Checks whether there are no notices.
     pub fn is_empty(&self) -> bool
         ensures { IsTrue result ↔ (self.now ≡ []) }
     {

@@ -1,4 +1,4 @@
-//! Whom a built-in resolver tells.
+//! The notices of built-in resolvers.
 ghost use Rattle.std.specs.Prelude.{◌≡◌};
 ghost use Rattle.builtin_resolvers.specs.Telling.{notices_of};
 
@@ -6,9 +6,9 @@ use crate::notice::{Notice, Notices};
 use crate::verdicts::Verdict3;
 use clash_record::{Builtin, Name, Owner};
 
-/// The notices of a built-in resolver's verdict on a clash of these two owners.
+/// Returns the notices of a built-in resolver's verdict on a clash of these two owners.
 ///
-/// A verdict that the resolver never gives brings none.
+/// A verdict that the resolver never returns brings no notice.
 pub fn notices(
     resolver: Builtin,
     name: &Name,

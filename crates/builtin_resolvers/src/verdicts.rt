@@ -1,10 +1,11 @@
-//! Who keeps the name of a clash, as a program or a built-in resolver answers.
-ghost use Rattle.std.specs.Prelude.{◌≡◌};
+//! The verdicts of programs and of built-in resolvers.
+ghost use Rattle.std.specs.Prelude.{◌≡◌, Some};
 ghost use Rattle.builtin_resolvers.specs.Verdicts.{builtin_verdict, verdict_of_answer, verdict_text};
 
 use clash_record::Builtin;
+use std::fmt;
 
-/// Who keeps the name of a clash.
+/// A verdict: who keeps the name of a clash.
 #[derive(Clone, Copy, Debug, PartialEq, Eq)]
 pub enum Verdict3 {
     /// The owner of the first registration.
@@ -16,7 +17,7 @@ pub enum Verdict3 {
 }
 
 impl Verdict3 {
-    /// The verdict of a program that gives this answer: 1 is the first, 2 the second, any other neither.
+    /// Returns the verdict of a program's answer: 1 is the first, 2 the second, any other neither.
     pub fn of_answer(answer: u64) -> Verdict3
         ensures { result ≡ verdict_of_answer answer }
     {
@@ -27,7 +28,7 @@ impl Verdict3 {
         }
     }
 
-    /// The word for it: `first`, `second` or `none`.
+    /// Returns its word: `first`, `second` or `none`.
     pub fn as_str(self) -> &'static str
         ensures { result.now ≡ verdict_text self }
     {
@@ -39,9 +40,17 @@ impl Verdict3 {
     }
 }
 
-/// The verdict of a built-in resolver at a word.
+impl fmt::Display for Verdict3 {
+    ghost output = { λ verdict. Some (verdict_text verdict) };
+
+    fn fmt<W: fmt::Write>(&self, f: &mut fmt::Formatter<W>) -> fmt::Result {
+        f.write_str(self.as_str())
+    }
+}
+
+/// Returns the verdict of a built-in resolver at a word.
 ///
-/// Exit and notify choose by the word's lowest bit, and notify-all chooses neither.
+/// Exit and notify choose by the word's lowest bit; notify-all chooses neither.
 pub fn decide(resolver: Builtin, word: u64) -> Verdict3
     ensures { result ≡ builtin_verdict resolver word }
 {

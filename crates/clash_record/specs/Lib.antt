@@ -1,5 +1,6 @@
 pub mod Name
 pub mod Orders
 pub mod Record
+pub mod Texts
 pub mod laws
 pub mod model

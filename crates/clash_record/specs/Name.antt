@@ -2,6 +2,10 @@
 use Rattle.std.specs.Prelude.{ℕ, ◌-◌, Bool, ◌&&◌, nat_le, List, ◌++◌, length, replicate}
 use Rattle.std.specs.List.{list_all}
 
+-- the bytes of a name
+abbrev pub Name : Type 0
+Name = List ℕ
+
 -- the most bytes that a name has
 abbrev pub name_limit : ℕ
 name_limit = 32

@@ -1,16 +1,20 @@
-//! Names and registrations, their orders, and the record of a clash.
+//! Names, registrations and sides, their orders, and the record of a clash.
 //!
-//! Nothing here takes memory.
+//! Nothing here allocates.
 #![tactic(auto)]
 
+mod halves;
 mod names;
 mod orders;
 mod records;
 mod registrations;
+mod side_id;
 
+pub use halves::{Uptimes, Withdrawal};
 pub use instruction_set::RECORD_LEN;
 pub use names::naming::name;
 pub use names::{BadName, NAME_LEN, Name};
 pub use orders::order_theorem;
 pub use records::{ClashRecord, Facts, record, record_of};
 pub use registrations::{Builtin, Owner, ProgramId, Registration, ResolverId};
+pub use side_id::SideId;

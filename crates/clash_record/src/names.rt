@@ -1,4 +1,4 @@
-//! Names: how they are stored, read and compared.
+//! Names: storage, reading and comparison.
 ghost use Rattle.std.specs.Prelude.{◌≡◌, length, nat_eq, IsTrue, Some, None, refl};
 ghost use Rattle.std.specs.Ordering.{nat_cmp};
 ghost use Rattle.std.specs.Cmp.Lexicographic.{pointwise, slice_cmp, nat_list_eq_equiv, nat_list_cmp_total, texts_ties, texts_po};
@@ -8,15 +8,16 @@ ghost use Rattle.clash_record.specs.Orders.{name_cmp};
 
 pub(crate) mod naming;
 
-use numbered::{Numbered, Place};
+use numbered::{Numbered, Place, words_of};
 use std::cmp::Ordering;
+use std::fmt;
 use std::marker::Model;
 use thiserror::Error;
 
-/// The most bytes that a name has.
+/// The maximum length of a name, in bytes.
 pub const NAME_LEN: usize = 32;
 
-/// A name: 1 to 32 bytes, each a visible character of ASCII. A contract sees it as the list of its bytes.
+/// A name: 1 to 32 bytes, each from 0x21 to 0x7E. Contracts see it as the list of its bytes.
 #[derive(Clone, Copy, Debug)]
 pub struct Name {
     // The bytes of the name, and zeros after them.
@@ -41,9 +42,17 @@ impl Model for Name {
     ghost inverse_ok = { stored_back };
 }
 
-/// Bytes that are no name: none at all, more than 32, or one that is no visible character of ASCII.
+impl fmt::Display for Name {
+    ghost output = { λ name. Some name };
+
+    fn fmt<W: fmt::Write>(&self, f: &mut fmt::Formatter<W>) -> fmt::Result {
+        f.write_str(self.as_str())
+    }
+}
+
+/// Bytes that aren't a valid name: none, more than 32, or one outside 0x21 to 0x7E.
 #[derive(Clone, Copy, Debug, PartialEq, Eq, Error)]
-#[error("these bytes are no name")]
+#[error("{}", words_of(self.number()))]
 pub struct BadName;
 
 impl Numbered for BadName {
@@ -61,7 +70,7 @@ impl Numbered for BadName {
 }
 
 impl Name {
-    /// The bytes of the name, which are the name.
+    /// Returns the bytes of the name.
     pub fn bytes(&self) -> &[u8]
         ensures value { result.now ≡ self.now }
         ensures named { IsTrue (is_name result.now) }
@@ -69,14 +78,14 @@ impl Name {
         &self.bytes[..self.len]
     }
 
-    /// The name as text. Takes no memory.
+    /// Returns the name as text. Allocates nothing.
     pub fn as_str(&self) -> &str
         ensures { result.now ≡ self.now }
     {
         str::from_utf8(self.bytes()).unwrap()
     }
 
-    // The bytes of the name, with zeros after them.
+    // Returns the bytes of the name, padded with zeros.
     pub(crate) fn padded(&self) -> &[u8; NAME_LEN]
         ensures value { result.now ≡ padded self.now }
         ensures length { length result.now ≡ name_limit }

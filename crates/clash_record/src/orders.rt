@@ -3,9 +3,9 @@ ghost use Rattle.std.specs.Cmp.{IsTotalOrder};
 ghost use Rattle.std.specs.FinMap.{IsAntisymmetric};
 ghost use Rattle.clash_record.specs.Orders.{id_cmp, name_cmp, registration_cmp};
 
-/// The orders of names, of ids and of registrations are total, and what compares alike is equal.
+/// States that the orders of names, ids and registrations are total, and that values which compare equal are equal.
 ///
-/// It does nothing when it runs: its contract is the law.
+/// Does nothing at run time: its contract is the law.
 pub fn order_theorem()
     ensures names { IsTotalOrder name_cmp }
     ensures names_exact { IsAntisymmetric name_cmp }

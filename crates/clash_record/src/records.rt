@@ -10,7 +10,7 @@ use byteorder::{ByteOrder, LittleEndian};
 use instruction_set::RECORD_LEN;
 use std::marker::Model;
 
-/// The record that a program reads as it judges a clash. A contract sees it as the list of its bytes.
+/// The record of a clash, as a program reads it. Contracts see it as the list of its bytes.
 #[derive(Clone, Copy, Debug, PartialEq, Eq)]
 pub struct ClashRecord {
     bytes: [u8; RECORD_LEN],
@@ -27,7 +27,7 @@ impl Model for ClashRecord {
 }
 
 impl ClashRecord {
-    /// The bytes of the record.
+    /// Returns the bytes of the record.
     pub fn bytes(&self) -> &[u8; RECORD_LEN]
         ensures value { result.now ≡ self.now }
         ensures whole { length result.now ≡ record_len }
@@ -39,22 +39,21 @@ impl ClashRecord {
     }
 }
 
-// Each byte is below 256.
+// Proves that each byte is below 256.
 fn bytes_fit(bytes: &[u8])
     ensures { All (λ byte. byte < 256) bytes.now }
 {}
 
-/// What a side of a clash is beside its registration: how big its table is, and how long its half has been up.
+/// The facts about one half of a clash: the size of its table and its uptime.
 #[derive(Clone, Copy, Debug, PartialEq, Eq)]
 pub struct Facts {
-    /// How many names the table has that holds the registration.
+    /// The number of names in the table that holds the registration.
     pub size: u64,
-    /// How long that half has been up, as a number that was handed in.
+    /// The half's uptime, in the caller's unit.
     pub uptime: u64,
 }
 
-/// The record of a clash of these two registrations of the name, at this word, with the facts of the half that holds
-/// each.
+/// Returns the record of a clash of two registrations of a name at a word, with the facts of each registration's half.
 pub fn record(
     name: &Name,
     first: &Registration,
@@ -70,7 +69,15 @@ pub fn record(
     ClashRecord { bytes: filled }
 }
 
-/// The record of these bytes, whatever they are.
+impl From<[u8; RECORD_LEN]> for ClashRecord {
+    ghost from_gives = { λ bytes made. made ≡ bytes };
+
+    fn from(bytes: [u8; RECORD_LEN]) -> ClashRecord {
+        record_of(bytes)
+    }
+}
+
+/// Returns the record with these bytes. Accepts any bytes.
 pub fn record_of(bytes: [u8; RECORD_LEN]) -> ClashRecord
     ensures { result ≡ bytes }
 {

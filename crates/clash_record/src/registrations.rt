@@ -1,8 +1,11 @@
-//! What a name is registered with.
-ghost use Rattle.std.specs.Prelude.{◌≡◌, ◌↔◌, IsTrue};
+//! Registrations of names.
+ghost use Rattle.std.specs.Prelude.{◌≡◌, ◌↔◌, IsTrue, Some};
 ghost use Rattle.std.specs.declared.cmp.Ordering.TheVariants.{Less};
+ghost use Rattle.clash_record.specs.Texts.{builtin_text, owner_text};
 
-/// Who owns a name: a serial number on a node.
+use std::fmt;
+
+/// The owner of a name: a serial number on a node.
 #[derive(Clone, Copy, Debug, PartialEq, Eq, PartialOrd, Ord)]
 pub struct Owner {
     /// The node.
@@ -11,49 +14,80 @@ pub struct Owner {
     pub serial: u32,
 }
 
+impl fmt::Display for Owner {
+    ghost output = { λ owner. Some (owner_text owner) };
+
+    fn fmt<W: fmt::Write>(&self, f: &mut fmt::Formatter<W>) -> fmt::Result {
+        let node = self.node;
+        let serial = self.serial;
+        write!(f, "{node}.{serial}")
+    }
+}
+
 /// The id of an uploaded program: the SHA-256 of its bytes.
 #[derive(Clone, Copy, Debug, PartialEq, Eq, PartialOrd, Ord)]
 pub struct ProgramId(pub [u8; 32]);
 
+impl fmt::Display for ProgramId {
+    fn fmt<W: fmt::Write>(&self, f: &mut fmt::Formatter<W>) -> fmt::Result {
+        for byte in self.0 {
+            write!(f, "{byte:02x}")?;
+        }
+        Ok(())
+    }
+}
+
 /// A resolver that needs no program.
 #[derive(Clone, Copy, Debug, PartialEq, Eq, PartialOrd, Ord)]
 pub enum Builtin {
-    /// One of the two owners keeps the name, and the other is to exit.
+    /// One of the two owners keeps the name, and the other exits.
     Exit,
-    /// One of the two owners keeps the name, and the other is told.
+    /// One of the two owners keeps the name, and the other is notified.
     Notify,
-    /// Neither keeps the name, and both are told.
+    /// Neither keeps the name, and both are notified.
     NotifyAll,
 }
 
-/// Who judges a clash.
+impl fmt::Display for Builtin {
+    ghost output = { λ builtin. Some (builtin_text builtin) };
+
+    fn fmt<W: fmt::Write>(&self, f: &mut fmt::Formatter<W>) -> fmt::Result {
+        match self {
+            Builtin::Exit => f.write_str("exit"),
+            Builtin::Notify => f.write_str("notify"),
+            Builtin::NotifyAll => f.write_str("notify-all"),
+        }
+    }
+}
+
+/// The resolver that judges a clash.
 #[derive(Clone, Copy, Debug, PartialEq, Eq, PartialOrd, Ord)]
 pub enum ResolverId {
-    /// A resolver that every half has.
+    /// A built-in resolver.
     Builtin(Builtin),
-    /// A program that was uploaded.
+    /// An uploaded program.
     Program(ProgramId),
 }
 
-/// What a table holds for a name.
+/// A name's entry in a table.
 #[derive(Clone, Copy, Debug, PartialEq, Eq, PartialOrd, Ord)]
 pub struct Registration {
-    /// Who owns the name.
+    /// The owner of the name.
     pub owner: Owner,
-    /// When the name was registered, as the registrar counts time.
+    /// When the name was registered, in the registrar's unit of time.
     pub stamp: u64,
-    /// What it weighs against another registration, for a program to judge by.
+    /// Its weight against another registration; only programs read it.
     pub weight: u64,
-    /// Further bytes for a program to judge by.
+    /// Further bytes; only programs read them.
     pub extra: [u8; 16],
-    /// Who judges a clash of the name.
+    /// The resolver of the name's clashes.
     pub resolver: ResolverId,
 }
 
 impl Registration {
     ghost use Rattle.clash_record.specs.Orders.{registration_cmp};
 
-    /// Whether it comes before the other in the order of registrations, and so is first in their clash.
+    /// Checks whether it precedes the other in the order of registrations, and so is first in their clash.
     pub fn precedes(&self, other: &Registration) -> bool
         ensures { IsTrue result ↔ (registration_cmp self.now other.now ≡ Less) }
     {

@@ -1,36 +1,38 @@
-//! Why words give no task.
+//! The faults of the command line.
 ghost use Rattle.std.specs.Prelude.{◌≡◌, ◌↔◌, ◌⊎◌, IsTrue};
 ghost use Rattle.std.specs.IoError.{error_kind};
 ghost use Rattle.clap.specs.declared.error.kind.ErrorKind.TheVariants.{OutOfMemory};
 ghost use Rattle.command_line.specs.Asked.{IsArgumentFault, IsForMemory};
 ghost use Rattle.command_line.specs.declared.faults.CommandFault.TheVariants.{Parse};
 
+use clap::error::ErrorKind;
+use numbered::REFUSALS;
 use std::alloc::AllocError;
 use std::{error, fmt, io};
 
-/// Why the words gave no task. Its `Display` is the text for the user.
+/// The reason why the arguments give no task. Its `Display` is the text for the user.
 #[derive(Debug, Drop)]
 pub enum CommandFault {
-    /// What `clap` answers in place of a parse, help and want of memory included.
+    /// The answer of `clap` in place of a parse, including help and out of memory.
     Parse(clap::Error),
-    /// The words parse, and ask for no task.
+    /// The arguments parse, but give no task.
     NoTask,
-    /// An argument isn't UTF-8, and so there are no words.
+    /// An argument isn't UTF-8.
     NotText,
 }
 
 impl CommandFault {
-    /// Whether memory ran out, and the words have no fault.
+    /// Returns whether memory ran out.
     pub fn is_for_memory(&self) -> bool
         ensures { IsTrue result ↔ IsForMemory self.now }
     {
         match self {
-            CommandFault::Parse(error) => error.kind() == clap::error::ErrorKind::OutOfMemory,
+            CommandFault::Parse(error) => error.kind() == ErrorKind::OutOfMemory,
             CommandFault::NoTask | CommandFault::NotText => false,
         }
     }
 
-    /// The status that the program ends with: 3 where memory ran out, and else 1, for help too.
+    /// Returns the exit status: 3 when out of memory, else 1, for help too.
     pub fn status(&self) -> u8
         ensures memory { IsForMemory self.now → result ≡ 3 }
         ensures words { (IsForMemory self.now → ⊥) → result ≡ 1 }
@@ -56,7 +58,7 @@ impl From<AllocError> for CommandFault {
     }
 }
 
-/// What reading the arguments fails with: want of memory, and else one that isn't UTF-8.
+// Reading the arguments fails when out of memory, or at one that isn't UTF-8.
 impl From<io::Error> for CommandFault {
     ghost from_gives = { λ e f. IsArgumentFault (error_kind e) f };
 
@@ -69,9 +71,21 @@ impl From<io::Error> for CommandFault {
     }
 }
 
+// Prints the table of refusals, one per line.
+fn print_refusals<W: fmt::Write>(f: &mut fmt::Formatter<W>) -> fmt::Result {
+    for (number, words) in REFUSALS {
+        writeln!(f, "{number:>4}  {words}")?;
+    }
+    Ok(())
+}
+
 impl fmt::Display for CommandFault {
     fn fmt<W: fmt::Write>(&self, f: &mut fmt::Formatter<W>) -> fmt::Result {
         match self {
+            CommandFault::Parse(error) if error.kind() == ErrorKind::DisplayHelp => {
+                write!(f, "{error}\nRefusals:\n")?;
+                print_refusals(f)
+            }
             CommandFault::Parse(error) => write!(f, "{error}"),
             CommandFault::NoTask => f.write_str("error: no task\n"),
             CommandFault::NotText => f.write_str("error: an argument isn't UTF-8\n"),

@@ -1,4 +1,4 @@
-//! The words of heal's command line, and the task that they ask for.
+//! Reads heal's command line as a task.
 #![tactic(auto)]
 
 mod faults;

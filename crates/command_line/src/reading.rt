@@ -1,4 +1,4 @@
-//! The task that words ask for.
+//! Reads the arguments as a task.
 ghost use Rattle.std.specs.Prelude.{◌≡◌, ◌∷◌, [], codes, ◌⊎◌, List, ℕ, IfOk, IfErr, map, option_map, option_and_then};
 ghost use Rattle.clap.specs.Words.{first_of, found_of, rows_of, subcommand_rows_of};
 ghost use Rattle.command_line.specs.Asked.{Asked, Asks, IsForMemory, asked_by, asked_of};
@@ -13,7 +13,7 @@ use std::alloc::Global;
 use std::convert::AsStr;
 use task::{Profile, Question, Task, Workers};
 
-// The first value of `id`.
+// Returns the first value of `id`.
 #[tactic(auto, using(crate::proofs::Rows::rows))]
 fn value<'a>(found: &ArgMatches<'a>, id: &str) -> Option<&'a str>
     ensures { option_map (λ s. s.now) result ≡ first_of id.now (rows_of (found_of found.now)) }
@@ -21,7 +21,7 @@ fn value<'a>(found: &ArgMatches<'a>, id: &str) -> Option<&'a str>
     found.get_str(id)
 }
 
-// The profile of a number, and the second one where none is named.
+// Returns the profile with this number, the second by default.
 fn profile_of(number: Option<&str>) -> Option<Profile>
     ensures { result ≡ profile_named (option_map (λ s. s.now) number.entry) }
 {
@@ -62,7 +62,7 @@ fn dis_of<'a>(found: &ArgMatches<'a>) -> Option<Task<'a>>
     Some(Task::Answer(Question::Dis { code }))
 }
 
-// How many workers a text names, and four where none is named.
+// Reads the number of workers, 4 by default.
 fn workers_of(number: Option<&str>) -> Option<Workers>
     ensures { option_map (λ workers. workers.count) result ≡ workers_named (option_map (λ s. s.now) number.entry) }
 {
@@ -102,20 +102,20 @@ fn task_of<'a>(matches: &ArgMatches<'a>) -> Option<Task<'a>>
     }
 }
 
-/// The task that the words ask for. The first word is the program's name.
+/// Reads the arguments as a task. The first is the program's name.
+///
+/// Returns the answer of `clap` for arguments that don't parse, including help and out of memory.
 pub fn command<'a, S: AsStr>(alloc: Global, words: &'a [S]) -> Result<Task<'a>, CommandFault>
-    // It is the task of these very words.
+    // The task is that of the arguments.
     ensures ok { IfOk result (λ task. Asks (map S.text words.now) (asked_by task)) }
-    // Words that ask for a task fail only for want of memory.
+    // Arguments that give a task fail only when out of memory.
     ensures err { IfErr result (λ e. IsForMemory e ⊎ ((task : Asked) → Asks (map S.text words.now) task → ⊥)) }
 {
     let matches = heal(alloc)?.try_get_matches_from(words)?;
     task_of(&matches).ok_or(CommandFault::NoTask)
 }
 
-/// Words that no hyphen begins are taken as they stand.
-///
-/// It does nothing when it runs: its contract is the law.
+/// States that an argument without a leading hyphen is taken literally. Does nothing at run time.
 pub fn plain_words_theorem()
     ensures check { (name code : List ℕ) → IsPlain code → Asks (name ∷ codes "check" ∷ code ∷ []) (check code Both) }
     ensures unsigned { (name code : List ℕ) → IsPlain code

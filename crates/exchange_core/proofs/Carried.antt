@@ -2,8 +2,9 @@
 use Rattle.std.proofs.Common.{◌≡◌, ℕ, Bool, true, false, if◌then◌else◌, length, Option, Some, None, is_some, eqb-true, refl, sym, ap, ◌∙◌, subst, option_and_then, List}
 use Rattle.std.proofs.lemmas.List.{length-replicate}
 use Rattle.std.proofs.lemmas.Bool.{and_parts, not-true}
-use Rattle.exchange_core.specs.declared.side_id.SideId.{SideId}
-use Rattle.partition_table.specs.Tables.{Clash, Name, Row, Table}
+use Rattle.clash_record.specs.declared.side_id.SideId.{SideId}
+use Rattle.clash_record.specs.Name.{Name}
+use Rattle.partition_table.specs.Tables.{Clash, Row, Table}
 use Rattle.exchange_core.specs.Sides.{Offer, Withdrawals, Judged, Heard, Exchange, Side, clashes_for, fit_for, clashes_heard, clashes_of, is_lawful, register, unregister, is_theirs, heard_of, hear_first, hear_in, hear, put_ruling, take_heard, take_in, take, withdraw_in, withdraw, hear_list_in, hear_list, finish, abandon}
 use Rattle.exchange_core.specs.Worlds.{Past, ruling_at}
 use Rattle.exchange_core.proofs.Rulings.{some_inj, Lawful, lawful, has_clash_is, clashes_are}

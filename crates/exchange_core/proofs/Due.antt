@@ -2,9 +2,12 @@
 use Rattle.std.proofs.Common.{◌≡◌, ◌==◌, ◌&&◌, ℕ, Bool, true, false, not, nat_lt, nat_le, if◌then◌else◌, Option, Some, None, is_some, is_none, refl}
 use Rattle.std.specs.Option.{option_map_or}
 use Rattle.std.specs.FinMap.{contains_key, len}
-use Rattle.partition_table.specs.Tables.{Name, Clash, max_names}
+use Rattle.clash_record.specs.Name.{Name}
+use Rattle.partition_table.specs.Tables.{Clash, max_names}
 use Rattle.exchange_core.specs.declared.fault.SideFault.{SideFault}
-use Rattle.exchange_core.specs.declared.fault.SideFault.TheVariants.{NameTaken, NoSuchName, Full, Healing, NotHealing, StaleNumber, SeedDiffers, TooManyNames, StrangeRuling, JournalFull}
+use Rattle.exchange_core.specs.declared.fault.SideFault.TheVariants.{Healing, NotHealing, StaleNumber, SeedDiffers, StrangeRuling, JournalFull}
+use Rattle.exchange_core.specs.declared.fault.SideFault.TheVariants as of
+use Rattle.partition_table.specs.declared.fault.TableFault.TheVariants.{NameTaken, NoSuchName, Full, TooManyNames}
 use Rattle.exchange_core.specs.declared.fault.MissingPart.{MissingPart}
 use Rattle.exchange_core.specs.Sides.{Offer, Withdrawals, Exchange, Side, is_above}
 use Rattle.exchange_core.specs.Refusals.{unregister_fault, begin_fault, union_for, first_offer_fault, is_first_offer, hear_fault_in, hear_fault, is_strange, take_fault_in, take_fault, withdraw_fault_in, withdraw_fault, close_list_fault_in, close_list_fault, sent_fault, hear_list_fault, missing_of, missing_or_full, finish_fault, abandon_fault}
@@ -29,14 +32,14 @@ pub room_register : (full : Bool) (side : Side) (name : Name) → early_register
     full ≡ false
 room_register false side name e = refl
 room_register true side name e =
-    fourth (contains_key side.table name) (not (nat_lt (len side.table) max_names)) (is_some side.exchange) NameTaken
-    Full Healing JournalFull e
+    fourth (contains_key side.table name) (not (nat_lt (len side.table) max_names)) (is_some side.exchange) (of.Table NameTaken)
+    (of.Table Full) Healing JournalFull e
 
 pub room_unregister : (full : Bool) (side : Side) (name : Name) → unregister_fault full side name ≡ None →
     full ≡ false
 room_unregister false side name e = refl
 room_unregister true side name e =
-    third (not (contains_key side.table name)) (is_some side.exchange) NoSuchName Healing JournalFull e
+    third (not (contains_key side.table name)) (is_some side.exchange) (of.Table NoSuchName) Healing JournalFull e
 
 pub room_begin : (full : Bool) (side : Side) (number : ℕ) → begin_fault full side number ≡ None → full ≡ false
 room_begin false side number e = refl
@@ -52,7 +55,7 @@ room_hear true side offer e = by_open side.exchange e
     by_test x true e =
         third (not (x.seed == offer.seed)) (not (nat_le (union_for side.id side.table offer.table) max_names))
         SeedDiffers
-        TooManyNames JournalFull e
+        (of.Table TooManyNames) JournalFull e
     by_test x false e = cc
 
     by_open : (o : Option Exchange) → option_map_or (hear_fault_in true side offer) o (Some NotHealing) ≡ None →
@@ -75,7 +78,7 @@ room_withdraw false side name e = refl
 room_withdraw true side name e = by_open (not (contains_key side.table name)) side.exchange e
   where
     by_open : (b : Bool) (o : Option Exchange) →
-        (if b then Some NoSuchName else option_map_or (withdraw_fault_in true name) o (Some NotHealing)) ≡ None →
+        (if b then Some (of.Table NoSuchName) else option_map_or (withdraw_fault_in true name) o (Some NotHealing)) ≡ None →
         true ≡ false
     by_open true o e = cc
     by_open false None e = cc

@@ -1,14 +1,15 @@
 -- What a finish merges, and what it gives.
-use Rattle.std.proofs.Common.{◌≡◌, ℕ, zero, suc, Bool, true, false, ◌&&◌, if◌then◌else◌, List, [], ◌∷◌, length, map, Option, Some, None, is_some, slice_get, refl, sym, ap, ◌∙◌, subst, option_map, option_and_then}
-use Rattle.std.proofs.lemmas.Bool.{and_parts, and_from}
+use Rattle.std.proofs.Common.{◌≡◌, ℕ, zero, suc, true, if◌then◌else◌, List, [], ◌∷◌, length, map, Option, Some, None, is_some, slice_get, refl, sym, ap, ◌∙◌, subst, option_and_then}
+use Rattle.std.proofs.lemmas.Bool.{and_from}
 use Rattle.std.proofs.lemmas.List.{length-map}
 use Rattle.std.specs.List.{list_all}
 use Rattle.builtin_resolvers.specs.declared.verdicts.Verdict3.{Verdict3}
-use Rattle.partition_table.specs.Tables.{Name, Table, Clash, clash_names}
-use Rattle.exchange_core.specs.declared.side_id.SideId.{SideId}
-use Rattle.exchange_core.specs.declared.side_id.SideId.TheVariants.{A, B}
-use Rattle.exchange_core.specs.Sides.{Judged, Heard, Exchange, Side, clashes_for, fit_for, merge_for, is_lawful, answer_in, merged_table, finish_by, finish_in, finish}
-use Rattle.exchange_core.specs.Finished.{Finished, IsFinished, Half, finished_by, all_held, finished_at, finished_of, finished_in, finished_from}
+use Rattle.clash_record.specs.Name.{Name}
+use Rattle.partition_table.specs.Tables.{Table, Clash}
+use Rattle.clash_record.specs.declared.side_id.SideId.{SideId}
+use Rattle.clash_record.specs.declared.side_id.SideId.TheVariants.{A, B}
+use Rattle.exchange_core.specs.Sides.{Judged, Heard, Exchange, Side, clashes_for, fit_for, merge_for, is_lawful, answer_in, merged_table, finish_in, finish}
+use Rattle.exchange_core.specs.Finished.{IsFinished, all_held, finished_at, finished_of, finished_in, finished_from}
 use Rattle.exchange_core.specs.model.Pairing.{clash_names_for}
 use Rattle.exchange_core.specs.model.Finishing.{IsMergeable, IsMergeOf}
 use Rattle.exchange_core.proofs.Rulings.{some_inj}

@@ -2,9 +2,10 @@
 use Rattle.std.proofs.Common.{◌≡◌, ◌⊎◌, ℕ, zero, suc, Bool, true, false, if◌then◌else◌, List, [], ◌∷◌, length, replicate, Option, Some, None, is_none, slice_get, slice_set, unwrap_or, refl, ap, inl, inr, ⊎_elim, option_map, option_and_then, length-set, is_some, subst, sym}
 use Rattle.std.proofs.lemmas.Bool.{and_parts}
 use Rattle.std.specs.List.{list_all}
-use Rattle.exchange_core.specs.declared.side_id.SideId.{SideId}
-use Rattle.exchange_core.specs.declared.side_id.SideId.TheVariants.{A, B}
-use Rattle.partition_table.specs.Tables.{Name, Table, Clash}
+use Rattle.clash_record.specs.declared.side_id.SideId.{SideId}
+use Rattle.clash_record.specs.declared.side_id.SideId.TheVariants.{A, B}
+use Rattle.clash_record.specs.Name.{Name}
+use Rattle.partition_table.specs.Tables.{Table, Clash}
 use Rattle.exchange_core.specs.Sides.{Offer, Withdrawals, Judged, Heard, Exchange, Side, is_side, clashes_for, fit_for, is_above, has_clash, in_exchange, put_ruling, merged_table, finish_in, finish}
 use Rattle.exchange_core.specs.Calls.{Call, Hear, Take, Hear_list}
 use Rattle.exchange_core.specs.Worlds.{Ruling, Past, World, side_of, ruling_at}

@@ -9,6 +9,7 @@ pub mod Places
 pub mod Theorem
 pub mod Once
 pub mod Replays
+pub mod Listed
 pub mod Told
 pub mod Taking
 pub mod Showing

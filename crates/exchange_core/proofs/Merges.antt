@@ -11,7 +11,8 @@ use Rattle.clash_record.specs.laws.Orders.{names_total, names_exact}
 use Rattle.clash_record.specs.declared.records.Facts.{Facts}
 use Rattle.builtin_resolvers.specs.declared.verdicts.Verdict3.{Verdict3}
 use Rattle.exchange_core.specs.Sides.{without}
-use Rattle.partition_table.specs.Tables.{Name, Row, Table, Clash, facts_of, same_registration, clash_of, clash_at, clashes, differ, clash_names, merged_at, answer_at, Gone, holds, unless_gone, tabulated, with_row, merge, IsMerge, is_name, is_in}
+use Rattle.clash_record.specs.Name.{Name}
+use Rattle.partition_table.specs.Tables.{Row, Table, Clash, facts_of, same_registration, clash_of, clash_at, clashes, differ, clash_names, merged_at, answer_at, Gone, holds, unless_gone, tabulated, with_row, merge, IsMerge, is_name, is_in}
 
 pub from_is_eq : (o : Ordering) → is_eq o ≡ true → o ≡ Equal
 from_is_eq Less e = cc

@@ -1,9 +1,10 @@
 -- A side begins a number once and closes one list of it, and a clash is judged once.
 use Rattle.std.proofs.Common.{◌≡◌, ℕ, Bool, List, [], ◌∷◌, Option, Some, None, refl, sym, ap, ◌∙◌, subst, if◌then◌else◌, option_map, option_and_then, true}
 use Rattle.std.specs.Option.{option_map_or}
-use Rattle.exchange_core.specs.declared.side_id.SideId.{SideId}
-use Rattle.exchange_core.specs.declared.side_id.SideId.TheVariants.{A, B}
-use Rattle.partition_table.specs.Tables.{Name, Table, Clash}
+use Rattle.clash_record.specs.declared.side_id.SideId.{SideId}
+use Rattle.clash_record.specs.declared.side_id.SideId.TheVariants.{A, B}
+use Rattle.clash_record.specs.Name.{Name}
+use Rattle.partition_table.specs.Tables.{Table, Clash}
 use Rattle.exchange_core.specs.Sides.{Offer, Withdrawals, Exchange, Side, begin, close_in, close_list}
 use Rattle.exchange_core.specs.Calls.{Begin, Close_list}
 use Rattle.exchange_core.specs.Worlds.{Ruling, Past, World, Event, Does, side_of, past_after, with_side, world_after}

@@ -1,14 +1,21 @@
 -- What every side keeps that calls lead to.
 use Rattle.std.proofs.Common.{◌≡◌, ℕ, Bool, true, false, ◌&&◌, if◌then◌else◌, List, [], ◌∷◌, ◌++◌, length, Option, Some, None, is_some, slice_get, unwrap_or, refl, ap, ◌∙◌, subst, option_and_then, zero, suc, map, arith, sym}
 use Rattle.std.proofs.lemmas.List.{length-replicate}
-use Rattle.std.proofs.lemmas.Bool.{and_parts}
-use Rattle.std.specs.List.{list_all}
+use Rattle.std.proofs.lemmas.Bool.{and_parts, or_parts, not-true}
+use Rattle.std.proofs.lemmas.Cmp.{eq_by_cmp_equiv}
+use Rattle.std.specs.List.{list_all, AllByRecursion, IsDistinct}
+use Rattle.std.specs.Cmp.{IsEquivalence}
 use Rattle.std.specs.FinMap.{contains_key}
-use Rattle.exchange_core.specs.declared.side_id.SideId.{SideId}
-use Rattle.partition_table.specs.Tables.{Name, Table, Clash, IsOneOfFour}
+use Rattle.clash_record.specs.declared.side_id.SideId.{SideId}
+use Rattle.clash_record.specs.Name.{Name}
+use Rattle.clash_record.specs.laws.Orders.{names_total}
+use Rattle.partition_table.specs.Tables.{Table, Clash, IsOneOfFour, is_name, is_in}
 use Rattle.exchange_core.specs.Sides.{answer_in, Offer, Withdrawals, Judged, Heard, Exchange, Side, fit_for, clashes_heard, clashes_of, hear_first, hear_in, hear, is_lawful, take_heard, take_in, take, withdraw_in, withdraw, close_in, close_list, hear_list_in, hear_list, finish}
+use Rattle.exchange_core.specs.Journal.{calls_of, IsJournal}
+use Rattle.exchange_core.specs.Lists.{AreNamesOf}
+use Rattle.exchange_core.specs.declared.journal.Event as journal
 use Rattle.exchange_core.specs.Calls.{Call, Register, Unregister, Begin, Hear, Take, Withdraw, Close_list, Hear_list, Finish, Abandon, carried_out, replay, takes_message}
-use Rattle.exchange_core.specs.declared.side_id.SideId.TheVariants.{A, B}
+use Rattle.clash_record.specs.declared.side_id.SideId.TheVariants.{A, B}
 use Rattle.exchange_core.specs.Worlds.{World, Event, Does, Hears, Hears_list, Tells, Judges, side_of, past_after, with_side, called, called_if, happens, world_after}
 use Rattle.exchange_core.specs.History.{answers_to}
 use Rattle.exchange_core.proofs.Rulings.{some_inj, Lawful, lawful, clashes_are}
@@ -23,23 +30,45 @@ pub record HeardHolds (side : Side) (exchange : Exchange) (heard : Heard) : Type
   pub lawful : (k : ℕ) (judged : Judged) → slice_get heard.rulings k ≡ Some (Some judged) →
       is_lawful (clashes_heard side exchange heard) exchange.seed k judged ≡ true
 
--- the open exchange is of the latest number, and the names withdrawn stand in the table
+-- the open exchange has the latest number, and the withdrawn names are distinct names of the table
 pub record OpenHolds (side : Side) (exchange : Exchange) : Type 0 where
   pub latest : side.latest ≡ Some exchange.number
   pub there : list_all (contains_key side.table) exchange.withdrawn ≡ true
+  pub distinct : IsDistinct is_name exchange.withdrawn
   pub heard : (heard : Heard) → exchange.heard ≡ Some heard → HeardHolds side exchange heard
 
 pub record Holds (id : SideId) (side : Side) : Type 0 where
   pub same_id : side.id ≡ id
   pub open_holds : (exchange : Exchange) → side.exchange ≡ Some exchange → OpenHolds side exchange
 
--- a name more that stands there
+-- one more name of the table
 one_more_there : (p : Name → Bool) (names : List Name) (name : Name) → list_all p names ≡ true → p name ≡ true →
     list_all p (names ++ name ∷ []) ≡ true
 one_more_there p [] name all e = ap (λ b. b && true) e
 one_more_there p (n ∷ names) name all e =
     let h = and_parts _ _ all in
     ap (λ (x : Bool × Bool). x.0 && x.1) (λ i. (h.0 i, one_more_there p names name h.1 e i))
+
+pub is_name_equivalence : IsEquivalence is_name
+is_name_equivalence = eq_by_cmp_equiv names_total
+
+-- a name that comes after names other than it
+apart_after : (name n : Name) (names : List Name) → AllByRecursion (λ y. is_name n y ≡ false) names →
+    is_name name n ≡ false → AllByRecursion (λ y. is_name n y ≡ false) (names ++ name ∷ [])
+apart_after name n [] h e = (is_name_equivalence.symm n name ∙ e, tt)
+apart_after name n (m ∷ names) h e = (h.0, apart_after name n names h.1 e)
+
+pub none_apart : IsDistinct is_name []
+unfolding IsDistinct
+none_apart = tt
+
+one_more_apart : (names : List Name) (name : Name) → IsDistinct is_name names → is_in name names ≡ false →
+    IsDistinct is_name (names ++ name ∷ [])
+unfolding IsDistinct
+one_more_apart [] name h e = (tt, tt)
+one_more_apart (n ∷ names) name h e =
+    let parts = or_parts (is_name name n) (is_in name names) e in
+    (apart_after name n names h.0 parts.0, one_more_apart names name h.1 parts.1)
 
 module _ {id : SideId} {side : Side} (h : Holds id side) where
   -- an idle side with another table
@@ -56,6 +85,7 @@ module _ {id : SideId} {side : Side} (h : Holds id side) where
     open_holds = λ exchange e. subst (OpenHolds (record side { exchange = Some g.after })) (some_inj e) record {
       latest = o.latest;
       there = o.there;
+      distinct = o.distinct;
       heard = λ heard is. let k = o.heard heard is in record { fit = k.fit; places = k.places; lawful = k.lawful };
     };
   }
@@ -66,16 +96,19 @@ module _ {id : SideId} {side : Side} (h : Holds id side) where
   with_heard exchange heard o k = record {
     latest = o.latest;
     there = o.there;
+    distinct = o.distinct;
     heard = λ new e. subst (HeardHolds side (record exchange { heard = Some heard })) (some_inj e) k;
   }
 
   -- the exchange changes in what is not heard
   still_heard : (exchange : Exchange) → OpenHolds side exchange → (withdrawn : List Name) (closed : Bool)
       (theirs : Option (List Name)) → list_all (contains_key side.table) withdrawn ≡ true →
+      IsDistinct is_name withdrawn →
       OpenHolds side (record exchange { withdrawn = withdrawn; closed = closed; their_list = theirs })
-  still_heard exchange o withdrawn closed theirs there = record {
+  still_heard exchange o withdrawn closed theirs there distinct = record {
     latest = o.latest;
     there = there;
+    distinct = distinct;
     heard = λ heard e. let k = o.heard heard e in record { fit = k.fit; places = k.places; lawful = k.lawful };
   }
 
@@ -134,7 +167,8 @@ module _ {id : SideId} {side : Side} (h : Holds id side) where
       goes_on (withdraw_in side.table name) new g
       (subst (OpenHolds side) w.1
       (still_heard g.before o _ g.before.closed g.before.their_list
-      (one_more_there (contains_key side.table) g.before.withdrawn name o.there d.1)))
+      (one_more_there (contains_key side.table) g.before.withdrawn name o.there d.1)
+      (one_more_apart g.before.withdrawn name o.distinct (not-true _ c.1))))
 
   close_holds : (new : Side) → close_list side ≡ Some new → Holds id new
   close_holds new e =
@@ -146,7 +180,7 @@ module _ {id : SideId} {side : Side} (h : Holds id side) where
       by_test exchange after o true e = cc
       by_test exchange after o false e =
           subst (OpenHolds side) (some_inj e)
-          (still_heard exchange o exchange.withdrawn true exchange.their_list o.there)
+          (still_heard exchange o exchange.withdrawn true exchange.their_list o.there o.distinct)
 
   hear_list_holds : (sent : Withdrawals) (new : Side) → hear_list side sent ≡ Some new → Holds id new
   hear_list_holds sent new e =
@@ -159,6 +193,7 @@ module _ {id : SideId} {side : Side} (h : Holds id side) where
           OpenHolds side (if b then exchange else record exchange { their_list = Some sent.names })
       by_list exchange o true = o
       by_list exchange o false = still_heard exchange o exchange.withdrawn exchange.closed (Some sent.names) o.there
+          o.distinct
 
   finish_holds : (new : Side) → finish side ≡ Some new → Holds id new
   finish_holds new e = subst (Holds id) (found side new e).new_is (idle_holds _)
@@ -181,6 +216,7 @@ module _ {id : SideId} {side : Side} (h : Holds id side) where
         open_holds = λ exchange e. subst (OpenHolds _) (some_inj e) record {
           latest = refl;
           there = refl;
+          distinct = none_apart;
           heard = λ heard is. cc;
         };
       }
@@ -200,6 +236,14 @@ replay_holds id (call ∷ earlier) = by_call (replay_holds id earlier) (carried_
         Holds id (unwrap_or o (replay id earlier))
     by_call h None is = h
     by_call h (Some new) is = call_holds h call new is
+
+-- the names withdrawn by a side that a journal leads to are distinct names of its table
+pub replayed_names : (events : List journal.Event) (side : Side) → IsJournal events side → (x : Exchange) →
+    side.exchange ≡ Some x → AreNamesOf side.table x.withdrawn
+replayed_names events side led x opened =
+    let h = subst (λ (s : Side). Holds side.id s) led (replay_holds side.id (calls_of events)) in
+    let o = h.open_holds x opened in
+    record { there = o.there; distinct = o.distinct }
 
 -- a place of one list is one of another of the same length
 place_in : {X Y : Type 0} (xs : List X) (ys : List Y) → length xs ≡ length ys → (k : ℕ) (x : X) →

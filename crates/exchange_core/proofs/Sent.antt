@@ -2,7 +2,7 @@
 use Rattle.std.proofs.Common.{◌≡◌, ℕ, zero, suc, ◌<◌, Bool, true, false, if◌then◌else◌, List, [], ◌∷◌, Option, Some, None, ltb-true, ltb-false, le-ltb, refl, sym, ap, ◌∙◌, subst, arith}
 use Rattle.std.proofs.lemmas.Bool.{and_parts}
 use Rattle.std.specs.Option.{option_map_or}
-use Rattle.exchange_core.specs.declared.side_id.SideId.{SideId}
+use Rattle.clash_record.specs.declared.side_id.SideId.{SideId}
 use Rattle.exchange_core.specs.Sides.{Offer, Withdrawals, Exchange, Side, new_exchange, is_above, begin, close_in, close_list}
 use Rattle.exchange_core.specs.Calls.{Call, Register, Unregister, Begin, Hear, Take, Withdraw, Close_list, Hear_list, Finish, Abandon, carried_out}
 use Rattle.exchange_core.specs.Worlds.{Past, offer_of, list_of, past_after}

@@ -1,14 +1,14 @@
 -- The table that a side shows, name by name and row by row.
-use Rattle.std.proofs.Common.{◌≡◌, Bool, true, false, not, cond, List, [], ◌∷◌, map, filter, Option, Some, None, T, refl, sym, ap, ◌∙◌}
+use Rattle.std.proofs.Common.{◌≡◌, Bool, true, false, not, cond, List, [], ◌∷◌, map, Option, Some, None, T, refl, sym, ap, ◌∙◌}
 use Rattle.std.specs.Option.{option_map_or}
-use Rattle.std.specs.Ordering.{eq_by_cmp}
 use Rattle.std.specs.declared.cmp.Ordering.TheVariants.{Equal}
 use Rattle.std.specs.FinMap.{get, entries, entries_sorted, from_sorted, get-from_sorted, get-entries, entries-from_sorted, same_map}
-use Rattle.std.specs.FinMap.Entries.{where_key, find, find-where_key, is_sorted, is_sorted-where_key}
+use Rattle.std.specs.FinMap.Entries.{where_key, find-where_key, is_sorted, is_sorted-where_key}
 use Rattle.clash_record.specs.declared.registrations.Registration.{Registration}
 use Rattle.clash_record.specs.Orders.{name_cmp}
 use Rattle.clash_record.specs.laws.Orders.{names_total, names_exact}
-use Rattle.partition_table.specs.Tables.{Name, Row, Table, is_in, rows_of}
+use Rattle.clash_record.specs.Name.{Name}
+use Rattle.partition_table.specs.Tables.{Row, Table, is_in, rows_of}
 use Rattle.exchange_core.specs.Sides.{Exchange, Side, without, shown_table}
 use Rattle.exchange_core.specs.Rows.{not_withdrawn}
 use Rattle.exchange_core.proofs.Merges.{get_without}

@@ -1,10 +1,8 @@
 -- A ruling that nothing refuses is taken.
-use Rattle.std.proofs.Common.{◌≡◌, ℕ, Bool, true, false, not, ◌&&◌, ◌==◌, if◌then◌else◌, length, List, [], Option, Some, None, is_some, slice_get, refl, sym, ap, ◌∙◌, subst, option_map, option_and_then}
+use Rattle.std.proofs.Common.{◌≡◌, ℕ, Bool, true, false, not, ◌&&◌, ◌==◌, if◌then◌else◌, length, List, [], Option, Some, None, is_some, slice_get, refl, ap, ◌∙◌, subst, option_map, option_and_then}
 use Rattle.std.specs.Option.{option_map_or}
-use Rattle.std.proofs.lemmas.Bool.{and_parts}
 use Rattle.builtin_resolvers.specs.declared.verdicts.Verdict3.{Verdict3}
 use Rattle.partition_table.specs.Tables.{Clash, same_clash, answer}
-use Rattle.exchange_core.specs.declared.fault.SideFault.{SideFault}
 use Rattle.exchange_core.specs.declared.fault.SideFault.TheVariants.{NotHealing, StrangeRuling, JournalFull, OtherNumber}
 use Rattle.exchange_core.specs.Sides.{Judged, Heard, Exchange, Side, is_one_of_four, clashes_heard, clashes_of, has_clash, is_lawful, put_ruling, take_heard, take_in, take}
 use Rattle.exchange_core.specs.Refusals.{is_strange, take_fault_in, take_fault}

@@ -2,9 +2,10 @@
 use Rattle.std.proofs.Common.{◌≡◌, ℕ, true, List, ◌∷◌, length, map, Option, Some, None, is_some, slice_get, refl, sym, ap, ◌∙◌, subst, option_map}
 use Rattle.std.specs.List.{list_all}
 use Rattle.builtin_resolvers.specs.declared.verdicts.Verdict3.{Verdict3}
-use Rattle.exchange_core.specs.declared.side_id.SideId.{SideId}
-use Rattle.exchange_core.specs.declared.side_id.SideId.TheVariants.{A, B}
-use Rattle.partition_table.specs.Tables.{Name, Table, Clash, Gone, IsOneOfFour, clashes, merge, IsMerge, fit_together}
+use Rattle.clash_record.specs.declared.side_id.SideId.{SideId}
+use Rattle.clash_record.specs.declared.side_id.SideId.TheVariants.{A, B}
+use Rattle.clash_record.specs.Name.{Name}
+use Rattle.partition_table.specs.Tables.{Table, Clash, Gone, IsOneOfFour, clashes, merge, IsMerge, fit_together}
 use Rattle.exchange_core.specs.Sides.{Offer, Withdrawals, Judged, Heard, Exchange, Side, merge_for, answer_in, finish}
 use Rattle.exchange_core.specs.Calls.{Finish}
 use Rattle.exchange_core.specs.Worlds.{Ruling, Past, World, Event, Does, side_of, with_side, world_after, clashes_between}

@@ -1,8 +1,8 @@
 -- A ruling of the map is refused by no side that heard the offers that it is of.
 use Rattle.std.proofs.Common.{◌≡◌, ℕ, suc, ◌<◌, Bool, true, false, cond, ◌&&◌, if◌then◌else◌, List, [], ◌∷◌, Option, Some, None, is_some, slice_get, eqb-true, eq-eqb, ◌==◌, refl, sym, ap, ◌∙◌, subst, ⊎_elim, option_map, option_and_then}
 use Rattle.std.proofs.lemmas.Bool.{and_parts}
-use Rattle.exchange_core.specs.declared.side_id.SideId.{SideId}
-use Rattle.exchange_core.specs.declared.side_id.SideId.TheVariants.{A, B}
+use Rattle.clash_record.specs.declared.side_id.SideId.{SideId}
+use Rattle.clash_record.specs.declared.side_id.SideId.TheVariants.{A, B}
 use Rattle.partition_table.specs.Tables.{Table, Clash, clashes}
 use Rattle.exchange_core.specs.Sides.{Offer, Heard, Exchange, Side, is_side, clashes_for, clashes_heard, clashes_of, is_lawful, put_ruling, take_heard, take_in}
 use Rattle.exchange_core.specs.Calls.{Take, carried_out}

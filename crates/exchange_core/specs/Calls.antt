@@ -1,7 +1,8 @@
 -- The calls of a side with what they are given, and the side that a list of them leads to.
 use Rattle.std.specs.Prelude.{ℕ, Bool, true, false, List, [], ◌∷◌, Option, unwrap_or}
-use Rattle.partition_table.specs.Tables.{Name, Row}
-use Rattle.exchange_core.specs.declared.side_id.SideId.{SideId}
+use Rattle.clash_record.specs.Name.{Name}
+use Rattle.partition_table.specs.Tables.{Row}
+use Rattle.clash_record.specs.declared.side_id.SideId.{SideId}
 use Rattle.exchange_core.specs.Sides.{Offer, Withdrawals, Judged, Side, new_side, register, unregister, begin, hear, take, withdraw, close_list, hear_list, finish, abandon}
 
 pub data Call : Type 0 where

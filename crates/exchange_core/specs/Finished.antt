@@ -1,9 +1,10 @@
 -- What a finish gives.
 use Rattle.std.specs.Prelude.{◌≡◌, ℕ, IsTrue, List, [], ◌∷◌, length, map, Option, Some, None, slice_get}
-use Rattle.std.specs.Option.{option_map, option_and_then}
-use Rattle.partition_table.specs.Tables.{Name, Table, Clash, Gone, clashes, merge, fit_together}
-use Rattle.exchange_core.specs.declared.side_id.SideId.{SideId}
-use Rattle.exchange_core.specs.declared.side_id.SideId.TheVariants.{A, B}
+use Rattle.std.specs.Option.{option_and_then}
+use Rattle.clash_record.specs.Name.{Name}
+use Rattle.partition_table.specs.Tables.{Table, Clash, Gone, clashes, merge, fit_together}
+use Rattle.clash_record.specs.declared.side_id.SideId.{SideId}
+use Rattle.clash_record.specs.declared.side_id.SideId.TheVariants.{A, B}
 use Rattle.exchange_core.specs.Sides.{Judged, Heard, Exchange, Side, is_lawful, merged_table}
 
 -- the two tables that were merged, with the uptimes of their halves and the names withdrawn of each, the ruling of each

@@ -2,9 +2,10 @@
 use Rattle.std.specs.Prelude.{◌≡◌, ℕ, IsTrue, false, List, [], ◌∷◌, ◌++◌, length, Option, Some, None, is_some, slice_get}
 use Rattle.std.specs.Option.{option_map, option_and_then}
 use Rattle.builtin_resolvers.specs.declared.verdicts.Verdict3.{Verdict3}
-use Rattle.partition_table.specs.Tables.{Name, Table, Clash, Gone, IsOneOfFour, clashes, answer, IsMerge, fit_together}
-use Rattle.exchange_core.specs.declared.side_id.SideId.{SideId}
-use Rattle.exchange_core.specs.declared.side_id.SideId.TheVariants.{A, B}
+use Rattle.clash_record.specs.Name.{Name}
+use Rattle.partition_table.specs.Tables.{Table, Clash, Gone, IsOneOfFour, clashes, answer, IsMerge, fit_together}
+use Rattle.clash_record.specs.declared.side_id.SideId.{SideId}
+use Rattle.clash_record.specs.declared.side_id.SideId.TheVariants.{A, B}
 use Rattle.exchange_core.specs.Sides.{Heard, Exchange, Side}
 use Rattle.exchange_core.specs.Calls.{Call, Begin, Close_list, Finish, carried_out, replay}
 use Rattle.exchange_core.specs.Worlds.{Event, Does, Judges, Ruling, side_of, world_after, ruling_at, taken_by}

@@ -3,6 +3,7 @@ pub mod Faults
 pub mod Finished
 pub mod History
 pub mod Journal
+pub mod Lists
 pub mod Refusals
 pub mod Rows
 pub mod Shown

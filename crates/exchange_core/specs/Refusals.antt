@@ -1,38 +1,36 @@
 -- The refusal that is due at each call of a side: the least number that stands.
-use Rattle.std.specs.Prelude.{◌≡◌, ◌⊎◌, ℕ, ◌+◌, Bool, true, false, not, ◌&&◌, ◌==◌, nat_lt, nat_le, if◌then◌else◌, List, [], ◌∷◌, length, Option, Some, None, is_some, is_none, Result, Ok, Err}
+use Rattle.std.specs.Prelude.{ℕ, ◌+◌, Bool, not, ◌&&◌, ◌==◌, nat_lt, nat_le, if◌then◌else◌, List, [], ◌∷◌, length, Option, Some, None, is_some, is_none}
 use Rattle.std.specs.Option.{option_map_or}
 use Rattle.std.specs.FinMap.{len, contains_key}
 use Rattle.clash_record.specs.declared.registrations.Registration.{Registration}
 use Rattle.upload_store.specs.Programs.{Programs}
-use Rattle.partition_table.specs.Tables.{Name, Table, Clash, max_names, row_for, agrees_with, union_len, tables_agree, is_in}
+use Rattle.clash_record.specs.Name.{Name}
+use Rattle.partition_table.specs.Tables.{Table, Clash, max_names, row_for, agrees_with, union_len, tables_agree, is_in}
+use Rattle.partition_table.specs.declared.fault.TableFault.TheVariants.{NameTaken, NoSuchName, Full, TooManyNames, UnknownProgram, OtherCode}
 use Rattle.partition_table.specs.Faults.{is_known}
-use Rattle.exchange_core.specs.declared.side_id.SideId.{SideId}
-use Rattle.exchange_core.specs.declared.side_id.SideId.TheVariants.{A, B}
+use Rattle.clash_record.specs.declared.side_id.SideId.{SideId}
+use Rattle.clash_record.specs.declared.side_id.SideId.TheVariants.{A, B}
 use Rattle.exchange_core.specs.declared.fault.MissingPart.{MissingPart}
 use Rattle.exchange_core.specs.declared.fault.MissingPart.TheVariants.{TheirOffer, Ruling, OwnList, OtherList}
 use Rattle.exchange_core.specs.declared.fault.SideFault.{SideFault}
-use Rattle.exchange_core.specs.declared.fault.SideFault.TheVariants.{NameTaken, NoSuchName, Full, Healing, NotHealing, StaleNumber, SeedDiffers, TooManyNames, StrangeRuling, Missing, JournalFull, UnknownProgram, OtherCode, OtherNumber, OwnOffer, Withdrawn, ListClosed, OutOfMemory}
+use Rattle.exchange_core.specs.declared.fault.SideFault.TheVariants.{Healing, NotHealing, StaleNumber, SeedDiffers, StrangeRuling, Missing, JournalFull, OtherNumber, OwnOffer, Withdrawn, ListClosed}
+use Rattle.exchange_core.specs.declared.fault.SideFault.TheVariants as of
 use Rattle.exchange_core.specs.Sides.{Offer, Withdrawals, Judged, Heard, Exchange, Side, is_one_of_four, is_side, is_above, clashes_of, has_clash}
 
--- a call answers Ok just where no refusal is due, and else refuses so; or memory ran out
-abbrev pub IsAnswered : {A : Type 0} → Option SideFault → Result A SideFault → Type 0
-IsAnswered due (Ok x) = due ≡ None
-IsAnswered due (Err fault) = (due ≡ Some fault) ⊎ (fault ≡ OutOfMemory)
-
--- In each of these, `full` says that the journal has as many events as it holds.
+-- In each of these, `full` is whether the journal has 65,536 events.
 
 abbrev pub register_fault : Bool → Side → Name → Registration → Programs → Option SideFault
 register_fault full side name r store =
-    if contains_key side.table name then Some NameTaken
-    else (if not (nat_lt (len side.table) max_names) then Some Full
+    if contains_key side.table name then Some (of.Table NameTaken)
+    else (if not (nat_lt (len side.table) max_names) then Some (of.Table Full)
     else (if is_some side.exchange then Some Healing
     else (if full then Some JournalFull
-    else (if not (is_known store r.resolver) then Some UnknownProgram
-    else (if not (agrees_with side.table (row_for store r)) then Some OtherCode else None)))))
+    else (if not (is_known store r.resolver) then Some (of.Table UnknownProgram)
+    else (if not (agrees_with side.table (row_for store r)) then Some (of.Table OtherCode) else None)))))
 
 abbrev pub unregister_fault : Bool → Side → Name → Option SideFault
 unregister_fault full side name =
-    if not (contains_key side.table name) then Some NoSuchName
+    if not (contains_key side.table name) then Some (of.Table NoSuchName)
     else (if is_some side.exchange then Some Healing
     else (if full then Some JournalFull else None))
 
@@ -55,9 +53,9 @@ agree_for B own other = tables_agree other own
 abbrev pub first_offer_fault : Bool → Side → Exchange → Offer → Option SideFault
 first_offer_fault full side exchange offer =
     if not (exchange.seed == offer.seed) then Some SeedDiffers
-    else (if not (nat_le (union_for side.id side.table offer.table) max_names) then Some TooManyNames
+    else (if not (nat_le (union_for side.id side.table offer.table) max_names) then Some (of.Table TooManyNames)
     else (if full then Some JournalFull
-    else (if not (agree_for side.id side.table offer.table) then Some OtherCode else None)))
+    else (if not (agree_for side.id side.table offer.table) then Some (of.Table OtherCode) else None)))
 
 -- what is due to what a side sent, of this number
 abbrev pub sent_fault : Bool → SideId → Exchange → SideId → ℕ → Option SideFault
@@ -103,7 +101,7 @@ withdraw_fault_in full name exchange =
 
 abbrev pub withdraw_fault : Bool → Side → Name → Option SideFault
 withdraw_fault full side name =
-    if not (contains_key side.table name) then Some NoSuchName
+    if not (contains_key side.table name) then Some (of.Table NoSuchName)
     else option_map_or (withdraw_fault_in full name) side.exchange (Some NotHealing)
 
 abbrev pub close_list_fault_in : Bool → Exchange → Option SideFault

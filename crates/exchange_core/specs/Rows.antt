@@ -1,7 +1,8 @@
 -- The rows that are still to be shown.
 use Rattle.std.specs.Prelude.{List, not, filter}
 use Rattle.clash_record.specs.declared.registrations.Registration.{Registration}
-use Rattle.partition_table.specs.Tables.{Name, is_in}
+use Rattle.clash_record.specs.Name.{Name}
+use Rattle.partition_table.specs.Tables.{is_in}
 use Rattle.exchange_core.specs.declared.shown_rows.ShownRows.{ShownRows}
 
 -- those of names that aren't among the withdrawn

@@ -5,10 +5,11 @@ use Rattle.std.specs.List.{fold, list_all, list_any}
 use Rattle.std.specs.FinMap.{empty, insert, remove, contains_key, len}
 use Rattle.builtin_resolvers.specs.declared.verdicts.Verdict3.{Verdict3}
 use Rattle.builtin_resolvers.specs.declared.verdicts.Verdict3.TheVariants.{First, Second, Neither}
-use Rattle.partition_table.specs.Tables.{Name, Row, Table, max_names, agrees_with, same_clash, Clash, clashes, answer, word_of, merge, is_in, fit_together}
-use Rattle.exchange_core.specs.declared.side_id.SideId.{SideId}
+use Rattle.clash_record.specs.Name.{Name}
+use Rattle.partition_table.specs.Tables.{Row, Table, max_names, agrees_with, same_clash, Clash, clashes, answer, word_of, merge, is_in, fit_together}
+use Rattle.clash_record.specs.declared.side_id.SideId.{SideId}
 pub use Rattle.exchange_core.specs.declared.judged.Judged.{Judged}
-use Rattle.exchange_core.specs.declared.side_id.SideId.TheVariants.{A, B}
+use Rattle.clash_record.specs.declared.side_id.SideId.TheVariants.{A, B}
 
 -- ---- clashes, words and names
 

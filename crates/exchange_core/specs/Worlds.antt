@@ -3,8 +3,8 @@ use Rattle.std.specs.Prelude.{ℕ, ◌&&◌, ◌==◌, nat_lt, if◌then◌else�
 use Rattle.std.specs.Option.{option_map, option_and_then, option_map_or}
 use Rattle.std.specs.List.{find}
 use Rattle.partition_table.specs.Tables.{Clash, clashes, answer, word_of}
-use Rattle.exchange_core.specs.declared.side_id.SideId.{SideId}
-use Rattle.exchange_core.specs.declared.side_id.SideId.TheVariants.{A, B}
+use Rattle.clash_record.specs.declared.side_id.SideId.{SideId}
+use Rattle.clash_record.specs.declared.side_id.SideId.TheVariants.{A, B}
 use Rattle.exchange_core.specs.Sides.{Offer, Withdrawals, Judged, Side, new_side, is_side, has_clash}
 use Rattle.exchange_core.specs.Calls.{Call, Begin, Hear, Take, Close_list, Hear_list, carried_out, takes_message}
 

@@ -4,6 +4,7 @@ ghost use Rattle.std.specs.Option.{option_map};
 ghost use Rattle.std.specs.Arc.{arc_value};
 ghost use Rattle.std.specs.FinMap.{get};
 ghost use Rattle.partition_table.specs.Tables.{row_for, code_for, rows_of};
+ghost use Rattle.exchange_core.specs.Lists.{AreNamesOf};
 ghost use Rattle.exchange_core.specs.Rows.{rows_left};
 ghost use Rattle.partition_table.specs.Judged.{clash_of_verdict, word_of_verdict, answer_of_verdict};
 ghost use Rattle.exchange_core.specs.Sides.{new_side, shown_table};
@@ -12,7 +13,8 @@ ghost use Rattle.exchange_core.specs.Calls as call;
 ghost use Rattle.exchange_core.specs.Worlds.{offer_of, list_of};
 ghost use Rattle.exchange_core.specs.Journal.{max_events};
 ghost use Rattle.exchange_core.specs.Finished.{finished_from};
-ghost use Rattle.exchange_core.specs.Refusals.{IsAnswered};
+ghost use Rattle.numbered.specs.Answers.{IsAnswered};
+ghost use Rattle.exchange_core.specs.Faults.{side_fault_number};
 ghost use Rattle.exchange_core.specs.Refusals as due;
 ghost use Rattle.exchange_core.specs.Shown.{shown, calls, is_full, IsDone, IsUntouched};
 
@@ -23,9 +25,8 @@ use crate::judged::Judged;
 use crate::messages::{Offer, Withdrawals};
 use crate::shown_rows::ShownRows;
 use crate::side::Side;
-use crate::side_id::SideId;
 use crate::state::State;
-use clash_record::{Name, Registration, ResolverId};
+use clash_record::{Name, Registration, ResolverId, SideId};
 use partition_table::Ruling;
 use std::alloc::{AllocError, Global};
 use std::sync::Arc;
@@ -36,7 +37,7 @@ use verifier::Verified;
 pub const MAX_EVENTS: usize = 65_536;
 
 impl Side {
-    /// An idle side without names. Takes no memory.
+    /// An idle side without names. Allocates nothing.
     pub fn new(alloc: Global, id: SideId) -> Side
         ensures state { shown result ≡ new_side id }
         ensures journal { calls result ≡ [] }
@@ -54,7 +55,7 @@ impl Side {
         self.state.id()
     }
 
-    /// How many calls it answered Ok, aside from `whereis` and `rows`; at most 65,536. Takes no memory.
+    /// How many calls it answered Ok, aside from `whereis` and `rows`; at most 65,536. Allocates nothing.
     pub fn events(&self) -> usize
         ensures count { result ≡ length (calls self.now) }
         ensures few { result ≤ max_events }
@@ -62,7 +63,7 @@ impl Side {
         self.journal.len()
     }
 
-    /// What the name is registered with, if it is; an open side leaves out the names that it withdrew. Takes no memory.
+    /// What the name is registered with, if it is; an open side leaves out the names that it withdrew. Allocates nothing.
     pub fn whereis(&self, name: &Name) -> Option<&Registration>
         ensures { option_map (λ r. r.now) result
             ≡ option_map (λ row. row.registration) (get (shown_table (shown self.now)) name.now) }
@@ -71,14 +72,14 @@ impl Side {
     }
 
     /// The names with their registrations, in the order of names; an open side leaves out the names that it withdrew.
-    /// Takes no memory.
+    /// Allocates nothing.
     pub fn rows(&self) -> ShownRows<'_>
         ensures { rows_left result ≡ rows_of (shown_table (shown self.entry.now)) }
     {
         self.state.rows()
     }
 
-    // Whether the journal has as many events as it holds.
+    // Checks whether the journal has as many events as it holds.
     fn is_full(&self) -> bool
         ensures { result ≡ is_full self.now }
     {
@@ -96,7 +97,7 @@ impl Side {
         registration: Registration,
         store: &UploadStore,
     ) -> Result<(), SideFault>
-        ensures answer { IsAnswered (due.register_fault (is_full self.old) (shown self.old) name registration store.now)
+        ensures answer { IsAnswered side_fault_number (due.register_fault (is_full self.old) (shown self.old) name registration store.now)
             result }
         ensures done { OnOk result (IsDone self.old (call.Register name (row_for store.now registration)) self.new) }
         ensures untouched { OnErr result (IsUntouched self.old self.new) }
@@ -117,7 +118,7 @@ impl Side {
     /// Refusals are 31 for a name that isn't registered, 33 where an exchange is open, and 40 where the journal is
     /// full; the least that stands is answered. 90 is answered where memory runs out.
     pub fn unregister(&mut self, name: &Name) -> Result<Registration, SideFault>
-        ensures answer { IsAnswered (due.unregister_fault (is_full self.old) (shown self.old) name.now) result }
+        ensures answer { IsAnswered side_fault_number (due.unregister_fault (is_full self.old) (shown self.old) name.now) result }
         ensures given { IfOk result (λ registration. option_map (λ row. row.registration)
             (get (shown self.old).table name.now) ≡ Some registration) }
         ensures done { OnOk result (IsDone self.old (call.Unregister name.now) self.new) }
@@ -145,7 +146,7 @@ impl Side {
         seed: u64,
         uptime: u64,
     ) -> Result<Offer, SideFault>
-        ensures answer { IsAnswered (due.begin_fault (is_full self.old) (shown self.old) number) result }
+        ensures answer { IsAnswered side_fault_number (due.begin_fault (is_full self.old) (shown self.old) number) result }
         ensures offer { IfOk result (λ offer. offer ≡ offer_of (shown self.old) number seed uptime) }
         ensures done { OnOk result (IsDone self.old (call.Begin number seed uptime) self.new) }
         ensures untouched { OnErr result (IsUntouched self.old self.new) }
@@ -170,7 +171,7 @@ impl Side {
     /// some for the list of clashes, one more owner of each program that judges, a place for each ruling, and two
     /// owners of the table.
     pub fn hear(&mut self, alloc: Global, offer: &Offer) -> Result<(), SideFault>
-        ensures answer { IsAnswered (due.hear_fault (is_full self.old) (shown self.old) offer.now) result }
+        ensures answer { IsAnswered side_fault_number (due.hear_fault (is_full self.old) (shown self.old) offer.now) result }
         ensures done { OnOk result (IsDone self.old (call.Hear offer.now) self.new) }
         ensures untouched { OnErr result (IsUntouched self.old self.new) }
     {
@@ -190,7 +191,7 @@ impl Side {
     /// exchange at one of its four words, 40 where the journal is full, and 45 for another number; the least that
     /// stands is answered. 90 is answered where memory runs out.
     pub fn take(&mut self, ruling: Ruling<'_>) -> Result<(), SideFault>
-        ensures answer { IsAnswered (due.take_fault (is_full self.old) (shown self.old) ruling.entry.number
+        ensures answer { IsAnswered side_fault_number (due.take_fault (is_full self.old) (shown self.old) ruling.entry.number
             ruling.entry.k
             (clash_of_verdict ruling.entry.verdict) (word_of_verdict ruling.entry.verdict)) result }
         ensures done { OnOk result (IsDone self.old (call.Take ruling.entry.number ruling.entry.k record {
@@ -219,7 +220,7 @@ impl Side {
     /// full, 47 for a name that was withdrawn already, and 48 where the list is closed; the least that stands is
     /// answered. 90 is answered where memory runs out.
     pub fn withdraw(&mut self, name: &Name) -> Result<(), SideFault>
-        ensures answer { IsAnswered (due.withdraw_fault (is_full self.old) (shown self.old) name.now) result }
+        ensures answer { IsAnswered side_fault_number (due.withdraw_fault (is_full self.old) (shown self.old) name.now) result }
         ensures done { OnOk result (IsDone self.old (call.Withdraw name.now) self.new) }
         ensures untouched { OnErr result (IsUntouched self.old self.new) }
     {
@@ -238,8 +239,10 @@ impl Side {
     /// Refusals are 34 where no exchange is open, 40 where the journal is full, and 48 where the list is closed
     /// already; the least that stands is answered. 90 is answered where memory runs out.
     pub fn close_list(&mut self, alloc: Global) -> Result<Withdrawals, SideFault>
-        ensures answer { IsAnswered (due.close_list_fault (is_full self.old) (shown self.old)) result }
+        ensures answer { IsAnswered side_fault_number (due.close_list_fault (is_full self.old) (shown self.old)) result }
         ensures list { IfOk result (λ list. list ≡ list_of (shown self.old)) }
+        // The names are distinct names of the side's table.
+        ensures own { IfOk result (λ list. AreNamesOf (shown self.old).table list.names) }
         ensures done { OnOk result (IsDone self.old call.Close_list self.new) }
         ensures untouched { OnErr result (IsUntouched self.old self.new) }
     {
@@ -257,7 +260,7 @@ impl Side {
     /// Refusals are 34 where no exchange is open, 40 where the journal is full, 45 for another number, and 46 for an
     /// own list; the least that stands is answered. 90 is answered where memory runs out.
     pub fn hear_list(&mut self, sent: &Withdrawals) -> Result<(), SideFault>
-        ensures answer { IsAnswered (due.hear_list_fault (is_full self.old) (shown self.old) sent.now) result }
+        ensures answer { IsAnswered side_fault_number (due.hear_list_fault (is_full self.old) (shown self.old) sent.now) result }
         ensures done { OnOk result (IsDone self.old (call.Hear_list sent.now) self.new) }
         ensures untouched { OnErr result (IsUntouched self.old self.new) }
     {
@@ -278,7 +281,7 @@ impl Side {
     /// is answered. 90 is answered where memory runs out: it takes some for the merge, its copy, the rulings and the
     /// answers.
     pub fn finish(&mut self, alloc: Global) -> Result<Finished, SideFault>
-        ensures answer { IsAnswered (due.finish_fault (is_full self.old) (shown self.old)) result }
+        ensures answer { IsAnswered side_fault_number (due.finish_fault (is_full self.old) (shown self.old)) result }
         ensures given { IfOk result (λ finished. finished_from (shown self.old) ≡ Some finished) }
         ensures done { OnOk result (IsDone self.old call.Finish self.new) }
         ensures untouched { OnErr result (IsUntouched self.old self.new) }
@@ -297,7 +300,7 @@ impl Side {
     /// Refusals are 34 where no exchange is open, and 40 where the journal is full; the least that stands is answered.
     /// 90 is answered where memory runs out.
     pub fn abandon(&mut self) -> Result<(), SideFault>
-        ensures answer { IsAnswered (due.abandon_fault (is_full self.old) (shown self.old)) result }
+        ensures answer { IsAnswered side_fault_number (due.abandon_fault (is_full self.old) (shown self.old)) result }
         ensures done { OnOk result (IsDone self.old call.Abandon self.new) }
         ensures untouched { OnErr result (IsUntouched self.old self.new) }
     {

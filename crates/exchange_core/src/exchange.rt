@@ -16,8 +16,8 @@ use std::alloc::{AllocError, Global};
 use std::marker::Model;
 use std::sync::Arc;
 
-/// The other side's offer, and a place for the ruling of each clash.
-#[derive(Drop)]
+// The other side's offer, and a place for the ruling of each clash.
+#[derive(Debug, Drop)]
 pub(crate) struct Heard {
     table: Arc<Table>,
     uptime: u64,
@@ -37,7 +37,7 @@ impl Model for Heard {
 }
 
 impl Heard {
-    /// A table and an uptime that were heard, and so many places.
+    // A table and an uptime that were heard, and so many places.
     pub(crate) fn new(
         alloc: Global,
         table: Arc<Table>,
@@ -57,21 +57,21 @@ impl Heard {
         })
     }
 
-    /// The other side's table.
+    // The other side's table.
     pub(crate) fn table(&self) -> &Table
         ensures { result.now ≡ self.now.table }
     {
         &self.table
     }
 
-    /// The rulings, in the order of clashes.
+    // The rulings, in the order of clashes.
     pub(crate) fn rulings(&self) -> &[Option<Judged>]
         ensures { result.now ≡ self.now.rulings }
     {
         &self.rulings
     }
 
-    /// Keeps the ruling of clash `k`, unless it has one.
+    // Keeps the ruling of clash `k`, unless it has one.
     pub(crate) fn put(&mut self, k: u32, judged: Judged)
         ensures { self.new ≡ record self.old { rulings = put_ruling self.old.rulings k judged } }
     {
@@ -80,7 +80,7 @@ impl Heard {
         }
     }
 
-    /// The table with its owner, and the uptime.
+    // The table with its owner, and the uptime.
     pub(crate) fn into_table(self) -> (Arc<Table>, u64)
         ensures table { arc_value result.0 ≡ self.table }
         ensures uptime { result.1 ≡ self.uptime }
@@ -89,8 +89,8 @@ impl Heard {
     }
 }
 
-/// An exchange that was begun and is neither finished nor abandoned.
-#[derive(Drop)]
+// An exchange that was begun and is neither finished nor abandoned.
+#[derive(Debug, Drop)]
 pub(crate) struct Exchange {
     pub(crate) number: u64,
     pub(crate) seed: u64,
@@ -123,7 +123,7 @@ impl Model for Exchange {
 }
 
 impl Exchange {
-    /// An exchange in which nothing was heard yet. Takes no memory.
+    // An exchange in which nothing was heard yet. Allocates nothing.
     pub(crate) fn new(alloc: Global, number: u64, seed: u64, uptime: u64) -> Exchange
         ensures { result ≡ new_exchange number seed uptime }
     {
@@ -138,56 +138,56 @@ impl Exchange {
         }
     }
 
-    /// The number.
+    // The number.
     pub(crate) fn number(&self) -> u64
         ensures { result ≡ self.now.number }
     {
         self.number
     }
 
-    /// The seed.
+    // The seed.
     pub(crate) fn seed(&self) -> u64
         ensures { result ≡ self.now.seed }
     {
         self.seed
     }
 
-    /// Whether the list of withdrawn names is closed.
+    // Checks whether the list of withdrawn names is closed.
     pub(crate) fn is_closed(&self) -> bool
         ensures { result ≡ self.now.closed }
     {
         self.closed
     }
 
-    /// How long this side has been up.
+    // How long this side has been up.
     pub(crate) fn uptime(&self) -> u64
         ensures { result ≡ self.now.uptime }
     {
         self.uptime
     }
 
-    /// Whether the other side's offer was heard.
+    // Checks whether the other side's offer was heard.
     pub(crate) fn has_heard(&self) -> bool
         ensures { result ≡ is_some self.now.heard }
     {
         self.heard.is_some()
     }
 
-    /// Whether the other side's list was heard.
+    // Checks whether the other side's list was heard.
     pub(crate) fn has_list(&self) -> bool
         ensures { result ≡ is_some self.now.their_list }
     {
         self.their_list.is_some()
     }
 
-    /// Keeps what was heard.
+    // Keeps what was heard.
     pub(crate) fn keep_heard(&mut self, heard: Heard)
         ensures { self.new ≡ record self.old { heard = Some heard } }
     {
         self.heard = Some(heard);
     }
 
-    /// Keeps the ruling of clash `k`, unless it has one.
+    // Keeps the ruling of clash `k`, unless it has one.
     pub(crate) fn put(&mut self, k: u32, judged: Judged)
         ensures { self.new ≡ with_ruling k judged self.old }
     {
@@ -196,21 +196,21 @@ impl Exchange {
         }
     }
 
-    /// Whether the name was withdrawn.
+    // Checks whether the name was withdrawn.
     pub(crate) fn has_withdrawn(&self, name: &Name) -> bool
         ensures { result ≡ is_in name.now self.now.withdrawn }
     {
         has_name(&self.withdrawn, name)
     }
 
-    /// The names that were withdrawn.
+    // The names that were withdrawn.
     pub(crate) fn withdrawn(&self) -> &[Name]
         ensures { result.now ≡ self.now.withdrawn }
     {
         &self.withdrawn
     }
 
-    /// Withdraws one more name.
+    // Withdraws one more name.
     pub(crate) fn withdraw(&mut self, name: Name) -> Result<(), AllocError>
         ensures done { OnOk result (self.new ≡ record self.old { withdrawn = self.old.withdrawn ++ name ∷ [] }) }
         ensures unchanged { OnErr result (self.new ≡ self.old) }
@@ -219,21 +219,21 @@ impl Exchange {
         Ok(())
     }
 
-    /// Closes the list of withdrawn names.
+    // Closes the list of withdrawn names.
     pub(crate) fn close(&mut self)
         ensures { self.new ≡ record self.old { closed = true } }
     {
         self.closed = true;
     }
 
-    /// Keeps the other side's list.
+    // Keeps the other side's list.
     pub(crate) fn keep_list(&mut self, names: Arc<Vec<Name>>)
         ensures { self.new ≡ record self.old { their_list = Some (names_of names) } }
     {
         self.their_list = Some(names);
     }
 
-    /// The withdrawn names again, to be sent.
+    // The withdrawn names again, to be sent.
     pub(crate) fn copy_names(&self, alloc: Global) -> Result<Arc<Vec<Name>>, AllocError>
         ensures { IfOk result (λ names. names_of names ≡ self.now.withdrawn) }
     {
@@ -243,7 +243,7 @@ impl Exchange {
         }
     }
 
-    /// The first thing that is lacking before the exchange can be finished.
+    // The first thing that is lacking before the exchange can be finished.
     pub(crate) fn missing(&self) -> Option<MissingPart>
         ensures { result ≡ missing_of self.now }
     {
@@ -263,14 +263,14 @@ impl Exchange {
     }
 }
 
-/// Whether the name is one of these.
+// Checks whether the name is one of these.
 pub(crate) fn has_name(names: &[Name], name: &Name) -> bool
     ensures { result ≡ is_in name.now names.now }
 {
     names.iter().any(|other| is_same(name, other))
 }
 
-// Whether the two names are one.
+// Checks whether the two names are one.
 fn is_same(a: &Name, b: &Name) -> bool
     ensures { result ≡ is_name a.now b.now }
 {

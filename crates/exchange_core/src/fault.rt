@@ -1,9 +1,9 @@
-//! Why a side refused.
+//! The refusals of a side.
 ghost use Rattle.std.specs.Prelude.{◌≡◌, None};
-ghost use Rattle.exchange_core.specs.declared.fault.SideFault.TheVariants.{OutOfMemory};
-ghost use Rattle.exchange_core.specs.Faults.{side_fault_number, fault_of_table};
+ghost use Rattle.exchange_core.specs.declared.fault.SideFault.TheVariants.{Table, OutOfMemory};
+ghost use Rattle.exchange_core.specs.Faults.{side_fault_number};
 
-use numbered::{Numbered, Place};
+use numbered::{Numbered, Place, words_of};
 use partition_table::TableFault;
 use std::alloc::AllocError;
 use thiserror::Error;
@@ -11,72 +11,46 @@ use thiserror::Error;
 /// What an exchange lacks before it can be finished.
 #[derive(Clone, Copy, Debug, PartialEq, Eq)]
 pub enum MissingPart {
-    /// The other side's offer wasn't heard.
+    /// The other side's offer.
     TheirOffer,
-    /// This clash, counted from 0, has no ruling, and each before it has one.
+    /// The ruling of this clash, counted from 0. Each earlier clash has one.
     Ruling(usize),
-    /// This side's own list of withdrawn names isn't closed.
+    /// The closing of this side's own list of withdrawn names.
     OwnList,
-    /// The other side's list of withdrawn names wasn't heard.
+    /// The other side's list of withdrawn names.
     OtherList,
 }
 
-/// Why a call of a side was refused.
+/// Why a side refuses a call.
 #[derive(Clone, Copy, Debug, PartialEq, Eq, Error)]
+#[error("{}", words_of(self.number()))]
 pub enum SideFault {
-    /// The name is registered already.
-    #[error("the name is taken")]
-    NameTaken,
-    /// The name isn't registered.
-    #[error("the name isn't registered")]
-    NoSuchName,
-    /// The table has as many names as it holds.
-    #[error("the table is full")]
-    Full,
-    /// An exchange is open.
-    #[error("an exchange is open")]
+    /// The table refuses: 30, 31, 32, 37, 41, 42 or 90.
+    #[error(transparent)]
+    Table(TableFault),
+    /// 33: an exchange is open.
     Healing,
-    /// No exchange is open.
-    #[error("no exchange is open")]
+    /// 34: no exchange is open.
     NotHealing,
-    /// The number isn't above every number that this side began.
-    #[error("the number isn't above those begun before")]
+    /// 35: the number isn't above every number that this side began.
     StaleNumber,
-    /// The offer has another seed.
-    #[error("the offer has another seed")]
+    /// 36: the offer has another seed.
     SeedDiffers,
-    /// The two tables have more names together than one holds.
-    #[error("the two tables have too many names")]
-    TooManyNames,
-    /// The ruling isn't of a clash of this exchange at one of its four words.
-    #[error("the ruling isn't one of this exchange")]
+    /// 38: the ruling isn't of a clash of this exchange at one of its four words.
     StrangeRuling,
-    /// The exchange can't be finished yet.
-    #[error("the exchange can't be finished yet")]
+    /// 39: the exchange isn't complete.
     Missing(MissingPart),
-    /// The journal has as many events as it holds.
-    #[error("the journal is full")]
+    /// 40: the journal has 65,536 events.
     JournalFull,
-    /// The store has no program with this id.
-    #[error("no program has this id")]
-    UnknownProgram,
-    /// Other code is kept under this id.
-    #[error("other code is kept under this id")]
-    OtherCode,
-    /// It is of another exchange than the open one.
-    #[error("it is of another exchange")]
+    /// 45: the message belongs to another exchange.
     OtherNumber,
-    /// It was made by this side itself.
-    #[error("it was made by this side")]
+    /// 46: the message was made by this side.
     OwnOffer,
-    /// The name was withdrawn already.
-    #[error("the name was withdrawn already")]
+    /// 47: the name is already withdrawn.
     Withdrawn,
-    /// The list of withdrawn names is closed.
-    #[error("the list of withdrawn names is closed")]
+    /// 48: the list of withdrawn names is closed.
     ListClosed,
-    /// Memory ran out.
-    #[error("out of memory")]
+    /// 90: out of memory.
     OutOfMemory,
 }
 
@@ -87,19 +61,14 @@ impl Numbered for SideFault {
 
     fn number(&self) -> u32 {
         match self {
-            SideFault::NameTaken => 30,
-            SideFault::NoSuchName => 31,
-            SideFault::Full => 32,
+            SideFault::Table(fault) => fault.number(),
             SideFault::Healing => 33,
             SideFault::NotHealing => 34,
             SideFault::StaleNumber => 35,
             SideFault::SeedDiffers => 36,
-            SideFault::TooManyNames => 37,
             SideFault::StrangeRuling => 38,
             SideFault::Missing(_) => 39,
             SideFault::JournalFull => 40,
-            SideFault::UnknownProgram => 41,
-            SideFault::OtherCode => 42,
             SideFault::OtherNumber => 45,
             SideFault::OwnOffer => 46,
             SideFault::Withdrawn => 47,
@@ -122,17 +91,9 @@ impl From<AllocError> for SideFault {
 }
 
 impl From<TableFault> for SideFault {
-    ghost from_gives = { λ fault converted. converted ≡ fault_of_table fault };
+    ghost from_gives = { λ fault converted. converted ≡ Table fault };
 
     fn from(fault: TableFault) -> SideFault {
-        match fault {
-            TableFault::NameTaken => SideFault::NameTaken,
-            TableFault::NoSuchName => SideFault::NoSuchName,
-            TableFault::Full => SideFault::Full,
-            TableFault::TooManyNames => SideFault::TooManyNames,
-            TableFault::UnknownProgram => SideFault::UnknownProgram,
-            TableFault::OtherCode => SideFault::OtherCode,
-            TableFault::OutOfMemory => SideFault::OutOfMemory,
-        }
+        SideFault::Table(fault)
     }
 }

@@ -5,8 +5,7 @@ ghost use Rattle.exchange_core.specs.Finished.{IsFinished, finished_by};
 ghost use Rattle.exchange_core.specs.model.Sharing.{names_of};
 
 use crate::judged::Judged;
-use crate::side_id::SideId;
-use clash_record::Name;
+use clash_record::{Name, SideId};
 use partition_table::Table;
 use std::marker::Model;
 use std::sync::Arc;
@@ -16,7 +15,7 @@ use std::sync::Arc;
 ///
 /// That the table is the merge of the two under these rulings and lists, that each word is one of its clash's four, and
 /// each answer its resolver's at that word, stands in the type. Only a side's `finish` makes one.
-#[derive(Drop)]
+#[derive(Debug, Drop)]
 pub struct Finished {
     pub(crate) id: SideId,
     pub(crate) number: u64,

@@ -4,15 +4,15 @@ ghost use Rattle.std.specs.Arc.{arc_value};
 ghost use Rattle.exchange_core.specs.Sides as sides;
 ghost use Rattle.exchange_core.specs.Finished.{all_held, finished_at, finished_from};
 ghost use Rattle.exchange_core.specs.model.Finishing.{IsMergeable, IsMergeOf};
-ghost use Rattle.partition_table.specs.Tables.{Name};
+ghost use Rattle.clash_record.specs.Name.{Name};
 
 use crate::exchange::Exchange;
 use crate::finished::Finished;
 use crate::judged::Judged;
 use crate::pairing::merge_for;
-use crate::side_id::SideId;
 use crate::state::State;
 use builtin_resolvers::Verdict3;
+use clash_record::SideId;
 use partition_table::Table;
 use std::alloc::{AllocError, Global};
 use std::mem;
@@ -25,7 +25,7 @@ struct Merged {
 }
 
 impl State {
-    /// Makes the table the merge of the two, and closes the exchange.
+    // Makes the table the merge of the two, and closes the exchange.
     pub(crate) fn finish(&mut self, alloc: Global) -> Result<Finished, AllocError>
         requires open { IsTrue (is_some self.old.exchange) }
         requires ready { (x : sides.Exchange) → self.old.exchange ≡ Some x → IsMergeable self.old.id self.old.table x }

@@ -1,7 +1,7 @@
 //! The agreement of two sides over every history.
 ghost use Rattle.std.specs.Prelude.{◌≡◌, List, ℕ};
 ghost use Rattle.partition_table.specs.Tables.{Table};
-ghost use Rattle.exchange_core.specs.declared.side_id.SideId.{SideId};
+ghost use Rattle.clash_record.specs.declared.side_id.SideId.{SideId};
 ghost use Rattle.exchange_core.specs.Worlds.{Event};
 ghost use Rattle.exchange_core.specs.History.{BeginsOnce, ClosesOnce, FinishedWith, HasOneSeed, IsLawfulMerge, IsReplayed, JudgesOnce, TakesRulings};
 

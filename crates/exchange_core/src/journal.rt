@@ -5,8 +5,8 @@ use clash_record::{Name, Registration};
 use std::sync::Arc;
 use verifier::Verified;
 
-/// A call of a side that answered Ok, with what it was given.
-#[derive(Drop)]
+// A call of a side that answered Ok, with what it was given.
+#[derive(Debug, Drop)]
 pub(crate) enum Event {
     /// With the program that the registration names.
     Register(Name, Registration, Option<Arc<Verified>>),

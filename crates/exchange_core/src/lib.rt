@@ -14,10 +14,10 @@ mod pairing;
 mod refusing;
 mod shown_rows;
 mod side;
-mod side_id;
 mod state;
 
 pub use calls::MAX_EVENTS;
+pub use clash_record::SideId;
 pub use fault::{MissingPart, SideFault};
 pub use finished::Finished;
 pub use history::history_theorem;
@@ -25,4 +25,3 @@ pub use judged::Judged;
 pub use messages::{Offer, Withdrawals};
 pub use shown_rows::ShownRows;
 pub use side::Side;
-pub use side_id::SideId;

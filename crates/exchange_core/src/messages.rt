@@ -1,17 +1,17 @@
-//! What the two sides of an exchange send each other.
+//! The messages that the two sides of an exchange send each other.
 ghost use Rattle.std.specs.Prelude.{◌≡◌, IfOk};
 ghost use Rattle.std.specs.Arc.{arc_value};
+ghost use Rattle.exchange_core.specs.Lists.{IsNameList};
 ghost use Rattle.exchange_core.specs.model.Sharing.{names_of};
 
-use crate::side_id::SideId;
-use clash_record::Name;
+use clash_record::{Name, SideId};
 use partition_table::Table;
 use std::alloc::AllocError;
 use std::marker::Model;
 use std::sync::Arc;
 
-/// What a side opens an exchange with: its table as it then is. Only a side's `begin` makes one.
-#[derive(Drop)]
+/// The message that opens an exchange: the side's table as `begin` found it. Only `Side::begin` makes one.
+#[derive(Debug, Drop)]
 pub struct Offer {
     side: SideId,
     number: u64,
@@ -39,7 +39,7 @@ impl Model for Offer {
 }
 
 impl Offer {
-    // The offer of a side with this table.
+    // Returns the offer of a side with this table.
     pub(crate) fn new(side: SideId, number: u64, seed: u64, uptime: u64, table: Arc<Table>) -> Offer
         ensures { result ≡ record {
           side = side;
@@ -59,49 +59,49 @@ impl Offer {
         }
     }
 
-    /// The side that made it.
+    /// Returns the side that made it.
     pub fn side(&self) -> SideId
         ensures { result ≡ self.now.side }
     {
         self.side
     }
 
-    /// The number of the exchange.
+    /// Returns the number of the exchange.
     pub fn number(&self) -> u64
         ensures { result ≡ self.now.number }
     {
         self.number
     }
 
-    /// The seed of the words at which clashes are judged.
+    /// Returns the seed of the words at which clashes are judged.
     pub fn seed(&self) -> u64
         ensures { result ≡ self.now.seed }
     {
         self.seed
     }
 
-    /// How long the side has been up.
+    /// Returns the uptime of the side.
     pub fn uptime(&self) -> u64
         ensures { result ≡ self.now.uptime }
     {
         self.uptime
     }
 
-    /// The side's table as it was.
+    /// Returns the side's table at `begin`.
     pub fn table(&self) -> &Table
         ensures { result.now ≡ self.now.table }
     {
         &self.table
     }
 
-    // One more owner of the table.
+    // Adds an owner of the table.
     pub(crate) fn share_table(&self) -> Result<Arc<Table>, AllocError>
         ensures { IfOk result (λ table. arc_value table ≡ self.now.table) }
     {
         self.table.clone()
     }
 
-    // The same offer again, with one more owner of its table.
+    // Copies the offer, with one more owner of its table.
     pub(crate) fn share(&self) -> Result<Offer, AllocError>
         ensures { IfOk result (λ offer. offer ≡ self.now) }
     {
@@ -115,8 +115,9 @@ impl Offer {
     }
 }
 
-/// The names that a side withdrew in an exchange, the earliest first. Only a side's `close_list` makes one.
-#[derive(Drop)]
+/// The distinct names that a side withdrew in an exchange, the earliest first; at most 4,096. Only `Side::close_list`
+/// makes one.
+#[derive(Debug, Drop)]
 pub struct Withdrawals {
     side: SideId,
     number: u64,
@@ -133,11 +134,16 @@ impl Model for Withdrawals {
     ghost coded = { coded_withdrawals };
 
     ghost view = { λ l. record { side = l.side; number = l.number; names = names_of l.names } };
+
+    ghost use Rattle.exchange_core.specs.Lists.{IsNameList};
+
+    ghost invariant = { λ l. IsNameList (names_of l.names) };
 }
 
 impl Withdrawals {
-    // The list of a side with these names.
+    // Returns the list of a side with these names.
     pub(crate) fn new(side: SideId, number: u64, names: Arc<Vec<Name>>) -> Withdrawals
+        requires { IsNameList (names_of names) }
         ensures { result ≡ record { side = side; number = number; names = names_of names } }
     {
         Withdrawals {
@@ -147,35 +153,36 @@ impl Withdrawals {
         }
     }
 
-    /// The side that made it.
+    /// Returns the side that made it.
     pub fn side(&self) -> SideId
         ensures { result ≡ self.now.side }
     {
         self.side
     }
 
-    /// The number of the exchange.
+    /// Returns the number of the exchange.
     pub fn number(&self) -> u64
         ensures { result ≡ self.now.number }
     {
         self.number
     }
 
-    /// The names, in the order in which they were withdrawn.
+    /// Returns the names in the order of their withdrawal.
     pub fn names(&self) -> &[Name]
-        ensures { result.now ≡ self.now.names }
+        ensures names { result.now ≡ self.now.names }
+        ensures listed { IsNameList self.now.names }
     {
         &self.names
     }
 
-    // One more owner of the names.
+    // Adds an owner of the names.
     pub(crate) fn share_names(&self) -> Result<Arc<Vec<Name>>, AllocError>
         ensures { IfOk result (λ names. names_of names ≡ self.now.names) }
     {
         self.names.clone()
     }
 
-    // The same list again, with one more owner of its names.
+    // Copies the list, with one more owner of its names.
     pub(crate) fn share(&self) -> Result<Withdrawals, AllocError>
         ensures { IfOk result (λ sent. sent ≡ self.now) }
     {

@@ -1,16 +1,15 @@
 //! The table of a side beside the other's: A's goes first, whichever side asks.
 ghost use Rattle.std.specs.Prelude.{◌≡◌, IsTrue, IfOk, length};
-ghost use Rattle.partition_table.specs.Faults.{IsRefused, IsAnswered, fit_fault};
+ghost use Rattle.partition_table.specs.Faults.{IsRefused, fit_fault};
 ghost use Rattle.exchange_core.specs.Sides as sides;
 ghost use Rattle.exchange_core.specs.model.Pairing.{fit_fault_for, clash_names_for};
 
-use crate::side_id::SideId;
 use builtin_resolvers::Verdict3;
-use clash_record::Name;
+use clash_record::{Name, SideId};
 use partition_table::{ClashList, Table, TableFault, clashes, fit, merge};
 use std::alloc::{AllocError, Global};
 
-/// Whether the two tables have a merge.
+// Checks whether the two tables have a merge.
 pub(crate) fn fit_for(id: SideId, own: &Table, other: &Table) -> Result<(), TableFault>
     ensures { IsRefused (fit_fault_for id own.now other.now) result }
 {
@@ -20,7 +19,7 @@ pub(crate) fn fit_for(id: SideId, own: &Table, other: &Table) -> Result<(), Tabl
     }
 }
 
-/// The clashes of the two tables.
+// The clashes of the two tables.
 pub(crate) fn clashes_for(
     alloc: Global,
     id: SideId,
@@ -37,7 +36,7 @@ pub(crate) fn clashes_for(
     }
 }
 
-/// The merge of the two tables, which fit together.
+// The merge of the two tables, which fit together.
 pub(crate) fn merge_for(
     alloc: Global,
     id: SideId,

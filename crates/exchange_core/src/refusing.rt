@@ -14,21 +14,20 @@ use crate::exchange::Exchange;
 use crate::fault::SideFault;
 use crate::messages::{Offer, Withdrawals};
 use crate::pairing::fit_for;
-use crate::side_id::SideId;
 use crate::state::State;
-use clash_record::Name;
+use clash_record::{Name, SideId};
 use partition_table::{Clash, MAX_NAMES, Ruling, TableFault, word};
 
 impl State {
-    /// What refuses to register the name before its program is looked up.
+    // What refuses to register the name before its program is looked up.
     pub(crate) fn early_register_fault(&self, full: bool, name: &Name) -> Option<SideFault>
         ensures { result ≡ early_register_fault full self.now name.now }
     {
         if self.table.whereis(name).is_some() {
-            return Some(SideFault::NameTaken);
+            return Some(SideFault::Table(TableFault::NameTaken));
         }
         if self.table.len() == MAX_NAMES {
-            return Some(SideFault::Full);
+            return Some(SideFault::Table(TableFault::Full));
         }
         if self.exchange.is_some() {
             return Some(SideFault::Healing);
@@ -39,12 +38,12 @@ impl State {
         None
     }
 
-    /// What refuses to take the name out.
+    // What refuses to take the name out.
     pub(crate) fn unregister_fault(&self, full: bool, name: &Name) -> Option<SideFault>
         ensures { result ≡ due.unregister_fault full self.now name.now }
     {
         if self.table.whereis(name).is_none() {
-            return Some(SideFault::NoSuchName);
+            return Some(SideFault::Table(TableFault::NoSuchName));
         }
         if self.exchange.is_some() {
             return Some(SideFault::Healing);
@@ -55,7 +54,7 @@ impl State {
         None
     }
 
-    /// What refuses to open an exchange of this number.
+    // What refuses to open an exchange of this number.
     pub(crate) fn begin_fault(&self, full: bool, number: u64) -> Option<SideFault>
         ensures { result ≡ due.begin_fault full self.now number }
     {
@@ -71,7 +70,7 @@ impl State {
         None
     }
 
-    /// What refuses to hear the offer.
+    // What refuses to hear the offer.
     pub(crate) fn hear_fault(&self, full: bool, offer: &Offer) -> Option<SideFault>
         ensures { result ≡ due.hear_fault full self.now offer.now }
     {
@@ -94,18 +93,18 @@ impl State {
         }
         let fit = fit_for(self.id, &self.table, offer.table());
         if let Err(TableFault::TooManyNames) = fit {
-            return Some(SideFault::TooManyNames);
+            return Some(SideFault::Table(TableFault::TooManyNames));
         }
         if full {
             return Some(SideFault::JournalFull);
         }
         if fit.is_err() {
-            return Some(SideFault::OtherCode);
+            return Some(SideFault::Table(TableFault::OtherCode));
         }
         None
     }
 
-    /// What refuses to take the ruling.
+    // What refuses to take the ruling.
     pub(crate) fn take_fault(&self, full: bool, ruling: Ruling<'_>) -> Option<SideFault>
         ensures { result ≡ due.take_fault full self.now ruling.entry.number ruling.entry.k
             (clash_of_verdict ruling.entry.verdict) (word_of_verdict ruling.entry.verdict) }
@@ -127,7 +126,7 @@ impl State {
         None
     }
 
-    // Whether the clash isn't clash `k` of the open exchange, or the word is none of its four.
+    // Checks whether the clash isn't clash `k` of the open exchange, or the word is none of its four.
     fn is_strange(&self, exchange: &Exchange, k: u32, clash: &Clash, at: u64) -> bool
         ensures { result ≡ due.is_strange self.now exchange.now k clash.now at }
     {
@@ -140,12 +139,12 @@ impl State {
         !(is_same_clash(clash, own) && is_one_of_four(at, exchange.seed(), clashes.len() as u32, k))
     }
 
-    /// What refuses to withdraw the name.
+    // What refuses to withdraw the name.
     pub(crate) fn withdraw_fault(&self, full: bool, name: &Name) -> Option<SideFault>
         ensures { result ≡ due.withdraw_fault full self.now name.now }
     {
         if self.table.whereis(name).is_none() {
-            return Some(SideFault::NoSuchName);
+            return Some(SideFault::Table(TableFault::NoSuchName));
         }
         let Some(exchange) = &self.exchange else {
             return Some(SideFault::NotHealing);
@@ -162,7 +161,7 @@ impl State {
         None
     }
 
-    /// What refuses to close the list of withdrawn names.
+    // What refuses to close the list of withdrawn names.
     pub(crate) fn close_list_fault(&self, full: bool) -> Option<SideFault>
         ensures { result ≡ due.close_list_fault full self.now }
     {
@@ -178,7 +177,7 @@ impl State {
         None
     }
 
-    /// What refuses to hear the list.
+    // What refuses to hear the list.
     pub(crate) fn hear_list_fault(&self, full: bool, sent: &Withdrawals) -> Option<SideFault>
         ensures { result ≡ due.hear_list_fault full self.now sent.now }
     {
@@ -188,7 +187,7 @@ impl State {
         sent_fault(full, self.id, exchange, sent.side(), sent.number())
     }
 
-    /// What refuses to finish.
+    // What refuses to finish.
     pub(crate) fn finish_fault(&self, full: bool) -> Option<SideFault>
         ensures { result ≡ due.finish_fault full self.now }
     {
@@ -204,7 +203,7 @@ impl State {
         None
     }
 
-    /// What refuses to abandon.
+    // What refuses to abandon.
     pub(crate) fn abandon_fault(&self, full: bool) -> Option<SideFault>
         ensures { result ≡ due.abandon_fault full self.now }
     {
@@ -240,7 +239,7 @@ fn sent_fault(
     None
 }
 
-// Whether the number is above every number so far.
+// Checks whether the number is above every number so far.
 fn is_above(number: u64, latest: Option<u64>) -> bool
     ensures { result ≡ is_above number latest }
 {
@@ -250,7 +249,7 @@ fn is_above(number: u64, latest: Option<u64>) -> bool
     }
 }
 
-// Whether the two are one side.
+// Checks whether the two are one side.
 fn is_side(id: SideId, sender: SideId) -> bool
     ensures { result ≡ is_side id sender }
 {
@@ -260,14 +259,14 @@ fn is_side(id: SideId, sender: SideId) -> bool
     }
 }
 
-// Whether the two clashes are alike in all that judging reads.
+// Checks whether the two clashes are alike in all that judging reads.
 fn is_same_clash(a: &Clash, b: &Clash) -> bool
     ensures { result ≡ same_clash a.now b.now }
 {
     a == b
 }
 
-// Whether the word is one of the four of clash `k` of `n`.
+// Checks whether the word is one of the four of clash `k` of `n`.
 fn is_one_of_four(at: u64, seed: u64, n: u32, k: u32) -> bool
     ensures { result ≡ is_one_of_four at seed n k }
 {

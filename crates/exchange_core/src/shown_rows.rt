@@ -5,7 +5,7 @@ use partition_table::Rows;
 
 /// Gives the rows of a side's table in the order of names, without the names that the side withdrew in the open
 /// exchange.
-#[derive(Drop)]
+#[derive(Debug, Drop)]
 pub struct ShownRows<'a> {
     pub(crate) rows: Rows<'a>,
     pub(crate) withdrawn: &'a [Name],

@@ -7,7 +7,7 @@ use crate::state::State;
 
 /// One side of an exchange: its table, the open exchange if there is one, and the journal of the calls that it answered
 /// Ok, at most 65,536. That it is where its journal leads stands in its type.
-#[derive(Drop)]
+#[derive(Debug, Drop)]
 pub struct Side {
     pub(crate) state: State,
     pub(crate) journal: Vec<Event>,

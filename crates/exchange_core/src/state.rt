@@ -2,8 +2,10 @@
 ghost use Rattle.std.specs.Prelude.{◌≡◌, Some, None, IsTrue, IfOk, OnOk, OnErr, is_some};
 ghost use Rattle.std.specs.FinMap.{get};
 ghost use Rattle.partition_table.specs.Tables.{row_for, rows_of};
+ghost use Rattle.numbered.specs.Answers.{IsAnswered};
 ghost use Rattle.partition_table.specs.Faults as table;
 ghost use Rattle.exchange_core.specs.Sides.{new_side, without, shown_table};
+ghost use Rattle.exchange_core.specs.Lists.{AreNamesOf};
 ghost use Rattle.exchange_core.specs.Rows.{rows_left};
 ghost use Rattle.std.specs.Option.{option_map};
 ghost use Rattle.exchange_core.specs.Sides as sides;
@@ -14,16 +16,15 @@ use crate::judged::Judged;
 use crate::messages::{Offer, Withdrawals};
 use crate::pairing::clashes_for;
 use crate::shown_rows::ShownRows;
-use crate::side_id::SideId;
-use clash_record::{Name, Registration};
+use clash_record::{Name, Registration, SideId};
 use partition_table::{ClashList, Table, TableFault};
 use std::alloc::{AllocError, Global};
 use std::marker::Model;
 use std::sync::Arc;
 use upload_store::UploadStore;
 
-/// What a side keeps beside its journal, and the clashes of the open exchange.
-#[derive(Drop)]
+// What a side keeps beside its journal, and the clashes of the open exchange.
+#[derive(Debug, Drop)]
 pub(crate) struct State {
     pub(crate) id: SideId,
     pub(crate) table: Table,
@@ -48,7 +49,7 @@ impl Model for State {
 }
 
 impl State {
-    /// An idle side without names. Takes no memory.
+    // An idle side without names. Allocates nothing.
     pub(crate) fn new(alloc: Global, id: SideId) -> State
         ensures { result ≡ new_side id }
     {
@@ -61,14 +62,14 @@ impl State {
         }
     }
 
-    /// Which of the two sides it is.
+    // Which of the two sides it is.
     pub(crate) fn id(&self) -> SideId
         ensures { result ≡ self.now.id }
     {
         self.id
     }
 
-    /// What the name is registered with, unless it was withdrawn.
+    // What the name is registered with, unless it was withdrawn.
     pub(crate) fn whereis(&self, name: &Name) -> Option<&Registration>
         ensures { option_map (λ r. r.now) result
             ≡ option_map (λ row. row.registration) (get (shown_table self.now) name.now) }
@@ -82,7 +83,7 @@ impl State {
         self.table.whereis(name)
     }
 
-    /// The rows of the table, without the names that were withdrawn.
+    // The rows of the table, without the names that were withdrawn.
     pub(crate) fn rows(&self) -> ShownRows<'_>
         ensures { rows_left result ≡ rows_of (shown_table self.entry.now) }
     {
@@ -98,7 +99,7 @@ impl State {
         }
     }
 
-    /// Registers the name on an idle side.
+    // Registers the name on an idle side.
     pub(crate) fn register(
         &mut self,
         name: Name,
@@ -106,14 +107,14 @@ impl State {
         store: &UploadStore,
     ) -> Result<(), TableFault>
         requires { self.old.exchange ≡ None }
-        ensures answer { table.IsAnswered (table.register_fault self.old.table name registration store.now) result }
+        ensures answer { IsAnswered table.table_fault_number (table.register_fault self.old.table name registration store.now) result }
         ensures done { OnOk result (sides.register self.old name (row_for store.now registration) ≡ Some self.new) }
         ensures unchanged { OnErr result (self.new ≡ self.old) }
     {
         self.table.register(name, registration, store)
     }
 
-    /// Takes the name out.
+    // Takes the name out.
     pub(crate) fn unregister(&mut self, name: &Name) -> Result<Registration, TableFault>
         requires { IsTrue (is_some (sides.unregister self.old name.now)) }
         ensures answer { result ≡ table.unregister_answer (get self.old.table name.now) }
@@ -122,7 +123,7 @@ impl State {
         self.table.unregister(name)
     }
 
-    /// Opens an exchange.
+    // Opens an exchange.
     pub(crate) fn begin(
         &mut self,
         alloc: Global,
@@ -142,7 +143,7 @@ impl State {
         Ok(Offer::new(self.id, number, seed, uptime, table))
     }
 
-    /// Hears the other side's offer.
+    // Hears the other side's offer.
     pub(crate) fn hear(&mut self, alloc: Global, offer: &Offer) -> Result<(), AllocError>
         requires { IsTrue (is_some (sides.hear self.old offer.now)) }
         ensures done { OnOk result (sides.hear self.old offer.now ≡ Some self.new) }
@@ -168,7 +169,7 @@ impl State {
         Ok(())
     }
 
-    /// Takes the ruling of clash `k`.
+    // Takes the ruling of clash `k`.
     pub(crate) fn take(&mut self, number: u64, k: u32, judged: Judged)
         requires { IsTrue (is_some (sides.take self.old number k judged)) }
         ensures { sides.take self.old number k judged ≡ Some self.new }
@@ -179,7 +180,7 @@ impl State {
         exchange.put(k, judged);
     }
 
-    /// Withdraws the name.
+    // Withdraws the name.
     pub(crate) fn withdraw(&mut self, name: &Name) -> Result<(), AllocError>
         requires { IsTrue (is_some (sides.withdraw self.old name.now)) }
         ensures done { OnOk result (sides.withdraw self.old name.now ≡ Some self.new) }
@@ -191,9 +192,10 @@ impl State {
         exchange.withdraw(*name)
     }
 
-    /// Closes the list of withdrawn names.
+    // Closes the list of withdrawn names.
     pub(crate) fn close_list(&mut self, alloc: Global) -> Result<Withdrawals, AllocError>
-        requires { IsTrue (is_some (sides.close_list self.old)) }
+        requires open { IsTrue (is_some (sides.close_list self.old)) }
+        requires own { (x : sides.Exchange) → self.old.exchange ≡ Some x → AreNamesOf self.old.table x.withdrawn }
         ensures done { OnOk result (sides.close_list self.old ≡ Some self.new) }
         ensures list { IfOk result (λ list. list ≡ list_of self.old) }
         ensures unchanged { OnErr result (self.new ≡ self.old) }
@@ -201,13 +203,15 @@ impl State {
         let Some(exchange) = &mut self.exchange else {
             unreachable!()
         };
+        // For the prover: the table has at most 4,096 names.
+        self.table.len();
         let names = exchange.copy_names(alloc)?;
         let number = exchange.number();
         exchange.close();
         Ok(Withdrawals::new(self.id, number, names))
     }
 
-    /// Hears the other side's list.
+    // Hears the other side's list.
     pub(crate) fn hear_list(&mut self, sent: &Withdrawals) -> Result<(), AllocError>
         requires { IsTrue (is_some (sides.hear_list self.old sent.now)) }
         ensures done { OnOk result (sides.hear_list self.old sent.now ≡ Some self.new) }
@@ -223,7 +227,7 @@ impl State {
         Ok(())
     }
 
-    /// Closes the exchange, and takes out the names that were withdrawn.
+    // Closes the exchange, and takes out the names that were withdrawn.
     pub(crate) fn abandon(&mut self)
         requires { IsTrue (is_some (sides.abandon self.old)) }
         ensures { sides.abandon self.old ≡ Some self.new }

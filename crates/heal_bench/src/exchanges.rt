@@ -1,8 +1,10 @@
-//! What an exchange costs.
+//! The cost of an exchange.
 
-use crate::registry::{Fault, numbered_name, of_node, row_count};
-use exchange_core::{Offer, Side, SideId};
-use partition_table::{ClashList, Ruling, Verdict, clashes, word};
+use crate::registry::{Fault, row_count};
+use clash_record::SideId;
+use exchange_core::Side;
+use fixtures::{EXIT, Offers, begin_both, finish_both, hear_both, numbered_side, take_all};
+use partition_table::ClashList;
 use std::alloc::Global;
 use std::fmt;
 use std::time::Instant;
@@ -32,7 +34,7 @@ impl fmt::Display for ExchangeTimes {
     }
 }
 
-/// Takes the times of one exchange of two sides with so many names, each of which clashes.
+/// Measures one exchange of two sides with `rows` names, each of which clashes.
 pub(crate) fn measure(rt: &HostRuntime, rows: &str) -> Result<ExchangeTimes, Fault> {
     let rows = row_count(rows)?;
     let mut a = side(rt.alloc(), SideId::A, rows, 1)?;
@@ -41,23 +43,14 @@ pub(crate) fn measure(rt: &HostRuntime, rows: &str) -> Result<ExchangeTimes, Fau
     go_on(rt, &mut a, &mut b, &offers, begin)
 }
 
-/// What two sides offered.
-#[derive(Drop)]
-struct Offers {
-    of_a: Offer,
-    of_b: Offer,
-}
-
-/// Both sides begin one number.
+// Begins on both sides.
 fn begin(rt: &HostRuntime, a: &mut Side, b: &mut Side) -> Result<(Offers, u128), Fault> {
     let start = Instant::now(rt)?;
-    let of_a = a.begin(rt.alloc(), NUMBER, SEED, 0)?;
-    let of_b = b.begin(rt.alloc(), NUMBER, SEED, 0)?;
-    let offers = Offers { of_a, of_b };
+    let offers = begin_both(rt.alloc(), NUMBER, SEED, a, b)?;
     Ok((offers, start.elapsed(rt)?.as_nanos()))
 }
 
-/// The times of the whole exchange, of which beginning took so long.
+// The times of the whole exchange, of which beginning took so long.
 fn go_on(
     rt: &HostRuntime,
     a: &mut Side,
@@ -73,17 +66,16 @@ fn go_on(
     })
 }
 
-/// Each side hears the other's offer.
+// Has each side hear the other's offer.
 fn hear(rt: &HostRuntime, a: &mut Side, b: &mut Side, offers: &Offers) -> Result<u128, Fault> {
     let start = Instant::now(rt)?;
-    a.hear(rt.alloc(), &offers.of_b)?;
-    b.hear(rt.alloc(), &offers.of_a)?;
+    hear_both(rt.alloc(), a, b, offers)?;
     Ok(start.elapsed(rt)?.as_nanos())
 }
 
-/// Each clash is judged at its first word, and each side takes the rulings.
+// Judges each clash at its first word, and has each side take the rulings.
 fn take(rt: &HostRuntime, a: &mut Side, b: &mut Side, offers: &Offers) -> Result<u128, Fault> {
-    let list = clashes(rt.alloc(), offers.of_a.table(), 0, offers.of_b.table(), 0)?;
+    let list = offers.clashes(rt.alloc())?;
     take_both(rt, a, b, &list)
 }
 
@@ -94,43 +86,18 @@ fn take_both(
     list: &ClashList,
 ) -> Result<u128, Fault> {
     let start = Instant::now(rt)?;
-    take_all(a, list)?;
-    take_all(b, list)?;
+    take_all(a, list, NUMBER, SEED)?;
+    take_all(b, list, NUMBER, SEED)?;
     Ok(start.elapsed(rt)?.as_nanos())
 }
 
-/// Each side closes its list, hears the other's, and finishes.
+// Has each side close its list, hear the other's, and finish.
 fn finish(rt: &HostRuntime, a: &mut Side, b: &mut Side) -> Result<u128, Fault> {
     let start = Instant::now(rt)?;
-    let gone_of_a = a.close_list(rt.alloc())?;
-    b.hear_list(&gone_of_a)?;
-    let gone_of_b = b.close_list(rt.alloc())?;
-    a.hear_list(&gone_of_b)?;
-    a.finish(rt.alloc())?;
-    b.finish(rt.alloc())?;
+    finish_both(rt.alloc(), a, b)?;
     Ok(start.elapsed(rt)?.as_nanos())
 }
 
-/// A side with so many names, all of an owner on this node.
 fn side(alloc: Global, id: SideId, rows: u16, node: u32) -> Result<Side, Fault> {
-    let store = UploadStore::new(alloc);
-    let mut side = Side::new(alloc, id);
-    for row in 0..rows {
-        side.register(numbered_name(row)?, of_node(node), &store)?;
-    }
-    Ok(side)
-}
-
-/// Judges each clash at its first word, and gives the side the ruling.
-fn take_all(side: &mut Side, list: &ClashList) -> Result<(), Fault> {
-    let count = list.len() as u32;
-    for k in 0..count {
-        let Some(clash) = list.get(k) else {
-            break;
-        };
-        let verdict = Verdict::judged(clash, word(SEED, 0, count, k));
-        let number = NUMBER;
-        side.take(Ruling { number, k, verdict })?;
-    }
-    Ok(())
+    Ok(numbered_side(alloc, id, rows, node, EXIT, &UploadStore::new(alloc))?)
 }

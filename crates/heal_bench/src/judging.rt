@@ -1,19 +1,19 @@
-//! What a round of judging costs, by so many workers.
+//! The cost of a round of judging, by the count of workers.
 ghost use Rattle.std.specs.Prelude.{◌<◌, ◌≤◌, IfOk};
 
-use crate::registry::{Fault, numbered_name, registration};
+use crate::registry::Fault;
 use clash_record::ResolverId;
+use fixtures::{numbered_clashes, stored};
 use judge_pool::{Ear, OpenGate, heal_round};
-use partition_table::{ClashList, Ruling, Table, clashes};
+use partition_table::{ClashList, Ruling};
 use std::alloc::Global;
 use std::fmt;
 use std::sync::Wait;
 use std::thread::Threads;
 use std::time::{Clock, Instant};
-use upload_store::UploadStore;
 use verdict_board::{Pass, open};
 
-/// How many clashes are judged.
+/// The count of clashes.
 const CLASHES: u16 = 4096;
 
 /// The number of the exchange.
@@ -22,7 +22,7 @@ const NUMBER: u64 = 1;
 /// The seed of its words.
 const SEED: u64 = 0;
 
-/// How many rounds are timed, each on a board of its own.
+/// The count of timed rounds, each on a new board.
 const ROUNDS: u32 = 20;
 
 /// The mean time in nanoseconds of a round, and how many verdicts were kept in all.
@@ -39,7 +39,7 @@ impl fmt::Display for RoundTime {
     }
 }
 
-/// Drops what it is told.
+/// Ignores each ruling.
 #[derive(Drop)]
 struct Deaf;
 
@@ -47,7 +47,7 @@ impl Ear for Deaf {
     fn told<'p, R: Wait>(&self, _rt: &R, _ruling: Ruling<'p>, _pass: &Pass<'p>) {}
 }
 
-/// Takes the time of rounds in which so many workers judge 4,096 clashes by the program.
+/// Measures rounds in which `workers` workers judge 4,096 clashes by the program.
 pub(crate) fn measure<R: Threads + Wait + Clock + AllocGlobal + Sync>(
     rt: &R,
     code: &str,
@@ -70,7 +70,7 @@ pub(crate) fn measure<R: Threads + Wait + Clock + AllocGlobal + Sync>(
     })
 }
 
-/// The count of workers that a word gives.
+// The count of workers that a word gives.
 fn worker_count(word: &str) -> Result<u32, Fault>
     ensures { IfOk result (λ workers. (0 < workers) × (workers ≤ 16)) }
 {
@@ -80,16 +80,8 @@ fn worker_count(word: &str) -> Result<u32, Fault>
     }
 }
 
-/// The clashes of two tables that have each name with owners on two nodes, all judged by this program.
+// Returns the clashes of two tables that have each name on two nodes, all judged by this program.
 fn clashes_by(alloc: Global, code: &[u8]) -> Result<ClashList, Fault> {
-    let mut store = UploadStore::new(alloc);
-    let resolver = ResolverId::Program(store.upload(alloc, code)?);
-    let mut a = Table::new(alloc);
-    let mut b = Table::new(alloc);
-    for number in 0..CLASHES {
-        let name = numbered_name(number)?;
-        a.register(name, registration(1, resolver), &store)?;
-        b.register(name, registration(2, resolver), &store)?;
-    }
-    Ok(clashes(alloc, &a, 0, &b, 0)?)
+    let (store, program) = stored(alloc, code)?;
+    Ok(numbered_clashes(alloc, CLASHES, ResolverId::Program(program), &store)?)
 }

@@ -45,7 +45,7 @@ fn main(rt: HostRuntime) -> io::Result<ExitCode> {
     }
 }
 
-/// Prints what was measured, or why nothing was.
+// Prints what was measured, or why nothing was.
 fn report<T: fmt::Display + Drop, E: fmt::Display + Drop>(
     rt: &HostRuntime,
     measured: Result<T, E>,

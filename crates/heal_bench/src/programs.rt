@@ -11,7 +11,7 @@ use std::{fmt, io};
 use thiserror::Error;
 use verifier::{Verified, VerifyFault, verify};
 
-/// How often a program is decoded and verified.
+/// The count of times that a program is decoded and verified.
 const LOADS: u32 = 2000;
 
 /// Where the word of a clash record stands: eight bytes, the least first.
@@ -37,7 +37,7 @@ impl fmt::Display for Measured {
     }
 }
 
-/// Why nothing was measured.
+/// The reason why nothing was measured.
 #[derive(Debug, Drop, Error)]
 pub(crate) enum Fault {
     #[error("no hex digits, two a byte: {0}")]
@@ -110,7 +110,7 @@ fn mean_verify(rt: &HostRuntime, bytes: &[u8]) -> Result<u128, Fault> {
     Ok(total / u128::from(LOADS))
 }
 
-/// The mean time of a run, and the sum of the answers.
+// The mean time of a run, and the sum of the answers.
 fn mean_run(
     rt: &HostRuntime,
     program: &Verified,

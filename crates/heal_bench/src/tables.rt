@@ -1,17 +1,18 @@
-//! What the calls of tables cost.
+//! The cost of the calls of tables.
 
-use crate::registry::{Fault, numbered_name, of_node, row_count};
+use crate::registry::{Fault, row_count};
 use builtin_resolvers::Verdict3;
+use fixtures::{EXIT, numbered_table};
 use partition_table::{Table, clashes, merge};
 use std::alloc::Global;
 use std::fmt;
 use std::time::Instant;
 use upload_store::UploadStore;
 
-/// How often each call is made.
+/// The count of times that each call is made.
 const CALLS: u32 = 100;
 
-/// Mean times of the calls in nanoseconds, on two tables of so many rows.
+/// Mean times of the calls in nanoseconds, on two tables of `rows` rows.
 #[derive(Clone, Copy, Debug)]
 pub(crate) struct TableTimes {
     register: u128,
@@ -36,7 +37,7 @@ impl fmt::Display for TableTimes {
     }
 }
 
-/// Takes the times of calls on tables of so many rows: on two that clash in every name, and on two that are equal.
+/// Measures calls on tables of `rows` rows: on two that clash in every name, and on two that are equal.
 pub(crate) fn measure(rt: &HostRuntime, rows: &str) -> Result<TableTimes, Fault> {
     let rows = row_count(rows)?;
     let start = Instant::now(rt)?;
@@ -51,14 +52,8 @@ pub(crate) fn measure(rt: &HostRuntime, rows: &str) -> Result<TableTimes, Fault>
     })
 }
 
-/// A table of so many names, all of an owner on this node.
 fn table(alloc: Global, rows: u16, node: u32) -> Result<Table, Fault> {
-    let store = UploadStore::new(alloc);
-    let mut table = Table::new(alloc);
-    for row in 0..rows {
-        table.register(numbered_name(row)?, of_node(node), &store)?;
-    }
-    Ok(table)
+    Ok(numbered_table(alloc, rows, node, EXIT, &UploadStore::new(alloc))?)
 }
 
 fn pair_times(rt: &HostRuntime, a: &Table, b: &Table) -> Result<PairTimes, Fault> {

@@ -119,8 +119,8 @@ const TOLD: [(&[&str], [&str; 3]); 5] = [
         &["./heal", "--help"],
         [
             "Usage: heal <COMMAND>\n",
-            "\n  judge  Judges a clash by code: first, second or neither keeps the name\n",
-            "\n  90  memory ran out\n",
+            "\n  judge  Judges a clash by a program: the first, the second or neither keeps the name\n",
+            "\n  90  out of memory\n",
         ],
     ),
     (

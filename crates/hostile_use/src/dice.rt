@@ -20,7 +20,7 @@ impl Dice {
         self.words.next_word().checked_rem(count).unwrap_or(0)
     }
 
-    /// Whether it is one case of so many.
+    /// Returns true in one case of `many`.
     pub(crate) fn is_one_in(&mut self, count: u32) -> bool {
         self.below(count) == 0
     }

@@ -5,8 +5,6 @@
 #[cfg(test)]
 mod dice;
 #[cfg(test)]
-mod kept;
-#[cfg(test)]
 mod longest_code;
 #[cfg(test)]
 mod mutated_codes;

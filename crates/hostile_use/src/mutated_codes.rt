@@ -53,7 +53,7 @@ struct Counts {
     refused: u32,
 }
 
-/// The bytes of these slots.
+// The bytes of these slots.
 fn bytes_of(alloc: Global, slots: &str) -> Result<Vec<u8>, Fail> {
     let mut bytes = Vec::new(alloc);
     for slot in slots.split(' ') {
@@ -63,12 +63,12 @@ fn bytes_of(alloc: Global, slots: &str) -> Result<Vec<u8>, Fail> {
     Ok(bytes)
 }
 
-/// Whether a run takes at most as many steps as the code has instructions.
+// Checks that a run takes at most as many steps as the code has instructions.
 fn ends_in_time(program: &Verified, record: &ClashRecord) -> bool {
     run(program, record).steps as usize <= program.code().len()
 }
 
-/// Judges these bytes, and runs what is accepted on a record of zeros and on one of ones.
+// Judges these bytes, and runs what is accepted on a record of zeros and on one of ones.
 fn judge_one(alloc: Global, bytes: &[u8], counts: &mut Counts) {
     let Ok(program) = read_program(alloc, bytes) else {
         counts.refused = counts.refused.wrapping_add(1);
@@ -81,7 +81,7 @@ fn judge_one(alloc: Global, bytes: &[u8], counts: &mut Counts) {
     }
 }
 
-/// Judges the code with the byte in this place replaced by each value.
+// Judges the code with the byte in this place replaced by each value.
 fn judge_each_value(
     alloc: Global,
     bytes: &mut [u8],
@@ -98,7 +98,7 @@ fn judge_each_value(
     Ok(())
 }
 
-/// Judges the code with each of its bytes replaced by each value.
+// Judges the code with each of its bytes replaced by each value.
 fn judge_each_byte(alloc: Global, slots: &str, counts: &mut Counts) -> Result<(), Fail> {
     let mut bytes = bytes_of(alloc, slots)?;
     for place in 0..bytes.len() {

@@ -1,10 +1,10 @@
 //! A random walk of two sides: edits, exchanges with messages that come late, again, in any order or not at all, and
 //! withdrawn names. Sides that finish one number hold one table, and no call is refused for a cause that isn't its own.
 use crate::dice::Dice;
-use crate::kept::Kept;
 use crate::walk_log::{Call, Log, Told, Wrong};
-use clash_record::{Builtin, Name, Owner, ProgramId, Registration, ResolverId, name};
-use exchange_core::{Finished, MissingPart, Side, SideFault, SideId};
+use clash_record::{Builtin, Name, ProgramId, Registration, ResolverId, SideId, name};
+use exchange_core::{Finished, MissingPart, Side, SideFault};
+use fixtures::{BY_STAMP, EXIT, Mail, UNKNOWN, registration, stored};
 use partition_table::{Ruling, Table, Verdict, word};
 use std::alloc::{AllocError, Global};
 use std::collections::BTreeMap;
@@ -14,20 +14,17 @@ use upload_store::UploadStore;
 /// The seed of the walk.
 const SEED: u64 = 20_261_123;
 
-/// How many steps it has.
+/// The steps of a walk.
 const STEPS: u32 = 100_000;
 
 /// The events of a side after which the walk goes on with new sides: far fewer than a journal holds.
 const MOST_EVENTS: usize = 6_000;
 
-/// How many numbers are spoken of at a time: the latest and those right below it.
+/// The numbers in use: the latest and those right below it.
 const REACH: u32 = 3;
 
-/// Answers first where the first stamp isn't below the second, else second.
-const STAMPS: [u8; 48] = [
-    0x79, 0x12, 0x38, 0, 0, 0, 0, 0, 0x79, 0x13, 0x60, 0, 0, 0, 0, 0, 0xb7, 0, 0, 0, 1, 0, 0, 0,
-    0x3d, 0x32, 1, 0, 0, 0, 0, 0, 0xb7, 0, 0, 0, 2, 0, 0, 0, 0x95, 0, 0, 0, 0, 0, 0, 0,
-];
+/// How many offers stay under way, and how many lists.
+const MOST_KEPT: usize = 6;
 
 /// A side, and the latest number that it began.
 #[derive(Drop)]
@@ -53,18 +50,18 @@ struct Between {
     program: ProgramId,
     // The latest number that a side began.
     latest: u64,
-    kept: Kept,
+    mail: Mail,
     // The tables of the numbers that one side finished.
     finished: BTreeMap<u64, Table>,
     log: Log,
 }
 
-/// The seed with which a side begins a number, if it isn't one of the few that begin with the next one.
+// The seed with which a side begins a number, if it isn't one of the few that begin with the next one.
 fn seed_of(number: u64) -> u64 {
     number.wrapping_mul(0x9e37_79b9_7f4a_7c15)
 }
 
-/// The round at whose word both sides are told the ruling of clash `k`.
+// Returns the round at whose word both sides take the ruling of clash `k`.
 fn round_of(number: u64, k: u32) -> u32 {
     (seed_of(number.wrapping_add(u64::from(k))) >> 62) as u32
 }
@@ -96,7 +93,7 @@ impl Walk {
         }
     }
 
-    /// Goes so many steps, up to the first after which something is wrong: its place, and what is.
+    // Goes up to `steps` steps. Returns the first after which something is wrong, and what is wrong.
     fn first_wrong(&mut self, steps: u32) -> Result<Option<(u32, Wrong)>, Fail> {
         for step in 0..steps {
             self.step()?;
@@ -107,7 +104,7 @@ impl Walk {
         Ok(None)
     }
 
-    /// Goes on with two new sides. The messages of the old ones stay under way: the numbers from now on are others.
+    // Goes on with two new sides. The messages of the old ones stay under way: the numbers from now on are others.
     fn renew(&mut self) {
         let alloc = self.between.alloc;
         let latest = self.between.latest.wrapping_add(u64::from(REACH));
@@ -118,7 +115,7 @@ impl Walk {
 }
 
 impl Half {
-    /// A new side. It counts as if it had begun this number.
+    // A new side. It counts as if it had begun this number.
     fn new(alloc: Global, id: SideId, begun: u64) -> Half {
         Half {
             side: Side::new(alloc, id),
@@ -129,21 +126,20 @@ impl Half {
 
 impl Between {
     fn new(alloc: Global, seed: u64) -> Result<Between, Fail> {
-        let mut store = UploadStore::new(alloc);
-        let program = store.upload(alloc, &STAMPS)?;
+        let (store, program) = stored(alloc, &BY_STAMP)?;
         Ok(Between {
             alloc,
             dice: Dice::new(seed),
             store,
             program,
             latest: 0,
-            kept: Kept::new(alloc),
+            mail: Mail::new(alloc, MOST_KEPT),
             finished: BTreeMap::new(alloc),
             log: Log::new(alloc),
         })
     }
 
-    /// Half of the steps lead on, the others are any call.
+    // Half of the steps lead on, the others are any call.
     fn step(&mut self, half: &mut Half) -> Result<(), Fail> {
         if self.dice.is_one_in(2) {
             self.lead_on(half)
@@ -152,7 +148,7 @@ impl Between {
         }
     }
 
-    /// Finishes, or does what is missing for it.
+    // Finishes, or does what is missing for it.
     fn lead_on(&mut self, half: &mut Half) -> Result<(), Fail> {
         match self.finish(half)? {
             Some(SideFault::NotHealing) => {
@@ -175,7 +171,7 @@ impl Between {
         }
     }
 
-    /// Gives a side what it misses.
+    // Gives a side what it misses.
     fn give(&mut self, half: &mut Half, part: MissingPart) -> Result<(), Fail> {
         let sender = other(half.side.id());
         let number = half.begun;
@@ -187,7 +183,7 @@ impl Between {
         }
     }
 
-    /// Some call with some argument.
+    // Some call with some argument.
     fn call_any(&mut self, half: &mut Half) -> Result<(), Fail> {
         let sender = if self.dice.is_one_in(2) {
             SideId::A
@@ -214,7 +210,7 @@ impl Between {
         }
     }
 
-    /// Registers or unregisters some name.
+    // Registers or unregisters some name.
     fn edit(&mut self, half: &mut Half) -> Result<(), Fail> {
         let name = self.any_name()?;
         if self.dice.is_one_in(3) {
@@ -226,34 +222,27 @@ impl Between {
         self.log.note(Call::Register, registered.err())
     }
 
-    /// One of a handful of names.
+    // One of a handful of names.
     fn any_name(&mut self) -> Result<Name, Fail> {
         let place = u8::try_from(self.dice.below(6))?;
         Ok(name(&[b'a'.wrapping_add(place)])?)
     }
 
-    /// One of a few registrations. The program of some isn't known.
+    // One of a few registrations. The program of some isn't known.
     fn any_registration(&mut self) -> Registration {
         let resolver = match self.dice.below(8) {
-            0..=2 => ResolverId::Builtin(Builtin::Exit),
+            0..=2 => EXIT,
             3 => ResolverId::Builtin(Builtin::Notify),
             4 => ResolverId::Builtin(Builtin::NotifyAll),
             5..=6 => ResolverId::Program(self.program),
-            _ => ResolverId::Program(ProgramId([7; 32])),
+            _ => UNKNOWN,
         };
-        Registration {
-            owner: Owner {
-                node: self.dice.below(3),
-                serial: 1,
-            },
-            stamp: u64::from(self.dice.below(3)),
-            weight: 0,
-            extra: [0; 16],
-            resolver,
-        }
+        let mut given = registration(self.dice.below(3), 1, resolver);
+        given.stamp = u64::from(self.dice.below(3));
+        given
     }
 
-    /// Begins the number that the other side began last, or the next one.
+    // Begins the number that the other side began last, or the next one.
     fn begin_next(&mut self, half: &mut Half) -> Result<(), Fail> {
         let number = if half.begun < self.latest {
             self.latest
@@ -263,7 +252,7 @@ impl Between {
         self.begin(half, number)
     }
 
-    /// Begins the number, mostly with its seed.
+    // Begins the number, mostly with its seed.
     fn begin(&mut self, half: &mut Half, number: u64) -> Result<(), Fail> {
         let mut seed = seed_of(number);
         if self.dice.is_one_in(16) {
@@ -274,37 +263,37 @@ impl Between {
             Ok(offer) => {
                 half.begun = number;
                 self.latest = self.latest.max(number);
-                self.kept.keep_offer(offer)?;
+                self.mail.keep_offer(offer)?;
                 self.log.note(Call::Begin, None)
             }
             Err(fault) => self.log.note(Call::Begin, Some(fault)),
         }
     }
 
-    /// Hears the offer of this side and number. Where it isn't kept, asks for the end.
+    // Hears the offer of this side and number, or tries to finish if it isn't kept.
     fn hear(&mut self, half: &mut Half, sender: SideId, number: u64) -> Result<(), Fail> {
-        let Some(offer) = self.kept.offer_of(sender, number) else {
+        let Some(offer) = self.mail.offer_of(sender, number) else {
             return self.ask_for_end(half);
         };
         let heard = half.side.hear(self.alloc, offer);
         self.log.note(Call::Hear, heard.err())
     }
 
-    /// Takes what is told as the ruling of clash `k` of this number. Where the clash isn't known, asks for the end.
+    // Takes a ruling of clash `k` of this number, or tries to finish if the clash isn't known.
     fn take(&mut self, half: &mut Half, number: u64, k: u32, told: Told) -> Result<(), Fail> {
-        let Some(all) = self.kept.clashes_of(self.alloc, number)? else {
+        let Some((seed, list)) = self.mail.clashes_of(number)? else {
             return self.ask_for_end(half);
         };
-        let Some(clash) = all.list.get(k) else {
+        let Some(clash) = list.get(k) else {
             return self.ask_for_end(half);
         };
-        let count = all.list.len() as u32;
+        let count = list.len() as u32;
         let next = k.wrapping_add(1);
-        let right = word(all.seed, round_of(number, k), count, k);
+        let right = word(seed, round_of(number, k), count, k);
         let (number, k, at) = match told {
             Told::Right => (number, k, right),
-            Told::OtherWord => (number, k, word(all.seed, 4, count, k)),
-            Told::OtherClash => (number, next, word(all.seed, 0, count, next)),
+            Told::OtherWord => (number, k, word(seed, 4, count, k)),
+            Told::OtherClash => (number, next, word(seed, 0, count, next)),
             Told::OtherNumber if half.begun == number => (number.wrapping_add(1), k, right),
             Told::OtherNumber => (half.begun, k, right),
         };
@@ -325,16 +314,16 @@ impl Between {
     fn close_list(&mut self, half: &mut Half) -> Result<(), Fail> {
         match half.side.close_list(self.alloc) {
             Ok(list) => {
-                self.kept.keep_list(list)?;
+                self.mail.keep_list(list)?;
                 self.log.note(Call::CloseList, None)
             }
             Err(fault) => self.log.note(Call::CloseList, Some(fault)),
         }
     }
 
-    /// Hears the list of this side and number. Where it isn't kept, asks for the end.
+    // Hears the list of this side and number, or tries to finish if it isn't kept.
     fn hear_list(&mut self, half: &mut Half, sender: SideId, number: u64) -> Result<(), Fail> {
-        let Some(list) = self.kept.list_of(sender, number) else {
+        let Some(list) = self.mail.list_of(sender, number) else {
             return self.ask_for_end(half);
         };
         let heard = half.side.hear_list(list);
@@ -346,13 +335,13 @@ impl Between {
         self.log.note(Call::Abandon, abandoned.err())
     }
 
-    /// Finishes, whatever comes of it.
+    // Tries to finish.
     fn ask_for_end(&mut self, half: &mut Half) -> Result<(), Fail> {
         self.finish(half)?;
         Ok(())
     }
 
-    /// Finishes, and answers why not if it can't be.
+    // Finishes, and answers why not if it can't be.
     fn finish(&mut self, half: &mut Half) -> Result<Option<SideFault>, Fail> {
         match half.side.finish(self.alloc) {
             Ok(finished) => {
@@ -367,7 +356,7 @@ impl Between {
         }
     }
 
-    /// Compares the table with that of the other side, if it finished the number before.
+    // Compares the table with that of the other side, if it finished the number before.
     fn compare(&mut self, finished: Finished) -> Result<(), Fail> {
         let number = finished.number();
         let clashes = finished.rulings().len();

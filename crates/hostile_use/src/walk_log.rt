@@ -1,4 +1,4 @@
-//! What the calls of a walk answered.
+//! The answers of the calls of a walk.
 use exchange_core::SideFault;
 use numbered::Numbered;
 use std::alloc::Global;
@@ -33,7 +33,7 @@ const CALLS: [Call; 10] = [
 ];
 
 impl Call {
-    /// The refusals that its table has. There is memory enough.
+    // The refusals that its table has. There is memory enough.
     fn refusals(self) -> &'static [u32] {
         match self {
             Call::Register => &[30, 32, 33, 40, 41, 42],
@@ -50,10 +50,10 @@ impl Call {
     }
 }
 
-/// What a side is told as the ruling of a clash.
+/// A ruling that a side takes.
 #[derive(Clone, Copy, Debug, PartialEq, Eq)]
 pub(crate) enum Told {
-    /// The ruling that both sides are told, at one of the clash's four words.
+    /// The ruling that both sides take, at one of the clash's four words.
     Right,
     /// The verdict at another word.
     OtherWord,
@@ -63,7 +63,7 @@ pub(crate) enum Told {
     OtherNumber,
 }
 
-/// What mustn't come.
+/// A violated expectation.
 #[derive(Clone, Copy, Debug, PartialEq, Eq)]
 pub(crate) enum Wrong {
     /// A call was refused with a number that its table doesn't have.
@@ -74,14 +74,14 @@ pub(crate) enum Wrong {
     Unequal(u64),
 }
 
-/// What was seen so far.
+/// The answers seen so far.
 #[derive(Drop)]
 pub(crate) struct Log {
     // Each call with each answer that it gave, once; none for one that wasn't refused.
     seen: Vec<(Call, Option<u32>)>,
-    /// How many numbers both sides finished, with equal tables.
+    /// The exchanges that both sides finished with equal tables.
     pub(crate) agreed: u32,
-    /// How many clashes those exchanges had.
+    /// The clashes of those exchanges.
     pub(crate) judged: usize,
     pub(crate) wrong: Option<Wrong>,
 }
@@ -110,7 +110,7 @@ impl Log {
         Ok(())
     }
 
-    /// Notes that both sides finished an exchange of so many clashes with one table.
+    /// Notes that both sides finished an exchange of `clashes` clashes with one table.
     pub(crate) fn note_agreed(&mut self, clashes: usize) {
         self.agreed = self.agreed.wrapping_add(1);
         self.judged = self.judged.wrapping_add(clashes);

@@ -1,2 +1,2 @@
--- What mirrors the code.
+-- Definitions that mirror the code.
 pub mod Front

@@ -8,12 +8,12 @@ use crate::slot_fields::SLOT_LEN;
 use instruction_set::{Code, Fields, Insn, fields_of};
 use std::alloc::{AllocError, Global};
 
-/// The bytes that spell this code, eight for each of its slots.
+/// Encodes code as bytes, eight per slot. Fails only when out of memory.
 pub fn encode(alloc: Global, code: &Code) -> Result<Vec<u8>, AllocError>
     ensures spelled { IfOk result (λ bytes. Spells bytes.items code.now) }
     ensures bytes { IfOk result (λ bytes. bytes.items ≡ flat_map insn_bytes code.now) }
 {
-    // For the prover alone: its instructions are listed.
+    // For the proof: its instructions are listed.
     code.known();
     let mut bytes = Vec::with_capacity(alloc, SLOT_LEN * code.slot_count())?;
     let insns = code.insns();
@@ -23,7 +23,7 @@ pub fn encode(alloc: Global, code: &Code) -> Result<Vec<u8>, AllocError>
     Ok(bytes)
 }
 
-/// Adds the bytes of an instruction at the end.
+// Appends the bytes of an instruction.
 fn push_insn(bytes: &mut Vec<u8>, insn: Insn) -> Result<(), AllocError>
     requires { IsListed insn }
     ensures { OnOk result (bytes.new.items ≡ bytes.old.items ++ insn_bytes insn) }
@@ -36,7 +36,7 @@ fn push_insn(bytes: &mut Vec<u8>, insn: Insn) -> Result<(), AllocError>
     Ok(())
 }
 
-/// Adds the bytes of a slot at the end.
+// Appends the bytes of a slot.
 fn push_slot(bytes: &mut Vec<u8>, fields: Fields) -> Result<(), AllocError>
     requires registers { (fields.dst < 16) × (fields.src < 16) }
     ensures { OnOk result (bytes.new.items ≡ bytes.old.items ++ slot_bytes fields) }

@@ -1,52 +1,47 @@
-//! Why bytes are no code.
+//! The faults of bytes that don't spell code.
 ghost use Rattle.std.specs.Prelude.{◌≡◌};
 ghost use Rattle.insn_codec.specs.Faults.{length_fault_number, slot_fault_number, fault_number, fault_place};
 
-use numbered::{Numbered, Place};
+use numbered::{Numbered, OUT_OF_MEMORY, Place, words_of};
 use thiserror::Error;
 
-/// What is wrong with the number of bytes.
+/// A fault of the number of bytes.
 #[derive(Clone, Copy, Debug, PartialEq, Eq, Error)]
+#[error("{}", words_of(self.number()))]
 pub enum LengthFault {
-    /// There is no byte.
-    #[error("there is no byte")]
+    /// No bytes.
     Empty,
-    /// There are more bytes than 1,024 slots have.
-    #[error("there are more than 1,024 slots")]
+    /// More bytes than 1,024 slots have.
     TooLong,
-    /// The last slot isn't whole.
-    #[error("the last slot isn't whole")]
+    /// An incomplete last slot.
     Ragged,
 }
 
-/// What is wrong with the instruction at a slot.
+/// A fault of the instruction at a slot.
 #[derive(Clone, Copy, Debug, PartialEq, Eq, Error)]
+#[error("{}", words_of(self.number()))]
 pub enum SlotFault {
-    /// The opcode, or a field that selects the operation, names none that is known here.
-    #[error("the opcode is unknown")]
+    /// An unknown opcode, or a field that selects no known operation.
     UnknownOpcode,
-    /// A register field that is used is above ten.
-    #[error("a register is above ten")]
+    /// A used register field above 10.
     BadRegister,
-    /// A field that isn't used isn't zero.
-    #[error("an unused field isn't zero")]
+    /// An unused field that isn't zero.
     FieldNotZero,
-    /// The second slot of a wide load is missing.
-    #[error("the second slot of a wide load is missing")]
+    /// A wide load without its second slot.
     CutWide,
 }
 
-/// Why bytes were not decoded.
+/// The reason why bytes were not decoded.
 #[derive(Clone, Copy, Debug, PartialEq, Eq, Error)]
 pub enum CodecFault {
-    /// The number of bytes is wrong.
+    /// The number of bytes is invalid.
     #[error(transparent)]
     Length(LengthFault),
-    /// The instruction whose first slot this is is wrong.
+    /// The instruction with this first slot is invalid.
     #[error("slot {slot}: {fault}")]
     Slot { fault: SlotFault, slot: u32 },
     /// Memory ran out.
-    #[error("out of memory")]
+    #[error("{}", words_of(OUT_OF_MEMORY))]
     OutOfMemory,
 }
 
@@ -84,7 +79,7 @@ impl Numbered for CodecFault {
         match self {
             CodecFault::Length(fault) => fault.number(),
             CodecFault::Slot { fault, .. } => fault.number(),
-            CodecFault::OutOfMemory => 90,
+            CodecFault::OutOfMemory => OUT_OF_MEMORY,
         }
     }
 

@@ -1,4 +1,4 @@
-//! Code as bytes (RFC 9669, section 3): read from them, and written.
+//! Decodes code from bytes and encodes it (RFC 9669, section 3).
 #![tactic(auto)]
 
 mod decoder;

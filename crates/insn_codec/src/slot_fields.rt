@@ -1,4 +1,4 @@
-//! The fields of a slot read from its bytes, and what may be wrong with them (RFC 9669, section 3).
+//! Reads the fields of a slot from its bytes, and checks them (RFC 9669, section 3).
 ghost use Rattle.std.specs.Prelude.{◌≡◌, ◌≤◌, true, false, length, IfOk, IfErr};
 ghost use Rattle.insn_codec.specs.Faults.{fields_at, IsBadRegister, IsNotZero};
 ghost use Rattle.insn_codec.specs.model.Front.{Taken, IsZeroed};
@@ -8,10 +8,10 @@ use crate::fault::SlotFault;
 use byteorder::{ByteOrder, LittleEndian};
 use instruction_set::{Fields, Register, Role};
 
-/// How many bytes a slot has.
+/// Bytes of a slot.
 pub(crate) const SLOT_LEN: usize = 8;
 
-/// The fields of the slot at the front of the bytes.
+/// Reads the fields of the slot at the front of the bytes.
 pub(crate) fn fields_at(bytes: &[u8]) -> Fields
     requires { 8 ≤ length bytes.now }
     ensures { result ≡ fields_at bytes.now }
@@ -25,7 +25,7 @@ pub(crate) fn fields_at(bytes: &[u8]) -> Fields
     }
 }
 
-/// The register that a field of this role holds; R0 where the field holds none.
+/// Returns the register in a field of this role, or R0 if the field holds none.
 pub(crate) fn register_in(role: Role, number: u8) -> Result<Register, SlotFault>
     ensures taken { IfOk result (λ register. Taken role register.number number) }
     ensures good { IfOk result (λ _. IsBadRegister role number → ⊥) }
@@ -38,7 +38,7 @@ pub(crate) fn register_in(role: Role, number: u8) -> Result<Register, SlotFault>
     }
 }
 
-/// Whether a field of this role may have this value.
+/// Returns whether a field of this role may have this value.
 pub(crate) fn is_allowed(role: Role, value: u32) -> bool
     ensures allowed { result ≡ true → IsZeroed role value }
     ensures refused { result ≡ false → IsNotZero role value }

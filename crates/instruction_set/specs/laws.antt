@@ -1,4 +1,4 @@
--- What is proved of the definitions.
+-- Laws of the definitions.
 pub mod FormTable
 pub mod FormOf
 pub mod OneInsn

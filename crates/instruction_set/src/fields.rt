@@ -10,7 +10,7 @@ use crate::codes;
 use crate::insn::{AluOp, EndKind, Insn, Register, Size, Source, Test, Width};
 use crate::slots::Fields;
 
-/// The fields of an instruction's first slot.
+/// Returns the fields of an instruction's first slot.
 pub fn fields_of(insn: Insn) -> Fields
     requires { IsListed insn }
     ensures fields { result ≡ slot_of insn }
@@ -162,7 +162,7 @@ fn memory_fields(opcode: u8, dst: Register, src: Register, offset: i16) -> Field
     }
 }
 
-/// The source bit, the register field and the immediate of a second operand.
+// Returns the source bit, the register field and the immediate of a second operand.
 fn source_fields(src: Source) -> (u8, u8, u32)
     ensures bit { (result.0 ≡ spelling.source_bit src) × (result.0 < 2) }
     ensures register { (result.1 ≡ spelling.source_register src) × (result.1 ≤ 10) }

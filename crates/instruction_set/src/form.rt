@@ -8,8 +8,8 @@ use crate::codes;
 use crate::insn::{AluOp, EndKind, Insn, Register, Size, Source, Test, Width};
 use crate::slots::{Role, Roles};
 
-/// What the second operand of an operation or a test is.
-#[derive(Clone, Copy, PartialEq, Eq)]
+/// The kind of the second operand of an operation or a test.
+#[derive(Clone, Copy, Debug, PartialEq, Eq)]
 pub enum SourceKind {
     /// The immediate.
     Imm,
@@ -18,7 +18,7 @@ pub enum SourceKind {
 }
 
 /// An instruction without its operands.
-#[derive(Clone, Copy, PartialEq, Eq)]
+#[derive(Clone, Copy, Debug, PartialEq, Eq)]
 pub enum Form {
     /// An operation on two operands.
     Alu {
@@ -73,7 +73,7 @@ pub enum Form {
 }
 
 impl Form {
-    /// The form that an opcode and the fields that select an operation name.
+    /// Returns the form that an opcode and the selecting fields name, or `None` if the table has no such row.
     pub fn of(opcode: u8, src: u8, offset: u16, imm: u32) -> Option<Form>
         ensures { result ≡ form_at opcode src offset imm }
     {
@@ -92,7 +92,7 @@ impl Form {
         }
     }
 
-    /// What it does with each field.
+    /// Returns what this form does with each field.
     pub fn roles(self) -> Roles
         ensures { result ≡ form_roles self }
     {
@@ -126,7 +126,7 @@ impl Form {
         }
     }
 
-    /// The instruction of this form with these operands; the last is the high half of a wide load's value.
+    /// Builds the instruction of this form with these operands; `high` is the high half of a wide load's value.
     pub fn insn(self, dst: Register, src: Register, offset: u16, imm: u32, high: u32) -> Insn
         ensures { result ≡ insn_of self dst src offset imm high }
     {
@@ -194,7 +194,7 @@ impl Form {
 }
 
 impl SourceKind {
-    /// The operand of this kind.
+    // Returns the operand of this kind.
     fn operand(self, register: Register, number: i32) -> Source
         ensures { result ≡ source_of self register number }
     {

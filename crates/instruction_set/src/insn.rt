@@ -1,7 +1,7 @@
 //! The instructions of RFC 9669, groups base32, base64, divmul32 and divmul64.
 ghost use Rattle.std.specs.Prelude.{◌≤◌};
 
-/// How many of the low bits an operation works on.
+/// The number of low bits that an operation works on.
 #[derive(Clone, Copy, Debug, PartialEq, Eq)]
 pub enum Width {
     /// The low 32 bits: classes ALU and JMP32.
@@ -10,7 +10,7 @@ pub enum Width {
     W64,
 }
 
-/// How many bytes a load or a store moves (RFC 9669, section 5).
+/// The number of bytes that a load or a store moves (RFC 9669, section 5).
 #[derive(Clone, Copy, Debug, PartialEq, Eq)]
 pub enum Size {
     /// One byte.
@@ -56,14 +56,14 @@ pub enum AluOp {
     Arsh,
 }
 
-/// What a byte swap does with the bytes of its width (RFC 9669, section 4.2).
+/// The byte order that a byte swap gives the bytes of its width (RFC 9669, section 4.2).
 #[derive(Clone, Copy, Debug, PartialEq, Eq)]
 pub enum EndKind {
-    /// To little-endian, which the machine is.
+    /// Little-endian, the machine's own order.
     Little,
-    /// To big-endian.
+    /// Big-endian.
     Big,
-    /// The other order, always.
+    /// The opposite of the current order.
     Swap,
 }
 
@@ -105,7 +105,7 @@ pub struct Register {
 /// The second operand of an operation or a test.
 #[derive(Clone, Copy, Debug, PartialEq, Eq)]
 pub enum Source {
-    /// A number, extended by its sign where 64 bits are asked.
+    /// An immediate, sign-extended for 64 bits.
     Imm(i32),
     /// A register.
     Reg(Register),
@@ -126,14 +126,14 @@ pub enum Insn {
         width: Width,
         dst: Register,
     },
-    /// `dst = src`, the sign of its low 8, 16 or, at 64 bits, 32 bits extended (section 4.1).
+    /// `dst = src`, sign-extended from the low 8, 16 or, at 64 bits, 32 bits (section 4.1).
     MovSx {
         width: Width,
         bits: u32,
         dst: Register,
         src: Register,
     },
-    /// `dst` with the order of its low 16, 32 or 64 bits changed (section 4.2).
+    /// `dst` with its low 16, 32 or 64 bits in another byte order (section 4.2).
     End {
         kind: EndKind,
         bits: u32,
@@ -144,14 +144,14 @@ pub enum Insn {
         dst: Register,
         value: u64,
     },
-    /// `dst = *(base + offset)`, extended by zeros (section 5.1).
+    /// `dst = *(base + offset)`, zero-extended (section 5.1).
     Load {
         size: Size,
         dst: Register,
         base: Register,
         offset: i16,
     },
-    /// `dst = *(base + offset)`, its sign extended; of one, two or four bytes (section 5.2).
+    /// `dst = *(base + offset)`, sign-extended from one, two or four bytes (section 5.2).
     LoadSx {
         size: Size,
         dst: Register,
@@ -172,15 +172,15 @@ pub enum Insn {
         offset: i16,
         imm: i32,
     },
-    /// A jump over so many slots (section 4.3).
+    /// A jump over `distance` slots (section 4.3).
     Jump {
         distance: i16,
     },
-    /// A jump over so many slots, of 32 bits (section 4.3).
+    /// A jump over `distance` slots, a number of 32 bits (section 4.3).
     JumpLong {
         distance: i32,
     },
-    /// A jump over so many slots where `dst test src` holds (section 4.3).
+    /// A jump over `distance` slots if `dst test src` holds (section 4.3).
     JumpIf {
         width: Width,
         test: Test,
@@ -188,7 +188,7 @@ pub enum Insn {
         src: Source,
         distance: i16,
     },
-    /// The end of the program, whose answer is R0 (section 4.3).
+    /// The end of the program; R0 is its answer (section 4.3).
     Exit,
 }
 
@@ -197,7 +197,7 @@ impl Insn {
     ghost use Rattle.instruction_set.specs.Machine.{slots_of};
     ghost use Rattle.instruction_set.specs.Slots.{NumbersFit};
 
-    /// How many slots it has: two for a wide load, one for any other.
+    /// Returns the number of its slots: two for a wide load, one for any other instruction.
     pub fn slots(self) -> usize
         ensures { result ≡ slots_of self }
     {
@@ -207,9 +207,7 @@ impl Insn {
         }
     }
 
-    /// Its numbers have the widths of their fields.
-    ///
-    /// It does nothing when it runs: its contract is the law.
+    /// States that its numbers have the widths of their fields. Does nothing at run time.
     pub fn known(self)
         ensures { NumbersFit self }
     {

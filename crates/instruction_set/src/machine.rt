@@ -1,7 +1,7 @@
 //! The memory that code runs on: a clash record, which it reads, and a stack.
 
-/// How many bytes the clash record has.
+/// Bytes of the clash record.
 pub const RECORD_LEN: usize = 160;
 
-/// How many bytes the stack has.
+/// Bytes of the stack.
 pub const STACK_LEN: usize = 512;

@@ -10,7 +10,7 @@ ghost use Rattle.instruction_set.specs.declared.insn.EndKind.TheVariants.{Swap};
 
 use crate::insn::{AluOp, EndKind, Test, Width};
 
-/// The low 32 bits of a word.
+// Returns the low 32 bits of a word.
 #[inline]
 fn low_half(word: u64) -> u32
     ensures { result ≡ word % 2 ^ 32 }
@@ -18,7 +18,7 @@ fn low_half(word: u64) -> u32
     (word & 0xffff_ffff) as u32
 }
 
-/// What `dst = dst op src` leaves in `dst`, of which the old value is `a`, where `src` is `b` (section 4.1).
+/// Returns the new value of `dst` after `dst = dst op src`, where `dst` was `a` and `src` is `b` (section 4.1).
 ///
 /// A 32-bit result has a zero upper half.
 #[inline(always)]
@@ -53,30 +53,43 @@ fn alu64(op: AluOp, a: u64, b: u64) -> u64
     }
 }
 
+// The signed quotient and remainder of two words, the same at both widths.
+macro_rules! signed_quotient {
+    ($a:expr, $b:expr) => {
+        if $b == 0 {
+            0
+        } else {
+            $a.cast_signed()
+                .wrapping_div($b.cast_signed())
+                .cast_unsigned()
+        }
+    };
+}
+
+macro_rules! signed_remainder {
+    ($a:expr, $b:expr) => {
+        if $b == 0 {
+            $a
+        } else {
+            $a.cast_signed()
+                .wrapping_rem($b.cast_signed())
+                .cast_unsigned()
+        }
+    };
+}
+
 #[inline]
 fn signed_quotient64(a: u64, b: u64) -> u64
     ensures { result ≡ cut_alu W64 SDiv a b }
 {
-    if b == 0 {
-        0
-    } else {
-        a.cast_signed()
-            .wrapping_div(b.cast_signed())
-            .cast_unsigned()
-    }
+    signed_quotient!(a, b)
 }
 
 #[inline]
 fn signed_remainder64(a: u64, b: u64) -> u64
     ensures { result ≡ cut_alu W64 SMod a b }
 {
-    if b == 0 {
-        a
-    } else {
-        a.cast_signed()
-            .wrapping_rem(b.cast_signed())
-            .cast_unsigned()
-    }
+    signed_remainder!(a, b)
 }
 
 #[inline(always)]
@@ -105,29 +118,17 @@ fn alu32(op: AluOp, a: u32, b: u32) -> u32
 fn signed_quotient32(a: u32, b: u32) -> u32
     ensures { result ≡ cut_alu W32 SDiv a b }
 {
-    if b == 0 {
-        0
-    } else {
-        a.cast_signed()
-            .wrapping_div(b.cast_signed())
-            .cast_unsigned()
-    }
+    signed_quotient!(a, b)
 }
 
 #[inline]
 fn signed_remainder32(a: u32, b: u32) -> u32
     ensures { result ≡ cut_alu W32 SMod a b }
 {
-    if b == 0 {
-        a
-    } else {
-        a.cast_signed()
-            .wrapping_rem(b.cast_signed())
-            .cast_unsigned()
-    }
+    signed_remainder!(a, b)
 }
 
-/// What `dst = -dst` leaves (section 4.1).
+/// Returns the new value of `dst` after `dst = -dst` (section 4.1).
 #[inline]
 pub fn neg(width: Width, a: u64) -> u64
     ensures { result ≡ neg_of width a }
@@ -138,7 +139,7 @@ pub fn neg(width: Width, a: u64) -> u64
     }
 }
 
-/// The low 8, 16 or, at 64 bits, 32 bits of a word with their sign extended to the width (section 4.1).
+/// Sign-extends the low 8, 16 or, at 64 bits, 32 bits of a word to the width (section 4.1).
 #[inline]
 pub fn movsx(width: Width, bits: u32, a: u64) -> u64
     requires { IsMovSxBits width bits }
@@ -156,7 +157,7 @@ pub fn movsx(width: Width, bits: u32, a: u64) -> u64
     }
 }
 
-/// What a byte swap of 16, 32 or 64 bits leaves; the bits above are zero (section 4.2).
+/// Returns the result of a byte swap of 16, 32 or 64 bits; the bits above are zero (section 4.2).
 #[inline]
 pub fn end(kind: EndKind, bits: u32, a: u64) -> u64
     requires { IsEndBits bits }
@@ -192,7 +193,7 @@ fn swap(bits: u32, a: u64) -> u64
     }
 }
 
-/// Whether a jump that tests these words is taken (section 4.3).
+/// Returns whether a jump that tests these words is taken (section 4.3).
 #[inline(always)]
 pub fn test(width: Width, test: Test, a: u64, b: u64) -> bool
     ensures { result ≡ is_taken width test a b }
@@ -203,45 +204,40 @@ pub fn test(width: Width, test: Test, a: u64, b: u64) -> bool
     }
 }
 
+// The tests of two words, the same at both widths.
+macro_rules! test_words {
+    ($test:expr, $a:expr, $b:expr) => {
+        match $test {
+            Test::Jeq => $a == $b,
+            Test::Jgt => $a > $b,
+            Test::Jge => $a >= $b,
+            Test::Jset => $a & $b != 0,
+            Test::Jne => $a != $b,
+            Test::Jsgt => $a.cast_signed() > $b.cast_signed(),
+            Test::Jsge => $a.cast_signed() >= $b.cast_signed(),
+            Test::Jlt => $a < $b,
+            Test::Jle => $a <= $b,
+            Test::Jslt => $a.cast_signed() < $b.cast_signed(),
+            Test::Jsle => $a.cast_signed() <= $b.cast_signed(),
+        }
+    };
+}
+
 #[inline]
 fn test64(test: Test, a: u64, b: u64) -> bool
     ensures { result ≡ cut_test W64 test a b }
 {
-    match test {
-        Test::Jeq => a == b,
-        Test::Jgt => a > b,
-        Test::Jge => a >= b,
-        Test::Jset => a & b != 0,
-        Test::Jne => a != b,
-        Test::Jsgt => a.cast_signed() > b.cast_signed(),
-        Test::Jsge => a.cast_signed() >= b.cast_signed(),
-        Test::Jlt => a < b,
-        Test::Jle => a <= b,
-        Test::Jslt => a.cast_signed() < b.cast_signed(),
-        Test::Jsle => a.cast_signed() <= b.cast_signed(),
-    }
+    test_words!(test, a, b)
 }
 
 #[inline]
 fn test32(test: Test, a: u32, b: u32) -> bool
     ensures { result ≡ cut_test W32 test a b }
 {
-    match test {
-        Test::Jeq => a == b,
-        Test::Jgt => a > b,
-        Test::Jge => a >= b,
-        Test::Jset => a & b != 0,
-        Test::Jne => a != b,
-        Test::Jsgt => a.cast_signed() > b.cast_signed(),
-        Test::Jsge => a.cast_signed() >= b.cast_signed(),
-        Test::Jlt => a < b,
-        Test::Jle => a <= b,
-        Test::Jslt => a.cast_signed() < b.cast_signed(),
-        Test::Jsle => a.cast_signed() <= b.cast_signed(),
-    }
+    test_words!(test, a, b)
 }
 
-/// Each result is a word of the width that the operation works on, whatever its operands are.
+/// States that each result fits the width of its operation, for all operands. Does nothing at run time.
 pub fn results_fit_theorem()
     ensures alu { (width : Width) → (op : AluOp) → (a b : ℕ) → alu_of width op a b < 2 ^ bits_of width }
     ensures neg { (width : Width) → (a : ℕ) → neg_of width a < 2 ^ bits_of width }

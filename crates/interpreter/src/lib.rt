@@ -4,6 +4,8 @@
 mod machine;
 mod memory;
 mod running;
+mod scratch;
 mod table;
 
-pub use running::{Ended, one_meaning_theorem, run};
+pub use running::{Ended, one_meaning_theorem, run, run_in};
+pub use scratch::Scratch;

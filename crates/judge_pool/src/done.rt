@@ -1,19 +1,19 @@
-//! What a worker did.
+//! The work of one worker.
 ghost use Rattle.std.specs.Prelude.{◌≡◌, ◌+◌, ◌<◌, ◌^◌};
 ghost use Rattle.judge_pool.specs.Work.{posts};
 
 use verdict_board::{Posted, Seat};
 
-/// A worker's seat, and how many of its posts were answered by each of `Posted`.
-#[derive(Drop)]
+/// A worker's seat, and the number of its posts by outcome.
+#[derive(Debug, Drop)]
 pub struct Done {
     /// The worker's seat.
     pub seat: Seat,
-    /// How many posts were kept.
+    /// The number of posts that were kept.
     pub kept: u32,
-    /// How many came after another verdict of their clash.
+    /// The number of posts that came after another verdict of their clash.
     pub earlier: u32,
-    /// How many were refused for want of memory.
+    /// The number of posts that were refused when out of memory.
     pub refused: u32,
 }
 

@@ -1,4 +1,4 @@
-//! A round of healing, by a worker a seat.
+//! A round of healing, with one worker for each seat.
 ghost use Rattle.std.specs.Prelude.{◌≡◌, ◌≤◌, ◌<◌, ◌+◌, All, vec_len, vec_capacity};
 ghost use Rattle.judge_pool.specs.Work.{round_posts};
 
@@ -11,19 +11,19 @@ use std::sync::Wait;
 use std::thread::Threads;
 use verdict_board::{Board, Seat};
 
-/// What the workers of one round did: the seats that came back, how many workers were started, and how many of their
-/// posts were answered by each of `Posted`.
-#[derive(Drop)]
+/// The outcome of a round: the seats that were returned, the number of workers, and the number of their posts by
+/// outcome.
+#[derive(Debug, Drop)]
 pub struct RoundDone {
-    /// The seats that came back: one of a worker that couldn't be started may be lost.
+    /// The returned seats. The seat of a worker that couldn't be started may be lost.
     pub seats: Vec<Seat>,
-    /// How many workers were started.
+    /// The number of workers that were started.
     pub started: u32,
-    /// How many posts were kept.
+    /// The number of posts that were kept.
     pub kept: u32,
-    /// How many came after another verdict of their clash.
+    /// The number of posts that came after another verdict of their clash.
     pub earlier: u32,
-    /// How many were refused for want of memory.
+    /// The number of posts that were refused when out of memory.
     pub refused: u32,
 }
 
@@ -35,11 +35,11 @@ impl<'a, 'p, G: Gate, E: Ear> Worker for Round<'a, 'p, G, E> {
     }
 }
 
-/// Starts one worker a seat, and ends once all have ended.
+/// Starts one worker for each seat, and returns once all have ended.
 ///
-/// It asks for seats of this board, and for a round from 0 to 3. A worker that can't be started, or gets no pass,
-/// leaves its share to the others. The seat of one that couldn't be started is lost, unless memory for all is refused:
-/// then none is started, and all seats come back.
+/// Requires seats of this board and a round from 0 to 3. A worker that can't be started, or gets no pass, leaves its
+/// share to the others, and its seat is lost. If the list of workers can't be allocated, no worker is started and all
+/// seats are returned.
 pub fn heal_round<'p, G: Gate + Sync, E: Ear + Sync, R: Threads + Wait + Sync>(
     rt: &R,
     alloc: Global,
@@ -53,9 +53,9 @@ pub fn heal_round<'p, G: Gate + Sync, E: Ear + Sync, R: Threads + Wait + Sync>(
     requires seats { All (λ s. s.draws ≡ board.now.draws) seats.items }
     requires round { round < 4 }
     ensures seats { All (λ s. s.draws ≡ board.entry.now.draws) result.seats.items }
-    // The seat of each worker that was started comes back.
+    // The seat of each worker that was started is returned.
     ensures back { result.started ≤ vec_len result.seats }
-    // Where none was started nothing is judged.
+    // Without workers nothing is judged.
     ensures none { result.started ≡ 0 → round_posts result ≡ 0 }
 {
     let shared = Round {

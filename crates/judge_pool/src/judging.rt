@@ -1,13 +1,13 @@
-//! How a clash of a list is judged.
+//! Judging a clash of a list.
 ghost use Rattle.std.specs.Prelude.{◌≡◌, ◌<◌, Some, length, slice_get};
 ghost use Rattle.partition_table.specs.Tables as tables;
 ghost use Rattle.partition_table.specs.Judged.{clash_of_verdict, word_of_verdict, answer_of_verdict};
 
 use partition_table::{ClashList, Verdict};
 
-/// The verdict of clash `k` at a word, by a run of its resolver.
+/// Runs the resolver of clash `k` at a word and returns its verdict.
 ///
-/// It asks that `k` is below the count of clashes. It takes no memory.
+/// Requires that `k` is below the count of clashes. Allocates nothing.
 pub fn judge(clashes: &ClashList, k: u32, word: u64) -> Verdict<'_>
     requires { k < length clashes.now }
     ensures clash { slice_get clashes.entry.now k ≡ Some (clash_of_verdict result) }

@@ -1,4 +1,4 @@
-//! Workers that draw the clashes of a board, judge them, post the verdicts, and tell what the board shows.
+//! Workers that draw the clashes of a board, judge them, post the verdicts, and pass on the rulings on the board.
 #![tactic(auto)]
 
 mod done;

@@ -1,9 +1,9 @@
-//! What the workers of a round share.
+//! The data that the workers of a round share.
 ghost use Rattle.std.specs.Prelude.{◌<◌};
 
 use verdict_board::Board;
 
-// The board and the number of a round, who is asked before a post, and who is told rulings.
+// The board and the number of a round, the gate before each post, and the two listeners.
 #[derive(Drop)]
 pub(crate) struct Round<'a, 'p, G, E> {
     pub board: &'a Board<'p>,

@@ -1,4 +1,4 @@
-//! Workers in threads of their own.
+//! Workers in scoped threads.
 ghost use Rattle.std.specs.Prelude.{◌≡◌, ◌≤◌, ◌<◌, All, vec_len, vec_capacity};
 ghost use Rattle.judge_pool.specs.Work.{round_posts};
 
@@ -23,7 +23,7 @@ pub(crate) trait Worker {
         ensures { result.seat.draws ≡ Self.draws self.entry.now };
 }
 
-// The seat that comes back is of the board that this one is of.
+// The returned seat belongs to the same board as this one.
 #[derive(Drop)]
 pub(crate) struct SameBoard(Snapshot<Seat>);
 
@@ -91,7 +91,7 @@ fn join_workers<W: Worker, R: Threads>(
     ensures back { result.started ≤ vec_len result.seats }
     ensures none { result.started ≡ 0 → round_posts result ≡ 0 }
 {
-    // The worker stands for the board of which the clauses speak.
+    // The clauses name the worker's board.
     let _ = worker;
     let mut all = RoundDone::new(room);
     let mut rest = children;

@@ -1,4 +1,4 @@
-//! The work of one worker.
+//! The loop of one worker.
 ghost use Rattle.std.specs.Prelude.{◌≡◌, ◌+◌, ◌<◌, Some, length, slice_get};
 ghost use Rattle.partition_table.specs.Tables.{word_of};
 ghost use Rattle.partition_table.specs.Judged.{clash_of_verdict, word_of_verdict};
@@ -12,13 +12,13 @@ use partition_table::{Verdict, word};
 use std::sync::Wait;
 use verdict_board::{Board, Draw, Pass, Posted, Seat};
 
-// The most numbers that a seat draws in a round.
+// The maximum number of draws of a seat in a round.
 const MOST_DRAWN: u32 = 4097;
 
-/// Draws clashes of a round until none is left. It judges each, calls the gate, posts the verdict, and tells both ears
-/// the ruling that it then reads, where there is one.
+/// Draws clashes of a round until none is left: judges each, calls the gate, posts the verdict, and passes the ruling
+/// that it then reads, if any, to both listeners.
 ///
-/// It asks for a seat and a pass of this board, and for a round from 0 to 3. Each post takes memory for a word.
+/// Requires a seat and a pass of this board, and a round from 0 to 3. Each post allocates one word.
 pub fn work<'p, G: Gate, E: Ear, R: Wait>(
     rt: &R,
     board: &Board<'p>,
@@ -50,7 +50,7 @@ pub fn work<'p, G: Gate, E: Ear, R: Wait>(
 }
 
 impl<'a, 'p, G: Gate, E: Ear> Round<'a, 'p, G, E> {
-    // The same with a pass of its own. Without one it draws nothing.
+    // Works with a new pass. Draws nothing if the pass can't be allocated.
     pub(crate) fn work_alone<R: Wait>(&self, rt: &R, seat: Seat) -> Done
         requires { seat.draws ≡ self.now.board.now.draws }
         ensures { result.seat.draws ≡ self.entry.now.board.now.draws }
@@ -83,7 +83,7 @@ impl<'a, 'p, G: Gate, E: Ear> Round<'a, 'p, G, E> {
         done
     }
 
-    // Judges clash k, posts the verdict, and tells what the board shows.
+    // Judges clash k, posts the verdict, and passes on the ruling on the board.
     fn serve<R: Wait>(&self, rt: &R, pass: &mut Pass<'p>, k: u32) -> Posted<'p>
         requires pass { pass.old.place ≡ self.now.board.now.place }
         requires clash { k < length self.now.board.now.place.clashes }
@@ -99,7 +99,7 @@ impl<'a, 'p, G: Gate, E: Ear> Round<'a, 'p, G, E> {
         posted
     }
 
-    // The verdict of clash k at its word in this round.
+    // Returns the verdict of clash k at its word in this round.
     fn verdict(&self, k: u32) -> Verdict<'p>
         requires { k < length self.now.board.now.place.clashes }
         ensures clash { slice_get self.entry.now.board.now.place.clashes k ≡ Some (clash_of_verdict result) }

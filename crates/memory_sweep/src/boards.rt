@@ -12,7 +12,7 @@ use std::alloc::{AllocError, Global};
 #[derive(Drop)]
 struct Boarded<'p> {
     caller: Option<Caller<'p>>,
-    /// Whether what was posted was kept.
+    /// True if the post was kept.
     is_kept: bool,
     /// Whether a pass was given, and the word that it has seen of the first clash.
     seen: Option<Option<u64>>,

@@ -28,8 +28,8 @@ impl<'p> Caller<'p> {
         Ok(Caller { board, seats, pass })
     }
 
-    /// Posts the verdict of the first clash at its word in the first round, and tells whether it was kept, unless it
-    /// was refused, and the word that the pass then has seen.
+    /// Posts the verdict of the first clash at its word in the first round. Returns whether it was kept, or `None` if it
+    /// was refused, and the word that the pass has then seen.
     pub(crate) fn post(self) -> (Caller<'p>, Option<bool>, Option<u64>) {
         let Caller {
             board,
@@ -44,7 +44,7 @@ impl<'p> Caller<'p> {
         let verdict = judge(list, 0, word(board.seed(), 0, list.len() as u32, 0));
         let is_kept = match board.post(0, verdict, &mut pass) {
             Posted::Kept => Some(true),
-            // The verdict is handed back.
+            // The verdict is returned.
             Posted::Refused(back) if back.word() == verdict.word() => None,
             Posted::Earlier | Posted::Refused(_) => Some(false),
         };
@@ -64,7 +64,7 @@ impl<'p> Caller<'p> {
         Some(ruling.verdict.word())
     }
 
-    /// The word of the first clash that a new pass is shown, unless there is no memory for one.
+    /// Returns the word of the first clash that a new pass sees, or the error if memory runs out.
     pub(crate) fn word_shown(&self) -> Result<Option<u64>, AllocError> {
         let mut pass = self.board.pass()?;
         let ruling = self.board.read(0, &mut pass);
@@ -80,7 +80,7 @@ impl<'p> Caller<'p> {
             && self.word_shown() == other.word_shown()
     }
 
-    /// How many names the table has of two that finished and meet.
+    /// Returns the count of names in the table of two sides that finished and meet.
     pub(crate) fn meet(self, first: Finished, second: Finished) -> Option<usize> {
         let Caller {
             board,
@@ -91,7 +91,7 @@ impl<'p> Caller<'p> {
         Some(healed.table().len())
     }
 
-    /// What the last seat draws first in the first round.
+    /// Returns the first draw of the last seat in the first round.
     pub(crate) fn draw(self) -> Option<Draw> {
         let Caller {
             board,
@@ -102,7 +102,7 @@ impl<'p> Caller<'p> {
         Some(board.draw(&mut seat, 0))
     }
 
-    /// How many numbers were drawn in each round.
+    /// Returns the draws in each round.
     pub(crate) fn gather(self) -> [u64; 4] {
         let Caller { board, seats, .. } = self;
         board.gather(seats)

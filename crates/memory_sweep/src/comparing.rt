@@ -1,4 +1,4 @@
-//! Whether two values are the same in all that is seen of them.
+//! Comparisons of values by all that callers can see.
 
 use partition_table::Table;
 use std::sync::Arc;

@@ -2,11 +2,13 @@
 
 use crate::comparing::is_same_option;
 use crate::fault::Fault;
-use crate::rows::{by, numbered_name, of, stored};
 use crate::sweep::Subject;
-use clash_record::{ProgramId, Registration, ResolverId};
-use exchange_core::{Finished, Offer, Side, SideId, Withdrawals};
-use partition_table::{ClashList, Ruling, Verdict, clashes, word};
+use clash_record::{ProgramId, Registration, ResolverId, SideId};
+use exchange_core::{Finished, Offer, Side, Withdrawals};
+use fixtures::{
+    BY_WORD, exit_registration, numbered_name, numbered_side, registration, ruling_of, stored,
+};
+use partition_table::clashes;
 use std::alloc::Global;
 use upload_store::UploadStore;
 
@@ -16,7 +18,7 @@ pub(crate) const NUMBER: u64 = 1;
 /// The seed of its words.
 pub(crate) const SEED: u64 = 5;
 
-/// What a side does in an exchange.
+/// A step of a side in an exchange.
 #[derive(Clone, Copy)]
 pub(crate) enum Step {
     /// It registers one name more.
@@ -51,8 +53,8 @@ pub(crate) const WHOLE: [Step; 6] = [
 /// A side, what it hears of the other, and what its calls answered.
 #[derive(Drop)]
 pub(crate) struct Exchange {
-    /// How many names the side has when the exchange begins.
-    names: u8,
+    /// The count of names when the exchange begins.
+    names: u16,
     side: Side,
     store: UploadStore,
     program: ProgramId,
@@ -65,9 +67,9 @@ pub(crate) struct Exchange {
 }
 
 impl Exchange {
-    /// A side with so many names after these steps, and another that has the same names with owners of its own and has
+    /// Returns a side with `names` names after these steps. The other side has the same names with other owners, and has
     /// closed its list.
-    pub(crate) fn after(alloc: Global, names: u8, steps: &[Step]) -> Result<Exchange, Fault> {
+    pub(crate) fn after(alloc: Global, names: u16, steps: &[Step]) -> Result<Exchange, Fault> {
         let mut exchange = Exchange::idle(alloc, names)?;
         for step in steps {
             exchange.step(alloc, *step)?;
@@ -75,10 +77,10 @@ impl Exchange {
         Ok(exchange)
     }
 
-    fn idle(alloc: Global, names: u8) -> Result<Exchange, Fault> {
-        let (store, program) = stored(alloc)?;
+    fn idle(alloc: Global, names: u16) -> Result<Exchange, Fault> {
+        let (store, program) = stored(alloc, &BY_WORD)?;
         let resolver = ResolverId::Program(program);
-        let side = side_with(alloc, SideId::A, names, 1, resolver, &store)?;
+        let side = numbered_side(alloc, SideId::A, names, 1, resolver, &store)?;
         let (of_other, list_of_other) = sent_by_other(alloc, names, resolver, &store)?;
         Ok(Exchange {
             names,
@@ -94,8 +96,8 @@ impl Exchange {
         })
     }
 
-    /// What a side of so many names finished with.
-    pub(crate) fn finished(alloc: Global, names: u8) -> Result<Finished, Fault> {
+    /// Returns the outcome of a side with `names` names.
+    pub(crate) fn finished(alloc: Global, names: u16) -> Result<Finished, Fault> {
         let mut exchange = Exchange::after(alloc, names, &WHOLE)?;
         exchange.finished.take().ok_or(Fault::Unprepared)
     }
@@ -111,15 +113,19 @@ impl Exchange {
 
     pub(crate) fn step(&mut self, alloc: Global, step: Step) -> Result<(), Fault> {
         match step {
-            Step::RegisterBuiltin => self.register(of(1)),
-            Step::RegisterProgram => self.register(by(1, ResolverId::Program(self.program))),
+            Step::RegisterBuiltin => self.register(exit_registration(1, 1)),
+            Step::RegisterProgram => self.register(registration(
+                1,
+                1,
+                ResolverId::Program(self.program),
+            )),
             Step::Unregister => self.unregister(),
             Step::Begin => self.begin(alloc),
             Step::Hear => Ok(self.side.hear(alloc, &self.of_other)?),
             Step::HearList => Ok(self.side.hear_list(&self.list_of_other)?),
             Step::Take => self.take(alloc, 1),
             Step::TakeAll => self.take(alloc, u32::MAX),
-            Step::Withdraw => Ok(self.side.withdraw(&numbered_name(0)?)?),
+            Step::Withdraw => Ok(self.side.withdraw(&numbered_name(b'n', 0)?)?),
             Step::CloseList => self.close_list(alloc),
             Step::Finish => self.finish(alloc),
             Step::Abandon => Ok(self.side.abandon()?),
@@ -127,12 +133,12 @@ impl Exchange {
     }
 
     fn register(&mut self, registration: Registration) -> Result<(), Fault> {
-        let name = numbered_name(self.names)?;
+        let name = numbered_name(b'n', self.names)?;
         Ok(self.side.register(name, registration, &self.store)?)
     }
 
     fn unregister(&mut self) -> Result<(), Fault> {
-        self.unregistered = Some(self.side.unregister(&numbered_name(0)?)?);
+        self.unregistered = Some(self.side.unregister(&numbered_name(b'n', 0)?)?);
         Ok(())
     }
 
@@ -151,14 +157,14 @@ impl Exchange {
         Ok(())
     }
 
-    /// Lists the clashes of what the two sides offered, and has the side take the rulings of the first so many of them.
-    /// It is told all of these, and answers the first refusal.
+    // Has the side take the rulings of the first `most` clashes of the two offers. Tries all of them, and returns the
+    // first refusal.
     fn take(&mut self, alloc: Global, most: u32) -> Result<(), Fault> {
         let offer = self.offer.as_ref().ok_or(Fault::Unprepared)?;
         let list = clashes(alloc, offer.table(), 0, self.of_other.table(), 0)?;
         let mut taken = Ok(());
         for k in 0..most {
-            let Some(ruling) = first_ruling(&list, k) else {
+            let Some(ruling) = ruling_of(&list, NUMBER, SEED, k) else {
                 break;
             };
             let answer = self.side.take(ruling);
@@ -193,40 +199,14 @@ impl Subject for Exchange {
     }
 }
 
-/// The ruling of clash `k` at its word in the first round, where there is such a clash.
-fn first_ruling(list: &ClashList, k: u32) -> Option<Ruling<'_>> {
-    let clash = list.get(k)?;
-    Some(Ruling {
-        number: NUMBER,
-        k,
-        verdict: Verdict::judged(clash, word(SEED, 0, list.len() as u32, k)),
-    })
-}
-
-/// A side with so many names of an owner on this node, all judged by this resolver.
-fn side_with(
-    alloc: Global,
-    id: SideId,
-    names: u8,
-    node: u32,
-    resolver: ResolverId,
-    store: &UploadStore,
-) -> Result<Side, Fault> {
-    let mut side = Side::new(alloc, id);
-    for number in 0..names {
-        side.register(numbered_name(number)?, by(node, resolver), store)?;
-    }
-    Ok(side)
-}
-
-/// The offer and the list of a side with so many names of owners on node 2, all judged by this resolver.
+// Returns the offer and the list of a side with `names` names of an owner on node 2, all judged by this resolver.
 fn sent_by_other(
     alloc: Global,
-    names: u8,
+    names: u16,
     resolver: ResolverId,
     store: &UploadStore,
 ) -> Result<(Offer, Withdrawals), Fault> {
-    let mut other = side_with(alloc, SideId::B, names, 2, resolver, store)?;
+    let mut other = numbered_side(alloc, SideId::B, names, 2, resolver, store)?;
     let offer = other.begin(alloc, NUMBER, SEED, 0)?;
     Ok((offer, other.close_list(alloc)?))
 }

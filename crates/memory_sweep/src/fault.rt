@@ -1,10 +1,11 @@
-//! Why a call of the sweep gave no answer.
+//! Faults of the calls of the sweep.
 
 use assembler_text::LineFault;
 use clash_record::BadName;
 use exchange_core::SideFault;
+use fixtures::FixtureFault;
 use insn_codec::CodecFault;
-use numbered::Numbered;
+use numbered::{Numbered, OUT_OF_MEMORY};
 use partition_table::TableFault;
 use program::ProgramFault;
 use std::alloc::AllocError;
@@ -12,24 +13,21 @@ use std::io;
 use upload_store::UploadFault;
 use verifier::VerifyFault;
 
-/// The number of want of memory.
-const WANT_OF_MEMORY: u32 = 90;
-
-/// Why a call gave no answer.
+/// The reason why a call failed.
 #[derive(Clone, Copy, Debug)]
 pub(crate) enum Fault {
     /// It was refused with this number.
     Refused(u32),
     /// Nothing can be printed.
     Output,
-    /// What it is to be made on isn't there.
+    /// The subject of the call is missing.
     Unprepared,
 }
 
 impl Fault {
-    /// Whether a request for memory was refused.
-    pub(crate) fn is_want_of_memory(self) -> bool {
-        matches!(self, Fault::Refused(WANT_OF_MEMORY))
+    /// Checks whether memory ran out.
+    pub(crate) fn is_out_of_memory(self) -> bool {
+        matches!(self, Fault::Refused(OUT_OF_MEMORY))
     }
 }
 
@@ -81,9 +79,21 @@ impl From<SideFault> for Fault {
     }
 }
 
+impl From<FixtureFault> for Fault {
+    fn from(refusal: FixtureFault) -> Fault {
+        match refusal {
+            FixtureFault::Name(fault) => Fault::from(fault),
+            FixtureFault::Upload(fault) => Fault::from(fault),
+            FixtureFault::Table(fault) => Fault::from(fault),
+            FixtureFault::Side(fault) => Fault::from(fault),
+            FixtureFault::OutOfMemory => Fault::Refused(OUT_OF_MEMORY),
+        }
+    }
+}
+
 impl From<AllocError> for Fault {
     fn from(_: AllocError) -> Fault {
-        Fault::Refused(WANT_OF_MEMORY)
+        Fault::Refused(OUT_OF_MEMORY)
     }
 }
 

@@ -4,10 +4,10 @@ ghost use Rattle.partition_table.specs.Tables.{clash_names};
 
 use crate::comparing::is_same_table;
 use crate::fault::Fault;
-use crate::rows::{numbered_name, stored, table};
 use crate::sweep::{Call, Subject, sweep};
 use builtin_resolvers::Verdict3;
 use clash_record::{Name, ResolverId};
+use fixtures::{BY_WORD, numbered_name, numbered_table, stored};
 use partition_table::{Table, clashes, merge};
 use std::alloc::Global;
 
@@ -37,15 +37,15 @@ struct Merging {
 }
 
 impl Merging {
-    /// Two tables that clash in so many names, all judged by a program.
-    fn new(alloc: Global, names: u8) -> Result<Merging, Fault> {
-        let (store, program) = stored(alloc)?;
+    // Returns two tables that clash in `names` names, all judged by a program.
+    fn new(alloc: Global, names: u16) -> Result<Merging, Fault> {
+        let (store, program) = stored(alloc, &BY_WORD)?;
         let resolver = ResolverId::Program(program);
-        let a = table(alloc, names, 1, resolver, &store)?;
-        let b = table(alloc, names, 2, resolver, &store)?;
+        let a = numbered_table(alloc, names, 1, resolver, &store)?;
+        let b = numbered_table(alloc, names, 2, resolver, &store)?;
         Ok(Merging {
             pair: Pair::of(alloc, a, b)?,
-            gone: [numbered_name(0)?],
+            gone: [numbered_name(b'n', 0)?],
             merged: None,
         })
     }
@@ -59,10 +59,10 @@ impl Subject for Merging {
     }
 }
 
-/// The merge of two tables with so many names.
+/// The merge of two tables with `names` names.
 #[derive(Clone, Copy)]
 struct MergeCall {
-    names: u8,
+    names: u16,
 }
 
 impl Call<Merging> for MergeCall {
@@ -81,7 +81,7 @@ impl Call<Merging> for MergeCall {
     }
 }
 
-/// Sweeps the merge of tables with so many names.
-pub(crate) fn sweep_merging(rt: &HostRuntime, names: u8) -> Result<(), Fault> {
+/// Sweeps the merge of tables with `names` names.
+pub(crate) fn sweep_merging(rt: &HostRuntime, names: u16) -> Result<(), Fault> {
     sweep(rt, &MergeCall { names })
 }

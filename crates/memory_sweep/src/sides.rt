@@ -6,12 +6,12 @@ use crate::sweep::{Call, sweep};
 use std::alloc::Global;
 
 /// How many names a side has before the call, so that at one of them its journal is to grow.
-const SIZES: [u8; 4] = [1, 2, 3, 4];
+const SIZES: [u16; 4] = [1, 2, 3, 4];
 
-/// A call of a side that has so many names.
+/// A call of a side that has `names` names.
 #[derive(Clone, Copy)]
 struct SideCall {
-    names: u8,
+    names: u16,
     name: &'static str,
     step: Step,
     before: &'static [Step],

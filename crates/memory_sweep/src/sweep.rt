@@ -9,13 +9,13 @@ use std::alloc::Global;
 /// More requests than any of the calls makes.
 const MOST_REQUESTS: u32 = 200;
 
-/// In how many windows, one after another, a call is to answer before its sweep ends. One that only asks for room ahead
-/// of need answers though that is refused, and then asks again.
+/// The windows in a row in which a call must answer before its sweep ends. A call that only reserves room ahead of need
+/// answers although a request is refused, and requests again.
 const ANSWERED_WINDOWS: u32 = 4;
 
 /// What a call is made on, with the answers that it gave.
 pub(crate) trait Subject: Drop {
-    /// Whether all that is seen of the two is the same.
+    /// Checks whether callers see the same of both.
     fn is_same(&self, other: &Self) -> bool;
 
     /// Goes on with ample memory, so that what the call left out of sight is seen. Most leave nothing out of sight.
@@ -29,21 +29,21 @@ pub(crate) trait Call<S> {
     /// The call's name, as it is printed.
     fn name(&self) -> &'static str;
 
-    /// What the call is made on.
+    /// Returns the subject of the call.
     fn prepare(&self, alloc: Global) -> Result<S, Fault>;
 
     /// Makes the call, and keeps its answer in the subject.
     fn make(&self, alloc: Global, subject: &mut S) -> Result<(), Fault>;
 }
 
-/// What a call did one of whose requests was to be refused.
+/// The outcome of a call whose Nth allocation was refused.
 #[derive(Clone, Copy)]
 enum Outcome {
     /// It answered in full, and left what it always leaves.
     Answered,
-    /// It was refused for want of memory, changed nothing, and did all that it does when it was made again.
+    /// It ran out of memory, changed nothing, and succeeded when it was made again.
     Refused,
-    /// What is wrong.
+    /// The call is wrong, for this reason.
     Wrong(&'static str),
 }
 
@@ -75,7 +75,7 @@ pub(crate) fn sweep<S: Subject, C: Call<S>>(rt: &HostRuntime, call: &C) -> Resul
     Ok(())
 }
 
-/// Makes the call with this request refused, and looks at what it answered and left.
+// Makes the call with this request refused, and looks at what it answered and left.
 fn refuse_one<S: Subject, C: Call<S>>(
     rt: &HostRuntime,
     request: u32,
@@ -89,12 +89,12 @@ fn refuse_one<S: Subject, C: Call<S>>(
         } else {
             Outcome::Wrong("it left something else than it always leaves")
         }),
-        Err(fault) if fault.is_want_of_memory() => make_again(alloc, subject, call),
+        Err(fault) if fault.is_out_of_memory() => make_again(alloc, subject, call),
         Err(_) => Ok(Outcome::Wrong("it was refused for something else than memory")),
     }
 }
 
-/// Makes the call with this request refused.
+// Makes the call with this request refused.
 fn make_refused<S: Subject, C: Call<S>>(
     rt: &HostRuntime,
     request: u32,
@@ -107,7 +107,7 @@ fn make_refused<S: Subject, C: Call<S>>(
     Ok(answer)
 }
 
-/// Makes a call again that was refused.
+// Makes a call again that was refused.
 fn make_again<S: Subject, C: Call<S>>(
     alloc: Global,
     refused: S,
@@ -127,7 +127,7 @@ fn make_again<S: Subject, C: Call<S>>(
     })
 }
 
-/// Whether the call left what it leaves with ample memory, also once both go on.
+// Whether the call left what it leaves with ample memory, also once both go on.
 fn is_as_unrefused<S: Subject, C: Call<S>>(
     alloc: Global,
     called: S,

@@ -3,17 +3,19 @@
 use crate::comparing::{is_same_option, is_same_program, is_same_table};
 use crate::fault::Fault;
 use crate::merging::sweep_merging;
-use crate::rows::{FIRST, by, numbered_name, of, stored, table};
 use crate::sweep::{Call, Subject, sweep};
 use clash_record::{ProgramId, Registration, ResolverId};
+use fixtures::{
+    BY_WORD, FIRST, exit_registration, numbered_name, numbered_table, registration, stored,
+};
 use partition_table::{Clash, ClashList, Table, clashes};
 use std::alloc::Global;
 use upload_store::UploadStore;
 
-/// How many names a table has before the call: none, and so many that the next one splits a node of its tree.
-const SIZES: [u8; 2] = [0, 11];
+/// The counts of names before the call: none, and the count at which the next name splits a node of the tree.
+const SIZES: [u16; 2] = [0, 11];
 
-/// Whether the two stores have as many programs, and the same ones under these ids.
+// Whether the two stores have as many programs, and the same ones under these ids.
 fn is_same_store(one: &UploadStore, other: &UploadStore, ids: &[ProgramId]) -> bool {
     one.len() == other.len()
         && ids
@@ -34,13 +36,13 @@ struct Tabled {
 }
 
 impl Tabled {
-    /// A table with so many names of node 1, judged by a program, and another where they are of node 2.
-    fn new(alloc: Global, names: u8) -> Result<Tabled, Fault> {
-        let (store, program) = stored(alloc)?;
+    // Returns a table with `names` names of node 1, judged by a program, and another with the same names of node 2.
+    fn new(alloc: Global, names: u16) -> Result<Tabled, Fault> {
+        let (store, program) = stored(alloc, &BY_WORD)?;
         let resolver = ResolverId::Program(program);
         Ok(Tabled {
-            table: table(alloc, names, 1, resolver, &store)?,
-            other: table(alloc, names, 2, resolver, &store)?,
+            table: numbered_table(alloc, names, 1, resolver, &store)?,
+            other: numbered_table(alloc, names, 2, resolver, &store)?,
             store,
             program,
             uploaded: None,
@@ -49,15 +51,15 @@ impl Tabled {
         })
     }
 
-    /// Registers the name of this number.
-    fn register(&mut self, number: u8, registration: Registration) -> Result<(), Fault> {
+    // Registers the name of this number.
+    fn register(&mut self, number: u16, registration: Registration) -> Result<(), Fault> {
         Ok(
             self.table
-                .register(numbered_name(number)?, registration, &self.store)?,
+                .register(numbered_name(b'n', number)?, registration, &self.store)?,
         )
     }
 
-    /// The ids that the store may have.
+    // The ids that the store may have.
     fn ids(&self) -> [ProgramId; 2] {
         [self.program, self.uploaded.unwrap_or(self.program)]
     }
@@ -75,7 +77,7 @@ impl Subject for Tabled {
     }
 }
 
-/// Whether both lists have the same clashes.
+/// Checks whether both lists have the same clashes.
 pub(crate) fn is_same_list(one: &ClashList, other: &ClashList) -> bool {
     one.len() == other.len()
         && one
@@ -91,11 +93,11 @@ fn is_same_clash(one: &Clash, other: &Clash) -> bool {
         && is_same_program(one.program(), other.program())
 }
 
-/// A call of a store or of a table that has so many names.
+/// A call of a store or of a table that has `names` names.
 #[derive(Clone, Copy)]
 struct TableCall {
     kind: TableCallKind,
-    names: u8,
+    names: u16,
 }
 
 #[derive(Clone, Copy)]
@@ -125,9 +127,12 @@ impl Call<Tabled> for TableCall {
     fn make(&self, alloc: Global, tabled: &mut Tabled) -> Result<(), Fault> {
         match self.kind {
             TableCallKind::Upload => tabled.uploaded = Some(tabled.store.upload(alloc, &FIRST)?),
-            TableCallKind::RegisterBuiltin => tabled.register(self.names, of(1))?,
+            TableCallKind::RegisterBuiltin => tabled.register(self.names, exit_registration(1, 1))?,
             TableCallKind::RegisterProgram => {
-                tabled.register(self.names, by(1, ResolverId::Program(tabled.program)))?;
+                tabled.register(
+                    self.names,
+                    registration(1, 1, ResolverId::Program(tabled.program)),
+                )?;
             }
             TableCallKind::TryClone => tabled.given = Some(tabled.table.try_clone()?),
             TableCallKind::Clashes => {
@@ -162,8 +167,8 @@ pub(crate) fn sweep_tables(rt: &HostRuntime) -> Result<(), Fault> {
     Ok(())
 }
 
-/// Sweeps these calls, made on tables with so many names.
-fn sweep_kinds(rt: &HostRuntime, names: u8, kinds: &[TableCallKind]) -> Result<(), Fault> {
+// Sweeps these calls on tables with `names` names.
+fn sweep_kinds(rt: &HostRuntime, names: u16, kinds: &[TableCallKind]) -> Result<(), Fault> {
     for kind in kinds {
         sweep(rt, &TableCall { kind: *kind, names })?;
     }

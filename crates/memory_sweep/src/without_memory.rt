@@ -3,16 +3,17 @@
 use crate::callers::Caller;
 use crate::exchange::{Exchange, SEED, WHOLE};
 use crate::fault::Fault;
-use crate::rows::{BY_WORD, by, clashing, numbered_name, of, stored, table};
+use crate::rows::clashing;
 use crate::sweep::{Starved, Subject};
 use crate::tables::is_same_list;
 use abstract_value::{Both, Domain};
 use answers::judge_one;
 use builtin_resolvers::{Notice, Verdict3, decide, notices};
 use clash_record::{
-    Builtin, Facts, Name, RECORD_LEN, Registration, ResolverId, name, record, record_of,
+    Builtin, Facts, Name, RECORD_LEN, Registration, ResolverId, SideId, name, record, record_of,
 };
-use exchange_core::{Side, SideId};
+use exchange_core::Side;
+use fixtures::{BY_WORD, exit_registration, numbered_name, numbered_table, registration, stored};
 use instruction_set::{AluOp, EndKind, Size, Test, Width, alu, end, movsx, neg, test};
 use interpreter::{Ended, run};
 use judge_pool::judge;
@@ -41,12 +42,12 @@ pub(crate) fn sweep_without_memory(rt: &HostRuntime) -> Result<(), Fault> {
     calls.end()
 }
 
-/// The facts of a half with one name, up for as long as is given.
+// The facts of a half with one name, up for as long as is given.
 fn up_for(uptime: u64) -> Facts {
     Facts { size: 1, uptime }
 }
 
-/// The record of the name `db` of owners 1.1 and 2.1, at the word.
+// The record of the name `db` of owners 1.1 and 2.1, at the word.
 fn record_bytes() -> [u8; RECORD_LEN] {
     let mut bytes = [0; RECORD_LEN];
     for (at, value) in [
@@ -74,7 +75,14 @@ fn records(calls: &mut Starved<'_>) -> Result<(), Fault> {
     calls.refuse("name of no name");
     calls.gave(name(b"d b").is_err(), true);
     calls.refuse("record");
-    let clash = record(&db, &of(1), &of(2), WORD, up_for(3), up_for(4));
+    let clash = record(
+        &db,
+        &exit_registration(1, 1),
+        &exit_registration(2, 1),
+        WORD,
+        up_for(3),
+        up_for(4),
+    );
     calls.gave(*clash.bytes(), record_bytes());
     calls.refuse("record_of");
     calls.gave(*record_of(record_bytes()).bytes(), record_bytes());
@@ -98,7 +106,7 @@ fn runs(calls: &mut Starved<'_>) -> Result<(), Fault> {
 fn answers(calls: &mut Starved<'_>) -> Result<(), Fault> {
     calls.refuse("decide");
     calls.gave(decide(Builtin::Exit, WORD), Verdict3::Second);
-    let (first, second) = (of(1).owner, of(2).owner);
+    let (first, second) = (exit_registration(1, 1).owner, exit_registration(2, 1).owner);
     let db = name(b"db")?;
     calls.refuse("notices");
     let told = notices(Builtin::Exit, &db, first, second, Verdict3::First);
@@ -127,7 +135,7 @@ fn stores(calls: &mut Starved<'_>) -> Result<(), Fault> {
     let alloc = calls.alloc();
     calls.refuse("UploadStore::new");
     calls.gave(UploadStore::new(alloc).len(), 0);
-    let (store, id) = stored(alloc)?;
+    let (store, id) = stored(alloc, &BY_WORD)?;
     calls.refuse("UploadStore::len");
     calls.gave(store.len(), 1);
     calls.refuse("UploadStore::get");
@@ -140,14 +148,19 @@ fn tables(calls: &mut Starved<'_>) -> Result<(), Fault> {
     let alloc = calls.alloc();
     calls.refuse("Table::new");
     calls.gave(Table::new(alloc).len(), 0);
-    let (store, program) = stored(alloc)?;
+    let (store, program) = stored(alloc, &BY_WORD)?;
     let resolver = ResolverId::Program(program);
-    let mut table = table(alloc, 12, 1, resolver, &store)?;
-    calls_of_table(calls, &mut table, numbered_name(0)?, by(1, resolver));
+    let mut table = numbered_table(alloc, 12, 1, resolver, &store)?;
+    calls_of_table(
+        calls,
+        &mut table,
+        numbered_name(b'n', 0)?,
+        registration(1, 1, resolver),
+    );
     Ok(())
 }
 
-/// The table has 12 names, the first of them with this registration.
+// The table has 12 names, the first of them with this registration.
 fn calls_of_table(
     calls: &mut Starved<'_>,
     table: &mut Table,
@@ -170,7 +183,7 @@ fn sides(calls: &mut Starved<'_>) -> Result<(), Fault> {
     let alloc = calls.alloc();
     calls.refuse("Side::new");
     calls.gave(Side::new(alloc, SideId::A).events(), 0);
-    let registered = numbered_name(0)?;
+    let registered = numbered_name(b'n', 0)?;
     let exchange = Exchange::after(alloc, 1, &WHOLE)?;
     calls_of_side(calls, &exchange, &registered);
     calls.refuse("the parts of an exchange");
@@ -178,10 +191,10 @@ fn sides(calls: &mut Starved<'_>) -> Result<(), Fault> {
     Ok(())
 }
 
-/// The exchange finished with this name alone, which the second kept.
+// The exchange finished with this name alone, which the second kept.
 fn calls_of_side(calls: &mut Starved<'_>, exchange: &Exchange, registered: &Name) {
     let side = exchange.side();
-    let registration = by(2, ResolverId::Program(exchange.program()));
+    let registration = registration(2, 1, ResolverId::Program(exchange.program()));
     calls.refuse("Side::events");
     calls.gave(side.events(), 7);
     calls.refuse("Side::whereis");
@@ -274,6 +287,6 @@ fn operations_on_sets(calls: &mut Starved<'_>) {
     calls.gave(Both::movsx(Width::W64, 8, &one).bounds(), (1, 1));
     calls.refuse("Both::end");
     calls.gave(Both::end(EndKind::Little, 16, &one).bounds(), (1, 1));
-    calls.refuse("Both::load");
-    calls.gave(Both::load(Size::Byte, false).bounds(), (0, 255));
+    calls.refuse("Both::loaded");
+    calls.gave(Both::loaded(Size::Byte, false).bounds(), (0, 255));
 }

@@ -12,7 +12,8 @@ use Rattle.clash_record.specs.declared.registrations.Registration.{Registration}
 use Rattle.clash_record.specs.Orders.{name_cmp}
 use Rattle.clash_record.specs.laws.Orders.{names_total, names_exact}
 use Rattle.upload_store.specs.Programs.{Programs}
-use Rattle.partition_table.specs.Tables.{Name, row_for}
+use Rattle.clash_record.specs.Name.{Name}
+use Rattle.partition_table.specs.Tables.{row_for}
 use Rattle.partition_table.specs.model.Keeping.{table_by}
 use Rattle.partition_table.proofs.Held.{get_row}
 

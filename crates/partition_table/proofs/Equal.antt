@@ -6,7 +6,8 @@ use Rattle.std.specs.List.{list_any}
 use Rattle.std.specs.FinMap.{get, keys, contains_key-keys, same_map}
 use Rattle.clash_record.specs.declared.registrations.Registration.{Registration}
 use Rattle.clash_record.specs.laws.Orders.{names_total, names_exact}
-use Rattle.partition_table.specs.Tables.{Name, Row, Table, IsTable, is_name, same_registration, same_table, tables_agree}
+use Rattle.clash_record.specs.Name.{Name}
+use Rattle.partition_table.specs.Tables.{Row, Table, IsTable, is_name, same_registration, same_table, tables_agree}
 use Rattle.partition_table.specs.laws.Sameness.{table_decides, registration_decides}
 use Rattle.partition_table.specs.model.Walking.{IsPaired, IsWithin}
 use Rattle.partition_table.proofs.Agreeing.{same_bool}

@@ -16,7 +16,8 @@ use Rattle.clash_record.specs.declared.registrations.Registration.{Registration}
 use Rattle.clash_record.specs.Orders.{name_cmp, id_cmp}
 use Rattle.clash_record.specs.laws.Orders.{names_total, names_exact, ids_total, ids_exact}
 use Rattle.upload_store.specs.Programs.{Programs}
-use Rattle.partition_table.specs.Tables.{Name, Row, Table, IsTable, IsCodeOf, program_of, code_for, row_for, rows_of, same_id, same_code, rows_agree, agrees_with}
+use Rattle.clash_record.specs.Name.{Name}
+use Rattle.partition_table.specs.Tables.{Row, Table, IsTable, IsCodeOf, program_of, code_for, row_for, rows_of, same_id, same_code, rows_agree, agrees_with}
 use Rattle.partition_table.specs.model.Keeping.{mapped, programs_by, table_by, IsHeld, has_room_for, IsKeptFor}
 use Rattle.partition_table.proofs.Maps.{get-mapped, entries-mapped, len-mapped, all_values_from, all_values_at}
 

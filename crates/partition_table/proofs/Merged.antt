@@ -13,7 +13,8 @@ use Rattle.clash_record.specs.Orders.{name_cmp}
 use Rattle.clash_record.specs.laws.Orders.{names_total, names_exact}
 use Rattle.builtin_resolvers.specs.declared.verdicts.Verdict3.{Verdict3}
 use Rattle.builtin_resolvers.specs.declared.verdicts.Verdict3.TheVariants.{Neither}
-use Rattle.partition_table.specs.Tables.{Name, Row, Table, max_names, is_name, is_in, same_registration, differ, clash_names, answer_at, merged_at, winner, unless_gone, Gone, kept_at, IsMerge, with_row, tabulated, merge, union_len, fit_together}
+use Rattle.clash_record.specs.Name.{Name}
+use Rattle.partition_table.specs.Tables.{Row, Table, max_names, is_name, is_in, same_registration, differ, clash_names, answer_at, merged_at, winner, unless_gone, Gone, kept_at, IsMerge, with_row, tabulated, merge, union_len, fit_together}
 use Rattle.partition_table.specs.model.Merging.{IsReady, first_answer, answers_behind, answers_left, kept_with, settled, put_all, names_without, each_kept}
 use Rattle.partition_table.proofs.Maps.{get-insert_same}
 use Rattle.partition_table.proofs.Walks.{flipped}

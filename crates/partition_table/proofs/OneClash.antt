@@ -8,7 +8,8 @@ use Rattle.instruction_set.specs.declared.insn.Insn.{Insn}
 use Rattle.clash_record.specs.declared.registrations.Registration.{Registration}
 use Rattle.clash_record.specs.declared.records.Facts.{Facts}
 use Rattle.clash_record.specs.Orders.{registration_cmp}
-use Rattle.partition_table.specs.Tables.{Name, Row, Table, IsTable, Clash, clash_at, max_names, union_len}
+use Rattle.clash_record.specs.Name.{Name}
+use Rattle.partition_table.specs.Tables.{Row, Table, IsTable, Clash, clash_at, max_names, union_len}
 
 few_kept : {X Y : Type 0} (h : X → Option Y) (xs : List X) → length (filter_map h xs) ≤ length xs
 few_kept h [] = omega arith

@@ -9,18 +9,20 @@ use Rattle.clash_record.specs.declared.registrations.Registration.{Registration}
 use Rattle.upload_store.specs.Programs.{Programs}
 use Rattle.partition_table.specs.declared.fault.TableFault.{TableFault}
 use Rattle.partition_table.specs.declared.fault.TableFault.TheVariants.{NameTaken, Full, UnknownProgram, OtherCode, OutOfMemory}
-use Rattle.partition_table.specs.Tables.{Name, Row, Table, max_names, agrees_with, row_for}
-use Rattle.partition_table.specs.Faults.{IsAnswered, is_known, register_fault}
+use Rattle.clash_record.specs.Name.{Name}
+use Rattle.partition_table.specs.Tables.{Row, Table, max_names, agrees_with, row_for}
+use Rattle.numbered.specs.Answers.{IsAnswered}
+use Rattle.partition_table.specs.Faults.{is_known, register_fault, table_fault_number}
 use Rattle.partition_table.specs.model.Keeping.{IsHeld, has_room_for}
 use Rattle.partition_table.proofs.Held.{IsLookedUp, agrees_from_room, room_from_agrees}
 
--- a refusal that is handed on
+-- a refusal that is passed on
 pub handed_on : {A : Type 0} (due : Option TableFault) (r : Result A TableFault) (f : TableFault)
     → IsErrAnd r (λ e. e ≡ f)
-    → (due ≡ Some f) ⊎ (f ≡ OutOfMemory) → IsAnswered due r
+    → (due ≡ Some f) ⊎ (f ≡ OutOfMemory) → IsAnswered table_fault_number due r
 handed_on due (Ok x) f h is = absurd h
 handed_on due (Err e) f h (inl is) = inl (is ∙ ap Some (sym h))
-handed_on due (Err e) f h (inr is) = inr (h ∙ is)
+handed_on due (Err e) f h (inr is) = inr (ap table_fault_number (h ∙ is))
 
 module _ (table : Table) (name : Name) (r : Registration) (store : Programs) where
   pub taken_due : contains_key table name ≡ true → register_fault table name r store ≡ Some NameTaken

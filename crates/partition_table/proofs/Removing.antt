@@ -12,7 +12,8 @@ use Rattle.clash_record.specs.declared.registrations.Registration.{Registration}
 use Rattle.clash_record.specs.Orders.{name_cmp}
 use Rattle.clash_record.specs.laws.Orders.{names_total, names_exact}
 use Rattle.upload_store.specs.Programs.{Programs}
-use Rattle.partition_table.specs.Tables.{Name, Row, Table, program_of, row_for, same_id}
+use Rattle.clash_record.specs.Name.{Name}
+use Rattle.partition_table.specs.Tables.{Row, Table, program_of, row_for, same_id}
 use Rattle.partition_table.specs.model.Keeping.{mapped, table_by, IsNamed, IsHeld, without_code, names, unnamed_in}
 use Rattle.partition_table.proofs.Maps.{made_removed, entries-mapped, any_value_at, none_value_at}
 use Rattle.partition_table.proofs.Held.{IsLookedUp, same_id_is, same_id_from}

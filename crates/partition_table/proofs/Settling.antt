@@ -15,7 +15,8 @@ use Rattle.clash_record.specs.Orders.{name_cmp, registration_cmp}
 use Rattle.clash_record.specs.laws.Orders.{names_total, names_exact}
 use Rattle.builtin_resolvers.specs.declared.verdicts.Verdict3.{Verdict3}
 use Rattle.builtin_resolvers.specs.declared.verdicts.Verdict3.TheVariants.{First, Second, Neither}
-use Rattle.partition_table.specs.Tables.{Name, Row, Table, merged_at, winner, same_registration, holds, unless_gone, with_row}
+use Rattle.clash_record.specs.Name.{Name}
+use Rattle.partition_table.specs.Tables.{Row, Table, merged_at, winner, same_registration, holds, unless_gone, with_row}
 use Rattle.partition_table.specs.model.Walking.{IsPaired}
 use Rattle.partition_table.specs.model.Merging.{IsRowOf, IsReady, answers_left, names_without}
 use Rattle.partition_table.proofs.Walks.{flipped, is_less}

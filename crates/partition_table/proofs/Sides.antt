@@ -18,7 +18,8 @@ use Rattle.clash_record.specs.Orders.{name_cmp, registration_cmp}
 use Rattle.clash_record.specs.laws.Orders.{names_total, names_exact, registrations_total, registrations_exact}
 use Rattle.builtin_resolvers.specs.declared.verdicts.Verdict3.{Verdict3}
 use Rattle.builtin_resolvers.specs.declared.verdicts.Verdict3.TheVariants.{First, Second, Neither}
-use Rattle.partition_table.specs.Tables.{Name, Row, Table, IsTable, IsCodeOf, program_of, Clash, clash_of, clash_at, clashes, facts_of, same_registration, differ, clash_names, is_name, is_in, answer_at, winner, merged_at, holds, unless_gone, merge, tables_agree}
+use Rattle.clash_record.specs.Name.{Name}
+use Rattle.partition_table.specs.Tables.{Row, Table, IsTable, IsCodeOf, program_of, Clash, clash_of, clash_at, clashes, facts_of, same_registration, differ, clash_names, is_name, is_in, answer_at, winner, merged_at, holds, unless_gone, merge, tables_agree}
 use Rattle.partition_table.proofs.Merged.{same_name, merge_is, is_the_merge}
 use Rattle.partition_table.proofs.Settling.{keys_sorted}
 use Rattle.partition_table.proofs.Uniting.{two_agree}

@@ -8,7 +8,8 @@ use Rattle.clash_record.specs.declared.registrations.ResolverId.{ResolverId}
 use Rattle.clash_record.specs.declared.registrations.ResolverId.TheVariants.{Builtin, Program}
 use Rattle.clash_record.specs.declared.registrations.Registration.{Registration}
 use Rattle.clash_record.specs.laws.Orders.{names_total}
-use Rattle.partition_table.specs.Tables.{Name, Row, Table, IsTable, IsCodeOf, program_of, rows_agree, agrees_with, tables_agree, holds, unless_gone}
+use Rattle.clash_record.specs.Name.{Name}
+use Rattle.partition_table.specs.Tables.{Row, Table, IsTable, IsCodeOf, program_of, rows_agree, agrees_with, tables_agree, holds, unless_gone}
 use Rattle.partition_table.specs.model.Keeping.{IsKeptFor}
 use Rattle.partition_table.specs.model.Merging.{IsRowOf, holds_as}
 use Rattle.partition_table.proofs.Maps.{all_values_from, all_values_at}

@@ -12,7 +12,8 @@ use Rattle.std.specs.FinMap.Entries.{find, is_sorted, below_all}
 use Rattle.clash_record.specs.declared.registrations.Registration.{Registration}
 use Rattle.clash_record.specs.Orders.{name_cmp}
 use Rattle.clash_record.specs.laws.Orders.{names_total}
-use Rattle.partition_table.specs.Tables.{Name, Row, Table, rows_of}
+use Rattle.clash_record.specs.Name.{Name}
+use Rattle.partition_table.specs.Tables.{Row, Table, rows_of}
 use Rattle.partition_table.specs.model.Keeping.{mapped}
 use Rattle.partition_table.specs.model.Walking.{drop_before, first_at, walk, IsPaired}
 use Rattle.partition_table.proofs.Maps.{to_true}

@@ -1,5 +1,5 @@
 -- The refusals of tables: their numbers, and when each is due.
-use Rattle.std.specs.Prelude.{◌≡◌, ◌⊎◌, ℕ, Bool, true, not, nat_lt, nat_le, if◌then◌else◌, Option, Some, None, Result, Ok, Err}
+use Rattle.std.specs.Prelude.{◌≡◌, ℕ, Bool, true, not, nat_lt, nat_le, if◌then◌else◌, Option, Some, None, Result, Ok, Err}
 use Rattle.std.specs.FinMap.{len, contains_key}
 use Rattle.clash_record.specs.declared.registrations.ResolverId.{ResolverId}
 use Rattle.clash_record.specs.declared.registrations.ResolverId.TheVariants.{Builtin, Program}
@@ -7,7 +7,8 @@ use Rattle.clash_record.specs.declared.registrations.Registration.{Registration}
 use Rattle.upload_store.specs.Programs.{Programs}
 use Rattle.partition_table.specs.declared.fault.TableFault.{TableFault}
 use Rattle.partition_table.specs.declared.fault.TableFault.TheVariants.{NameTaken, NoSuchName, Full, TooManyNames, UnknownProgram, OtherCode, OutOfMemory}
-use Rattle.partition_table.specs.Tables.{Name, Row, Table, max_names, row_for, agrees_with, tables_agree, union_len}
+use Rattle.clash_record.specs.Name.{Name}
+use Rattle.partition_table.specs.Tables.{Row, Table, max_names, row_for, agrees_with, tables_agree, union_len}
 
 -- the number of a refusal
 abbrev pub table_fault_number : TableFault → ℕ
@@ -19,12 +20,7 @@ table_fault_number UnknownProgram = 41
 table_fault_number OtherCode = 42
 table_fault_number OutOfMemory = 90
 
--- a call answers Ok just where no refusal is due, and else refuses so; or memory ran out
-abbrev pub IsAnswered : {A : Type 0} → Option TableFault → Result A TableFault → Type 0
-IsAnswered due (Ok x) = due ≡ None
-IsAnswered due (Err fault) = (due ≡ Some fault) ⊎ (fault ≡ OutOfMemory)
-
--- a call that takes no memory answers Ok just where no refusal is due, and else refuses so
+-- a call that allocates nothing succeeds exactly where no refusal is due, and else returns that refusal
 abbrev pub IsRefused : {A : Type 0} → Option TableFault → Result A TableFault → Type 0
 IsRefused due (Ok x) = due ≡ None
 IsRefused due (Err fault) = due ≡ Some fault
@@ -34,7 +30,7 @@ abbrev pub is_known : Programs → ResolverId → Bool
 is_known store (Builtin b) = true
 is_known store (Program id) = contains_key store id
 
--- the refusal that is due where a name is registered
+-- the refusal that registering a name is due
 abbrev pub register_fault : Table → Name → Registration → Programs → Option TableFault
 register_fault table name r store =
     if contains_key table name then Some NameTaken
@@ -42,12 +38,12 @@ register_fault table name r store =
     else (if not (is_known store r.resolver) then Some UnknownProgram
     else (if not (agrees_with table (row_for store r)) then Some OtherCode else None)))
 
--- what taking a name out answers, by what the table has there
+-- what unregistering a name returns, by what the table has there
 abbrev pub unregister_answer : Option Row → Result Registration TableFault
 unregister_answer (Some row) = Ok row.registration
 unregister_answer None = Err NoSuchName
 
--- the refusal that is due where two tables don't fit together
+-- the refusal that two tables which don't fit together are due
 abbrev pub fit_fault : Table → Table → Option TableFault
 fit_fault a b =
     if not (nat_le (union_len a b) max_names) then Some TooManyNames

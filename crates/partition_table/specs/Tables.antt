@@ -12,6 +12,7 @@ use Rattle.clash_record.specs.declared.registrations.ResolverId.{ResolverId}
 use Rattle.clash_record.specs.declared.registrations.ResolverId.TheVariants.{Builtin, Program}
 use Rattle.clash_record.specs.declared.registrations.Registration.{Registration}
 use Rattle.clash_record.specs.declared.records.Facts.{Facts}
+use Rattle.clash_record.specs.Name.{Name}
 use Rattle.clash_record.specs.Orders.{name_cmp, id_cmp, registration_cmp}
 use Rattle.clash_record.specs.Record.{clash_bytes}
 use Rattle.builtin_resolvers.specs.declared.verdicts.Verdict3.{Verdict3}
@@ -20,10 +21,6 @@ use Rattle.builtin_resolvers.specs.Verdicts.{builtin_verdict, verdict_of_answer}
 use Rattle.upload_store.specs.Programs.{Programs, IsProgram}
 
 -- ---- tables
-
--- the bytes of a name
-abbrev pub Name : Type 0
-Name = List ℕ
 
 -- a registration, with the code of the program that it names; none for a built-in resolver
 pub record Row : Type 0 where

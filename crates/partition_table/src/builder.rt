@@ -14,9 +14,9 @@ use std::marker::Model;
 use std::sync::Arc;
 use verifier::Verified;
 
-/// The rows of a table that is being made, and the programs that these name.
-///
-/// A contract sees it as the table that `finish` makes of it. Rows that come in the order of names need no sorting.
+// The rows of a table that is being made, and the programs that these name.
+//
+// A contract sees it as the table that `finish` makes of it. Rows that come in the order of names need no sorting.
 #[derive(Drop)]
 pub(crate) struct TableBuilder {
     rows: Vec<(Name, Registration)>,
@@ -40,7 +40,7 @@ impl Model for TableBuilder {
 }
 
 impl TableBuilder {
-    /// No rows. Takes no memory.
+    // No rows. Allocates nothing.
     pub(crate) fn new(alloc: Global) -> TableBuilder
         ensures { result ≡ map.empty }
     {
@@ -50,7 +50,7 @@ impl TableBuilder {
         }
     }
 
-    /// Adds a row under a name that has none.
+    // Adds a row under a name that has none.
     pub(crate) fn push(
         &mut self,
         name: Name,
@@ -74,7 +74,7 @@ impl TableBuilder {
         Ok(())
     }
 
-    /// The table of the rows. Takes memory for them, and looks once at each where they came in the order of names.
+    // The table of the rows. Allocates them, and looks once at each where they came in the order of names.
     pub(crate) fn finish(self, alloc: Global) -> Result<Table, AllocError>
         ensures { IfOk result (λ table. table ≡ self) }
     {

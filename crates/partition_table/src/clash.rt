@@ -1,5 +1,5 @@
-//! Clashes: names that two tables register unequally.
-ghost use Rattle.std.specs.Prelude.{◌≡◌, ◌≤◌, length, slice_get, IfOk};
+//! Clashes: names that two tables register differently.
+ghost use Rattle.std.specs.Prelude.{◌≡◌, ◌≤◌, ◌↔◌, [], length, slice_get, IfOk, IsTrue};
 ghost use Rattle.std.specs.Option.{option_map};
 ghost use Rattle.std.specs.Arc.{arc_value};
 ghost use Rattle.std.specs.Slice.Iter.{iter_rest};
@@ -14,10 +14,10 @@ use std::slice;
 use std::sync::Arc;
 use verifier::Verified;
 
-/// A name that two tables register unequally, and all that judging it reads.
+/// A name that two tables register differently, with everything that judging it reads.
 ///
-/// First is the lesser of the two registrations, and its resolver judges.
-#[derive(Drop)]
+/// The lesser registration is first, and its resolver judges.
+#[derive(Debug, Drop)]
 pub struct Clash {
     name: Name,
     first: Registration,
@@ -48,8 +48,8 @@ impl Model for Clash {
 }
 
 impl Clash {
-    /// The clash of this name, where the first registration comes before the second. Takes memory for one more owner of
-    /// the program.
+    // Returns the clash of this name; the first registration precedes the second. Allocates one more owner of the
+    // program.
     pub(crate) fn new(
         name: Name,
         first: Registration,
@@ -77,56 +77,56 @@ impl Clash {
         })
     }
 
-    /// The name.
+    /// Returns the name.
     pub fn name(&self) -> &Name
         ensures { result.now ≡ self.now.name }
     {
         &self.name
     }
 
-    /// The lesser registration.
+    /// Returns the lesser registration.
     pub fn first(&self) -> &Registration
         ensures { result.now ≡ self.now.first }
     {
         &self.first
     }
 
-    /// The greater registration.
+    /// Returns the greater registration.
     pub fn second(&self) -> &Registration
         ensures { result.now ≡ self.now.second }
     {
         &self.second
     }
 
-    /// The size and the uptime of the half that holds the lesser registration.
+    /// Returns the size and uptime of the half that holds the lesser registration.
     pub fn of_first(&self) -> Facts
         ensures { result ≡ self.now.of_first }
     {
         self.of_first
     }
 
-    /// The size and the uptime of the half that holds the greater registration.
+    /// Returns the size and uptime of the half that holds the greater registration.
     pub fn of_second(&self) -> Facts
         ensures { result ≡ self.now.of_second }
     {
         self.of_second
     }
 
-    /// The resolver that judges, which the lesser registration names.
+    /// Returns the resolver that judges: that of the lesser registration.
     pub fn resolver(&self) -> ResolverId
         ensures { result ≡ self.now.first.resolver }
     {
         self.first.resolver
     }
 
-    /// The program that judges, if the resolver is one.
+    /// Returns the program that judges, if the resolver is a program.
     pub fn program(&self) -> Option<&Arc<Verified>>
         ensures { option_map (λ p. arc_value p.now) result ≡ self.now.code }
     {
         self.program.as_ref()
     }
 
-    /// The record that a program reads as it judges the clash at this word.
+    /// Returns the record that a program reads to judge the clash at this word.
     pub fn record(&self, word: u64) -> ClashRecord
         ensures { result ≡ clash_bytes self.now.name self.now.first self.now.second word self.now.of_first
             self.now.of_second }
@@ -142,8 +142,8 @@ impl Clash {
     }
 }
 
-/// The clashes of two tables, in the order of names. A contract sees them as a list.
-#[derive(Drop)]
+/// The clashes of two tables, in the order of names. Contracts see them as a list.
+#[derive(Debug, Drop)]
 pub struct ClashList {
     clashes: Vec<Clash>,
 }
@@ -164,7 +164,7 @@ impl Model for ClashList {
 }
 
 impl ClashList {
-    /// The list of these clashes.
+    // Returns the list of these clashes.
     pub(crate) fn new(clashes: Vec<Clash>) -> ClashList
         requires { length clashes.items ≤ max_names }
         ensures { result ≡ clashes.items }
@@ -172,7 +172,7 @@ impl ClashList {
         ClashList { clashes }
     }
 
-    /// How many clashes there are, at most 4,096.
+    /// Returns the number of clashes, at most 4,096.
     pub fn len(&self) -> usize
         ensures count { result ≡ length self.now }
         ensures few { result ≤ max_names }
@@ -180,14 +180,21 @@ impl ClashList {
         self.clashes.len()
     }
 
-    /// The clash in this place, counted from 0.
+    /// Checks whether there are no clashes.
+    pub fn is_empty(&self) -> bool
+        ensures { IsTrue result ↔ (self.now ≡ []) }
+    {
+        self.clashes.is_empty()
+    }
+
+    /// Returns clash `k`, counted from 0.
     pub fn get(&self, k: u32) -> Option<&Clash>
         ensures { option_map (λ c. c.now) result ≡ slice_get self.now k }
     {
         self.clashes.get(k as usize)
     }
 
-    /// The clashes in their order, as a slice has them.
+    /// Iterates over the clashes in their order.
     pub fn iter(&self) -> slice::Iter<'_, Clash>
         ensures { iter_rest result ≡ self.entry.now }
     {
@@ -195,7 +202,7 @@ impl ClashList {
     }
 }
 
-// One more owner of the program, if there is one.
+// Adds an owner of the program, if there is one.
 fn one_more_owner(program: Option<&Arc<Verified>>) -> Result<Option<Arc<Verified>>, AllocError>
     ensures { IfOk result (λ owned. option_map arc_value owned ≡ option_map (λ p. arc_value p.now) program.entry) }
 {

@@ -12,17 +12,16 @@ use clash_record::{Facts, Name, Registration};
 use std::alloc::{AllocError, Global};
 use std::cmp::Ordering;
 
-// One half: its table, and what it is beside its registrations.
+// One half: its table and its facts.
 #[derive(Clone, Copy)]
 struct Half<'a> {
     table: &'a Table,
     facts: Facts,
 }
 
-/// The names that both tables have with unequal registrations, in the order of names, as they are judged where each
-/// half has been up so long.
+/// Returns the clashes of two tables, in the order of names, with the uptime of each half.
 ///
-/// It walks both tables once. It takes memory for the list, and for one more owner of each program that judges.
+/// Walks both tables once. Allocates the list and one more owner of each program that judges.
 pub fn clashes(
     alloc: Global,
     a: &Table,
@@ -31,7 +30,7 @@ pub fn clashes(
     uptime_b: u64,
 ) -> Result<ClashList, AllocError>
     ensures clashes { IfOk result (λ list. list ≡ clashes a.now uptime_a b.now uptime_b) }
-    // There is one for each name that clashes.
+    // One for each name that clashes.
     ensures count { IfOk result (λ list. length list ≡ length (clash_names a.now b.now)) }
 {
     let half_a = Half {
@@ -54,7 +53,7 @@ pub fn clashes(
     Ok(ClashList::new(found))
 }
 
-// How big the table is, and how long its half has been up.
+// Returns the size of the table and the uptime of its half.
 fn facts(table: &Table, uptime: u64) -> Facts
     ensures facts { result ≡ facts_of table.now uptime }
     ensures kept { IsTable table.now }
@@ -65,7 +64,7 @@ fn facts(table: &Table, uptime: u64) -> Facts
     }
 }
 
-// The clash of a name that both halves have, unless they have it with equal registrations.
+// Returns the clash of a name that both halves have, unless the registrations are equal.
 fn clash_of(
     name: &Name,
     mine: &Registration,

@@ -1,4 +1,4 @@
-//! When two tables, and two clashes, are equal.
+//! Equality of tables and of clashes.
 ghost use Rattle.std.specs.Prelude.{◌≡◌, ◌↔◌, Some, IsTrue};
 ghost use Rattle.std.specs.Option.{option_map};
 ghost use Rattle.std.specs.Arc.{arc_value};
@@ -48,7 +48,7 @@ impl Eq for Clash {
     ghost laws = { clashes_equivalent };
 }
 
-// Whether the other table has each name of this one, with the same registration.
+// Checks that the other table has each name of this one with the same registration.
 fn is_within(table: &Table, other_table: &Table) -> bool
     ensures within { IsTrue result ↔ IsWithin table.now other_table.now }
     ensures tables { IsTable table.now × IsTable other_table.now }
@@ -61,7 +61,7 @@ fn is_within(table: &Table, other_table: &Table) -> bool
     true
 }
 
-// Whether it is this registration.
+// Checks whether it is this registration.
 fn is_registered_so(held: Option<&Registration>, registration: &Registration) -> bool
     ensures { IsTrue result ↔ (option_map (λ r. r.now) held.entry ≡ Some registration.now) }
 {

@@ -1,35 +1,29 @@
-//! Why a table refused.
+//! The refusals of tables.
 ghost use Rattle.std.specs.Prelude.{◌≡◌, None};
 ghost use Rattle.partition_table.specs.declared.fault.TableFault.TheVariants.{OutOfMemory};
 ghost use Rattle.partition_table.specs.Faults.{table_fault_number};
 
-use numbered::{Numbered, Place};
+use numbered::{Numbered, Place, words_of};
 use std::alloc::AllocError;
 use thiserror::Error;
 
-/// Why a call of a table, or of two, was refused.
+/// Why a table, or a pair of tables, refuses a call.
 #[derive(Clone, Copy, Debug, PartialEq, Eq, Error)]
+#[error("{}", words_of(self.number()))]
 pub enum TableFault {
-    /// The name is registered already.
-    #[error("the name is taken")]
+    /// 30: the name is already registered.
     NameTaken,
-    /// The name isn't registered.
-    #[error("the name isn't registered")]
+    /// 31: the name isn't registered.
     NoSuchName,
-    /// The table has as many names as it holds.
-    #[error("the table is full")]
+    /// 32: the table has 4,096 names.
     Full,
-    /// Two tables have more names together than one holds.
-    #[error("the two tables have too many names")]
+    /// 37: two tables have more than 4,096 names together.
     TooManyNames,
-    /// The store has no program with this id.
-    #[error("no program has this id")]
+    /// 41: the store has no program with this id.
     UnknownProgram,
-    /// Other code is kept under this id.
-    #[error("other code is kept under this id")]
+    /// 42: other code has the same id.
     OtherCode,
-    /// Memory ran out.
-    #[error("out of memory")]
+    /// 90: out of memory.
     OutOfMemory,
 }
 

@@ -1,4 +1,4 @@
-//! Whether two tables fit together.
+//! Checking that two tables have a merge.
 ghost use Rattle.std.specs.Prelude.{◌≡◌, ◌↔◌, ◌<◌, ◌^◌, IsTrue, IsOk};
 ghost use Rattle.std.specs.Option.{option_map};
 ghost use Rattle.std.specs.FinMap as map;
@@ -9,8 +9,9 @@ use crate::fault::TableFault;
 use crate::paired::Paired;
 use crate::table::{MAX_NAMES, Table};
 
-/// Whether two tables have a merge: 37 where they have more than 4,096 names together, and 42 where they have two codes
-/// under one id, the least that stands. Takes no memory.
+/// Checks that two tables have a merge. Allocates nothing.
+///
+/// Refusals, the least first: 37 if they have more than 4,096 names together, 42 if they have two codes under one id.
 pub fn fit(a: &Table, b: &Table) -> Result<(), TableFault>
     ensures answer { IsRefused (fit_fault a.now b.now) result }
     ensures fits { IsOk result ↔ IsTrue (fit_together a.now b.now) }
@@ -24,12 +25,12 @@ pub fn fit(a: &Table, b: &Table) -> Result<(), TableFault>
     Ok(())
 }
 
-// How many names the two have together.
+// Returns the number of names that the two have together.
 fn count_names(a: &Table, b: &Table) -> usize
     ensures count { result ≡ union_len a.now b.now }
 {
     let mut count = a.len();
-    // For the proof alone: few are added.
+    // For the prover: at most 4,096 are added.
     b.len();
     for (_, _, mine) in Paired::new(b, a) {
         if mine.is_none() {

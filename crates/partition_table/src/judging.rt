@@ -1,4 +1,4 @@
-//! How a clash is judged.
+//! Judging a clash.
 ghost use Rattle.std.specs.Prelude.{◌≡◌};
 ghost use Rattle.partition_table.specs.Tables.{word_of};
 ghost use Rattle.partition_table.specs.Tables as tables;
@@ -11,7 +11,7 @@ use clash_record::ResolverId;
 use interpreter::run;
 
 impl<'a> Verdict<'a> {
-    /// Runs the resolver of the clash on its record at this word. Takes no memory.
+    /// Runs the clash's resolver on its record at this word. Allocates nothing.
     pub fn judged(clash: &'a Clash, word: u64) -> Verdict<'a>
         ensures clash { clash_of_verdict result ≡ clash.entry.now }
         ensures word { word_of_verdict result ≡ word }
@@ -23,21 +23,21 @@ impl<'a> Verdict<'a> {
         }
     }
 
-    /// The clash that was judged.
+    /// Returns the clash.
     pub fn clash(self) -> &'a Clash
         ensures { result.now ≡ clash_of_verdict self.entry }
     {
         self.clash
     }
 
-    /// The word at which it was judged.
+    /// Returns the word.
     pub fn word(self) -> u64
         ensures { result ≡ word_of_verdict self.entry }
     {
         self.word
     }
 
-    /// What the resolver answers.
+    /// Returns the resolver's answer.
     pub fn answer(self) -> Verdict3
         ensures value { result ≡ answer_of_verdict self.entry }
         ensures judged { result ≡ tables.answer (clash_of_verdict self.entry) (word_of_verdict self.entry) }
@@ -46,8 +46,7 @@ impl<'a> Verdict<'a> {
     }
 }
 
-/// The word of clash `k` of `n` in a round, from the seed: the seed, the round times the count, and the place, modulo
-/// 2^64.
+/// Returns the word of clash `k` of `n` in a round: `seed + round * n + k`, modulo 2^64.
 pub fn word(seed: u64, round: u32, n: u32, k: u32) -> u64
     ensures { result ≡ word_of seed round n k }
 {
@@ -55,7 +54,7 @@ pub fn word(seed: u64, round: u32, n: u32, k: u32) -> u64
         .wrapping_add(u64::from(k))
 }
 
-// What the resolver of the first registration answers at the word.
+// Returns the answer of the first registration's resolver at the word.
 fn answer(clash: &Clash, word: u64) -> Verdict3
     ensures { result ≡ tables.answer clash.now word }
 {

@@ -1,11 +1,12 @@
-//! Laws of clashes and merge: neither side is preferred, and a merge is told name by name.
+//! Laws of clashes and merges: neither side is preferred, and a merge is defined name by name.
 ghost use Rattle.std.specs.Prelude.{◌≡◌, ℕ, List, map, IsTrue};
 ghost use Rattle.builtin_resolvers.specs.declared.verdicts.Verdict3.{Verdict3};
-ghost use Rattle.partition_table.specs.Tables.{Name, Table, IsTable, tables_agree, clashes, clash_names, Gone, IsMerge, merge};
+ghost use Rattle.clash_record.specs.Name.{Name};
+ghost use Rattle.partition_table.specs.Tables.{Table, IsTable, tables_agree, clashes, clash_names, Gone, IsMerge, merge};
 
-/// The clashes of two tables are one list, whichever side asks, and their names don't depend on the uptimes.
+/// States that the clashes of two tables don't depend on their order, nor the clashing names on the uptimes.
 ///
-/// It does nothing when it runs: its contract is the law.
+/// Does nothing at run time: its contract is the law.
 pub fn clashes_theorem()
     ensures swapped { (a b : Table) (uptime_a uptime_b : ℕ)
         → clashes a uptime_a b uptime_b ≡ clashes b uptime_b a uptime_a }
@@ -14,10 +15,10 @@ pub fn clashes_theorem()
     ensures names_swapped { (a b : Table) → clash_names a b ≡ clash_names b a }
 {}
 
-/// The merge has under each name what the definition says of that name, and is one table, whichever side asks, where no
-/// program has two codes.
+/// States that the merge has under each name what the definition gives for it, and that it doesn't depend on the order
+/// of the two tables if no program has two codes.
 ///
-/// It does nothing when it runs: its contract is the law.
+/// Does nothing at run time: its contract is the law.
 pub fn merge_theorem()
     ensures by_name { (a b : Table) (answers : List Verdict3) (gone : Gone)
         → IsMerge a b answers gone (merge a b answers gone) }

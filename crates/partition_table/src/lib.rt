@@ -1,4 +1,4 @@
-//! Tables of names, their clashes, and the merge of two.
+//! Tables of names, their clashes, and their merge.
 #![tactic(auto)]
 
 mod builder;

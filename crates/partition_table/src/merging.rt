@@ -6,9 +6,11 @@ ghost use Rattle.std.specs.FinMap as map;
 ghost use Rattle.std.specs.BTreeSet.{contains};
 ghost use Rattle.std.specs.Slice.Iter.{iter_rest};
 ghost use Rattle.clash_record.specs.Orders.{name_cmp};
-ghost use Rattle.partition_table.specs.Tables.{IsTable, Name, Row, max_names, tables_agree, differ, clash_names, is_in};
+ghost use Rattle.clash_record.specs.Name.{Name};
+ghost use Rattle.partition_table.specs.Tables.{IsTable, Row, max_names, tables_agree, differ, clash_names, is_in};
 ghost use Rattle.partition_table.specs.Tables.{merged_at, unless_gone, with_row, merge};
-ghost use Rattle.partition_table.specs.Faults.{IsAnswered, fit_fault};
+ghost use Rattle.numbered.specs.Answers.{IsAnswered};
+ghost use Rattle.partition_table.specs.Faults.{fit_fault, table_fault_number};
 ghost use Rattle.partition_table.specs.model.Merging.{IsRowOf, IsReady, holds_as, first_answer, answers_left};
 ghost use Rattle.partition_table.specs.model.Merging.{settled, put_all, names_without, each_kept, kept_with};
 
@@ -27,16 +29,15 @@ use std::slice;
 use std::sync::Arc;
 use verifier::Verified;
 
-/// The merge of two tables, by one answer for each of their clashes, in the order of names.
+/// Merges two tables by one answer for each clash, in the order of names. Requires as many answers as clashes.
 ///
-/// A name of one table alone is kept, equal registrations are kept once, and a clash is kept by whom its answer names
-/// or by nobody. Then a name goes whose kept registration was withdrawn by a side that holds that registration:
-/// `gone_a` and `gone_b` are the names that each side withdrew, in any order and any number of times; a name that a
-/// side doesn't hold changes nothing. Asks for as many answers as clashes.
+/// Keeps each name of one table alone, equal registrations once, and the winner of each clash, if any. Then drops each
+/// name whose kept registration was withdrawn by a side that holds it: `gone_a` and `gone_b` are the names that each
+/// side withdrew, in any order and with repetitions; a name that a side doesn't hold has no effect.
 ///
-/// Refusals are 37 where the tables have more than 4,096 names together, and 42 where they have two codes under one id;
-/// the least that stands is answered. 90 is answered where memory runs out: it takes some for the withdrawn names, the
-/// rows, and one more owner of each program. It walks both tables once each way.
+/// Refusals, the least first: 37 if the tables have more than 4,096 names together, 42 if they have two codes under one
+/// id. Returns 90 when out of memory: it allocates the withdrawn names, the rows and one more owner of each program.
+/// Walks both tables once each way.
 pub fn merge(
     alloc: Global,
     a: &Table,
@@ -46,7 +47,7 @@ pub fn merge(
     gone_b: &[Name],
 ) -> Result<Table, TableFault>
     requires { length answers.now ≡ length (clash_names a.now b.now) }
-    ensures answer { IsAnswered (fit_fault a.now b.now) result }
+    ensures answer { IsAnswered table_fault_number (fit_fault a.now b.now) result }
     ensures merged { IfOk result (λ table. table ≡ merge a.now b.now answers.now
         record { of_a = gone_a.now; of_b = gone_b.now }) }
 {
@@ -144,7 +145,7 @@ impl<'a> Parents<'a> {
         merged.push(*name, *kept, self.program_for(kept.resolver))
     }
 
-    // Whether a side that holds the registration under the name withdrew it.
+    // Checks whether a side that holds the registration under the name withdrew it.
     fn is_withdrawn(&self, name: &Name, kept: &Registration) -> bool
         ensures { result ≡ ((contains name_cmp self.now.gone_a name.now
             && holds_as (map.get self.now.a.now name.now) kept.now)
@@ -198,7 +199,7 @@ fn settle<'a>(
     }
 }
 
-// Whether the table has the name with this registration.
+// Checks whether the table has the name with this registration.
 fn holds(table: &Table, name: &Name, registration: &Registration) -> bool
     ensures { result ≡ holds_as (map.get table.now name.now) registration.now }
 {

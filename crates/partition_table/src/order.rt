@@ -5,7 +5,7 @@ ghost use Rattle.clash_record.specs.Orders.{registration_cmp};
 use clash_record::Registration;
 use std::cmp::Ordering;
 
-/// The order of two registrations.
+// The order of two registrations.
 pub(crate) fn order(a: &Registration, b: &Registration) -> Ordering
     ensures { result ≡ registration_cmp a.now b.now }
 {

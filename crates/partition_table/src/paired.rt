@@ -45,9 +45,9 @@ impl<'a> Ahead<'a> {
     }
 }
 
-/// Gives the rows of one table in the order of names, each with what another table has under its name.
-///
-/// It walks both tables once.
+// Gives the rows of one table in the order of names, each with what another table has under its name.
+//
+// It walks both tables once.
 #[derive(Drop)]
 pub(crate) struct Paired<'a> {
     rows: Rows<'a>,
@@ -55,7 +55,7 @@ pub(crate) struct Paired<'a> {
 }
 
 impl<'a> Paired<'a> {
-    /// The rows of a table, each with what the other table has under its name.
+    // The rows of a table, each with what the other table has under its name.
     pub(crate) fn new(table: &'a Table, other: &'a Table) -> Paired<'a>
         // It gives each name of the table, in order, with what both have there.
         ensures names { map (λ item. item.0) (pairs_left result) ≡ keys table.entry.now }

@@ -19,7 +19,7 @@ use std::sync::Arc;
 use upload_store::UploadStore;
 use verifier::Verified;
 
-/// Keeps the program under the id that the resolver names, and answers that id where it had nothing there.
+// Keeps the program under the id that the resolver names, and answers that id where it had nothing there.
 pub(crate) fn hold_program(
     programs: &mut BTreeMap<ProgramId, Arc<Verified>>,
     resolver: ResolverId,
@@ -46,7 +46,7 @@ pub(crate) fn hold_program(
     Ok(Some(id))
 }
 
-/// Takes the program with this id out, if an id is given.
+// Takes the program with this id out, if an id is given.
 pub(crate) fn release_program(
     programs: &mut BTreeMap<ProgramId, Arc<Verified>>,
     id: Option<ProgramId>,
@@ -59,7 +59,7 @@ pub(crate) fn release_program(
     }
 }
 
-/// Whether no other code is kept under the id that the resolver names.
+// Checks whether no other code is kept under the id that the resolver names.
 pub(crate) fn has_room(
     programs: &BTreeMap<ProgramId, Arc<Verified>>,
     resolver: ResolverId,
@@ -75,7 +75,7 @@ pub(crate) fn has_room(
     }
 }
 
-/// Whether no other code is kept under the id.
+// Checks whether no other code is kept under the id.
 fn has_room_at(
     programs: &BTreeMap<ProgramId, Arc<Verified>>,
     id: &ProgramId,
@@ -90,7 +90,7 @@ fn has_room_at(
     }
 }
 
-/// Whether no program has one code here and another there.
+// Checks whether no program has one code here and another there.
 pub(crate) fn programs_agree(
     programs: &BTreeMap<ProgramId, Arc<Verified>>,
     other: &BTreeMap<ProgramId, Arc<Verified>>,
@@ -106,7 +106,7 @@ pub(crate) fn programs_agree(
     true
 }
 
-/// The program in the store that the resolver names, if it names one; 41 where the store lacks it.
+// The program in the store that the resolver names, if it names one; 41 where the store lacks it.
 pub(crate) fn find_program(
     store: &UploadStore,
     resolver: ResolverId,
@@ -125,7 +125,7 @@ pub(crate) fn find_program(
     }
 }
 
-/// The id that the resolver names, where no row names it.
+// The id that the resolver names, where no row names it.
 pub(crate) fn unnamed_program(
     rows: &BTreeMap<Name, Registration>,
     resolver: ResolverId,
@@ -139,14 +139,14 @@ pub(crate) fn unnamed_program(
     }
 }
 
-/// Whether some row names the program.
+// Checks whether some row names the program.
 fn is_named(rows: &BTreeMap<Name, Registration>, id: &ProgramId) -> bool
     ensures { result ≡ list_any (names id.now) (values rows.now) }
 {
     rows.values().any(|registration| names(registration, id))
 }
 
-/// Whether the registration names the program.
+// Checks whether the registration names the program.
 fn names(registration: &Registration, id: &ProgramId) -> bool
     ensures { result ≡ names id.now registration.now }
 {

@@ -1,13 +1,15 @@
 //! Tables.
-ghost use Rattle.std.specs.Prelude.{◌≡◌, ◌<◌, Some, None, Ok, Err, IfOk, OnOk, OnErr, IfSome, IsTrue, reverse};
+ghost use Rattle.std.specs.Prelude.{◌≡◌, ◌<◌, Some, None, Ok, Err, IfOk, OnOk, OnErr, IfSome, IsTrue, ◌↔◌, reverse};
 ghost use Rattle.std.specs.Option.{option_map};
 ghost use Rattle.std.specs.Arc.{arc_value};
 ghost use Rattle.std.specs.FinMap as map;
 ghost use Rattle.std.specs.BTreeMap.{IsFromIterResult};
 ghost use Rattle.clash_record.specs.Orders.{name_cmp};
-ghost use Rattle.partition_table.specs.Tables.{IsTable, IsCodeOf, agrees_with, tables_agree, max_names, row_for, rows_of, Name, Row};
+ghost use Rattle.clash_record.specs.Name.{Name};
+ghost use Rattle.partition_table.specs.Tables.{IsTable, IsCodeOf, agrees_with, tables_agree, max_names, row_for, rows_of, Row};
 ghost use Rattle.partition_table.specs.model.Keeping.{programs_by, table_by, IsHeld, IsKeptFor};
-ghost use Rattle.partition_table.specs.Faults.{IsAnswered, register_fault, unregister_answer};
+ghost use Rattle.numbered.specs.Answers.{IsAnswered};
+ghost use Rattle.partition_table.specs.Faults.{register_fault, table_fault_number, unregister_answer};
 
 use crate::fault::TableFault;
 use crate::programs::{
@@ -21,16 +23,16 @@ use std::sync::Arc;
 use upload_store::UploadStore;
 use verifier::Verified;
 
-/// The most names that a table holds.
+/// The maximum number of names in a table.
 pub const MAX_NAMES: usize = 4096;
 
-/// What a table gives row by row, in the order of names.
+/// Iterates over the rows of a table in the order of names.
 pub type Rows<'a> = btree_map::Iter<'a, Name, Registration>;
 
-/// At most 4,096 names with their registrations, and the programs that these name.
+/// At most 4,096 names with their registrations, and the programs that the registrations name.
 ///
-/// A contract sees it as the finite map from names to registrations, each with the code of its program.
-#[derive(Drop)]
+/// Contracts see it as a finite map from names to rows: a registration with the code of its program.
+#[derive(Debug, Drop)]
 pub struct Table {
     rows: BTreeMap<Name, Registration>,
     programs: BTreeMap<ProgramId, Arc<Verified>>,
@@ -52,7 +54,7 @@ impl Model for Table {
 }
 
 impl Table {
-    /// A table without names. Takes no memory.
+    /// Returns an empty table. Allocates nothing.
     pub fn new(alloc: Global) -> Table
         ensures { result ≡ map.empty }
     {
@@ -62,23 +64,30 @@ impl Table {
         }
     }
 
-    /// How many names it has. Takes no memory.
+    /// Returns the number of names. Allocates nothing.
     pub fn len(&self) -> usize
         ensures count { result ≡ map.len self.now }
-        // It has at most 4,096 names, each program of a row is the one that the row names, and no id has two codes.
+        // At most 4,096 names; each row has the program that it names; no id has two codes.
         ensures kept { IsTable self.now }
     {
         self.rows.len()
     }
 
-    /// What the name is registered with, if it is. Takes no memory.
+    /// Checks whether the table has no names. Allocates nothing.
+    pub fn is_empty(&self) -> bool
+        ensures { IsTrue result ↔ (map.len self.now ≡ 0) }
+    {
+        self.len() == 0
+    }
+
+    /// Returns the registration of the name, if any. Allocates nothing.
     pub fn whereis(&self, name: &Name) -> Option<&Registration>
         ensures { option_map (λ r. r.now) result ≡ option_map (λ row. row.registration) (map.get self.now name.now) }
     {
         self.rows.get(name)
     }
 
-    /// The names with their registrations, in the order of names. Takes no memory.
+    /// Iterates over the names and their registrations in the order of names. Allocates nothing.
     pub fn rows(&self) -> Rows<'_>
         ensures rows { result ≡ rows_of self.now }
         ensures kept { IsTable self.now }
@@ -88,16 +97,16 @@ impl Table {
 
     /// Registers the name, and keeps the program that the registration names, as the store has it.
     ///
-    /// Refusals are 30 for a name that is registered, 32 where the table is full, 41 where the store has no such
-    /// program, and 42 where the table keeps other code under its id; the least that stands is answered. 90 is answered
-    /// where memory runs out: it takes some for the row, for the program's id, and for one more owner of the program.
+    /// Refusals, the least first: 30 if the name is registered, 32 if the table is full, 41 if the store lacks the
+    /// program, 42 if the table keeps other code under its id. Returns 90 when out of memory: it allocates the row, the
+    /// program's id and one more owner of the program.
     pub fn register(
         &mut self,
         name: Name,
         registration: Registration,
         store: &UploadStore,
     ) -> Result<(), TableFault>
-        ensures answer { IsAnswered (register_fault self.old name registration store.now) result }
+        ensures answer { IsAnswered table_fault_number (register_fault self.old name registration store.now) result }
         ensures registered { OnOk result (self.new ≡ map.insert self.old name (row_for store.now registration)) }
         ensures unchanged { OnErr result (self.new ≡ self.old) }
     {
@@ -115,7 +124,7 @@ impl Table {
         Ok(())
     }
 
-    /// Takes the name out, and answers what it was registered with; 31 where it isn't registered. Takes no memory.
+    /// Unregisters the name and returns its registration, or 31 if it isn't registered. Allocates nothing.
     pub fn unregister(&mut self, name: &Name) -> Result<Registration, TableFault>
         ensures answer { result ≡ unregister_answer (map.get self.old name.now) }
         ensures unregistered { self.new ≡ map.remove self.old name.now }
@@ -129,7 +138,7 @@ impl Table {
         Ok(registration)
     }
 
-    /// The same table again. Takes memory for the rows, and for one more owner of each program.
+    /// Copies the table. Allocates the rows and one more owner of each program.
     pub fn try_clone(&self) -> Result<Table, AllocError>
         ensures { IfOk result (λ table. table ≡ self.now) }
     {
@@ -139,15 +148,15 @@ impl Table {
         })
     }
 
-    // Whether the two tables keep no program with two codes.
+    // Checks that no program has one code here and another in the other table.
     pub(crate) fn agrees_with(&self, other: &Table) -> bool
         ensures { result ≡ tables_agree self.now other.now }
     {
         programs_agree(&self.programs, &other.programs)
     }
 
-    // The program that the resolver names, if the table keeps it.
-    pub(crate) fn program_for(&self, resolver: ResolverId) -> Option<&Arc<Verified>>
+    /// Returns the program that the resolver names, if the table keeps it. Allocates nothing.
+    pub fn program_for(&self, resolver: ResolverId) -> Option<&Arc<Verified>>
         ensures each { (name : Name) (row : Row) → map.get self.now name ≡ Some row
             → row.registration.resolver ≡ resolver
             → option_map (λ p. arc_value p.now) result ≡ row.code }
@@ -159,7 +168,7 @@ impl Table {
         }
     }
 
-    // The table of these rows, of which the last under a name counts, with the programs that they name.
+    // Returns the table of these rows and the programs that they name. The last row of a name counts.
     pub(crate) fn of_rows(
         alloc: Global,
         rows: Vec<(Name, Registration)>,
@@ -174,7 +183,7 @@ impl Table {
         Ok(Table { rows, programs })
     }
 
-    // Keeps a row under a name that has none. Its growths come in turn, and a refused one undoes those before it.
+    // Adds a row under a new name. When an allocation fails, undoes the earlier ones.
     pub(crate) fn keep(
         &mut self,
         name: Name,
@@ -199,7 +208,7 @@ impl Table {
     }
 }
 
-// The rows as a map, which has the last of those under a name.
+// Collects the rows into a map. The last row of a name counts.
 fn map_of(
     alloc: Global,
     rows: Vec<(Name, Registration)>,

@@ -5,8 +5,8 @@ ghost use Rattle.partition_table.specs.Tables as tables;
 use crate::clash::Clash;
 use builtin_resolvers::Verdict3;
 
-/// What the resolver of a clash answers at a word. That the answer is the resolver's stands in the type.
-#[derive(Clone, Copy)]
+/// The answer of a clash's resolver at a word. The type guarantees that the answer is the resolver's.
+#[derive(Clone, Copy, Debug)]
 pub struct Verdict<'a> {
     pub(crate) clash: &'a Clash,
     pub(crate) word: u64,
@@ -14,13 +14,13 @@ pub struct Verdict<'a> {
     pub ghost judged: { answer ≡ tables.answer clash.now word },
 }
 
-/// A verdict of clash `k` of the exchange `number`.
-#[derive(Clone, Copy)]
+/// A verdict of clash `k` of exchange `number`.
+#[derive(Clone, Copy, Debug)]
 pub struct Ruling<'a> {
     /// The number of the exchange.
     pub number: u64,
-    /// The clash, counted from 0 in the order of names.
+    /// The position of the clash, counted from 0 in the order of names.
     pub k: u32,
-    /// What its resolver answers, and the word at which it does.
+    /// The verdict.
     pub verdict: Verdict<'a>,
 }

@@ -1,23 +1,19 @@
--- Bytes as programs: which are accepted, and what may be wrong with them.
-use Rattle.std.specs.Prelude.{◌≡◌, ℕ, ◌⊎◌, List, Option, Some, None, Result, Err}
+-- Bytes as programs: accepted code, and the faults of bytes.
+use Rattle.std.specs.Prelude.{ℕ, List, Option}
 use Rattle.numbered.specs.declared.Place.{Place}
-use Rattle.numbered.specs.declared.Place.TheVariants as place
 use Rattle.instruction_set.specs.declared.insn.Insn.{Insn}
 use Rattle.insn_codec.specs.Encoding.{Spells}
-use Rattle.insn_codec.specs.Faults.{IsFirstFault, length_fault_number, slot_fault_number}
-use Rattle.insn_codec.specs.declared.fault.CodecFault.{CodecFault}
-use Rattle.insn_codec.specs.declared.fault.CodecFault.TheVariants as codec
+use Rattle.insn_codec.specs.Faults.{fault_number, fault_place, IsFirstFault}
 use Rattle.abstract_value.specs.Boths.{both_ops}
 use Rattle.abstract_value.specs.Domain.{Ops}
 use Rattle.abstract_value.specs.declared.boths.Both.{Both}
-use Rattle.verifier.specs.Structure.{rule_number, IsStructured}
+use Rattle.verifier.specs.Structure.{IsStructured}
 use Rattle.verifier.specs.Assignments.{IsTypable}
-use Rattle.verifier.specs.Refusals.{IsRefusedAt}
+use Rattle.verifier.specs.Refusals.{verify_fault_number, verify_fault_place, IsRefusedAt}
 use Rattle.verifier.specs.declared.refusal.Refusal.{Refusal}
-use Rattle.verifier.specs.declared.refusal.VerifyFault.{VerifyFault}
 use Rattle.verifier.specs.declared.refusal.VerifyFault.TheVariants as verify
 use Rattle.program.specs.declared.fault.ProgramFault.{ProgramFault}
-use Rattle.program.specs.declared.fault.ProgramFault.TheVariants.{Length, Slot, Refused, OutOfMemory}
+use Rattle.program.specs.declared.fault.ProgramFault.TheVariants.{Codec, Verify}
 
 -- ---- over any domain
 
@@ -33,16 +29,11 @@ pub record IsRejectedOver {D : Type 0} (o : Ops D) (bytes : List ℕ) (refusal :
   pub spelled : Spells bytes code
   pub refused : IsRefusedAt o code refusal.slot refusal.rule
 
--- what is wrong with bytes; that memory ran out says nothing of them
+-- the bytes have this fault; running out of memory is no fault of the bytes
 abbrev pub IsProgramFaultOver : {D : Type 0} → Ops D → List ℕ → ProgramFault → Type 0
-IsProgramFaultOver o bytes (Length f) = IsFirstFault bytes (codec.Length f)
-IsProgramFaultOver o bytes (Slot f slot) = IsFirstFault bytes (codec.Slot f slot)
-IsProgramFaultOver o bytes (Refused refusal) = IsRejectedOver o bytes refusal
-IsProgramFaultOver o bytes OutOfMemory = ⊥
-
--- a refusal tells what is wrong, or that memory ran out
-abbrev pub IsRefusalOver : {D : Type 0} → Ops D → List ℕ → ProgramFault → Type 0
-IsRefusalOver o bytes fault = IsProgramFaultOver o bytes fault ⊎ (fault ≡ OutOfMemory)
+IsProgramFaultOver o bytes (Codec fault) = IsFirstFault bytes fault
+IsProgramFaultOver o bytes (Verify (verify.Refused refusal)) = IsRejectedOver o bytes refusal
+IsProgramFaultOver o bytes (Verify verify.OutOfMemory) = ⊥
 
 -- ---- over the domain of programs
 
@@ -56,36 +47,12 @@ IsAccepted = IsAcceptedOver profile
 abbrev pub IsProgramFault : List ℕ → ProgramFault → Type 0
 IsProgramFault = IsProgramFaultOver profile
 
-abbrev pub IsRefusal : List ℕ → ProgramFault → Type 0
-IsRefusal = IsRefusalOver profile
-
--- ---- answers
-
--- the answer is this one, or memory ran out
-abbrev pub Answers : Result (List Insn) ProgramFault → Result (List Insn) ProgramFault → Type 0
-Answers result due = (result ≡ due) ⊎ (result ≡ Err OutOfMemory)
-
--- ---- faults from the layers below
-
-abbrev pub of_codec : CodecFault → ProgramFault
-of_codec (codec.Length f) = Length f
-of_codec (codec.Slot f slot) = Slot f slot
-of_codec codec.OutOfMemory = OutOfMemory
-
-abbrev pub of_verify : VerifyFault → ProgramFault
-of_verify (verify.Refused refusal) = Refused refusal
-of_verify verify.OutOfMemory = OutOfMemory
-
--- ---- the numbers of refusals, and the places that they name
+-- ---- the numbers and the places of faults
 
 abbrev pub program_fault_number : ProgramFault → ℕ
-program_fault_number (Length f) = length_fault_number f
-program_fault_number (Slot f slot) = slot_fault_number f
-program_fault_number (Refused refusal) = rule_number refusal.rule
-program_fault_number OutOfMemory = 90
+program_fault_number (Codec fault) = fault_number fault
+program_fault_number (Verify fault) = verify_fault_number fault
 
 abbrev pub program_fault_place : ProgramFault → Option Place
-program_fault_place (Length f) = None
-program_fault_place (Slot f slot) = Some (place.Slot slot)
-program_fault_place (Refused refusal) = Some (place.Slot refusal.slot)
-program_fault_place OutOfMemory = None
+program_fault_place (Codec fault) = fault_place fault
+program_fault_place (Verify fault) = verify_fault_place fault

@@ -1,27 +1,22 @@
-//! Why bytes are no program.
+//! The faults of bytes that aren't a program.
 ghost use Rattle.std.specs.Prelude.{◌≡◌};
-ghost use Rattle.program.specs.Programs.{of_codec, of_verify, program_fault_number, program_fault_place};
+ghost use Rattle.program.specs.Programs.{program_fault_number, program_fault_place};
+ghost use Rattle.program.specs.declared.fault.ProgramFault.TheVariants.{Codec, Verify};
 
-use insn_codec::{CodecFault, LengthFault, SlotFault};
+use insn_codec::CodecFault;
 use numbered::{Numbered, Place};
 use thiserror::Error;
-use verifier::{Refusal, VerifyFault};
+use verifier::VerifyFault;
 
-/// Why bytes were not read as a program.
+/// The reason why bytes were not accepted as a program.
 #[derive(Clone, Copy, Debug, PartialEq, Eq, Error)]
 pub enum ProgramFault {
-    /// The bytes spell no code.
+    /// The bytes spell no code, or memory ran out while decoding.
     #[error(transparent)]
-    Length(LengthFault),
-    /// The instruction whose first slot this is is wrong.
-    #[error("slot {slot}: {fault}")]
-    Slot { fault: SlotFault, slot: u32 },
-    /// The code fails a rule of the verifier.
+    Codec(CodecFault),
+    /// The code fails a rule of the verifier, or memory ran out while verifying.
     #[error(transparent)]
-    Refused(Refusal),
-    /// Memory ran out.
-    #[error("out of memory")]
-    OutOfMemory,
+    Verify(VerifyFault),
 }
 
 impl Numbered for ProgramFault {
@@ -30,42 +25,32 @@ impl Numbered for ProgramFault {
     ghost place_of = { program_fault_place };
 
     fn number(&self) -> u32 {
-        match *self {
-            ProgramFault::Length(fault) => CodecFault::Length(fault).number(),
-            ProgramFault::Slot { fault, slot } => CodecFault::Slot { fault, slot }.number(),
-            ProgramFault::Refused(refusal) => VerifyFault::Refused(refusal).number(),
-            ProgramFault::OutOfMemory => 90,
+        match self {
+            ProgramFault::Codec(fault) => fault.number(),
+            ProgramFault::Verify(fault) => fault.number(),
         }
     }
 
     fn place(&self) -> Option<Place> {
-        match *self {
-            ProgramFault::Slot { slot, .. } => Some(Place::Slot(slot)),
-            ProgramFault::Refused(refusal) => Some(Place::Slot(refusal.slot)),
-            _ => None,
+        match self {
+            ProgramFault::Codec(fault) => fault.place(),
+            ProgramFault::Verify(fault) => fault.place(),
         }
     }
 }
 
 impl From<CodecFault> for ProgramFault {
-    ghost from_gives = { λ fault converted. converted ≡ of_codec fault };
+    ghost from_gives = { λ fault converted. converted ≡ Codec fault };
 
     fn from(fault: CodecFault) -> ProgramFault {
-        match fault {
-            CodecFault::Length(fault) => ProgramFault::Length(fault),
-            CodecFault::Slot { fault, slot } => ProgramFault::Slot { fault, slot },
-            CodecFault::OutOfMemory => ProgramFault::OutOfMemory,
-        }
+        ProgramFault::Codec(fault)
     }
 }
 
 impl From<VerifyFault> for ProgramFault {
-    ghost from_gives = { λ fault converted. converted ≡ of_verify fault };
+    ghost from_gives = { λ fault converted. converted ≡ Verify fault };
 
     fn from(fault: VerifyFault) -> ProgramFault {
-        match fault {
-            VerifyFault::Refused(refusal) => ProgramFault::Refused(refusal),
-            VerifyFault::OutOfMemory => ProgramFault::OutOfMemory,
-        }
+        ProgramFault::Verify(fault)
     }
 }

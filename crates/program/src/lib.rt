@@ -1,4 +1,4 @@
-//! Programs: bytes of strangers, read as code that the verifier accepts.
+//! Programs: untrusted bytes, read as code that the verifier accepts.
 #![tactic(auto)]
 
 mod fault;

@@ -1,8 +1,9 @@
-//! Bytes read as code that the verifier accepts.
+//! Reads bytes as code that the verifier accepts.
 ghost use Rattle.std.specs.Prelude.{List, Ok, Err, IfOk, IfErr};
+ghost use Rattle.numbered.specs.Answers.{HasCause, ReturnsOrRunsOut};
 ghost use Rattle.instruction_set.specs.declared.insn.Insn.{Insn};
 ghost use Rattle.instruction_set.specs.Machine.{IsSafe};
-ghost use Rattle.program.specs.Programs.{IsAccepted, IsAcceptedOver, IsProgramFault, IsProgramFaultOver, IsRefusal, IsRefusalOver, Answers};
+ghost use Rattle.program.specs.Programs.{program_fault_number, IsAccepted, IsAcceptedOver, IsProgramFault, IsProgramFaultOver};
 ghost use Rattle.program.specs.declared.fault.ProgramFault.{ProgramFault};
 
 use crate::fault::ProgramFault;
@@ -14,41 +15,45 @@ use verifier::{Verified, one_verdict_theorem, verify};
 /// The domain over which programs are verified: ranges of words, in their own order and in that of signed numbers.
 pub type Profile = Both;
 
-/// The code that these bytes spell, if the verifier accepts it over this domain.
+/// Reads untrusted bytes as a program that is verified over any domain.
 ///
-/// Refusals are 1 to 7 for bytes that spell no code, with the slot from 4 on, and 10 to 26 for code that fails a rule,
-/// with the slot; 90 where memory runs out: it takes some for the code and for the states of the verifier.
+/// Rejects bytes that spell no code (1 to 7, with the slot from 4 on) and code that breaks a rule of the verifier (10 to
+/// 26, with the slot). Returns 90 when out of memory: it allocates the code and one state per pending slot.
 pub fn read_program_over<D: Domain>(alloc: Global, bytes: &[u8]) -> Result<Verified, ProgramFault>
     ensures accepted { IfOk result (IsAcceptedOver D.ops bytes.now) }
     ensures safe { IfOk result (λ program. IsSafe program) }
-    // Accepted code is the answer, unless memory runs out.
-    ensures taken { (code : List Insn) → IsAcceptedOver D.ops bytes.now code → Answers result (Ok code) }
-    ensures refused { IfErr result (IsRefusalOver D.ops bytes.now) }
-    // Whatever is wrong is told, unless memory runs out; there is only one such fault.
-    ensures told { (fault : ProgramFault) → IsProgramFaultOver D.ops bytes.now fault → Answers result (Err fault) }
+    // Accepted code is returned, unless memory runs out.
+    ensures taken { (code : List Insn) → IsAcceptedOver D.ops bytes.now code
+        → ReturnsOrRunsOut program_fault_number result (Ok code) }
+    ensures refused { IfErr result (HasCause program_fault_number (IsProgramFaultOver D.ops bytes.now)) }
+    // The fault of the bytes is returned, unless memory runs out; bytes have at most one.
+    ensures told { (fault : ProgramFault) → IsProgramFaultOver D.ops bytes.now fault
+        → ReturnsOrRunsOut program_fault_number result (Err fault) }
 {
-    // For the prover alone: bytes are read in one way, and code is judged in one way.
+    // For the proof: bytes have one reading, and code has one verdict.
     one_reading_theorem();
     one_verdict_theorem::<D>();
     let code = decode(alloc, bytes)?;
     let program = verify::<D>(alloc, code)?;
-    // For the prover alone: what it lends is safe.
+    // For the proof: verified code is safe.
     program.code();
     Ok(program)
 }
 
-/// The code that these bytes spell, if the verifier accepts it.
+/// Reads untrusted bytes as a verified program.
 ///
-/// Refusals are 1 to 7 for bytes that spell no code, with the slot from 4 on, and 10 to 26 for code that fails a rule,
-/// with the slot; 90 where memory runs out: it takes some for the code and for the states of the verifier.
+/// Rejects bytes that spell no code (1 to 7, with the slot from 4 on) and code that breaks a rule of the verifier (10 to
+/// 26, with the slot). Returns 90 when out of memory: it allocates the code and one state per pending slot.
 pub fn read_program(alloc: Global, bytes: &[u8]) -> Result<Verified, ProgramFault>
     ensures accepted { IfOk result (IsAccepted bytes.now) }
     ensures safe { IfOk result (λ program. IsSafe program) }
-    // Accepted code is the answer, unless memory runs out.
-    ensures taken { (code : List Insn) → IsAccepted bytes.now code → Answers result (Ok code) }
-    ensures refused { IfErr result (IsRefusal bytes.now) }
-    // Whatever is wrong is told, unless memory runs out; there is only one such fault.
-    ensures told { (fault : ProgramFault) → IsProgramFault bytes.now fault → Answers result (Err fault) }
+    // Accepted code is returned, unless memory runs out.
+    ensures taken { (code : List Insn) → IsAccepted bytes.now code
+        → ReturnsOrRunsOut program_fault_number result (Ok code) }
+    ensures refused { IfErr result (HasCause program_fault_number (IsProgramFault bytes.now)) }
+    // The fault of the bytes is returned, unless memory runs out; bytes have at most one.
+    ensures told { (fault : ProgramFault) → IsProgramFault bytes.now fault
+        → ReturnsOrRunsOut program_fault_number result (Err fault) }
 {
     read_program_over::<Profile>(alloc, bytes)
 }

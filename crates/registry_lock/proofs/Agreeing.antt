@@ -7,7 +7,8 @@ use Rattle.std.specs.FinMap.{get, len, keys, entries, len-entries}
 use Rattle.std.specs.Bool.{Decides}
 use mathlib.Core.Logic.{dite}
 use native.Mathlib.Decide.{ℕ_discrete}
-use Rattle.partition_table.specs.Tables.{Name, Row, Table, merge, clashes, clash_at, facts_of}
+use Rattle.clash_record.specs.Name.{Name}
+use Rattle.partition_table.specs.Tables.{Row, Table, merge, clashes, clash_at, facts_of}
 use Rattle.exchange_core.specs.declared.judged.Judged.{Judged}
 use Rattle.exchange_core.specs.Sides.{answer_in}
 use Rattle.exchange_core.specs.Worlds.{Ruling}

@@ -1,4 +1,4 @@
-//! What two sides that finished hold, beside each other and beside the board.
+//! Comparing two finished exchanges with each other and with the board.
 ghost use Rattle.std.specs.Prelude.{◌≡◌, Some, IfErr, OnOk, slice_get};
 ghost use Rattle.std.specs.Bool.{Decides};
 ghost use Rattle.std.specs.Option.{option_map};
@@ -14,7 +14,7 @@ use exchange_core::{Finished, Judged};
 use partition_table::{Ruling, Table};
 use verdict_board::{Board, Pass};
 
-// What one of the two that are merged is.
+// One of the two halves of a merge.
 #[derive(Clone, Copy)]
 struct Half<'a> {
     table: &'a Table,
@@ -22,7 +22,7 @@ struct Half<'a> {
     gone: &'a [Name],
 }
 
-// Whether the two merged the same tables, with the same uptimes, without the same names.
+// Checks whether the two merged the same tables, with the same uptimes, without the same names.
 pub(crate) fn same_pair(first: &Finished, second: &Finished) -> bool
     ensures { Decides result (SamePair first.now second.now) }
 {
@@ -69,7 +69,7 @@ fn same_names(a: &[Name], b: &[Name]) -> bool
     a == b
 }
 
-// Whether the board shows the rulings that both hold; else the least clash at which it doesn't.
+// Checks that the board shows the rulings that both hold; else returns the least clash at which it doesn't.
 pub(crate) fn compare<'p>(
     board: &Board<'p>,
     pass: &mut Pass<'p>,
@@ -98,14 +98,14 @@ pub(crate) fn compare<'p>(
     Ok(())
 }
 
-// The ruling of clash k, if there is one.
+// Returns the ruling of clash k, if any.
 fn held_at(rulings: &[Judged], k: u32) -> Option<Judged>
     ensures { result ≡ slice_get rulings.now k }
 {
     rulings.get(k as usize).copied()
 }
 
-// Whether the ruling that was read is the one that is held.
+// Checks that the ruling on the board is the one that is held.
 fn is_shown(found: Option<Ruling<'_>>, held: Judged) -> bool
     ensures { Decides result (judged_of (option_map as_ruling found.entry) ≡ Some held) }
 {

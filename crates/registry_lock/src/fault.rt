@@ -1,25 +1,22 @@
-//! Why two sides don't meet.
+//! The refusals of a meeting.
 ghost use Rattle.std.specs.Prelude.{◌≡◌, None};
 ghost use Rattle.registry_lock.specs.Faults.{meet_fault_number};
 
-use numbered::{Numbered, Place};
+use numbered::{Numbered, Place, words_of};
 use thiserror::Error;
 
 /// Why two sides that finished don't meet.
 #[derive(Clone, Copy, Debug, PartialEq, Eq, Error)]
+#[error("{}", words_of(self.number()))]
 pub enum MeetFault {
-    /// Not both finished with the board's seed.
-    #[error("the seeds differ")]
+    /// 36: the seeds of the two and of the board differ.
     SeedDiffers,
-    /// At this clash, counted from 0, one of the two holds another ruling than the board shows. At each clash before
-    /// it both hold the ruling that the board shows.
-    #[error("the ruling of clash {0} isn't the board's")]
+    /// 38: at this clash, counted from 0, one of the two holds another ruling than the board shows. At each earlier
+    /// clash both hold the board's.
     StrangeRuling(u32),
-    /// Not both finished the board's exchange.
-    #[error("it is of another exchange")]
+    /// 45: the exchange numbers of the two and of the board differ.
     OtherNumber,
-    /// They merged other tables, with other uptimes, or without other names.
-    #[error("the two merged other pairs of tables")]
+    /// 49: they merged other tables, with other uptimes, or without other names.
     OtherPair,
 }
 

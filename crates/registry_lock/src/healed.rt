@@ -4,8 +4,8 @@ ghost use Rattle.std.specs.Prelude.{◌≡◌};
 use partition_table::Table;
 use std::marker::Model;
 
-/// The one table of two sides that met. A contract sees it as that table. Only `meet` makes one.
-#[derive(Drop)]
+/// The one table of two sides that met. Contracts see it as that table. Only `meet` makes one.
+#[derive(Debug, Drop)]
 pub struct Healed {
     pub(crate) table: Table,
 }
@@ -22,14 +22,14 @@ impl Model for Healed {
 }
 
 impl Healed {
-    /// The table that both sides have.
+    /// Returns the table that both sides have.
     pub fn table(&self) -> &Table
         ensures { result.now ≡ self.now }
     {
         &self.table
     }
 
-    /// The table itself.
+    /// Returns the table by value.
     pub fn into_table(self) -> Table
         ensures { result ≡ self }
     {

@@ -1,4 +1,4 @@
-//! What a side was told during a round.
+//! The rulings that a side receives during a round.
 ghost use Rattle.registry_lock.specs.Telling.{IsTold};
 
 use crossbeam_queue::SegQueue;
@@ -9,14 +9,14 @@ use std::alloc::Global;
 use std::sync::Wait;
 use verdict_board::{Board, Pass};
 
-// What names a ruling. It borrows nothing, so that an ear of any board may hold it.
+// The name of a ruling. It borrows nothing, so that a listener of any board may hold it.
 #[derive(Clone, Copy)]
 struct Told {
     k: u32,
     word: u64,
 }
 
-// What one side was told. Without memory for a queue all is dropped.
+// The rulings for one side. If the queue can't be allocated, all rulings are dropped.
 #[derive(Drop)]
 pub(crate) struct Inbox {
     queue: Option<SegQueue<Told>>,
@@ -41,7 +41,7 @@ impl Inbox {
         }
     }
 
-    // The side takes what is here, at most as often as the board has clashes.
+    // Lets the side take the queued rulings, at most one for each clash of the board.
     pub(crate) fn empty_into<R: Wait>(&self, rt: &R, board: &Board<'_>, side: Side) -> Side
         ensures { IsTold board.entry.now.place side result }
     {
@@ -63,7 +63,7 @@ impl Inbox {
     }
 }
 
-// The side takes the ruling, which is made again by a run of the resolver. A refusal is dropped.
+// Lets the side take the ruling, which a run of the resolver makes again. Drops a refusal.
 fn take_told(board: &Board<'_>, side: &mut Side, told: Told)
     ensures { IsTold board.entry.now.place side.old side.new }
 {

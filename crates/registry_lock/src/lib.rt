@@ -1,4 +1,4 @@
-//! Sides under locks, rounds that tell them, and the meeting of two sides that finished.
+//! Sides under locks, rounds whose rulings they take, and the meeting of two sides that finished.
 #![tactic(auto)]
 
 mod comparing;

@@ -10,12 +10,12 @@ use crate::healed::Healed;
 use exchange_core::Finished;
 use verdict_board::{Board, Pass};
 
-/// The one table of two sides that finished the board's exchange.
+/// Returns the one table of two sides that finished the board's exchange.
 ///
-/// Refusals are 36 where the seeds differ from each other or from the board's, 45 where the numbers do, 49 where the
-/// two merged other tables, with other uptimes or without other names, and, looked for last, 38 with the least clash at
-/// which one of the two holds another word or another answer than the pass is shown. Of 36, 45 and 49 the least that
-/// stands is answered. It asks for a pass of this board. It takes no memory and waits for nobody.
+/// Requires a pass of this board. Refusals, the least first: 36 if the seeds of the two and of the board differ, 45 if
+/// the numbers do, 49 if the two merged other tables, with other uptimes or without other names. Checked last: 38 with
+/// the least clash at which one of the two holds another word or answer than the board shows. Allocates nothing and
+/// never waits.
 pub fn meet<'p>(
     board: &Board<'p>,
     pass: &mut Pass<'p>,
@@ -23,13 +23,13 @@ pub fn meet<'p>(
     second: Finished,
 ) -> Result<Healed, MeetFault>
     requires board { pass.old.place ≡ board.now.place }
-    // What the pass had seen it sees still.
+    // The pass still sees what it had seen.
     ensures keeps { Keeps pass.old pass.new }
-    // Both tables are one: the merge of the one pair under the rulings that the pass has then seen, each the board's.
+    // Both have one table: the merge of the one pair under the rulings that the pass has then seen, each the board's.
     ensures healed { IfOk result (λ healed. IsHealed board.now.place pass.new first second healed) }
-    // Each refusal comes for its cause alone.
+    // Each refusal has its cause.
     ensures fault { IfErr result (λ fault. IsFault board.now.place pass.old pass.new first second fault) }
-    // A pass that had seen the rulings that they hold refuses none.
+    // A pass that had seen the rulings that they hold refuses none of them.
     ensures seen { AgreesWith pass.old first.rulings → AgreesWith pass.old second.rulings
         → IfErr result (λ fault. ¬ IsOfRuling fault) }
 {
@@ -39,7 +39,7 @@ pub fn meet<'p>(
     })
 }
 
-// Refuses two sides whose exchanges aren't one.
+// Rejects two sides whose exchanges differ.
 fn agree<'p>(
     board: &Board<'p>,
     pass: &mut Pass<'p>,

@@ -1,36 +1,44 @@
-//! A side that threads share.
+//! A side shared by threads.
 ghost use Rattle.std.specs.Prelude.{◌≡◌};
 ghost use Rattle.std.specs.Fn.{FnOnceReturnsAtMut};
 ghost use Rattle.exchange_core.specs.declared.side.Side.{Side};
 
-use exchange_core::{Side, SideId};
+use clash_record::SideId;
+use exchange_core::Side;
 use judge_pool::Ear;
 use partition_table::Ruling;
 use std::alloc::Global;
+use std::fmt;
 use std::sync::{Mutex, Wait};
 use verdict_board::Pass;
 
-/// A side under a lock, so that threads share it.
+/// A side under a lock, shared by threads.
 ///
-/// Whenever the lock is got, the side is where its journal leads: its type keeps this. As an ear it takes each ruling
-/// that it is told, under the lock, and drops a refusal.
+/// Whenever the lock is acquired, the side is where its journal leads: its type guarantees this. As a listener it
+/// takes each ruling under the lock, and drops a refusal.
 #[derive(Drop)]
 pub struct Partition {
     side: Mutex<Side>,
 }
 
+impl fmt::Debug for Partition {
+    fn fmt<W: fmt::Write>(&self, f: &mut fmt::Formatter<W>) -> fmt::Result {
+        f.write_str("Partition")
+    }
+}
+
 impl Partition {
-    /// An idle side without names. Takes no memory.
+    /// Returns an idle side without names. Allocates nothing.
     pub fn new(alloc: Global, id: SideId) -> Partition {
         Partition {
             side: Mutex::new(Side::new(alloc, id)),
         }
     }
 
-    /// Runs `f` on the locked side, and answers what it answers. Waits for the lock.
+    /// Runs `f` on the locked side and returns its result. Waits for the lock.
     pub fn with_side<T, F: FnOnce(&mut Side) -> T, R: Wait>(&self, rt: &R, f: F) -> T
         requires { F.IsAlwaysCallable f }
-        // The answer is what `f` gives on some side, and what `f` leaves is a side.
+        // The result is that of `f` on some side, and `f` leaves a side.
         ensures { (old : Side) × (new : Side) × FnOnceReturnsAtMut F.FnOnce f old result new }
     {
         let mut side = self.side.lock(rt);

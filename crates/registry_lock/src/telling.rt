@@ -1,4 +1,4 @@
-//! A round whose rulings two sides are told.
+//! A round whose rulings two sides take.
 ghost use Rattle.std.specs.Prelude.{◌≡◌, ◌<◌, ◌≤◌, All, vec_len};
 ghost use Rattle.judge_pool.specs.Work.{round_posts};
 ghost use Rattle.registry_lock.specs.Telling.{IsTold};
@@ -11,11 +11,10 @@ use std::sync::Wait;
 use std::thread::Threads;
 use verdict_board::{Board, Seat};
 
-/// A round, as `heal_round` runs it, whose rulings two sides take once all workers have ended. What a side refuses,
-/// and what there is no memory to hold until then, is dropped.
+/// Runs a round as `heal_round` does, and then lets two sides take its rulings. Drops rulings that a side refuses or
+/// that can't be queued.
 ///
-/// It asks for seats of this board, and for a round from 0 to 3. It runs the resolver of each clash once more for each
-/// side.
+/// Requires seats of this board and a round from 0 to 3. Runs the resolver of each clash once more for each side.
 pub fn tell_round<'p, G: Gate + Sync, R: Threads + Wait + Sync>(
     rt: &R,
     alloc: Global,
@@ -28,13 +27,13 @@ pub fn tell_round<'p, G: Gate + Sync, R: Threads + Wait + Sync>(
 ) -> (Side, Side, RoundDone)
     requires seats { All (λ s. s.draws ≡ board.now.draws) seats.items }
     requires round { round < 4 }
-    // Each side comes back as it was, followed by takes of rulings of this board, and by nothing else.
+    // Each side differs only by the rulings of this board that it took.
     ensures first { IsTold board.entry.now.place first result.0 }
     ensures second { IsTold board.entry.now.place second result.1 }
     ensures seats { All (λ s. s.draws ≡ board.entry.now.draws) result.2.seats.items }
-    // The seat of each worker that was started comes back.
+    // The seat of each worker that was started is returned.
     ensures back { result.2.started ≤ vec_len result.2.seats }
-    // Where none was started nothing is judged.
+    // Without workers nothing is judged.
     ensures none { result.2.started ≡ 0 → round_posts result.2 ≡ 0 }
 {
     let left = Inbox::new(alloc);

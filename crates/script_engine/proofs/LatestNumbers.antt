@@ -2,7 +2,7 @@
 use Rattle.std.proofs.Common.{◌≡◌, ℕ, ◌+◌, ◌≤◌, inl, inr, Bool, true, false, List, Option, Some, None, Result, Ok, Err, ap, arith}
 use Rattle.std.specs.Bool.{MatchBool}
 use Rattle.hex.specs.Hex.{decode_of}
-use Rattle.exchange_core.specs.declared.side_id.SideId.{SideId}
+use Rattle.clash_record.specs.declared.side_id.SideId.{SideId}
 use Rattle.exchange_core.specs.declared.fault.SideFault.{SideFault}
 use Rattle.exchange_core.specs.Sides.{Side}
 use Rattle.clash_record.specs.declared.registrations.ResolverId.{ResolverId}
@@ -56,17 +56,17 @@ answered : (old : Machine) (asked : Asked) (answer : Answer) (new : Machine) →
 answered old asked (Says reply) new (inl h) = replied old asked reply new h
 answered old asked (Says reply) new (inr h) = stays old new h.1
 answered old (Show id) (Shows labels rows) new h = stays old new h.2
-answered old (Heal seed uptimes gone) (Heals clashes rulings withdrawn count) new h = omega (arith, h.1.healed.latest)
+answered old (Heal seed uptimes gone) (Heals healing) new h = omega (arith, h.healed.latest)
 answered old (Upload label code) (Shows labels rows) new h = absurd h
 answered old (Register id name terms resolver) (Shows labels rows) new h = absurd h
 answered old (Unregister id name) (Shows labels rows) new h = absurd h
 answered old (Whereis id name) (Shows labels rows) new h = absurd h
 answered old (Heal seed uptimes gone) (Shows labels rows) new h = absurd h
-answered old (Upload label code) (Heals clashes rulings withdrawn count) new h = absurd h
-answered old (Register id name terms resolver) (Heals clashes rulings withdrawn count) new h = absurd h
-answered old (Unregister id name) (Heals clashes rulings withdrawn count) new h = absurd h
-answered old (Whereis id name) (Heals clashes rulings withdrawn count) new h = absurd h
-answered old (Show id) (Heals clashes rulings withdrawn count) new h = absurd h
+answered old (Upload label code) (Heals healing) new h = absurd h
+answered old (Register id name terms resolver) (Heals healing) new h = absurd h
+answered old (Unregister id name) (Heals healing) new h = absurd h
+answered old (Whereis id name) (Heals healing) new h = absurd h
+answered old (Show id) (Heals healing) new h = absurd h
 
 text_answered : (old : Machine) (asked : Result (Option Asked) LineFault) (answer : Answer) (new : Machine)
     → AnswersText old asked answer new → new.latest ≤ old.latest + 1
@@ -74,11 +74,11 @@ text_answered old (Ok (Some asked)) answer new h = answered old asked answer new
 text_answered old (Ok None) (Says reply) new (inl h) = stays old new h.1
 text_answered old (Ok None) (Says reply) new (inr h) = stays old new h.1
 text_answered old (Ok None) (Shows labels rows) new h = absurd h
-text_answered old (Ok None) (Heals clashes rulings gone count) new h = absurd h
+text_answered old (Ok None) (Heals healing) new h = absurd h
 text_answered old (Err fault) (Says reply) new (inl h) = stays old new h.1
 text_answered old (Err fault) (Says reply) new (inr h) = stays old new h.1
 text_answered old (Err fault) (Shows labels rows) new h = absurd h
-text_answered old (Err fault) (Heals clashes rulings gone count) new h = absurd h
+text_answered old (Err fault) (Heals healing) new h = absurd h
 
 -- after a line the number of the latest exchange is at most one more than before
 pub latest_after : (old : Machine) (line : Line) (answer : Answer) (new : Machine) → Step old line answer new
@@ -86,4 +86,4 @@ pub latest_after : (old : Machine) (line : Line) (answer : Answer) (new : Machin
 latest_after old (Short text) answer new h = text_answered old (asked_of text) answer new h
 latest_after old Long (Says reply) new h = stays old new h.1
 latest_after old Long (Shows labels rows) new h = absurd h
-latest_after old Long (Heals clashes rulings gone count) new h = absurd h
+latest_after old Long (Heals healing) new h = absurd h

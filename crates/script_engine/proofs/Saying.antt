@@ -19,7 +19,7 @@ pub said : {E : Type 0} (IsAnswer : Answer → Type 0) (number : ℕ) (old new :
 said IsAnswer number old new reply result is_answer sends status =
     record { answer = Says reply; is_answer = is_answer; sends = sends; status = status }
 
--- a line may be refused for want of memory, whatever it asks for
+-- a line may be refused when out of memory, whatever it asks for
 starved : (machine : Machine) (asked : Result (Option Asked) LineFault) (reply : Reply)
     → Refuses 90 None machine reply machine → AnswersText machine asked (Says reply) machine
 starved machine (Ok (Some asked)) reply h = inr h

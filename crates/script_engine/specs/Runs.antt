@@ -23,9 +23,9 @@ text_from line (answer ∷ answers) = answer_text line answer ++ text_from (line
 abbrev pub answer_status : Answer → ℕ
 answer_status (Says reply) = reply_status reply
 answer_status (Shows labels rows) = 0
-answer_status (Heals clashes rulings gone count) = 0
+answer_status (Heals healing) = 0
 
--- 3 where a line was refused for want of memory, else 2 where one was refused, else 0
+-- 3 where a line was refused when out of memory, else 2 where one was refused, else 0
 abbrev pub status_of : List Answer → ℕ
 status_of [] = 0
 status_of (answer ∷ answers) = max (answer_status answer) (status_of answers)

@@ -1,12 +1,12 @@
-//! Lines that are refused whatever they say.
+//! Lines that are always rejected.
 ghost use Rattle.std.specs.Prelude.{None};
 
-use numbered::{Numbered, Place};
+use numbered::{Numbered, Place, words_of};
 use thiserror::Error;
 
-/// A line of more than 20,000 bytes.
+// A line of more than 20,000 bytes.
 #[derive(Clone, Copy, Debug, PartialEq, Eq, Error)]
-#[error("a line of more than 20,000 bytes")]
+#[error("{}", words_of(self.number()))]
 pub(crate) struct LineTooLong;
 
 impl Numbered for LineTooLong {

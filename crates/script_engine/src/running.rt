@@ -15,10 +15,10 @@ use std::sync::Wait;
 use std::thread::Threads;
 
 /// Carries out the script that the reader gives, line by line, and writes what is said to each. Answers the status: 3
-/// where a line or the script itself was refused for want of memory or a device failed, else 2 where a line was
+/// where a line or the script itself was refused when out of memory or a device failed, else 2 where a line was
 /// refused, else 0.
 ///
-/// It asks for 1 to 16 workers, who judge the clashes of a `heal`; the gate is asked before each of their posts. The
+/// Requires 1 to 16 workers, who judge the clashes of a `heal`; the gate is asked before each of their posts. The
 /// buffers are taken at the start: where there is no memory for them, nothing is read. Where a read fails, the
 /// unfinished line isn't carried out; where a write fails, a beginning of the output went out.
 pub fn run_script<T, R, W, G>(rt: &T, reader: &mut R, writer: &mut W, workers: u32, gate: &G) -> u8

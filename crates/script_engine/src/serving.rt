@@ -10,16 +10,16 @@ ghost use Rattle.script_engine.specs.model.Progress.{SendsNext, Serves, ServesAs
 
 use crate::crew::Crew;
 use crate::fault::LineTooLong;
+use clash_record::{Uptimes, Withdrawal};
 use judge_pool::Gate;
 use output::DeviceFault;
-use script_healing::print_healing;
-use script_machine::{Machine, Reply, print_reply};
-use script_text::{Command, LineBuffer, Uptimes, Withdrawal, command_of};
+use script_machine::{Machine, Reply, print_healing, print_reply};
+use script_text::{Command, LineBuffer, command_of};
 use std::io::Write;
 use std::sync::Wait;
 use std::thread::Threads;
 
-/// Carries out the line of this number, and says the answer. Answers the status of the line.
+// Carries out the line of this number, and says the answer. Answers the status of the line.
 pub(crate) fn serve<T: Threads + Wait + Sync + AllocGlobal, G: Gate + Sync, W: Write>(
     crew: &Crew<'_, T, G>,
     machine: &mut Machine,
@@ -104,7 +104,7 @@ fn heal<T: Threads + Wait + Sync + AllocGlobal, G: Gate + Sync, W: Write>(
         gone,
     );
     match healed {
-        Ok(healing) => with_status(print_healing(Ok(()), writer, &healing, gone), 0),
+        Ok(healing) => with_status(print_healing(Ok(()), writer, &healing), 0),
         Err(refusal) => say(writer, number, &Reply::Refused(refusal)),
     }
 }

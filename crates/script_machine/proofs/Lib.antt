@@ -1,3 +1,5 @@
 pub mod Rows
 pub mod Uploads
 pub mod Words
+pub mod Judged
+pub mod Pieces

@@ -1,3 +1,4 @@
+pub mod Healed
 pub mod Machines
 pub mod Replies
 pub mod Steps

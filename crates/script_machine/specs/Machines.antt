@@ -12,7 +12,7 @@ use Rattle.clash_record.specs.declared.registrations.ResolverId.{ResolverId}
 use Rattle.clash_record.specs.declared.registrations.ResolverId.TheVariants.{Builtin, Program}
 use Rattle.upload_store.specs.Programs.{Programs}
 use Rattle.exchange_core.specs.Journal.{max_events}
-use Rattle.script_healing.specs.Clusters.{Cluster, cluster_of, new_cluster}
+use Rattle.cluster.specs.Clusters.{Cluster, cluster_of, new_cluster}
 use Rattle.script_machine.specs.declared.labels.Label.{Label}
 use Rattle.script_machine.specs.declared.machine.Machine as code
 

@@ -1,12 +1,11 @@
--- What is said to a line.
+-- The answers to the lines of a script.
 use Rattle.std.specs.Prelude.{ℕ, ◌==◌, if◌then◌else◌, List, [], ◌++◌, codes}
 use Rattle.std.specs.List.{flat_map}
 use Rattle.clash_record.specs.declared.registrations.Registration.{Registration}
-use Rattle.partition_table.specs.Tables.{Name, Clash}
-use Rattle.exchange_core.specs.declared.judged.Judged.{Judged}
-use Rattle.script_text.specs.declared.command.Withdrawal.{Withdrawal}
-use Rattle.script_output.specs.Printed.{uploaded_line, owner_line, row_line, refusal_line}
-use Rattle.script_healing.specs.Printed.{healing_text}
+use Rattle.clash_record.specs.Name.{Name}
+use Rattle.script_text.specs.Printed.{uploaded_line, owner_line, row_line, refusal_line}
+use Rattle.cluster.specs.Healings.{Healing}
+use Rattle.script_machine.specs.Healed.{healing_text}
 use Rattle.script_machine.specs.declared.reply.Reply.{Reply}
 use Rattle.script_machine.specs.declared.reply.Reply.TheVariants.{Silent, Uploaded, Registered, Unregistered, Owned, Undefined, Refused}
 use Rattle.script_machine.specs.declared.labels.Label.{Label}
@@ -37,13 +36,13 @@ shown_row labels row = row_line row.0 row.1 (resolver_text labels row.1.resolver
 abbrev pub rows_text : List Label → List (Name × Registration) → List ℕ
 rows_text labels rows = flat_map (shown_row labels) rows ++ codes "end\n"
 
--- what is said to a line: a reply, the names of a side, or how a split was healed
+-- the answer to a line: a reply, the names of a side, or a healing
 pub data Answer : Type 0 where
   Says : (reply : Reply) → Answer
   Shows : (labels : List Label) → (rows : List (Name × Registration)) → Answer
-  Heals : (clashes : List Clash) → (rulings : List Judged) → (gone : List Withdrawal) → (count : ℕ) → Answer
+  Heals : (healing : Healing) → Answer
 
 abbrev pub answer_text : ℕ → Answer → List ℕ
 answer_text line (Says reply) = reply_text line reply
 answer_text line (Shows labels rows) = rows_text labels rows
-answer_text line (Heals clashes rulings gone count) = healing_text clashes rulings gone count
+answer_text line (Heals healing) = healing_text healing

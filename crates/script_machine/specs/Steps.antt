@@ -4,8 +4,8 @@ use Rattle.std.specs.Bool.{MatchBool}
 use Rattle.std.specs.Option.{option_map}
 use Rattle.std.specs.List.{list_any}
 use Rattle.std.specs.FinMap.{get}
-use Rattle.numbered.specs.declared.Place.{Place}
-use Rattle.numbered.specs.declared.NumberedRefusal.{NumberedRefusal}
+use Rattle.numbered.specs.declared.place.Place.{Place}
+use Rattle.numbered.specs.declared.refusal.NumberedRefusal.{NumberedRefusal}
 use Rattle.hex.specs.Hex.{decode_of}
 use Rattle.clash_record.specs.Name.{is_name}
 use Rattle.clash_record.specs.declared.registrations.ProgramId.{ProgramId}
@@ -15,24 +15,25 @@ use Rattle.upload_store.specs.Programs.{Programs}
 use Rattle.upload_store.specs.Uploads.{IsKept, IsUploadFault}
 use Rattle.upload_store.specs.Faults.{upload_fault_number, upload_fault_place}
 use Rattle.upload_store.specs.declared.fault.UploadFault.{UploadFault}
-use Rattle.partition_table.specs.Tables.{Name, Clash, row_for, rows_of}
-use Rattle.exchange_core.specs.declared.side_id.SideId.{SideId}
+use Rattle.clash_record.specs.Name.{Name}
+use Rattle.partition_table.specs.Tables.{row_for, rows_of}
+use Rattle.clash_record.specs.declared.side_id.SideId.{SideId}
 use Rattle.exchange_core.specs.declared.fault.SideFault.{SideFault}
 use Rattle.exchange_core.specs.Faults.{side_fault_number}
-use Rattle.exchange_core.specs.declared.judged.Judged.{Judged}
 use Rattle.exchange_core.specs.Sides.{Side, register, unregister, shown_table}
 use Rattle.exchange_core.specs.Refusals.{register_fault, unregister_fault}
 use Rattle.script_text.specs.declared.command.Terms.{Terms}
-use Rattle.script_text.specs.declared.command.Uptimes.{Uptimes}
-use Rattle.script_text.specs.declared.command.Withdrawal.{Withdrawal}
+use Rattle.clash_record.specs.declared.halves.Uptimes.{Uptimes}
+use Rattle.clash_record.specs.declared.halves.Withdrawal.{Withdrawal}
 use Rattle.script_text.specs.declared.fault.LineFault.{LineFault}
 use Rattle.script_text.specs.Faults.{line_fault_number}
 use Rattle.script_text.specs.Asking.{Asked, Upload, Register, Unregister, Whereis, Show, Heal, asked_of}
 use Rattle.script_text.specs.Lines.{Line, Short, Long}
-use Rattle.script_healing.specs.Clusters.{Cluster, at, with_standing, is_full_at}
-use Rattle.script_healing.specs.Healing.{Plan, IsHealed, IsFailed}
-use Rattle.script_healing.specs.Faults.{heal_fault_number}
-use Rattle.script_healing.specs.declared.fault.HealFault.{HealFault}
+use Rattle.cluster.specs.Clusters.{Cluster, at, with_standing, is_full_at}
+use Rattle.cluster.specs.Healing.{Plan, IsHealed, IsFailed}
+use Rattle.cluster.specs.Healings.{Healing}
+use Rattle.cluster.specs.Faults.{heal_fault_number}
+use Rattle.cluster.specs.declared.fault.HealFault.{HealFault}
 use Rattle.script_machine.specs.declared.labels.Label.{Label}
 use Rattle.script_machine.specs.declared.reply.Reply.{Reply}
 use Rattle.script_machine.specs.declared.reply.Reply.TheVariants.{Silent, Uploaded, Registered, Unregistered, Owned, Undefined, Refused}
@@ -44,7 +45,7 @@ abbrev pub Refuses : ℕ → Option Place → Machine → Reply → Machine → 
 Refuses number place old reply new =
     (reply ≡ Refused (record { number = number; place = place })) × (new ≡ old)
 
--- so, unless the line is refused for want of memory
+-- so, unless the line is refused when out of memory
 abbrev pub UnlessMemory : (Reply → Machine → Type 0) → Machine → Reply → Machine → Type 0
 UnlessMemory Is old reply new = Is reply new ⊎ Refuses 90 None old reply new
 
@@ -154,14 +155,13 @@ pub record HealRefused (plan : Plan) (old : Machine) (reply : Reply) (new : Mach
   pub failed : IsFailed plan old.cluster new.cluster
   pub healed : HasHealed old new
 
-pub record HealsAs (plan : Plan) (old : Machine) (clashes : List Clash) (rulings : List Judged) (count : ℕ)
-    (new : Machine) : Type 0 where
-  pub is_healed : IsHealed plan old.cluster new.cluster clashes rulings count
+pub record HealsAs (plan : Plan) (old : Machine) (healing : Healing) (new : Machine) : Type 0 where
+  pub is_healed : IsHealed plan old.cluster new.cluster healing
   pub healed : HasHealed old new
 
 -- ---- lines
 
--- a reply to what is asked for. A line may be refused for want of memory, and then nothing changes
+-- a reply to what is asked for. A line may be refused when out of memory, and then nothing changes
 abbrev pub Replies : Machine → Asked → Reply → Machine → Type 0
 Replies old (Upload label code) reply new = UploadStep old label code reply new
 Replies old (Register id name terms resolver) reply new =
@@ -175,8 +175,8 @@ abbrev pub Answers : Machine → Asked → Answer → Machine → Type 0
 Answers old asked (Says reply) new = UnlessMemory (Replies old asked) old reply new
 Answers old (Show id) (Shows labels rows) new =
     (labels ≡ old.labels) × (rows ≡ rows_of (shown_table (at old.cluster id).side)) × (new ≡ old)
-Answers old (Heal seed uptimes gone) (Heals clashes rulings withdrawn count) new =
-    (withdrawn ≡ gone) × HealsAs (plan_for old seed uptimes gone) old clashes rulings count new
+Answers old (Heal seed uptimes gone) (Heals healing) new =
+    HealsAs (plan_for old seed uptimes gone) old healing new
 Answers old asked answer new = ⊥
 
 abbrev pub AnswersText : Machine → Result (Option Asked) LineFault → Answer → Machine → Type 0

@@ -9,8 +9,7 @@ use crate::fault::WordFault;
 use crate::labels::resolver_of;
 use crate::machine::Machine;
 use crate::reply::Reply;
-use clash_record::{Name, Registration, ResolverId};
-use exchange_core::SideId;
+use clash_record::{Name, Registration, ResolverId, SideId};
 use script_text::Terms;
 
 impl Machine {

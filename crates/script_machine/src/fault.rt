@@ -1,24 +1,21 @@
-//! What is wrong with the words of a command.
+//! The faults of a command.
 ghost use Rattle.std.specs.Prelude.{None};
 ghost use Rattle.script_machine.specs.model.Faults.{word_fault_number};
 
-use numbered::{Numbered, Place};
+use numbered::{Numbered, Place, words_of};
 use thiserror::Error;
 
-/// What is wrong with the words of a command, aside from what `LineFault` tells.
+// Why the words of a command are rejected, in addition to `LineFault`.
 #[derive(Clone, Copy, Debug, PartialEq, Eq, Error)]
+#[error("{}", words_of(self.number()))]
 pub(crate) enum WordFault {
-    /// Neither a resolver that is built in nor a label in use.
-    #[error("no resolver has this name")]
+    // 41: neither a built-in resolver nor a label in use.
     NoResolver,
-    /// The code isn't hex digits, two a byte.
-    #[error("the text isn't hex digits, two a byte")]
+    // 50: the code isn't hex digits, two for each byte.
     HexText,
-    /// The label is in use, is the word for a resolver that is built in, or isn't 1 to 32 visible characters of ASCII.
-    #[error("the label is taken, or is no label")]
+    // 53: the label is in use, is the word of a built-in resolver, or isn't 1 to 32 bytes from 0x21 to 0x7E.
     Label,
-    /// Memory ran out.
-    #[error("out of memory")]
+    // 90: out of memory.
     OutOfMemory,
 }
 

@@ -19,14 +19,14 @@ pub struct Label {
 }
 
 impl Label {
-    // Whether it is this word.
+    // Checks whether it is this word.
     fn is(&self, word: &[u8]) -> bool
         ensures { result ≡ labelled word.now self.now }
     {
         self.text.bytes() == word
     }
 
-    // Whether it names this program.
+    // Checks whether it names this program.
     fn names(&self, program: &ProgramId) -> bool
         ensures { result ≡ is_program program.now self.now }
     {
@@ -34,8 +34,8 @@ impl Label {
     }
 }
 
-/// The word as a further label. It is none where it isn't 1 to 32 visible characters of ASCII, is in use, or is the
-/// word for a resolver that is built in.
+// The word as a further label. It is none where it isn't 1 to 32 visible characters of ASCII, is in use, or is the
+// word for a resolver that is built in.
 pub(crate) fn free_label(labels: &[Label], word: &[u8]) -> Option<Name>
     ensures { result ≡ (if is_free labels.now word.now then Some word.now else None) }
 {
@@ -45,21 +45,21 @@ pub(crate) fn free_label(labels: &[Label], word: &[u8]) -> Option<Name>
     }
 }
 
-// Whether the word is neither for a resolver that is built in nor a label.
+// Checks whether the word is neither for a resolver that is built in nor a label.
 fn is_unused(labels: &[Label], word: &[u8]) -> bool
     ensures { result ≡ (is_none (machines.builtin_of word.now) && not (list_any (labelled word.now) labels.now)) }
 {
     builtin_of(word).is_none() && !is_label(labels, word)
 }
 
-// Whether the word is a label.
+// Checks whether the word is a label.
 fn is_label(labels: &[Label], word: &[u8]) -> bool
     ensures { result ≡ list_any (labelled word.now) labels.now }
 {
     labels.iter().any(|label| label.is(word))
 }
 
-/// The resolver that a word names: one that is built in, or a program by its label.
+// The resolver that a word names: one that is built in, or a program by its label.
 pub(crate) fn resolver_of(labels: &[Label], word: &[u8]) -> Option<ResolverId>
     ensures { result ≡ machines.resolver_of labels.now word.now }
 {
@@ -79,7 +79,7 @@ fn label_of<'a>(labels: &'a [Label], word: &[u8]) -> Option<&'a Label>
     labels.iter().find(|label| label.is(word))
 }
 
-/// How a resolver is called: a program by its first label.
+// How a resolver is called: a program by its first label.
 pub(crate) fn resolver_text<'a>(labels: &'a [Label], resolver: &ResolverId) -> &'a [u8]
     ensures { result.now ≡ machines.resolver_text labels.now resolver.now }
 {

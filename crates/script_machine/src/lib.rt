@@ -1,8 +1,9 @@
-//! What a script keeps from line to line, and what each of its lines does.
+//! The state of a script from line to line, and the effect of each command.
 #![tactic(auto)]
 
 mod editing;
 mod fault;
+mod healed;
 mod healing;
 mod labels;
 mod machine;
@@ -10,6 +11,7 @@ mod reply;
 mod showing;
 mod uploading;
 
+pub use healed::print_healing;
 pub use labels::Label;
 pub use machine::Machine;
 pub use reply::{Reply, print_reply};

@@ -5,15 +5,14 @@ ghost use Rattle.script_machine.specs.Steps.{whereis_reply};
 
 use crate::labels::Label;
 use crate::reply::Reply;
-use clash_record::Name;
-use exchange_core::SideId;
-use script_healing::Cluster;
+use clash_record::{Name, SideId};
+use cluster::Cluster;
 use std::alloc::Global;
 use upload_store::UploadStore;
 
 /// What a script keeps from line to line: the labels, the uploaded programs, the two halves of a cluster, and the
 /// number of the latest exchange.
-#[derive(Drop)]
+#[derive(Debug, Drop)]
 pub struct Machine {
     pub(crate) labels: Vec<Label>,
     pub(crate) store: UploadStore,
@@ -22,7 +21,7 @@ pub struct Machine {
 }
 
 impl Machine {
-    /// Without labels, programs, names and exchanges. Takes no memory.
+    /// Without labels, programs, names and exchanges. Allocates nothing.
     pub fn new(alloc: Global) -> Machine
         ensures { machine_of result ≡ new_machine }
     {
@@ -34,7 +33,7 @@ impl Machine {
         }
     }
 
-    /// Who owns a name on a side, if anybody does; an open side leaves out the names that it withdrew. Takes no memory.
+    /// Who owns a name on a side, if anybody does; an open side leaves out the names that it withdrew. Allocates nothing.
     pub fn whereis(&self, side: SideId, name: &Name) -> Reply
         ensures { result ≡ whereis_reply (machine_of self.now) side name.now }
     {

@@ -7,7 +7,7 @@ ghost use Rattle.script_machine.specs.declared.reply.Reply.TheVariants.{Refused}
 use clash_record::{Name, Owner};
 use numbered::{Numbered, NumberedRefusal, refusal_of};
 use output::{DeviceFault, send_after};
-use script_output::{print_code_count, print_owner_line, print_refusal};
+use script_text::{print_code_count, print_owner_line, print_refusal};
 use std::io::Write;
 
 /// What is said to a line, aside from the names of a side and how a split was healed.
@@ -29,7 +29,7 @@ pub enum Reply {
     Refused(NumberedRefusal),
 }
 
-// The number of a refusal for want of memory.
+// The number of a refusal when out of memory.
 const OUT_OF_MEMORY: u32 = 90;
 
 impl Reply {

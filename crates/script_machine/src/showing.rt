@@ -2,15 +2,15 @@
 ghost use Rattle.output.specs.Sending.{SendsOn};
 ghost use Rattle.partition_table.specs.Tables.{rows_of};
 ghost use Rattle.exchange_core.specs.Sides.{shown_table};
-ghost use Rattle.script_healing.specs.Clusters.{at};
+ghost use Rattle.cluster.specs.Clusters.{at};
 ghost use Rattle.script_machine.specs.Machines.{machine_of};
 ghost use Rattle.script_machine.specs.Replies.{rows_text};
 
 use crate::labels::resolver_text;
 use crate::machine::Machine;
-use exchange_core::SideId;
+use clash_record::SideId;
 use output::{DeviceFault, send_after};
-use script_output::print_row;
+use script_text::print_row;
 use std::io::Write;
 
 impl Machine {

@@ -1,7 +1,5 @@
 //! Programs, kept under labels.
-ghost use Rattle.std.specs.Prelude.{◌≡◌, ◌<◌, length, IsSome, Some, vec_len, vec_capacity};
-ghost use Rattle.std.specs.Option.{option_map};
-ghost use Rattle.std.specs.FinMap.{get};
+ghost use Rattle.std.specs.Prelude.{◌<◌, vec_len, vec_capacity};
 ghost use Rattle.script_machine.specs.Machines.{machine_of};
 ghost use Rattle.script_machine.specs.Steps.{UnlessMemory, UploadStep, UploadsBytes};
 
@@ -9,10 +7,9 @@ use crate::fault::WordFault;
 use crate::labels::{Label, free_label};
 use crate::machine::Machine;
 use crate::reply::Reply;
-use clash_record::{Name, ProgramId};
+use clash_record::Name;
 use hex::FromHexError;
 use std::alloc::Global;
-use upload_store::UploadStore;
 
 impl Machine {
     /// Keeps the program that these hex digits spell, under a label.
@@ -43,27 +40,16 @@ impl Machine {
         ensures { UnlessMemory (UploadsBytes (machine_of self.old) label bytes.now) (machine_of self.old) result
             (machine_of self.new) }
     {
-        match self.store.upload(alloc, bytes) {
-            Ok(program) => {
+        match self.store.upload_program(alloc, bytes) {
+            Ok(uploaded) => {
                 self.labels.push_reserved(Label {
                     text: label,
-                    program,
+                    program: uploaded.id,
                 });
-                let count = code_len(&self.store, &program);
+                let count = uploaded.len;
                 Reply::Uploaded { label, count }
             }
             Err(fault) => Reply::refused(&fault),
         }
-    }
-}
-
-// How many instructions a program has that is kept.
-fn code_len(store: &UploadStore, program: &ProgramId) -> usize
-    requires { IsSome (get store.now program.now) }
-    ensures { option_map length (get store.now program.now) ≡ Some result }
-{
-    match store.get(program) {
-        Some(verified) => verified.code().len(),
-        None => unreachable!(),
     }
 }

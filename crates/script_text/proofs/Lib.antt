@@ -1,3 +1,4 @@
 pub mod Parts
+pub mod Pieces
 pub mod Silences
 pub mod Triples

@@ -7,12 +7,12 @@ use Rattle.hex.specs.Hex.{decode_sized}
 use Rattle.hex.specs.declared.error.FromHexError.{FromHexError}
 use Rattle.clash_record.specs.Name.{is_name}
 use Rattle.clash_record.specs.declared.registrations.Owner.{Owner}
-use Rattle.partition_table.specs.Tables.{Name}
-use Rattle.exchange_core.specs.declared.side_id.SideId.{SideId}
-use Rattle.exchange_core.specs.declared.side_id.SideId.TheVariants.{A, B}
+use Rattle.clash_record.specs.Name.{Name}
+use Rattle.clash_record.specs.declared.side_id.SideId.{SideId}
+use Rattle.clash_record.specs.declared.side_id.SideId.TheVariants.{A, B}
 use Rattle.script_text.specs.declared.command.Terms.{Terms}
-use Rattle.script_text.specs.declared.command.Uptimes.{Uptimes}
-use Rattle.script_text.specs.declared.command.Withdrawal.{Withdrawal}
+use Rattle.clash_record.specs.declared.halves.Uptimes.{Uptimes}
+use Rattle.clash_record.specs.declared.halves.Withdrawal.{Withdrawal}
 use Rattle.script_text.specs.declared.fault.LineFault.{LineFault}
 use Rattle.script_text.specs.declared.fault.LineFault.TheVariants.{NoName, HexText, Word, Number}
 use Rattle.script_text.specs.Words.{words_of, is_printable, number_of}

@@ -1,30 +1,26 @@
-//! What is wrong with a line.
+//! The faults of a line.
 ghost use Rattle.std.specs.Prelude.{◌≡◌, None};
 ghost use Rattle.script_text.specs.declared.fault.LineFault.TheVariants.{NoName, OutOfMemory};
 ghost use Rattle.script_text.specs.Faults.{line_fault_number};
 
 use clash_record::BadName;
-use numbered::{Numbered, Place};
+use numbered::{Numbered, Place, words_of};
 use std::alloc::AllocError;
 use thiserror::Error;
 
-/// What is wrong with the words of a line.
+/// Why the words of a line are rejected.
 #[derive(Clone, Copy, Debug, PartialEq, Eq, Error)]
+#[error("{}", words_of(self.number()))]
 pub enum LineFault {
-    /// Bytes that are no name.
-    #[error("a name that isn't 1 to 32 visible characters of ASCII")]
+    /// 44: an invalid name.
     NoName,
-    /// The further bytes of a registration aren't 32 hex digits or `-`.
-    #[error("a text that isn't as many hex digits as it has to be")]
+    /// 50: the further bytes of a registration aren't 32 hex digits or `-`.
     HexText,
-    /// An unknown command or side, another count of words, or a byte that no word has.
-    #[error("an unknown word, another count of words, or a byte outside of ASCII's printable characters")]
+    /// 51: an unknown command or side, the wrong number of words, or an unprintable byte.
     Word,
-    /// A number that isn't decimal without sign and leading zeros, or is too big.
-    #[error("a number that isn't decimal digits without zeros in front, or is too big")]
+    /// 52: a number with a sign or leading zeros, not decimal, or too big.
     Number,
-    /// Memory ran out.
-    #[error("out of memory")]
+    /// 90: out of memory.
     OutOfMemory,
 }
 

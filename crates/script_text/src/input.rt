@@ -10,14 +10,14 @@ use std::io;
 use std::io::{ErrorKind, Read};
 use std::marker::Model;
 
-/// The most bytes that a line has, without its end.
+/// The maximum length of a line in bytes, without its end.
 pub const LINE_LIMIT: usize = 20_000;
 
-// How many bytes are asked for at a read.
+// The size of a read in bytes.
 const PIECE: usize = 4096;
 
-/// What was read and not yet used. A contract sees it as the list of these bytes.
-#[derive(Drop)]
+/// The bytes that were read and not yet used. Contracts see it as the list of these bytes.
+#[derive(Debug, Drop)]
 pub struct ReadBuffer {
     bytes: Vec<u8>,
     start: usize,
@@ -36,7 +36,7 @@ impl Model for ReadBuffer {
 }
 
 impl ReadBuffer {
-    /// A buffer in which nothing waits. It takes all its memory here.
+    /// Returns an empty buffer. All its memory is allocated here.
     pub fn new(alloc: Global) -> Result<ReadBuffer, AllocError>
         ensures { IfOk result (λ buffer. buffer ≡ []) }
     {
@@ -47,7 +47,7 @@ impl ReadBuffer {
         })
     }
 
-    // Reads once, where nothing waits.
+    // Reads once into an empty buffer.
     fn fill<R: Read>(&mut self, reader: &mut R) -> io::Result<()>
         requires { self.old ≡ [] }
         ensures ok { OnOk result (Consumes (R.remaining reader.old) (R.remaining reader.new) self.new) }
@@ -60,7 +60,7 @@ impl ReadBuffer {
         Ok(())
     }
 
-    // Uses the first byte.
+    // Takes the first byte.
     fn pop(&mut self) -> Option<u8>
         ensures some { IfSome result (λ byte. self.old ≡ byte ∷ self.new) }
         ensures none { IfNone result ((self.old ≡ []) × (self.new ≡ [])) }
@@ -74,7 +74,7 @@ impl ReadBuffer {
     }
 }
 
-// One read, tried again where a signal interrupts it.
+// Reads once, and again after an interruption by a signal.
 fn read_once<R: Read>(reader: &mut R, into: &mut [u8]) -> io::Result<usize>
     ensures bound { ReadsAtMost result into.new }
     ensures bytes { ReadConsumes (R.remaining reader.old) (R.remaining reader.new) result into.new }
@@ -88,7 +88,7 @@ fn read_once<R: Read>(reader: &mut R, into: &mut [u8]) -> io::Result<usize>
     Err(io::Error::from(ErrorKind::Interrupted))
 }
 
-// The next byte, or nothing at the end.
+// Returns the next byte, or none at the end.
 fn next_byte<R: Read>(buffer: &mut ReadBuffer, reader: &mut R) -> io::Result<Option<u8>>
     ensures some { IfOk result (λ found. IfSome found (λ byte.
         Consumes (left buffer.old (R.remaining reader.old)) (left buffer.new (R.remaining reader.new)) (byte ∷ []))) }
@@ -104,8 +104,8 @@ fn next_byte<R: Read>(buffer: &mut ReadBuffer, reader: &mut R) -> io::Result<Opt
     Ok(buffer.pop())
 }
 
-/// A line of at most 20,000 bytes. A contract sees it as the list of them.
-#[derive(Drop)]
+/// A line of at most 20,000 bytes. Contracts see it as the list of its bytes.
+#[derive(Debug, Drop)]
 pub struct LineBuffer {
     bytes: Vec<u8>,
     len: usize,
@@ -123,7 +123,7 @@ impl Model for LineBuffer {
 }
 
 impl LineBuffer {
-    /// An empty line. It takes all its memory here.
+    /// Returns an empty line. All its memory is allocated here.
     pub fn new(alloc: Global) -> Result<LineBuffer, AllocError>
         ensures { IfOk result (λ line. line ≡ []) }
     {
@@ -133,7 +133,7 @@ impl LineBuffer {
         })
     }
 
-    /// The bytes of the line.
+    /// Returns the bytes of the line.
     pub fn as_slice(&self) -> &[u8]
         ensures { result.now ≡ self.now }
     {
@@ -162,22 +162,23 @@ impl LineBuffer {
     }
 }
 
-/// What ended a line.
+/// The end of a line.
 #[derive(Clone, Copy, Debug, PartialEq, Eq)]
 pub enum Stop {
     /// A line feed.
     LineFeed,
     /// The end of the input, after some bytes.
     End,
-    /// The end of the input: there was no line.
+    /// The end of the input, without a line.
     Nothing,
 }
 
 /// A line that was found.
 #[derive(Clone, Copy, Debug)]
 pub struct Found {
+    /// The end of the line.
     pub stop: Stop,
-    /// It has more than 20,000 bytes, which were skipped.
+    /// Checks whether it has more than 20,000 bytes, which were skipped.
     pub is_long: bool,
 }
 
@@ -185,7 +186,7 @@ pub struct Found {
 #[derive(Debug, Drop)]
 pub struct ReadFailed;
 
-// Adds a byte to the line that was seen so far, and answers whether it is too long.
+// Adds a byte to the line so far, and returns whether the line is too long.
 fn take_byte(line: &mut LineBuffer, is_long: bool, byte: u8) -> bool
     ensures { (text : List ℕ) → line_of text ≡ seen_line is_long line.old
         → line_of (text ++ byte ∷ []) ≡ seen_line result line.new }
@@ -197,9 +198,9 @@ fn take_byte(line: &mut LineBuffer, is_long: bool, byte: u8) -> bool
     false
 }
 
-/// Finds the next line, and leaves its bytes in `line` where it isn't too long. Takes no memory.
+/// Finds the next line, and leaves its bytes in `line` unless it is too long. Allocates nothing.
 ///
-/// Where the reader fails, what it gave of the line is gone.
+/// If the reader fails, the part of the line that was read is lost.
 pub fn next_line<R: Read>(
     buffer: &mut ReadBuffer,
     reader: &mut R,

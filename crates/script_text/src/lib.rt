@@ -1,4 +1,4 @@
-//! The text of scripts: the lines of an input, and what a line asks for.
+//! The text of scripts: the lines of an input, their commands, and the lines of the output.
 #![tactic(auto)]
 
 mod command;
@@ -6,9 +6,14 @@ mod fault;
 mod input;
 mod numbers;
 mod parsing;
+mod printing;
 mod words;
 
-pub use command::{Command, Terms, Uptimes, Withdrawal};
+pub use command::{Command, Terms};
 pub use fault::LineFault;
 pub use input::{Found, LINE_LIMIT, LineBuffer, ReadBuffer, ReadFailed, Stop, next_line};
 pub use parsing::command_of;
+pub use printing::{
+    print_clash, print_code_count, print_healed, print_notice, print_owner_line, print_refusal,
+    print_row, print_withdrawal,
+};

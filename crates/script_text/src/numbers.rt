@@ -6,14 +6,14 @@ ghost use Rattle.script_text.specs.Asking.{around_dot, long_of, owner_of, short_
 use crate::fault::LineFault;
 use clash_record::Owner;
 
-/// A number of 64 bits.
+// A number of 64 bits.
 pub(crate) fn long(word: &[u8]) -> Result<u64, LineFault>
     ensures { result ≡ long_of word.now }
 {
     value(word, u64::MAX).ok_or(LineFault::Number)
 }
 
-/// A node and a serial number with a dot between them.
+// A node and a serial number with a dot between them.
 pub(crate) fn owner(word: &[u8]) -> Result<Owner, LineFault>
     ensures { result ≡ owner_of word.now }
 {

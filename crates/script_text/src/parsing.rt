@@ -6,12 +6,11 @@ ghost use Rattle.script_text.specs.Asking.{side_of, name_of, extra_of, terms_of,
 ghost use Rattle.script_text.specs.Commands.{IsRight, right_command, right_option};
 ghost use Rattle.script_text.specs.model.Triples.{after_first, right_triple, given_uptimes, right_triples, right_withdrawals, shown_triple};
 
-use crate::command::{Command, Terms, Uptimes, Withdrawal};
+use crate::command::{Command, Terms};
 use crate::fault::LineFault;
 use crate::numbers::{long, owner};
 use crate::words::{is_printable, split_word, words};
-use clash_record::{Name, name};
-use exchange_core::SideId;
+use clash_record::{Name, SideId, Uptimes, Withdrawal, name};
 use hex::decode_to_slice;
 use std::alloc::{AllocError, Global};
 

@@ -6,7 +6,7 @@ ghost use Rattle.script_text.specs.model.Parts.{joined, StartsNoSpace};
 
 use std::alloc::{AllocError, Global};
 
-/// The words of a text. Takes memory for the list of them.
+// The words of a text. Allocates the list of them.
 pub(crate) fn words(alloc: Global, text: &[u8]) -> Result<Vec<&[u8]>, AllocError>
     ensures { IfOk result (λ words. map (λ word. word.now) words.items ≡ words_of text.now) }
 {
@@ -19,7 +19,7 @@ pub(crate) fn words(alloc: Global, text: &[u8]) -> Result<Vec<&[u8]>, AllocError
     Ok(words)
 }
 
-/// The first word and what follows it.
+// The first word and what follows it.
 pub(crate) fn split_word(text: &[u8]) -> Option<(&[u8], &[u8])>
     ensures parts { MatchOption result (words_of text.now ≡ [])
         (λ r. (words_of text.now ≡ r.0.now ∷ words_of r.1.now) × (0 < length r.0.now)) }
@@ -32,7 +32,7 @@ pub(crate) fn split_word(text: &[u8]) -> Option<(&[u8], &[u8])>
     Some(text.split_at(word_end(text)))
 }
 
-/// Whether all bytes are printable characters of ASCII.
+// Checks whether all bytes are printable characters of ASCII.
 pub(crate) fn is_printable(text: &[u8]) -> bool
     ensures { result ≡ list_all is_printable text.now }
 {

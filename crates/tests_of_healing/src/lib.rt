@@ -1,13 +1,11 @@
-//! Healing across the crates, by tests alone: the draws and verdicts of a board, workers beside each other, sides that
-//! are told a round, and partitions under locks that are told one.
+//! Tests of healing across the crates: the draws and verdicts of a board, concurrent workers, and sides and partitions
+//! that take the rulings of a round.
 #![tactic(auto)]
 
 #[cfg(test)]
 mod callers;
 #[cfg(test)]
 mod exchanging;
-#[cfg(test)]
-mod gates;
 #[cfg(test)]
 mod partitions;
 #[cfg(test)]

@@ -1,10 +1,12 @@
 //! Partitions whose sides are under locks: what one keeps, and two that workers tell a round, finish and meet.
 ghost use Rattle.std.specs.Prelude.{◌≡◌, ◌<◌, ◌≤◌, All};
 
-use crate::exchanging::{Ended, NUMBER, SEED, begin_both, finish_both};
-use crate::registering::{Names, of};
-use clash_record::{Builtin, name};
-use exchange_core::{SideFault, SideId};
+use crate::exchanging;
+use crate::exchanging::{NUMBER, SEED, meet_at};
+use crate::registering::Names;
+use clash_record::{SideId, name};
+use exchange_core::SideFault;
+use fixtures::{Ended, exit_registration, finish_both};
 use judge_pool::{OpenGate, heal_round};
 use partition_table::ClashList;
 use registry_lock::Partition;
@@ -51,7 +53,7 @@ impl Partitions {
         self.left.with_side(rt, |a| {
             self.right.with_side(rt, |b| {
                 names.register(alloc, a, b)?;
-                begin_both(alloc, a, b)
+                exchanging::begin(alloc, a, b)
             })
         })
     }
@@ -84,10 +86,11 @@ impl Partitions {
 
     fn finish<R: Wait>(&self, rt: &R) -> Result<Ended, Fail> {
         let alloc = self.alloc;
-        self.left.with_side(
+        let ended = self.left.with_side(
             rt,
             |a| self.right.with_side(rt, |b| finish_both(alloc, a, b)),
-        )
+        );
+        Ok(ended?)
     }
 
     fn heal<R: Threads + Wait + Sync>(
@@ -102,7 +105,7 @@ impl Partitions {
         let before = self.events(rt);
         let (started, kept) = self.judge(rt, &board, seats);
         let after = self.events(rt);
-        let names = self.finish(rt)?.meet(&board)?.len();
+        let names = meet_at(self.finish(rt)?, &board)?.len();
         Ok(Outcome {
             started,
             kept,
@@ -113,7 +116,7 @@ impl Partitions {
     }
 }
 
-// Two partitions with these names are told a round of so many workers, finish and meet.
+// Heals two partitions with these names: a round of `workers` workers judges, both sides finish, and they meet.
 fn heal<R: Threads + Wait + Sync>(
     rt: &R,
     alloc: Global,
@@ -169,7 +172,7 @@ fn refusals<R: Wait>(rt: &R, alloc: Global) -> Result<[Result<(), SideFault>; 2]
     begin(rt, alloc, &partition, 8)?;
     let registered = partition.with_side(
         rt,
-        |side| side.register(db, of(1, 10, Builtin::Exit), &UploadStore::new(alloc)),
+        |side| side.register(db, exit_registration(1, 10), &UploadStore::new(alloc)),
     );
     Ok([again, registered])
 }

@@ -1,9 +1,10 @@
 //! Draws of two seats of a board, and a worker that is lost.
 ghost use Rattle.std.specs.Prelude.{◌≡◌, IfOk};
 
-use crate::callers::{Act, Caller, Saw};
+use crate::exchanging::{NUMBER, SEED};
 use crate::registering::exit_clashes;
 use builtin_resolvers::Verdict3;
+use fixtures::{Act, Caller, Saw};
 use partition_table::ClashList;
 use std::alloc::Global;
 use std::test::Fail;
@@ -13,7 +14,7 @@ use verdict_board::{Board, Draw, Seat, open};
 fn open_for_two<'p>(alloc: Global, list: &'p ClashList) -> Result<(Board<'p>, Seat, Seat), Fail>
     ensures { IfOk result (λ opened. (opened.1.draws ≡ opened.0.draws) × (opened.2.draws ≡ opened.0.draws)) }
 {
-    let (board, mut seats) = open(alloc, 7, 0, list, 2)?;
+    let (board, mut seats) = open(alloc, NUMBER, SEED, list, 2)?;
     match (seats.pop(), seats.pop()) {
         (Some(a), Some(b)) => Ok((board, a, b)),
         _ => Err(Fail::from("not two seats")),

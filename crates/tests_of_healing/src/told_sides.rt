@@ -1,12 +1,12 @@
 //! Two sides that take the rulings of a round once its workers have ended, finish and meet.
 ghost use Rattle.std.specs.Prelude.{◌≡◌, ◌<◌, ◌≤◌, All};
 
-use crate::exchanging::{Ended, NUMBER, SEED, begin_both, finish_both};
-use crate::gates::Together;
+use crate::exchanging::{NUMBER, SEED, begin, meet_at, rulings_of};
 use crate::registering::Names;
 use builtin_resolvers::Verdict3;
-use clash_record::{Owner, name};
-use exchange_core::{Judged, Side, SideId};
+use clash_record::{Owner, SideId, name};
+use exchange_core::{Judged, Side};
+use fixtures::{Ended, Together, finish_both};
 use judge_pool::{Gate, OpenGate};
 use partition_table::ClashList;
 use registry_lock::tell_round;
@@ -16,7 +16,7 @@ use std::test::Fail;
 use std::thread::Threads;
 use verdict_board::{Board, Seat, open};
 
-// Two sides, and what the workers did that told them a round.
+// Two sides, and the counts of the round that judged for them.
 #[derive(Drop)]
 struct Sides {
     a: Side,
@@ -26,16 +26,16 @@ struct Sides {
     alloc: Global,
 }
 
-// What came of a healing.
+// The outcome of a healing.
 #[derive(Clone, Copy)]
 struct Outcome {
     started: u32,
     kept: u32,
-    // What the journals hold once the round was told.
+    // The counts of events after the round.
     events: (usize, usize),
     // The first four that each side finished with.
     rulings: [[Option<Judged>; 4]; 2],
-    // How many names the one table has, and who has `db`.
+    // The count of names in the merged table, and the owner of `db`.
     names: usize,
     db: Option<Owner>,
 }
@@ -53,7 +53,7 @@ impl Sides {
 
     fn begin(&mut self, names: Names) -> Result<ClashList, Fail> {
         names.register(self.alloc, &mut self.a, &mut self.b)?;
-        begin_both(self.alloc, &mut self.a, &mut self.b)
+        begin(self.alloc, &mut self.a, &mut self.b)
     }
 
     fn told<'p, G: Gate + Sync, R: Threads + Wait + Sync>(
@@ -83,7 +83,7 @@ impl Sides {
             alloc,
             ..
         } = self;
-        finish_both(alloc, &mut a, &mut b)
+        Ok(finish_both(alloc, &mut a, &mut b)?)
     }
 
     fn heal<G: Gate + Sync, R: Threads + Wait + Sync>(
@@ -101,8 +101,8 @@ impl Sides {
         let (started, kept) = (told.started, told.kept);
         let events = (told.a.events(), told.b.events());
         let ended = told.finish()?;
-        let rulings = ended.rulings();
-        let table = ended.meet(&board)?;
+        let rulings = rulings_of(&ended);
+        let table = meet_at(ended, &board)?;
         Ok(Outcome {
             started,
             kept,
@@ -114,7 +114,7 @@ impl Sides {
     }
 }
 
-// Two sides with these names are told a round of so many workers, finish and meet.
+// Heals two sides with these names: a round of `workers` workers judges, both sides finish, and they meet.
 fn heal<G: Gate + Sync, R: Threads + Wait + Sync>(
     rt: &R,
     alloc: Global,

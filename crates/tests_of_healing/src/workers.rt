@@ -1,9 +1,9 @@
-//! Workers that judge the clashes of a board beside each other.
+//! Workers that judge the clashes of a board concurrently.
 ghost use Rattle.std.specs.Prelude.{◌≡◌, ◌<◌, ◌≤◌, All, vec_len};
 
-use crate::gates::Together;
 use crate::registering::exit_clashes;
-use judge_pool::{Ear, heal_round};
+use fixtures::Together;
+use judge_pool::{Ear, OpenGate, heal_round};
 use partition_table::{ClashList, Ruling};
 use std::alloc::Global;
 use std::sync::Wait;
@@ -13,7 +13,7 @@ use std::thread::Threads;
 use std::time::Clock;
 use verdict_board::{Board, Pass, Seat, open};
 
-// How often it was told each clash.
+// Counts the rulings that it hears of each clash.
 #[derive(Drop)]
 struct Told {
     each: Vec<AtomicU64>,
@@ -43,7 +43,7 @@ impl Ear for Told {
     }
 }
 
-// Who is asked before each post, and the two that are told.
+// The gate before each post, and the two ears.
 #[derive(Drop)]
 struct Listeners<'a, C> {
     gate: Together<'a, C>,
@@ -51,13 +51,13 @@ struct Listeners<'a, C> {
     right: Told,
 }
 
-// What the workers of a round did.
+// The counts of a round.
 #[derive(Clone, Copy)]
 struct Worked {
     started: u32,
-    // How many posts were kept, came later than another, and were refused.
+    // The posts that were kept, came after an earlier verdict, and were refused.
     posts: (u32, u32, u32),
-    // How many numbers were drawn in each round.
+    // The draws in each round.
     drawn: [u64; 4],
 }
 
@@ -76,7 +76,7 @@ impl<'a, R: Threads + Wait + Clock + Sync> Listeners<'a, R> {
         self.left.is_once_each() && self.right.is_once_each()
     }
 
-    // A round of a board by its seats.
+    // Judges a round of a board by its seats.
     fn work<'p>(
         &self,
         rt: &R,
@@ -122,8 +122,8 @@ impl<'a, R: Threads + Wait + Clock + Sync> Listeners<'a, R> {
     }
 }
 
-// What came of a round: what the workers did, how many posts the gate was asked for and how many it gave up to hold,
-// and whether both were told each clash once.
+// The outcome of a round: its counts, the posts that reached the gate and those that it released too early, and whether
+// both ears heard each ruling once.
 #[derive(Clone, Copy)]
 struct Outcome {
     worked: Worked,
@@ -131,7 +131,7 @@ struct Outcome {
     once_each: bool,
 }
 
-// So many workers judge so many clashes, where the posts are held until so many are asked for.
+// Judges `count` clashes by `workers` workers. The gate holds the posts until `held` posts reach it.
 fn judge<R: Threads + Wait + Clock + Sync>(
     rt: &R,
     alloc: Global,
@@ -164,6 +164,47 @@ fn workers_run_beside_each_other(rt: HostRuntime) -> Result<(), Fail> {
         assert_eq!(rt; gate, (u64::from(count), 0));
         assert!(rt; once_each);
         assert!(rt; worked.drawn[0] >= u64::from(count) && worked.drawn[1] == 0);
+    }
+    Ok(())
+}
+
+// Returns how many posts of each of two rounds are kept, come after an earlier verdict, and are refused.
+fn judge_twice<R: Threads + Wait + Sync>(
+    rt: &R,
+    alloc: Global,
+    workers: u32,
+    count: u16,
+) -> Result<[(u32, u32, u32); 2], Fail>
+    requires { (0 < workers) × (workers ≤ 16) }
+{
+    let list = exit_clashes(alloc, count)?;
+    let (board, seats) = open(alloc, 7, 100, &list, workers)?;
+    Ok(judge_rounds(rt, alloc, &board, seats))
+}
+
+fn judge_rounds<'p, R: Threads + Wait + Sync>(
+    rt: &R,
+    alloc: Global,
+    board: &Board<'p>,
+    seats: Vec<Seat>,
+) -> [(u32, u32, u32); 2]
+    requires { All (λ s. s.draws ≡ board.now.draws) seats.items }
+{
+    let ear = Told {
+        each: Vec::new(alloc),
+    };
+    let first = heal_round(rt, alloc, board, seats, 0, &OpenGate, &ear, &ear);
+    let before = (first.kept, first.earlier, first.refused);
+    let second = heal_round(rt, alloc, board, first.seats, 1, &OpenGate, &ear, &ear);
+    [before, (second.kept, second.earlier, second.refused)]
+}
+
+#[test]
+fn a_second_round_posts_too_late(rt: HostRuntime) -> Result<(), Fail> {
+    for (workers, count) in [(1, 1), (2, 3), (16, 40)] {
+        let posts = judge_twice(&rt, rt.alloc(), workers, count)?;
+        let all = u32::from(count);
+        assert_eq!(rt; posts, [(all, 0, 0), (0, all, 0)]);
     }
     Ok(())
 }

@@ -1,4 +1,4 @@
-//! Bytes of the stack that are marked, states that are joined, and states that wait for their slots.
+//! Tests of written stack bytes, joined states and pending states.
 use abstract_value::{
     Domain, Interval, Pending, RegState, Span, StackState, State, state_order_theorem,
 };
@@ -41,8 +41,8 @@ fn states_join(rt: HostRuntime) {
     assert_eq!(rt; state.stack().is_written(504), false);
 }
 
-/// Whether states are held just for the slots that have had one and aren't passed, and the greatest number held, once
-/// two slots have had one and both are passed.
+// Returns whether states are held only for the slots that got one and weren't visited, and the peak after two slots got
+// one and both were visited.
 fn peak_of_two<D: Domain>(alloc: Global) -> Result<(bool, u32), AllocError> {
     let mut pending = Pending::<D>::new(alloc, 3)?;
     pending.put(1, Box::new(alloc, State::entry())?);

@@ -1,16 +1,16 @@
-//! Bytes that spell code, bytes that don't, and the bytes and slots of code.
+//! Tests of decoding and encoding.
 use crate::sample_codes::{GREATER, longest_code};
 use insn_codec::{CodecFault, LengthFault, SlotFault, decode, encode};
 use instruction_set::Opcode;
 use std::alloc::Global;
 use std::test::Fail;
 
-/// What is wrong with these bytes, if they spell no code.
+// Returns the fault of these bytes, if any.
 fn fault_of(alloc: Global, bytes: &[u8]) -> Option<CodecFault> {
     decode(alloc, bytes).err()
 }
 
-/// This fault at the first slot.
+// Returns this fault at the first slot.
 fn at_first(fault: SlotFault) -> CodecFault {
     CodecFault::Slot { fault, slot: 0 }
 }
@@ -26,7 +26,7 @@ fn knows_112_opcodes(rt: HostRuntime) {
             Some(fault) if fault == at_first(SlotFault::UnknownOpcode) => {
                 unknown = unknown.wrapping_add(1)
             }
-            // Its second slot is `exit`, and not the rest of its number.
+            // Its second slot is `exit`, not the rest of its value.
             Some(fault) => {
                 assert_eq!(rt; (opcode, fault), (0x18, at_first(SlotFault::FieldNotZero)))
             }
@@ -65,7 +65,7 @@ fn names_the_first_fault(rt: HostRuntime) {
     }
 }
 
-/// How many slots the code of these bytes has, how many instructions, and whether the same bytes are written of it.
+// Returns the numbers of slots and of instructions of the code, and whether it encodes to the same bytes.
 fn read_and_written(alloc: Global, bytes: &[u8]) -> Result<(usize, usize, bool), Fail> {
     let code = decode(alloc, bytes)?;
     let (slots, insns) = (code.slot_count(), code.len());
@@ -81,13 +81,13 @@ fn reads_what_it_wrote(rt: HostRuntime) -> Result<(), Fail> {
     Ok(())
 }
 
-/// Whether an instruction begins at each of these slots of the code of these bytes.
+// Returns whether an instruction begins at each of these slots.
 fn begins_at(alloc: Global, bytes: &[u8], slots: (usize, usize)) -> Result<(bool, bool), Fail> {
     let code = decode(alloc, bytes)?;
     Ok((code.begins(slots.0), code.begins(slots.1)))
 }
 
-/// Two slots with one wide load, and two more.
+// A wide load of two slots, and two more instructions.
 const WIDE: [u8; 32] = [
     0x18, 0x01, 0, 0, 0x78, 0x56, 0x34, 0x12, // lddw r1, ..
     0, 0, 0, 0, 0xf0, 0xde, 0xbc, 0x9a, // .. 0x9abcdef012345678

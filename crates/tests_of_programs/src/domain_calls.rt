@@ -1,4 +1,4 @@
-//! Each operation of a domain through a caller that knows the domain's trait alone.
+//! Calls each operation of a domain through its trait.
 use abstract_value::Domain;
 use instruction_set::{AluOp, EndKind, Size, Test, Width};
 
@@ -23,7 +23,7 @@ pub(crate) fn of_half_ordered<D: Domain>(kind: EndKind, a: &D) -> D {
 }
 
 pub(crate) fn of_load<D: Domain>(size: Size, signed: bool) -> D {
-    D::load(size, signed)
+    D::loaded(size, signed)
 }
 
 pub(crate) fn of_refine<D: Domain>(
@@ -36,7 +36,7 @@ pub(crate) fn of_refine<D: Domain>(
     D::refine(width, test, taken, a, b)
 }
 
-/// Whether a value is below all words, and whether all words are below it.
+// Returns whether a value is below all words, and whether all words are below it.
 pub(crate) fn compares_to_full<D: Domain>(a: &D) -> (bool, bool) {
     (a.below(&D::full()), D::full().below(a))
 }

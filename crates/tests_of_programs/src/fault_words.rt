@@ -1,4 +1,4 @@
-//! The words of refusals, their numbers and their places.
+//! Tests of the words, the numbers and the places of refusals.
 use assembler_text::{Fault, LineFault};
 use insn_codec::{CodecFault, LengthFault, SlotFault};
 use numbered::{Numbered, Place};
@@ -8,8 +8,8 @@ use std::fmt::Display;
 use std::test::Fail;
 use verifier::Rule;
 
-/// Whether these words are written of the fault.
-fn is_told_as<F: Display>(alloc: Global, fault: &F, words: &str) -> Result<bool, Fail> {
+// Returns whether the fault is displayed as these words.
+fn is_displayed_as<F: Display>(alloc: Global, fault: &F, words: &str) -> Result<bool, Fail> {
     Ok(format!(in alloc; "{fault}")?.as_str() == words)
 }
 
@@ -21,16 +21,19 @@ fn of_bytes(rt: HostRuntime) -> Result<(), Fail> {
     };
     assert_eq!(rt; (fault.number(), fault.place()), (5, Some(Place::Slot(3))));
     for (fault, words) in [
-        (CodecFault::Length(LengthFault::Empty), "there is no byte"),
-        (fault, "slot 3: a register is above ten"),
+        (
+            CodecFault::Length(LengthFault::Empty),
+            "empty: no byte, or a text without an instruction",
+        ),
+        (fault, "slot 3: a register above R10"),
         (CodecFault::OutOfMemory, "out of memory"),
     ] {
-        assert!(rt; is_told_as(rt.alloc(), &fault, words)?, "{words}");
+        assert!(rt; is_displayed_as(rt.alloc(), &fault, words)?, "{words}");
     }
     Ok(())
 }
 
-/// What is wrong in line 7.
+// Returns a fault of line 7.
 fn in_line_7(fault: Fault) -> LineFault {
     LineFault::Line { fault, line: 7 }
 }
@@ -38,29 +41,35 @@ fn in_line_7(fault: Fault) -> LineFault {
 #[test]
 fn of_listings(rt: HostRuntime) -> Result<(), Fail> {
     for (fault, words) in [
-        (in_line_7(Fault::Mnemonic), "line 7: no such mnemonic"),
-        (in_line_7(Fault::Operand), "line 7: no such operand"),
+        (in_line_7(Fault::Mnemonic), "line 7: an unknown mnemonic"),
+        (
+            in_line_7(Fault::Operand),
+            "line 7: an operand is missing or invalid",
+        ),
         (
             in_line_7(Fault::NumberRange),
-            "line 7: a number is out of range",
+            "line 7: a number out of range",
         ),
         (
             in_line_7(Fault::LineEnd),
-            "line 7: something stands after the last operand",
+            "line 7: extra text after the last operand",
         ),
         (
             LineFault::TooLong { line: 1025 },
-            "line 1025: there are more than 1,024 slots",
+            "line 1025: more than 1,024 slots",
         ),
-        (LineFault::Empty, "there is no instruction"),
+        (
+            LineFault::Empty,
+            "line 1: empty: no byte, or a text without an instruction",
+        ),
         (LineFault::OutOfMemory, "out of memory"),
     ] {
-        assert!(rt; is_told_as(rt.alloc(), &fault, words)?, "{words}");
+        assert!(rt; is_displayed_as(rt.alloc(), &fault, words)?, "{words}");
     }
     Ok(())
 }
 
-/// What is wrong with the bytes of a program.
+// Returns the fault of the bytes of a program.
 fn program_fault(alloc: Global, bytes: &[u8]) -> Result<ProgramFault, Fail> {
     Ok(read_program(alloc, bytes).err().ok_or("accepted")?)
 }
@@ -68,74 +77,79 @@ fn program_fault(alloc: Global, bytes: &[u8]) -> Result<ProgramFault, Fail> {
 #[test]
 fn of_programs(rt: HostRuntime) -> Result<(), Fail> {
     let rows: [(&[u8], u32, Option<Place>, &str); 4] = [
-        (&[], 1, None, "there is no byte"),
+        (
+            &[],
+            1,
+            None,
+            "empty: no byte, or a text without an instruction",
+        ),
         (
             &[0x95, 0, 0, 0, 0, 0, 0],
             3,
             None,
-            "the last slot isn't whole",
+            "an incomplete last slot",
         ),
         (
             &[0xbf, 0x20, 0, 0, 0, 0, 0, 0, 0x95, 0, 0, 0, 0, 0, 0, 0],
             15,
             Some(Place::Slot(0)),
-            "slot 0: a register is read that can't be",
+            "slot 0: a read of a register that may be unset, or may be an address or a number",
         ),
         (
             &[0xbf, 0x20, 0, 0, 0, 0, 0, 0, 0, 0, 0, 0, 0, 0, 0, 0],
             4,
             Some(Place::Slot(1)),
-            "slot 1: the opcode is unknown",
+            "slot 1: an unknown opcode or operation",
         ),
     ];
     for (bytes, number, place, words) in rows {
         let fault = program_fault(rt.alloc(), bytes)?;
         assert_eq!(rt; (fault.number(), fault.place()), (number, place));
-        assert!(rt; is_told_as(rt.alloc(), &fault, words)?, "{words}");
+        assert!(rt; is_displayed_as(rt.alloc(), &fault, words)?, "{words}");
     }
     Ok(())
 }
 
-/// Each rule in words.
+// Each rule with its words.
 const RULES: [(Rule, &'static str); 17] = [
-    (Rule::Backward, "a jump leads back"),
-    (Rule::Outside, "a jump leads past the end"),
-    (
-        Rule::IntoWide,
-        "a jump leads into the second slot of a wide load",
-    ),
+    (Rule::Backward, "a backward jump"),
+    (Rule::Outside, "a jump to the end or past it"),
+    (Rule::IntoWide, "a jump into a wide load"),
     (
         Rule::FallsOff,
-        "the code ends after an instruction that goes on",
+        "the last instruction neither exits nor jumps",
     ),
-    (Rule::NoEdge, "no instruction leads here"),
-    (Rule::Unreadable, "a register is read that can't be"),
-    (Rule::WritesR10, "R10 is written"),
+    (Rule::NoEdge, "an unreachable instruction"),
+    (
+        Rule::Unreadable,
+        "a read of a register that may be unset, or may be an address or a number",
+    ),
+    (Rule::WritesR10, "a write to R10"),
     (
         Rule::PointerOperation,
-        "an operation takes an address as a number",
+        "an address in an operation that addresses don't have",
     ),
     (
         Rule::PointerRange,
-        "an address is moved too far, or by a number that isn't known well enough",
+        "an address moved too far, or by an unknown amount",
     ),
-    (Rule::PointerCompared, "an address is compared"),
-    (Rule::PointerStored, "an address is stored"),
-    (Rule::OutsideRecord, "an access lies outside the record"),
-    (Rule::WritesRecord, "the record is written"),
-    (Rule::OutsideStack, "an access lies outside the stack"),
+    (Rule::PointerCompared, "an address in a test"),
+    (Rule::PointerStored, "a store of an address"),
+    (Rule::OutsideRecord, "an access that may leave the record"),
+    (Rule::WritesRecord, "a store into the record"),
+    (Rule::OutsideStack, "an access that may leave the stack"),
     (
         Rule::UnwrittenStack,
-        "a byte of the stack is read that was not written",
+        "a load of stack bytes that may be unwritten",
     ),
-    (Rule::ScalarAddress, "a number is used as an address"),
-    (Rule::PointerResult, "an address is the answer"),
+    (Rule::ScalarAddress, "a number used as an address"),
+    (Rule::PointerResult, "an address as the answer"),
 ];
 
 #[test]
 fn of_rules(rt: HostRuntime) -> Result<(), Fail> {
     for (rule, words) in RULES {
-        assert!(rt; is_told_as(rt.alloc(), &rule, words)?, "{words}");
+        assert!(rt; is_displayed_as(rt.alloc(), &rule, words)?, "{words}");
     }
     Ok(())
 }

@@ -1,5 +1,4 @@
-//! Tests alone, through public calls: what operations compute, codes as bytes and as listings, ranges and abstract
-//! states, and programs that are verified.
+//! Tests of public calls: operations, codes as bytes and as listings, ranges and abstract states, and the verifier.
 #![tactic(auto)]
 
 #[cfg(test)]

@@ -1,5 +1,6 @@
-//! Listings that are read, listings that are refused, and listings that are written.
-use assembler_text::{assemble, disassemble};
+//! Tests of the assembler and the disassembler.
+use assembler_text::{Listing, assemble, disassemble};
+use instruction_set::Insn;
 use numbered::{Numbered, Place};
 use std::alloc::Global;
 use std::test::Fail;
@@ -7,7 +8,7 @@ use std::test::Fail;
 const GREATER_TEXT: &str =
     "ldxdw r2, [r1+56]\nldxdw r3, [r1+96]\nmov64 r0, 1\njge r2, r3, +1\nmov64 r0, 2\nexit\n";
 
-/// The same code as docs/TEXT.md writes it.
+// The same code as in docs/TEXT.md.
 const COMMENTED: &str =
     "; the registration with the later stamp keeps the name; of equal ones the first
         ldxdw r2, [r1+56]      ; the first stamp
@@ -18,7 +19,7 @@ const COMMENTED: &str =
         exit
 ";
 
-/// A listing with the number of its refusal, and the line.
+// Listings with the numbers and the lines of their refusals.
 const REFUSED: [(&str, u32, usize); 38] = [
     ("foo", 60, 1),
     ("mov", 60, 1),
@@ -60,7 +61,7 @@ const REFUSED: [(&str, u32, usize); 38] = [
     ("exit\nfoo\nja 1", 60, 2),
 ];
 
-/// A listing with the one that is written of its code.
+// Listings with the disassembly of their code.
 const ACCEPTED: [(&str, &str); 11] = [
     (GREATER_TEXT, GREATER_TEXT),
     ("mov64 r0, 0x0000000001", "mov64 r0, 1\n"),
@@ -78,7 +79,7 @@ const ACCEPTED: [(&str, &str); 11] = [
     ("jslt32 r1,r2,+0", "jslt32 r1, r2, +0\n"),
 ];
 
-/// The number and the line of a refusal; line 0 where it names none.
+// Returns the number and the line of a refusal; line 0 if it has none.
 fn refusal(alloc: Global, text: &str) -> Option<(u32, usize)> {
     let fault = assemble(alloc, text).err()?;
     match fault.place() {
@@ -94,7 +95,7 @@ fn refused(rt: HostRuntime) {
     }
 }
 
-/// Whether this listing is written of the code of the first.
+// Returns whether the first listing assembles to code whose disassembly is the second.
 fn is_written_as(alloc: Global, text: &str, written: &str) -> bool {
     let Ok(code) = assemble(alloc, text) else {
         return false;
@@ -109,11 +110,18 @@ fn accepted(rt: HostRuntime) {
     }
 }
 
-/// How many instructions the first listing has, and whether the second has the same code.
+// Returns the number of instructions of the first listing, and whether the second has the same code.
 fn len_and_same(alloc: Global, text: &str, other: &str) -> Option<(usize, bool)> {
     let code = assemble(alloc, text).ok()?;
     let same = assemble(alloc, other).is_ok_and(|other| other == code);
     Some((code.len(), same))
+}
+
+#[test]
+fn displays_one_insn(rt: HostRuntime) -> Result<(), Fail> {
+    let text = format!(in rt.alloc(); "{}", Listing(Insn::Jump { distance: -2 }))?;
+    assert_eq!(rt; text.as_str(), "ja -2");
+    Ok(())
 }
 
 #[test]
@@ -122,7 +130,7 @@ fn comments_change_nothing(rt: HostRuntime) {
     assert_eq!(rt; seen, Some((6, true)));
 }
 
-/// What is refused of a listing that goes on so after 1,024 lines of one slot each.
+// Returns the refusal of a listing with this text after 1,024 lines of one slot each.
 fn refusal_after_1024(alloc: Global, goes_on: &str) -> Result<Option<(u32, usize)>, Fail> {
     let mut text = String::new(alloc);
     for _ in 0..1024 {

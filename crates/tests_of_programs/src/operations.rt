@@ -1,4 +1,4 @@
-//! What operations and tests compute, on words by hand.
+//! Tests of operations and tests of words, with expected values by hand.
 use instruction_set::{AluOp, EndKind, Test, Width, alu, end, movsx, neg, test};
 
 #[test]

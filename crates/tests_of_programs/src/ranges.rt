@@ -1,4 +1,4 @@
-//! Rows of the table of ranges by hand.
+//! Tests of ranges, with expected values by hand.
 use crate::domain_calls::{
     compares_to_full, joined, of_alu, of_byte_extended, of_half_ordered, of_load, of_neg, of_refine,
 };

@@ -1,6 +1,6 @@
-//! Codes that several tests read.
+//! Codes for several tests.
 
-/// The code that tells which of two values of the record is greater.
+/// Code that answers 1 if the first of two values of the record is at least the second, else 2.
 pub(crate) const GREATER: [u8; 48] = [
     0x79, 0x12, 0x38, 0, 0, 0, 0, 0, // ldxdw r2, [r1+56]
     0x79, 0x13, 0x60, 0, 0, 0, 0, 0, // ldxdw r3, [r1+96]
@@ -10,7 +10,7 @@ pub(crate) const GREATER: [u8; 48] = [
     0x95, 0, 0, 0, 0, 0, 0, 0, // exit
 ];
 
-/// Code of as many slots as there may be: `mov64 r0, 1` each time, then `exit`.
+/// Code of 1,024 slots: `mov64 r0, 1` 1,023 times, then `exit`.
 pub(crate) fn longest_code() -> [u8; 8192] {
     let mut bytes = [0u8; 8192];
     for slot in 0..1023usize {

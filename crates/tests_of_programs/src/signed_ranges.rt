@@ -1,4 +1,4 @@
-//! Normal forms and the rows of the signed range by hand.
+//! Tests of normal forms and of signed ranges, with expected values by hand.
 use crate::domain_calls::{
     compares_to_full, joined, of_alu, of_byte_extended, of_half_ordered, of_load, of_neg, of_refine,
 };
@@ -6,10 +6,10 @@ use abstract_value::{Both, Domain, both_is_exact_theorem};
 use instruction_set::{AluOp, EndKind, Size, Test, Width};
 use std::test::Fail;
 
-/// The least and the greatest word of a value.
+// The least and the greatest word of a value.
 type Words = (u64, u64);
 
-/// The least and the greatest of them as numbers with a sign.
+// The least and the greatest of them as signed numbers.
 type Numbers = (i64, i64);
 
 const TOP: u64 = u64::MAX;
@@ -20,13 +20,13 @@ const LEAST: i64 = i64::MIN;
 
 const MOST: i64 = i64::MAX;
 
-/// The words for which a test against this number holds.
+// Returns the words for which a test against this number holds.
 fn cut(a: &Both, test: Test, number: i64) -> Option<Both> {
     let by = Both::single(number.cast_unsigned());
     Some(of_refine(Width::W64, test, true, a, &by)?.0)
 }
 
-/// The words between the ends of both kinds, if there are any.
+// Returns the words between the ends of both kinds, if any.
 fn words_of(words: Words, numbers: Numbers) -> Option<Both> {
     let from = cut(&Both::full(), Test::Jge, words.0.cast_signed())?;
     let to = cut(&from, Test::Jle, words.1.cast_signed())?;
@@ -34,12 +34,12 @@ fn words_of(words: Words, numbers: Numbers) -> Option<Both> {
     cut(&from, Test::Jsle, numbers.1)
 }
 
-/// The words of the numbers between these.
+// Returns the words of the signed numbers between these.
 fn numbers(lo: i64, hi: i64) -> Result<Both, Fail> {
     Ok(words_of((0, TOP), (lo, hi)).ok_or("no number")?)
 }
 
-/// Whether these are a value's ends of both kinds: each end is a word of it, and none lies beyond.
+// Returns whether these are a value's ends of both kinds: each end is one of its words, and none is beyond.
 fn has_ends(a: &Both, (words, numbers): (Words, Numbers)) -> bool {
     a.bounds() == words
         && cut(a, Test::Jsle, numbers.0).is_some()
@@ -48,7 +48,7 @@ fn has_ends(a: &Both, (words, numbers): (Words, Numbers)) -> bool {
         && cut(a, Test::Jsgt, numbers.1).is_none()
 }
 
-/// Whether there is a value just where ends are wanted, with these ends.
+// Returns whether a value exists exactly if ends are expected, with these ends.
 fn is_as_wanted(a: Option<Both>, want: Option<(Words, Numbers)>) -> bool {
     match (a, want) {
         (Some(a), Some(want)) => has_ends(&a, want),

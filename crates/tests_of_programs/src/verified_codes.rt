@@ -1,4 +1,4 @@
-//! Codes that are verified: how many states are held at a time, and what is accepted over ranges in both orders alone.
+//! Tests of the verifier: the peak number of states, and code that needs ranges in both orders.
 use crate::sample_codes::{GREATER, longest_code};
 use abstract_value::{Both, Domain, Interval};
 use insn_codec::decode;
@@ -7,8 +7,7 @@ use std::alloc::Global;
 use std::test::Fail;
 use verifier::{Refusal, Rule, VerifyFault, verify, verify_peak, wider_theorem};
 
-/// How many slots the code of these bytes has, and the greatest number of states that were held, of code that is
-/// accepted.
+// Returns the number of slots and the peak number of states of accepted code.
 fn slots_and_peak<D: Domain>(alloc: Global, bytes: &[u8]) -> Result<(usize, u32), Fail> {
     let code = decode(alloc, bytes)?;
     let slots = code.slot_count();
@@ -33,7 +32,7 @@ fn reads_a_program(rt: HostRuntime) -> Result<(), Fail> {
     Ok(())
 }
 
-/// How many instructions are accepted, or what is refused.
+// Returns the number of instructions of accepted code, or the refusal.
 fn judged<D: Domain>(alloc: Global, bytes: &[u8]) -> Result<Result<usize, Refusal>, Fail> {
     match verify::<D>(alloc, decode(alloc, bytes)?) {
         Ok(program) => Ok(Ok(program.code().len())),

@@ -1,7 +1,9 @@
-//! The calls of each exchange, and why they are refused, if they are.
-use crate::registrations::{EXIT, UNKNOWN};
+//! The calls of each exchange, and their refusals.
 use crate::two_sides::{Call, Row};
-use exchange_core::{MissingPart, SideFault, SideId};
+use clash_record::SideId;
+use exchange_core::MissingPart;
+use fixtures::{EXIT, UNKNOWN};
+use partition_table::TableFault;
 
 const A: SideId = SideId::A;
 
@@ -11,101 +13,73 @@ const B: SideId = SideId::B;
 pub(crate) const NUMBERS: &[Row] = &[
     (A, Call::Begin(7, 0), None),
     (A, Call::Abandon, None),
-    (A, Call::Begin(7, 0), Some((SideFault::StaleNumber, 35))),
+    (A, Call::Begin(7, 0), Some((35, None))),
     (A, Call::Begin(8, 5), None),
-    (A, Call::Begin(9, 5), Some((SideFault::Healing, 33))),
-    (
-        A,
-        Call::Register("db", EXIT),
-        Some((SideFault::Healing, 33)),
-    ),
-    (A, Call::Unregister("db"), Some((SideFault::NoSuchName, 31))),
+    (A, Call::Begin(9, 5), Some((33, None))),
+    (A, Call::Register("db", 1, EXIT), Some((33, None))),
+    (A, Call::Unregister("db"), Some((31, None))),
 ];
 
 /// What comes after it. One call is carried out.
 pub(crate) const NUMBERS_LEFT: &[Row] = &[
     (A, Call::Abandon, None),
-    (A, Call::Abandon, Some((SideFault::NotHealing, 34))),
-    (
-        A,
-        Call::Register("db", UNKNOWN),
-        Some((SideFault::UnknownProgram, 41)),
-    ),
+    (A, Call::Abandon, Some((34, None))),
+    (A, Call::Register("db", 1, UNKNOWN), Some((41, None))),
 ];
 
 /// An offer of another seed, an own offer, an own list, and offers of another number and of none that is open.
 pub(crate) const STRANGE_OFFERS: &[Row] = &[
     (A, Call::Begin(1, 5), None),
     (B, Call::Begin(1, 6), None),
-    (A, Call::Hear(B, 1), Some((SideFault::SeedDiffers, 36))),
-    (A, Call::Hear(A, 1), Some((SideFault::OwnOffer, 46))),
+    (A, Call::Hear(B, 1), Some((36, None))),
+    (A, Call::Hear(A, 1), Some((46, None))),
     (B, Call::CloseList, None),
-    (B, Call::HearList(B, 1), Some((SideFault::OwnOffer, 46))),
+    (B, Call::HearList(B, 1), Some((46, None))),
     (B, Call::Abandon, None),
     (B, Call::Begin(2, 5), None),
-    (A, Call::Hear(B, 2), Some((SideFault::OtherNumber, 45))),
-    (
-        A,
-        Call::Finish,
-        Some((SideFault::Missing(MissingPart::TheirOffer), 39)),
-    ),
+    (A, Call::Hear(B, 2), Some((45, None))),
+    (A, Call::Finish, Some((39, Some(MissingPart::TheirOffer)))),
     (A, Call::Abandon, None),
-    (A, Call::Hear(B, 2), Some((SideFault::NotHealing, 34))),
+    (A, Call::Hear(B, 2), Some((34, None))),
 ];
 
 /// Both sides begin, and one can't hear the other.
 pub(crate) const TOO_MANY: &[Row] = &[
     (A, Call::Begin(1, 0), None),
     (B, Call::Begin(1, 0), None),
-    (A, Call::Hear(B, 1), Some((SideFault::TooManyNames, 37))),
+    (A, Call::Hear(B, 1), Some((37, None))),
 ];
 
 /// Three clashes: rulings in any order and repeated, offers and lists heard twice, and each part missed in turn.
 pub(crate) const ONE_TABLE: &[Row] = &[
     (A, Call::Begin(1, 0), None),
     (B, Call::Begin(1, 0), None),
-    (
-        A,
-        Call::Finish,
-        Some((SideFault::Missing(MissingPart::TheirOffer), 39)),
-    ),
-    (A, Call::Take(1, 0, 0), Some((SideFault::StrangeRuling, 38))),
+    (A, Call::Finish, Some((39, Some(MissingPart::TheirOffer)))),
+    (A, Call::Take(1, 0, 0), Some((38, None))),
     (A, Call::Hear(B, 1), None),
     (A, Call::Hear(B, 1), None),
     (B, Call::Hear(A, 1), None),
-    (A, Call::Take(1, 0, 1), Some((SideFault::StrangeRuling, 38))),
-    (A, Call::Take(2, 0, 0), Some((SideFault::OtherNumber, 45))),
+    (A, Call::Take(1, 0, 1), Some((38, None))),
+    (A, Call::Take(2, 0, 0), Some((45, None))),
     (A, Call::Take(1, 2, 2), None),
     (A, Call::Take(1, 0, 0), None),
     // A second ruling of the clash, at another of its four words.
     (A, Call::Take(1, 0, 3), None),
-    (
-        A,
-        Call::Finish,
-        Some((SideFault::Missing(MissingPart::Ruling(1)), 39)),
-    ),
+    (A, Call::Finish, Some((39, Some(MissingPart::Ruling(1))))),
     (A, Call::Take(1, 1, 1), None),
     (B, Call::Take(1, 0, 0), None),
     (B, Call::Take(1, 1, 1), None),
     (B, Call::Take(1, 2, 2), None),
-    (
-        A,
-        Call::Finish,
-        Some((SideFault::Missing(MissingPart::OwnList), 39)),
-    ),
+    (A, Call::Finish, Some((39, Some(MissingPart::OwnList)))),
     (B, Call::CloseList, None),
     (A, Call::CloseList, None),
-    (
-        A,
-        Call::Finish,
-        Some((SideFault::Missing(MissingPart::OtherList), 39)),
-    ),
+    (A, Call::Finish, Some((39, Some(MissingPart::OtherList)))),
     (A, Call::HearList(B, 1), None),
     (A, Call::HearList(B, 1), None),
     (B, Call::HearList(A, 1), None),
     (A, Call::Finish, None),
     (B, Call::Finish, None),
-    (A, Call::Finish, Some((SideFault::NotHealing, 34))),
+    (A, Call::Finish, Some((34, None))),
 ];
 
 /// One finishes 1 while the other has abandoned it and goes on to 2.
@@ -114,7 +88,7 @@ pub(crate) const ALONE: &[Row] = &[
     (B, Call::Begin(1, 0), None),
     (B, Call::CloseList, None),
     (B, Call::Abandon, None),
-    (B, Call::Register("web", EXIT), None),
+    (B, Call::Register("web", 1, EXIT), None),
     (B, Call::Begin(2, 0), None),
     (A, Call::Hear(B, 1), None),
     (A, Call::Take(1, 0, 0), None),
@@ -126,7 +100,7 @@ pub(crate) const ALONE: &[Row] = &[
 /// The other abandons that too, and can't begin 1 again.
 pub(crate) const ALONE_LEFT: &[Row] = &[
     (B, Call::Abandon, None),
-    (B, Call::Begin(1, 0), Some((SideFault::StaleNumber, 35))),
+    (B, Call::Begin(1, 0), Some((35, None))),
 ];
 
 /// Both begin, and side A withdraws the name.
@@ -134,7 +108,7 @@ pub(crate) const GONE_ON_A: &[Row] = &[
     (A, Call::Begin(1, 0), None),
     (B, Call::Begin(1, 0), None),
     (A, Call::Withdraw("db"), None),
-    (A, Call::Withdraw("db"), Some((SideFault::Withdrawn, 47))),
+    (A, Call::Withdraw("db"), Some((47, None))),
 ];
 
 /// Both begin, and side B withdraws the name.
@@ -149,13 +123,13 @@ pub(crate) const GONE_ON_BOTH: &[Row] = &[
     (A, Call::Begin(1, 0), None),
     (B, Call::Begin(1, 0), None),
     (A, Call::Withdraw("db"), None),
-    (A, Call::Withdraw("db"), Some((SideFault::Withdrawn, 47))),
+    (A, Call::Withdraw("db"), Some((47, None))),
     (B, Call::Withdraw("db"), None),
 ];
 
 /// What comes after it, up to the end on both sides.
 pub(crate) const WITHDRAWN: &[Row] = &[
-    (A, Call::Withdraw("x"), Some((SideFault::NoSuchName, 31))),
+    (A, Call::Withdraw("x"), Some((31, None))),
     (A, Call::Hear(B, 1), None),
     (B, Call::Hear(A, 1), None),
     (A, Call::Take(1, 0, 0), None),
@@ -164,7 +138,7 @@ pub(crate) const WITHDRAWN: &[Row] = &[
     (B, Call::CloseList, None),
     (A, Call::HearList(B, 1), None),
     (B, Call::HearList(A, 1), None),
-    (A, Call::CloseList, Some((SideFault::ListClosed, 48))),
+    (A, Call::CloseList, Some((48, None))),
     (A, Call::Finish, None),
     (B, Call::Finish, None),
 ];
@@ -187,13 +161,13 @@ pub(crate) const STEPS: &[Row] = &[
 
 /// Both abandon it and go on to the next number, under which what was sent of it is refused.
 pub(crate) const NEXT_NUMBER: &[Row] = &[
-    (A, Call::Begin(1, 0), Some((SideFault::StaleNumber, 35))),
+    (A, Call::Begin(1, 0), Some((35, None))),
     (B, Call::Abandon, None),
     (A, Call::Begin(2, 0), None),
     (B, Call::Begin(2, 0), None),
     (B, Call::CloseList, None),
-    (A, Call::Hear(B, 1), Some((SideFault::OtherNumber, 45))),
-    (A, Call::HearList(B, 1), Some((SideFault::OtherNumber, 45))),
+    (A, Call::Hear(B, 1), Some((45, None))),
+    (A, Call::HearList(B, 1), Some((45, None))),
     (A, Call::Hear(B, 2), None),
     (B, Call::Hear(A, 2), None),
 ];
@@ -218,29 +192,88 @@ pub(crate) const ABANDON: &[Row] = &[(A, Call::Abandon, None)];
 
 /// A name comes and goes.
 pub(crate) const COME_AND_GO: &[Row] = &[
-    (A, Call::Register("db", EXIT), None),
+    (A, Call::Register("db", 1, EXIT), None),
     (A, Call::Unregister("db"), None),
 ];
 
 /// The last event that the journal holds.
-pub(crate) const LAST_EVENT: &[Row] = &[(A, Call::Register("db", EXIT), None)];
+pub(crate) const LAST_EVENT: &[Row] = &[(A, Call::Register("db", 1, EXIT), None)];
 
 /// What is refused once the journal is full, the least refusal first.
 pub(crate) const FULL_JOURNAL: &[Row] = &[
-    (
-        A,
-        Call::Register("db", EXIT),
-        Some((SideFault::NameTaken, 30)),
-    ),
-    (
-        A,
-        Call::Register("other", EXIT),
-        Some((SideFault::JournalFull, 40)),
-    ),
-    (
-        A,
-        Call::Unregister("other"),
-        Some((SideFault::NoSuchName, 31)),
-    ),
-    (A, Call::Begin(1, 0), Some((SideFault::JournalFull, 40))),
+    (A, Call::Register("db", 1, EXIT), Some((30, None))),
+    (A, Call::Register("other", 1, EXIT), Some((40, None))),
+    (A, Call::Unregister("other"), Some((31, None))),
+    (A, Call::Begin(1, 0), Some((40, None))),
+];
+
+/// Both sides begin, and side A hears the offer of B.
+pub(crate) const HEARD: &[Row] = &[
+    (A, Call::Begin(1, 0), None),
+    (B, Call::Begin(1, 0), None),
+    (A, Call::Hear(B, 1), None),
+];
+
+/// Side A hears the offer of B again.
+pub(crate) const HEARD_AGAIN: &[Row] = &[(A, Call::Hear(B, 1), None)];
+
+/// Side A takes the ruling of the only clash.
+pub(crate) const TAKEN: &[Row] = &[(A, Call::Take(1, 0, 0), None)];
+
+/// Side B takes the ruling, and both sides finish.
+pub(crate) const TAKEN_END: &[Row] = &[
+    (B, Call::Hear(A, 1), None),
+    (B, Call::Take(1, 0, 0), None),
+    (A, Call::CloseList, None),
+    (B, Call::CloseList, None),
+    (A, Call::HearList(B, 1), None),
+    (B, Call::HearList(A, 1), None),
+    (A, Call::Finish, None),
+    (B, Call::Finish, None),
+];
+
+/// `db` is on both sides, `web` on side B alone.
+pub(crate) const DB_AND_WEB: &[Row] = &[
+    (A, Call::Register("db", 10, EXIT), None),
+    (B, Call::Register("db", 20, EXIT), None),
+    (B, Call::Register("web", 21, EXIT), None),
+];
+
+/// Both sides begin, and the steps of either side up to the one that would finish it.
+pub(crate) const EACH_STEP: &[Row] = &[
+    (A, Call::Begin(1, 0), None),
+    (B, Call::Begin(1, 0), None),
+    (A, Call::Hear(B, 1), None),
+    (B, Call::Hear(A, 1), None),
+    (A, Call::Take(1, 0, 0), None),
+    (B, Call::Take(1, 0, 0), None),
+    (A, Call::CloseList, None),
+    (B, Call::CloseList, None),
+    (A, Call::HearList(B, 1), None),
+    (B, Call::HearList(A, 1), None),
+];
+
+/// Side B abandons the open exchange.
+pub(crate) const ABANDON_ON_B: &[Row] = &[(B, Call::Abandon, None)];
+
+/// Both begin the next number, under which the old offers are refused.
+pub(crate) const OLD_OFFERS: &[Row] = &[
+    (A, Call::Begin(2, 0), None),
+    (B, Call::Begin(2, 0), None),
+    (A, Call::Hear(B, 1), Some((45, None))),
+    (B, Call::Hear(A, 1), Some((45, None))),
+];
+
+/// The next number from its beginning to its end.
+pub(crate) const NEXT_WHOLE: &[Row] = &[
+    (A, Call::Hear(B, 2), None),
+    (B, Call::Hear(A, 2), None),
+    (A, Call::Take(2, 0, 0), None),
+    (B, Call::Take(2, 0, 0), None),
+    (B, Call::CloseList, None),
+    (A, Call::CloseList, None),
+    (A, Call::HearList(B, 2), None),
+    (B, Call::HearList(A, 2), None),
+    (A, Call::Finish, None),
+    (B, Call::Finish, None),
 ];

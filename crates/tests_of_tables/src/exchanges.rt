@@ -3,7 +3,8 @@
 use crate::exchange_rows as rows;
 use crate::two_sides::{Part, Seen, first_other};
 use builtin_resolvers::Verdict3;
-use exchange_core::{MAX_EVENTS, Side, SideId, history_theorem};
+use clash_record::SideId;
+use exchange_core::{MAX_EVENTS, Side, history_theorem};
 use partition_table::word;
 use std::test::Fail;
 
@@ -48,9 +49,9 @@ fn finishes_one_table(rt: HostRuntime) -> Result<(), Fail> {
         Part::Calls(rows::ONE_TABLE),
         Part::Seen(Seen::Agreed),
         Part::Seen(Seen::Uptimes(3, 4)),
-        Part::Seen(Seen::Answer(0, Verdict3::First)),
-        Part::Seen(Seen::Answer(1, Verdict3::Second)),
-        Part::Seen(Seen::Answer(2, Verdict3::First)),
+        Part::Seen(Seen::Ruling(0, 0, Verdict3::First)),
+        Part::Seen(Seen::Ruling(1, 1, Verdict3::Second)),
+        Part::Seen(Seen::Ruling(2, 2, Verdict3::First)),
         Part::Seen(Seen::OwnerOn(SideId::A, "b1", 2)),
         Part::Seen(Seen::OwnerOn(SideId::B, "c1", 1)),
         Part::Seen(Seen::Events(SideId::A, 14)),
@@ -93,7 +94,7 @@ fn withdrawn_names(rt: HostRuntime) -> Result<(), Fail> {
     Ok(())
 }
 
-// A side abandons an exchange after each of its steps: its table is as it was, without what it withdrew, what was sent
+// A side abandons an exchange after each of its steps: its table is unchanged, without what it withdrew, what was sent
 // is refused under the next number, and the next number succeeds.
 #[test]
 fn the_next_number_succeeds(rt: HostRuntime) -> Result<(), Fail> {
@@ -126,5 +127,65 @@ fn full_journal(rt: HostRuntime) -> Result<(), Fail> {
         Part::Calls(rows::FULL_JOURNAL),
     ];
     assert_eq!(rt; first_other(rt.alloc(), &["web"], &parts)?, None);
+    Ok(())
+}
+
+// An offer heard twice and one ruling taken twice: each call succeeds, adds one event and changes nothing else.
+#[test]
+fn repeated_messages_change_nothing(rt: HostRuntime) -> Result<(), Fail> {
+    let names = Part::Seen(Seen::Names(SideId::A, &[("db", 1, 1)]));
+    let parts = [
+        Part::Calls(rows::HEARD),
+        Part::Seen(Seen::Events(SideId::A, 3)),
+        Part::Calls(rows::HEARD_AGAIN),
+        Part::Seen(Seen::Events(SideId::A, 4)),
+        names,
+        Part::Calls(rows::TAKEN),
+        Part::Seen(Seen::Events(SideId::A, 5)),
+        Part::Calls(rows::TAKEN),
+        Part::Seen(Seen::Events(SideId::A, 6)),
+        names,
+        Part::Calls(rows::TAKEN_END),
+        Part::Seen(Seen::Agreed),
+        Part::Seen(Seen::Ruling(0, 0, Verdict3::First)),
+        names,
+        Part::Seen(Seen::Names(SideId::B, &[("db", 1, 1)])),
+    ];
+    assert_eq!(rt; first_other(rt.alloc(), &["db"], &parts)?, None);
+    Ok(())
+}
+
+// Either side abandons after each step: its whole table is the one before, its old offer is refused under the next
+// number, and the next number succeeds.
+#[test]
+fn abandoned_after_each_step(rt: HostRuntime) -> Result<(), Fail> {
+    for steps in 2..=rows::EACH_STEP.len() {
+        let done = rows::EACH_STEP.get(..steps).ok_or("too few steps")?;
+        for (first, second) in [
+            (rows::ABANDON, rows::ABANDON_ON_B),
+            (rows::ABANDON_ON_B, rows::ABANDON),
+        ] {
+            let on_a = Part::Seen(Seen::Names(SideId::A, &[("db", 1, 10)]));
+            let on_b = Part::Seen(Seen::Names(SideId::B, &[("db", 2, 20), ("web", 2, 21)]));
+            let merged = &[("db", 1, 10), ("web", 2, 21)];
+            let parts = [
+                Part::Calls(rows::DB_AND_WEB),
+                Part::Calls(done),
+                Part::Calls(first),
+                on_a,
+                on_b,
+                Part::Calls(second),
+                on_a,
+                on_b,
+                Part::Calls(rows::OLD_OFFERS),
+                Part::Calls(rows::NEXT_WHOLE),
+                Part::Seen(Seen::Agreed),
+                Part::Seen(Seen::Names(SideId::A, merged)),
+                Part::Seen(Seen::Names(SideId::B, merged)),
+            ];
+            let other = first_other(rt.alloc(), &[], &parts)?;
+            assert_eq!(rt; other, None, "after {steps} steps");
+        }
+    }
     Ok(())
 }

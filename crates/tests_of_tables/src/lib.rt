@@ -1,5 +1,5 @@
-//! Tests alone, by public calls: of registrations and their record, the resolvers that need no program, the store of
-//! uploads, tables with their clashes and merges, and the two sides of an exchange.
+//! Tests of public calls: registrations and their record, built-in resolvers, the store of uploads, tables with their
+//! clashes and merges, and the two sides of an exchange.
 #![tactic(auto)]
 
 #[cfg(test)]
@@ -9,13 +9,11 @@ mod exchanges;
 #[cfg(test)]
 mod merges;
 #[cfg(test)]
+mod programs_judge;
+#[cfg(test)]
 mod records;
 #[cfg(test)]
-mod registrations;
-#[cfg(test)]
 mod resolvers;
-#[cfg(test)]
-mod small_tables;
 #[cfg(test)]
 mod tables;
 #[cfg(test)]

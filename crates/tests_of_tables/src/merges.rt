@@ -1,8 +1,7 @@
 //! Merges by answers, with names that were withdrawn, and tables that are too full for one.
-use crate::registrations::{numbered_name, of};
-use crate::small_tables::{Row, table};
 use builtin_resolvers::Verdict3;
 use clash_record::{Name, name};
+use fixtures::{EXIT, Row, exit_registration, numbered_name, numbered_table, table_of};
 use numbered::Numbered;
 use partition_table::{
     MAX_NAMES, Table, TableFault, clashes, clashes_theorem, fit, merge, merge_theorem,
@@ -109,8 +108,8 @@ fn merge_by(
 }
 
 fn merged(alloc: Global, case: Merge) -> Result<Table, Fail> {
-    let a = table(alloc, case.a)?;
-    let b = table(alloc, case.b)?;
+    let a = table_of(alloc, case.a)?;
+    let b = table_of(alloc, case.b)?;
     Ok(merge_by(alloc, &a, &b, case.by)??)
 }
 
@@ -118,7 +117,7 @@ fn merged(alloc: Global, case: Merge) -> Result<Table, Fail> {
 fn first_missing(table: &Table, rows: &[Row]) -> Result<Option<&'static str>, Fail> {
     for (text, node, serial) in rows {
         let found = table.whereis(&name(text.as_bytes())?);
-        if found.copied() != Some(of(*node, *serial)) {
+        if found.copied() != Some(exit_registration(*node, *serial)) {
             return Ok(Some(*text));
         }
     }
@@ -151,26 +150,16 @@ fn number(fault: Option<TableFault>) -> Option<u32> {
     fault.map(|fault| fault.number())
 }
 
-// A table with as many names as it holds.
-fn full_table(alloc: Global) -> Result<Table, Fail> {
-    let store = UploadStore::new(alloc);
-    let mut full = Table::new(alloc);
-    for number in 0..4096 {
-        full.register(numbered_name(b'x', number)?, of(1, 1), &store)?;
-    }
-    Ok(full)
-}
-
 // The number with which a table refuses one more name.
 fn refused_name(alloc: Global, full: &mut Table) -> Result<Option<u32>, Fail> {
     let more = numbered_name(b'x', 4096)?;
-    let refused = full.register(more, of(1, 1), &UploadStore::new(alloc));
+    let refused = full.register(more, exit_registration(1, 1), &UploadStore::new(alloc));
     Ok(number(refused.err()))
 }
 
 // The numbers with which a table neither fits one of one more name nor merges with it.
 fn refused_table(alloc: Global, full: &Table) -> Result<(Option<u32>, Option<u32>), Fail> {
-    let one = table(alloc, &[("z", 1, 1)])?;
+    let one = table_of(alloc, &[("z", 1, 1)])?;
     fit(&one, &one)?;
     let unmerged = merge_by(alloc, full, &one, NOTHING)?.err();
     Ok((number(fit(full, &one).err()), number(unmerged)))
@@ -178,7 +167,7 @@ fn refused_table(alloc: Global, full: &Table) -> Result<(Option<u32>, Option<u32
 
 #[test]
 fn holds_4096(rt: HostRuntime) -> Result<(), Fail> {
-    let mut full = full_table(rt.alloc())?;
+    let mut full = numbered_table(rt.alloc(), 4096, 1, EXIT, &UploadStore::new(rt.alloc()))?;
     assert_eq!(rt; full.len(), MAX_NAMES);
     assert_eq!(rt; refused_name(rt.alloc(), &mut full)?, Some(32));
     assert_eq!(rt; refused_table(rt.alloc(), &full)?, (Some(37), Some(37)));

@@ -1,13 +1,13 @@
 //! The record of two registrations of `db`, names that are none, and the orders.
-use crate::registrations::EXIT;
 use clash_record::{
     BadName, Builtin, Facts, Owner, ProgramId, RECORD_LEN, Registration, ResolverId, name,
     order_theorem, record, record_of,
 };
+use fixtures::EXIT;
 use numbered::{NumberedRefusal, refusal_of};
 use std::test::Fail;
 
-// Nothing is told of a half.
+// The facts of an unknown half.
 const NO_FACTS: Facts = Facts { size: 0, uptime: 0 };
 
 // The name db, word 7, the first 1.10 with stamp 5, the second 2.20 with stamp 9, and no facts.
@@ -79,7 +79,10 @@ fn names_that_are_none(rt: HostRuntime) -> Result<(), Fail> {
     };
     assert_eq!(rt; refusal_of(&BadName), refusal);
     let words = format!(in rt.alloc(); "{BadName}")?;
-    assert_eq!(rt; words.as_str(), "these bytes are no name");
+    assert_eq!(rt;
+        words.as_str(),
+        "an invalid name: not 1 to 32 bytes from 0x21 to 0x7e"
+    );
     Ok(())
 }
 

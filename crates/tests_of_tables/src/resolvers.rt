@@ -32,7 +32,7 @@ fn verdicts_by_answer(rt: HostRuntime) {
     }
 }
 
-/// What is told of the name `m`: nothing, the loser's owner, or both.
+/// The notices of the name `m`: none, one to the loser's owner, or one to each owner.
 #[derive(Clone, Copy)]
 enum Told {
     Nothing,
@@ -55,7 +55,7 @@ impl Told {
     }
 }
 
-/// Exit and notify tell the loser's owner, notify-all both; the other verdicts bring no notice.
+/// Exit and notify send a notice to the loser's owner, notify-all to both; the other verdicts send none.
 const NOTICES: [(Builtin, Verdict3, Told); 9] = [
     (Builtin::Exit, Verdict3::First, Told::Exit(SECOND)),
     (Builtin::Exit, Verdict3::Second, Told::Exit(FIRST)),

@@ -1,7 +1,6 @@
 //! Tables: rows told in the order of names, refusals, clones, and refused memory.
-use crate::registrations::{UNKNOWN, by, of, reads};
-use crate::small_tables::{Row, table};
 use clash_record::{Name, Registration, ResolverId, name};
+use fixtures::{Row, UNKNOWN, exit_registration, reading, registration, table_of};
 use numbered::{Numbered, NumberedRefusal, refusal_of};
 use partition_table::{Table, TableFault};
 use std::alloc::Global;
@@ -32,20 +31,20 @@ fn unregister_twice(table: &mut Table, name: &Name) -> (Option<Registration>, Op
 #[test]
 fn rows_in_name_order(rt: HostRuntime) -> Result<(), Fail> {
     let ab = name(b"ab")?;
-    let mut table = table(rt.alloc(), &[("ab", 1, 1), ("a", 1, 2), ("b", 1, 3)])?;
+    let mut table = table_of(rt.alloc(), &[("ab", 1, 1), ("a", 1, 2), ("b", 1, 3)])?;
     for (place, text, serial) in [(0, "a", 2), (1, "ab", 1), (2, "b", 3)] {
         let (name, found) = row_at(&table, place).ok_or("too few rows")?;
         assert_eq!(rt; (name.as_str(), found), (text, serial));
     }
     assert!(rt; row_at(&table, 3).is_none());
-    assert_eq!(rt; seen(&table, &ab), (3, Some(of(1, 1))));
+    assert_eq!(rt; seen(&table, &ab), (3, Some(exit_registration(1, 1))));
     let gone = unregister_twice(&mut table, &ab);
-    assert_eq!(rt; gone, (Some(of(1, 1)), Some(31)));
+    assert_eq!(rt; gone, (Some(exit_registration(1, 1)), Some(31)));
     assert_eq!(rt; seen(&table, &ab), (2, None));
     Ok(())
 }
 
-// The number with which the name is refused, where no program is kept.
+// Returns the number that refuses the name if the store is empty.
 fn refused(
     alloc: Global,
     table: &mut Table,
@@ -56,44 +55,44 @@ fn refused(
     number(registered.err())
 }
 
-// A name that is taken stays as it was, and a program that isn't kept registers nothing.
+// A taken name stays unchanged, and an unknown program registers nothing.
 #[test]
 fn refusals_of_register(rt: HostRuntime) -> Result<(), Fail> {
     let (db, web) = (name(b"db")?, name(b"web")?);
-    let mut table = table(rt.alloc(), &[("db", 2, 1)])?;
-    let taken = refused(rt.alloc(), &mut table, db, of(1, 9));
-    let unknown = refused(rt.alloc(), &mut table, web, by(1, 1, UNKNOWN));
+    let mut table = table_of(rt.alloc(), &[("db", 2, 1)])?;
+    let taken = refused(rt.alloc(), &mut table, db, exit_registration(1, 9));
+    let unknown = refused(rt.alloc(), &mut table, web, registration(1, 1, UNKNOWN));
     assert_eq!(rt; (taken, unknown), (Some(30), Some(41)));
-    assert_eq!(rt; seen(&table, &db), (1, Some(of(2, 1))));
+    assert_eq!(rt; seen(&table, &db), (1, Some(exit_registration(2, 1))));
     Ok(())
 }
 
 // Whether the table equals its clone, and one of these rows.
 fn equals(alloc: Global, one: &Table, rows: &[Row]) -> Result<(bool, bool), Fail> {
     let equals_clone = *one == one.try_clone()?;
-    Ok((equals_clone, *one == table(alloc, rows)?))
+    Ok((equals_clone, *one == table_of(alloc, rows)?))
 }
 
 #[test]
 fn equal_and_cloned(rt: HostRuntime) -> Result<(), Fail> {
-    let a = table(rt.alloc(), &[("db", 2, 1), ("web", 3, 1)])?;
+    let a = table_of(rt.alloc(), &[("db", 2, 1), ("web", 3, 1)])?;
     for other in [&[("db", 1, 9), ("web", 3, 1)][..], &[]] {
         assert_eq!(rt; equals(rt.alloc(), &a, other)?, (true, false));
     }
     Ok(())
 }
 
-// Registers the name. Where that is refused for want of memory, the table is as it was, and it is registered again.
+// Registers the name. If memory runs out, checks that the table is unchanged, and registers the name again.
 fn register_in_the_end(
     alloc: Global,
     table: &mut Table,
     name: Name,
 ) -> Result<Option<Registration>, Fail> {
     let mut store = UploadStore::new(alloc);
-    let Ok(id) = store.upload(alloc, &reads(128)) else {
+    let Ok(id) = store.upload(alloc, &reading(128)) else {
         return Ok(None);
     };
-    let row = by(1, 1, ResolverId::Program(id));
+    let row = registration(1, 1, ResolverId::Program(id));
     if let Err(fault) = table.register(name, row, &store) {
         if (fault.number(), table.len()) != (90, 0) {
             return Err(Fail::from("refused otherwise"));
@@ -103,7 +102,7 @@ fn register_in_the_end(
     Ok(Some(row))
 }
 
-// Where one allocation is refused, one registering is, and it leaves the table as it was.
+// If one allocation fails, one call fails and leaves the table unchanged.
 #[test]
 fn survives_want_of_memory(rt: HostRuntime) -> Result<(), Fail> {
     let db = name(b"db")?;
@@ -118,19 +117,23 @@ fn survives_want_of_memory(rt: HostRuntime) -> Result<(), Fail> {
 #[test]
 fn refuses_in_words(rt: HostRuntime) -> Result<(), Fail> {
     let rows = [
-        (TableFault::NameTaken, 30, "the name is taken"),
+        (TableFault::NameTaken, 30, "the name is already registered"),
         (TableFault::NoSuchName, 31, "the name isn't registered"),
-        (TableFault::Full, 32, "the table is full"),
+        (TableFault::Full, 32, "the table is full: 4,096 names"),
         (
             TableFault::TooManyNames,
             37,
-            "the two tables have too many names",
+            "the two tables have more than 4,096 names together",
         ),
-        (TableFault::UnknownProgram, 41, "no program has this id"),
+        (
+            TableFault::UnknownProgram,
+            41,
+            "an unknown program, or a word that is neither a built-in resolver nor a label",
+        ),
         (
             TableFault::OtherCode,
             42,
-            "other code is kept under this id",
+            "other code has the same program id",
         ),
         (TableFault::OutOfMemory, 90, "out of memory"),
     ];

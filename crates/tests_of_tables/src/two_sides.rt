@@ -1,10 +1,10 @@
 //! Two sides, what they sent, and calls on them as rows of data.
-use crate::registrations::{by, numbered_name, of};
 use builtin_resolvers::Verdict3;
-use clash_record::{Name, ResolverId, name};
-use exchange_core::{Finished, Offer, Side, SideFault, SideId, Withdrawals};
+use clash_record::{Name, ResolverId, SideId, name};
+use exchange_core::{Finished, Judged, MissingPart, Side, SideFault};
+use fixtures::{Mail, Row as Named, exit_registration, numbered_name, registration};
 use numbered::Numbered;
-use partition_table::{ClashList, Ruling, Verdict, clashes};
+use partition_table::{Ruling, Verdict};
 use std::alloc::{AllocError, Global};
 use std::test::Fail;
 use upload_store::UploadStore;
@@ -14,17 +14,20 @@ const NODE_OF_A: u32 = 1;
 
 const NODE_OF_B: u32 = 2;
 
+/// More offers, and more lists, than the rows send.
+const MOST_SENT: usize = 100;
+
 /// A call on a side.
 #[derive(Clone, Copy)]
 pub(crate) enum Call {
-    /// Registers the name for the side's owner, with this resolver.
-    Register(&'static str, ResolverId),
+    /// Registers the name for the side's owner with this serial number and this resolver.
+    Register(&'static str, u32, ResolverId),
     Unregister(&'static str),
     /// Begins this number with this seed. Side A has been up for 3, side B for 4.
     Begin(u64, u64),
     /// Hears the offer of this side and number.
     Hear(SideId, u64),
-    /// Takes, under this number, the ruling of this clash of the first two offers at this word.
+    /// Takes, under this number, the ruling of this clash of the offers of number 1 at this word.
     Take(u64, u32, u64),
     Withdraw(&'static str),
     CloseList,
@@ -34,8 +37,8 @@ pub(crate) enum Call {
     Abandon,
 }
 
-/// Why a call is refused, and the number of that. None where it is carried out.
-pub(crate) type Refusal = Option<(SideFault, u32)>;
+/// The number of a call's refusal, and the part that an exchange lacks; `None` for a call that succeeds.
+pub(crate) type Refusal = Option<(u32, Option<MissingPart>)>;
 
 /// A side, a call on it, and whether it is refused.
 pub(crate) type Row = (SideId, Call, Refusal);
@@ -47,20 +50,20 @@ pub(crate) enum Part {
     NamesApart(u16),
     /// The rows are carried out in turn.
     Calls(&'static [Row]),
-    /// The same, so many times.
+    /// The rows are carried out this many times.
     Repeated(u32, &'static [Row]),
     /// Nothing is done. This is seen.
     Seen(Seen),
 }
 
-/// What is seen of two sides.
+/// A check of two sides.
 #[derive(Clone, Copy)]
 pub(crate) enum Seen {
-    /// This side counts so many events.
+    /// This side counts this many events.
     Events(SideId, usize),
     /// Whether side A shows the name, and whether side B does.
     Shown(&'static str, bool, bool),
-    /// Whether this side shows any row.
+    /// This side shows a row, or shows none.
     Rows(SideId, bool),
     /// This side shows the name with the registration of the owner on this node.
     OwnerOn(SideId, &'static str, u32),
@@ -68,8 +71,10 @@ pub(crate) enum Seen {
     Agreed,
     /// How long sides A and B had been up, as the first that finished has it.
     Uptimes(u64, u64),
-    /// The answer of this clash, as the second that finished has it.
-    Answer(usize, Verdict3),
+    /// The word and the answer of this clash, on both sides that finished.
+    Ruling(usize, u64, Verdict3),
+    /// This side shows these names of these owners, and no others.
+    Names(SideId, &'static [Named]),
     /// So many names has the table that the last to finish made. It is taken away.
     LatestTable(usize),
 }
@@ -106,8 +111,7 @@ struct TwoSides {
 struct Sent {
     alloc: Global,
     store: UploadStore,
-    offers: Vec<Offer>,
-    lists: Vec<Withdrawals>,
+    mail: Mail,
     finished: Vec<Finished>,
 }
 
@@ -127,8 +131,10 @@ impl TwoSides {
 
     // Registers one name on each side.
     fn register(&mut self, on_a: Name, on_b: Name) -> Result<(), Fail> {
-        self.a.register(on_a, of(NODE_OF_A, 1), &self.sent.store)?;
-        self.b.register(on_b, of(NODE_OF_B, 1), &self.sent.store)?;
+        self.a
+            .register(on_a, exit_registration(NODE_OF_A, 1), &self.sent.store)?;
+        self.b
+            .register(on_b, exit_registration(NODE_OF_B, 1), &self.sent.store)?;
         Ok(())
     }
 
@@ -197,11 +203,15 @@ impl TwoSides {
             Seen::Rows(id, any) => self.side(id).rows().next().is_some() == any,
             Seen::OwnerOn(id, text, node) => {
                 let name = name(text.as_bytes())?;
-                self.side(id).whereis(&name).copied() == Some(of(node, 1))
+                self.side(id).whereis(&name).copied() == Some(exit_registration(node, 1))
             }
             Seen::Agreed => self.agree(),
             Seen::Uptimes(a, b) => self.uptimes_of_first() == Some((a, b)),
-            Seen::Answer(k, answer) => self.answer_of_second(k) == Some(answer),
+            Seen::Ruling(k, word, answer) => {
+                let judged = Some(Judged { word, answer });
+                self.ruling(0, k) == judged && self.ruling(1, k) == judged
+            }
+            Seen::Names(id, names) => self.has_names(id, names),
             Seen::LatestTable(count) => self.take_table_len() == Some(count),
         })
     }
@@ -226,8 +236,21 @@ impl TwoSides {
         Some((finished.uptime_a(), finished.uptime_b()))
     }
 
-    fn answer_of_second(&self, k: usize) -> Option<Verdict3> {
-        Some(self.finished(1)?.rulings().get(k)?.answer)
+    fn ruling(&self, place: usize, k: usize) -> Option<Judged> {
+        self.finished(place)?.rulings().get(k).copied()
+    }
+
+    fn has_names(&self, id: SideId, names: &[Named]) -> bool {
+        let mut rows = self.side(id).rows();
+        for (text, node, serial) in names {
+            let Some((name, found)) = rows.next() else {
+                return false;
+            };
+            if name.as_str() != *text || *found != exit_registration(*node, *serial) {
+                return false;
+            }
+        }
+        rows.next().is_none()
     }
 
     fn take_table_len(&mut self) -> Option<usize> {
@@ -239,9 +262,14 @@ impl TwoSides {
     }
 }
 
-// Why it is refused, with its number.
+// Returns the number of the refusal, and the part that is missing.
 fn refusal(fault: Option<SideFault>) -> Refusal {
-    fault.map(|fault| (fault, fault.number()))
+    let fault = fault?;
+    let missing = match fault {
+        SideFault::Missing(part) => Some(part),
+        _ => None,
+    };
+    Some((fault.number(), missing))
 }
 
 impl Sent {
@@ -249,39 +277,26 @@ impl Sent {
         Sent {
             alloc,
             store: UploadStore::new(alloc),
-            offers: Vec::new(alloc),
-            lists: Vec::new(alloc),
+            mail: Mail::new(alloc, MOST_SENT),
             finished: Vec::new(alloc),
         }
-    }
-
-    fn offer_of(&self, sender: SideId, number: u64) -> Option<&Offer> {
-        self.offers
-            .iter()
-            .find(|offer| offer.side() == sender && offer.number() == number)
-    }
-
-    fn list_of(&self, sender: SideId, number: u64) -> Option<&Withdrawals> {
-        self.lists
-            .iter()
-            .find(|list| list.side() == sender && list.number() == number)
     }
 
     // Carries the call out on this side, and keeps what it sends. Answers why it is refused, if it is.
     fn carry_out(&mut self, side: &mut Side, call: Call) -> Result<Option<SideFault>, Fail> {
         match call {
-            Call::Register(text, resolver) => self.register(side, text, resolver),
+            Call::Register(text, serial, resolver) => self.register(side, text, serial, resolver),
             Call::Unregister(text) => Ok(side.unregister(&name(text.as_bytes())?).err()),
             Call::Begin(number, seed) => self.begin(side, number, seed),
             Call::Hear(sender, number) => {
-                let offer = self.offer_of(sender, number).ok_or("no such offer")?;
+                let offer = self.mail.offer_of(sender, number).ok_or("no such offer")?;
                 Ok(side.hear(self.alloc, offer).err())
             }
             Call::Take(number, k, at) => self.take(side, number, k, at),
             Call::Withdraw(text) => Ok(side.withdraw(&name(text.as_bytes())?).err()),
             Call::CloseList => self.close_list(side),
             Call::HearList(sender, number) => {
-                let list = self.list_of(sender, number).ok_or("no such list")?;
+                let list = self.mail.list_of(sender, number).ok_or("no such list")?;
                 Ok(side.hear_list(list).err())
             }
             Call::Finish => self.finish(side),
@@ -293,13 +308,15 @@ impl Sent {
         &self,
         side: &mut Side,
         text: &str,
+        serial: u32,
         resolver: ResolverId,
     ) -> Result<Option<SideFault>, Fail> {
         let node = match side.id() {
             SideId::A => NODE_OF_A,
             SideId::B => NODE_OF_B,
         };
-        let registered = side.register(name(text.as_bytes())?, by(node, 1, resolver), &self.store);
+        let given = registration(node, serial, resolver);
+        let registered = side.register(name(text.as_bytes())?, given, &self.store);
         Ok(registered.err())
     }
 
@@ -314,7 +331,10 @@ impl Sent {
             SideId::B => 4,
         };
         match side.begin(self.alloc, number, seed, uptime) {
-            Ok(offer) => keep(&mut self.offers, offer),
+            Ok(offer) => {
+                self.mail.keep_offer(offer)?;
+                Ok(None)
+            }
             Err(fault) => Ok(Some(fault)),
         }
     }
@@ -326,7 +346,7 @@ impl Sent {
         k: u32,
         at: u64,
     ) -> Result<Option<SideFault>, Fail> {
-        let all = self.clashes()?;
+        let (_, all) = self.mail.clashes_of(1)?.ok_or("no two offers")?;
         let Some(clash) = all.get(k) else {
             return Err(Fail::from("no such clash"));
         };
@@ -334,31 +354,23 @@ impl Sent {
         Ok(side.take(Ruling { number, k, verdict }).err())
     }
 
-    // The clashes of the tables in the first two offers.
-    fn clashes(&self) -> Result<ClashList, Fail> {
-        let (Some(a), Some(b)) = (self.offers.get(0), self.offers.get(1)) else {
-            return Err(Fail::from("no two offers"));
-        };
-        Ok(clashes(self.alloc, a.table(), a.uptime(), b.table(), b.uptime())?)
-    }
-
     fn close_list(&mut self, side: &mut Side) -> Result<Option<SideFault>, Fail> {
         match side.close_list(self.alloc) {
-            Ok(list) => keep(&mut self.lists, list),
+            Ok(list) => {
+                self.mail.keep_list(list)?;
+                Ok(None)
+            }
             Err(fault) => Ok(Some(fault)),
         }
     }
 
     fn finish(&mut self, side: &mut Side) -> Result<Option<SideFault>, Fail> {
         match side.finish(self.alloc) {
-            Ok(finished) => keep(&mut self.finished, finished),
+            Ok(finished) => {
+                self.finished.push(finished).map_err(AllocError::from)?;
+                Ok(None)
+            }
             Err(fault) => Ok(Some(fault)),
         }
     }
-}
-
-// Puts it last. Nothing is refused.
-fn keep<T: Drop>(all: &mut Vec<T>, latest: T) -> Result<Option<SideFault>, Fail> {
-    all.push(latest).map_err(AllocError::from)?;
-    Ok(None)
 }

@@ -1,6 +1,7 @@
 //! Programs kept under ids from outside, refusals in words, a full store, and uploads that get no memory.
 use clash_record::ProgramId;
-use numbered::{Numbered, NumberedRefusal, Place, refusal_of};
+use fixtures::{FIRST, answering};
+use numbered::{Numbered, NumberedRefusal, OUT_OF_MEMORY, Place, refusal_of};
 use sha2::{Digest, Sha256};
 use std::alloc::Global;
 use std::test::Fail;
@@ -13,18 +14,19 @@ const ABC: [u8; 32] = [
     0xb0, 0x03, 0x61, 0xa3, 0x96, 0x17, 0x7a, 0x9c, 0xb4, 0x10, 0xff, 0x61, 0xf2, 0x00, 0x15, 0xad,
 ];
 
-// The digest of `answer(0)`, as `sha256sum` gives it.
+// The digest of `answering(0)`, as `sha256sum` gives it.
 #[rattlefmt::skip]
 const ZERO: [u8; 32] = [
     0x59, 0xf4, 0xa9, 0x31, 0x74, 0x4d, 0xcd, 0xc6, 0x29, 0x44, 0xa0, 0x18, 0xed, 0x39, 0x90, 0xe6,
     0x66, 0xec, 0x64, 0x44, 0x61, 0x64, 0x18, 0xd3, 0xb0, 0x9a, 0x82, 0xdc, 0x5c, 0x75, 0x3d, 0x52,
 ];
 
-// mov64 r0, VALUE; exit
-fn answer(value: u32) -> [u8; 16] {
-    let [a, b, c, d] = value.to_le_bytes();
-    [0xb7, 0, 0, 0, a, b, c, d, 0x95, 0, 0, 0, 0, 0, 0, 0]
-}
+// The digest of `FIRST`, as `sha256sum` gives it.
+#[rattlefmt::skip]
+const ONE: [u8; 32] = [
+    0xb1, 0x14, 0x59, 0xa0, 0xe1, 0x1c, 0xa1, 0x4c, 0xba, 0xa3, 0x3c, 0xc1, 0x08, 0xff, 0xff, 0x8f,
+    0xf0, 0x7b, 0xa5, 0x4b, 0x6c, 0x38, 0x95, 0x14, 0xb3, 0xc1, 0x22, 0xab, 0x54, 0xb3, 0x45, 0x51,
+];
 
 #[test]
 fn digest_of_abc(rt: HostRuntime) {
@@ -32,34 +34,38 @@ fn digest_of_abc(rt: HostRuntime) {
 }
 
 // The ids of one program that is uploaded twice.
-fn upload_twice(alloc: Global, store: &mut UploadStore) -> Result<[ProgramId; 2], Fail> {
-    let first = store.upload(alloc, &answer(0))?;
-    Ok([first, store.upload(alloc, &answer(0))?])
+fn upload_twice(
+    alloc: Global,
+    store: &mut UploadStore,
+    bytes: &[u8],
+) -> Result<[ProgramId; 2], Fail> {
+    let first = store.upload(alloc, bytes)?;
+    Ok([first, store.upload(alloc, bytes)?])
 }
 
-// How many slots the program of this digest has.
+// Returns the slot count of the program with this digest.
 fn slots_of(store: &UploadStore, digest: [u8; 32]) -> Option<usize> {
     Some(store.get(&ProgramId(digest))?.code().slot_count())
 }
 
 #[test]
 fn keeps_bytes_once(rt: HostRuntime) -> Result<(), Fail> {
-    let mut store = UploadStore::new(rt.alloc());
-    let before = store.len();
-    let ids = upload_twice(rt.alloc(), &mut store)?;
-    assert_eq!(rt; ids, [ProgramId(ZERO); 2]);
-    assert_eq!(rt; (before, store.len()), (0, 1));
-    assert_eq!(rt;
-        (slots_of(&store, ZERO), slots_of(&store, ABC)),
-        (Some(2), None)
-    );
+    for (bytes, digest) in [(answering(0), ZERO), (FIRST, ONE)] {
+        let mut store = UploadStore::new(rt.alloc());
+        let before = store.len();
+        let ids = upload_twice(rt.alloc(), &mut store, &bytes)?;
+        assert_eq!(rt; ids, [ProgramId(digest); 2]);
+        assert_eq!(rt; (before, store.len()), (0, 1));
+        let slots = (slots_of(&store, digest), slots_of(&store, ABC));
+        assert_eq!(rt; slots, (Some(2), None));
+    }
     Ok(())
 }
 
-// Uploads so many programs, each under an id of its own.
+// Uploads `count` programs, each with a different id.
 fn upload_many(alloc: Global, store: &mut UploadStore, count: u32) -> Result<(), Fail> {
     for value in 0..count {
-        store.upload(alloc, &answer(value))?;
+        store.upload(alloc, &answering(value))?;
     }
     Ok(())
 }
@@ -70,9 +76,9 @@ fn holds_256(rt: HostRuntime) -> Result<(), Fail> {
     let mut store = UploadStore::new(rt.alloc());
     upload_many(rt.alloc(), &mut store, 256)?;
     assert_eq!(rt; store.len(), MAX_PROGRAMS);
-    let refused = store.upload(rt.alloc(), &answer(256));
+    let refused = store.upload(rt.alloc(), &answering(256));
     let number = refused.err().map(|fault| fault.number());
-    let again = store.upload(rt.alloc(), &answer(0)).ok();
+    let again = store.upload(rt.alloc(), &answering(0)).ok();
     assert_eq!(rt;
         (number, again, store.len()),
         (Some(43), Some(ProgramId(ZERO)), 256)
@@ -80,9 +86,9 @@ fn holds_256(rt: HostRuntime) -> Result<(), Fail> {
     Ok(())
 }
 
-// Why code is refused that reads a register that wasn't written.
+// Returns the refusal of code that reads an unwritten register.
 fn refusal_of_unread(alloc: Global) -> Option<UploadFault> {
-    let mut unread = answer(0);
+    let mut unread = answering(0);
     unread[..2].copy_from_slice(&[0xbf, 0x20]);
     let mut store = UploadStore::new(alloc);
     let refused = store.upload(alloc, &unread);
@@ -101,15 +107,20 @@ fn refuses_in_words(rt: HostRuntime) -> Result<(), Fail> {
             refusal,
             15,
             Some(Place::Slot(0)),
-            "slot 0: a register is read that can't be",
+            "slot 0: a read of a register that may be unset, or may be an address or a number",
         ),
         (
             UploadFault::DigestClash,
             42,
             None,
-            "other bytes are kept under this digest",
+            "other code has the same program id",
         ),
-        (UploadFault::StoreFull, 43, None, "the store is full"),
+        (
+            UploadFault::StoreFull,
+            43,
+            None,
+            "the store is full: 256 programs",
+        ),
         (UploadFault::OutOfMemory, 90, None, "out of memory"),
     ];
     for (fault, number, place, words) in rows {
@@ -120,16 +131,17 @@ fn refuses_in_words(rt: HostRuntime) -> Result<(), Fail> {
     Ok(())
 }
 
-// Where one allocation is refused, one upload is, and the next answers as if it hadn't been made.
+// When one allocation fails, at most one upload fails, and the next answers as if nothing had failed.
 #[test]
 fn survives_want_of_memory(rt: HostRuntime) {
     let mut store = UploadStore::new(rt.alloc());
-    let first = store.upload(rt.alloc(), &answer(0));
+    let first = store.upload(rt.alloc(), &answering(0));
     let kept = store.len();
     assert_eq!(rt; kept, if first.is_ok() { 1 } else { 0 });
-    let second = store.upload(rt.alloc(), &answer(0));
+    let second = store.upload(rt.alloc(), &answering(0));
     for fault in [first.err(), second.err()] {
-        assert!(rt; matches!(fault, None | Some(UploadFault::OutOfMemory)));
+        let number = fault.map(|fault| fault.number());
+        assert!(rt; matches!(number, None | Some(OUT_OF_MEMORY)));
     }
     assert_eq!(rt;
         (first.or(second).ok(), store.len()),

@@ -1,12 +1,10 @@
-//! Clashes of two tables: who is first, what is told of each half, words and answers, and when two are equal.
-use crate::registrations::{EXIT, by, of, reads};
-use crate::small_tables::{Row, clashes_of, table};
+//! Clashes of two tables: the order of registrations, the facts of each half, words and answers, and equality.
 use builtin_resolvers::Verdict3;
 use clash_record::{ResolverId, name};
+use fixtures::{EXIT, Row, clashes_of, exit_registration, reading, registration, stored, table_of};
 use partition_table::{Clash, ClashList, Ruling, Table, Verdict, clashes, word};
 use std::alloc::Global;
 use std::test::Fail;
-use upload_store::UploadStore;
 
 const TWO: [Row; 2] = [("db", 2, 1), ("web", 3, 1)];
 
@@ -25,7 +23,10 @@ fn lesser_is_first(rt: HostRuntime) -> Result<(), Fail> {
             (1, 1, true)
         );
         let clash = list.get(0).ok_or("no clash")?;
-        assert_eq!(rt; (*clash.first(), *clash.second()), (of(1, 9), of(2, 1)));
+        assert_eq!(rt;
+            (*clash.first(), *clash.second()),
+            (exit_registration(1, 9), exit_registration(2, 1))
+        );
         assert_eq!(rt; facts_of(clash), ((3, 6), (2, 5)));
         let judged = (
             clash.name().as_str(),
@@ -95,17 +96,20 @@ fn words_and_answers(rt: HostRuntime) -> Result<(), Fail> {
 
 // A table whose name db is judged by code that reads the record from this place on.
 fn judged_table(alloc: Global, offset: u8) -> Result<Table, Fail> {
-    let mut store = UploadStore::new(alloc);
-    let id = store.upload(alloc, &reads(offset))?;
+    let (store, id) = stored(alloc, &reading(offset))?;
     let mut table = Table::new(alloc);
-    table.register(name(b"db")?, by(1, 9, ResolverId::Program(id)), &store)?;
+    table.register(
+        name(b"db")?,
+        registration(1, 9, ResolverId::Program(id)),
+        &store,
+    )?;
     Ok(table)
 }
 
 // Its clash with a table of two names that has been up half as long, as either side has it.
 fn judged_clash(alloc: Global, offset: u8, is_swapped: bool) -> Result<ClashList, Fail> {
     let one = judged_table(alloc, offset)?;
-    let two = table(alloc, &[("db", 2, 1), ("web", 2, 2)])?;
+    let two = table_of(alloc, &[("db", 2, 1), ("web", 2, 2)])?;
     let list = if is_swapped {
         clashes(alloc, &two, 1, &one, 2)
     } else {
@@ -140,12 +144,12 @@ fn facts_by_registration(rt: HostRuntime) -> Result<(), Fail> {
     Ok(())
 }
 
-// Whether the first clashes of two lists are equal.
+// Checks whether the first clashes of two lists are equal.
 fn has_equal_first(one: &ClashList, other: &ClashList) -> Option<bool> {
     Some(one.get(0)? == other.get(0)?)
 }
 
-// The clash of two tables is the same whichever is asked first, and not where a half has been up longer.
+// The clash of two tables is the same in either order, and differs if a half has another uptime.
 #[test]
 fn equal_clashes(rt: HostRuntime) -> Result<(), Fail> {
     let one = clashes_of(rt.alloc(), &TWO, 5, &THREE, 6)?;

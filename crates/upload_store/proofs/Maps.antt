@@ -1,4 +1,4 @@
--- A store's map and the entries that it is kept in.
+-- A store's map and its entries.
 use Rattle.std.proofs.Common.{◌≡◌, ◌+◌, ◌<◌, Bool, true, false, cond, if◌then◌else◌, Option, Some, None, is_some, IfSome, Result, Ok, Err, IfOk, OnOk, OnErr, Bor, List, [], ◌∷◌, length, map, refl, ap, sym, subst, ◌∙◌, arith}
 use Rattle.std.specs.Option.{option_map, option_copied}
 use Rattle.std.specs.Ordering.{eq_by_cmp}
@@ -10,8 +10,8 @@ use Rattle.instruction_set.specs.declared.insn.Insn.{Insn}
 use Rattle.clash_record.specs.declared.registrations.ProgramId.{ProgramId}
 use Rattle.clash_record.specs.Orders.{id_cmp}
 use Rattle.clash_record.specs.laws.Orders.{ids_total, ids_exact}
-use Rattle.upload_store.specs.Programs.{Programs, IsProgram, IsStore, max_programs}
-use Rattle.upload_store.specs.model.Keeping.{AreKept, programs_by}
+use Rattle.upload_store.specs.Programs.{Programs, programs_by, IsProgram, IsStore, max_programs}
+use Rattle.upload_store.specs.model.Keeping.{AreKept}
 
 module _ {X : Type 0} (code_of : X → List Insn) where
   code_of_either : (b : Bool) (x : X) (o : Option X) (p : Option (List Insn)) → p ≡ option_map code_of o
@@ -26,7 +26,7 @@ module _ {X : Type 0} (code_of : X → List Insn) where
       code_of_either (eq_by_cmp id_cmp q e.0) e.1 (lookup (is_at (id_cmp q)) es)
       (find id_cmp q (map (λ e. (e.0, code_of e.1)) es)) (find_code es q)
 
-  -- what the map has at an id is the code of what the entries have there
+  -- the map's code at an id is the code of the entry there
   get_code : (es : List (ProgramId × X)) (q : ProgramId)
       → get (programs_by code_of es) q ≡ option_map code_of (lookup (is_at (id_cmp q)) es)
   get_code es q = get-from_entries ids_total (map (λ e. (e.0, code_of e.1)) es) q ∙ find_code es q
@@ -57,7 +57,7 @@ module _ {X : Type 0} (code_of : X → List Insn) where
   }
   none_kept (x ∷ es) e = absurd (cc)
 
--- what is there already changes nothing
+-- inserting code again changes nothing
 pub insert_again : (m : Programs) (id : ProgramId) (code : List Insn) → get m id ≡ Some code → insert m id code ≡ m
 insert_again m id code h =
     same_map ids_total ids_exact _ _ (λ q. get-insert ids_total m id code q ∙ by q (eq_by_cmp id_cmp q id) refl)
@@ -98,7 +98,7 @@ module _ {X : Type 0} (code_of : X → List Insn) (m n : BTreeMap ProgramId X) (
       ((eq_by_cmp_equiv ids_total).symm id q)
       ∙ sym (get-insert ids_total (programs_by code_of m.entries) id (code_of x) q))
 
-  -- entries stay a store, whether a new program got its memory or not
+  -- entries remain a store, even if a new program runs out of memory
   pub still_kept : {E : Type 0} → AreKept code_of m.entries → IsProgram id (code_of x)
       → get (programs_by code_of m.entries) id ≡ None → length m.entries < max_programs
       → (r : Result (Option X) E) → OnOk r (Updates id_cmp m n id (Some x))

@@ -1,11 +1,12 @@
 -- Programs by the digests of their bytes.
-use Rattle.std.specs.Prelude.{◌≡◌, ℕ, ◌≤◌, Some, List}
+use Rattle.std.specs.Prelude.{◌≡◌, ℕ, ◌≤◌, Some, List, map as map_list}
 use Rattle.std.specs.FinMap.{FinMap}
 use Rattle.std.specs.FinMap as map
 use Rattle.sha2.specs.Sha256.{sha256}
 use Rattle.instruction_set.specs.declared.insn.Insn.{Insn}
 use Rattle.instruction_set.specs.Machine.{IsSafe}
 use Rattle.insn_codec.specs.Encoding.{Spells}
+use Rattle.program.specs.Programs.{IsAccepted}
 use Rattle.clash_record.specs.declared.registrations.ProgramId.{ProgramId}
 use Rattle.clash_record.specs.Orders.{id_cmp}
 
@@ -13,18 +14,23 @@ use Rattle.clash_record.specs.Orders.{id_cmp}
 abbrev pub id_of : List ℕ → ProgramId
 id_of bytes = record { 0 = sha256 bytes }
 
--- what a store holds: a finite map from ids to code
+-- the contents of a store: a finite map from ids to code
 abbrev pub Programs : Type 0
 Programs = FinMap id_cmp (List Insn)
 
--- safe code, and bytes that spell it and have this id
+-- the map of these entries, each of which holds its code in some way
+abbrev pub programs_by : {X : Type 0} → (X → List Insn) → List (ProgramId × X) → Programs
+programs_by code_of entries = map.from_entries (map_list (λ e. (e.0, code_of e.1)) entries)
+
+-- safe code, and accepted bytes that spell it and have this id
 pub record IsProgram (id : ProgramId) (code : List Insn) : Type 0 where
   pub safe : IsSafe code
   pub bytes : List ℕ
   pub spelled : Spells bytes code
+  pub accepted : IsAccepted bytes code
   pub named : id ≡ id_of bytes
 
--- how many programs a store holds at most
+-- the most programs that a store holds
 abbrev pub max_programs : ℕ
 max_programs = 256
 

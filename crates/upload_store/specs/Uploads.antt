@@ -1,15 +1,19 @@
--- What an upload answers, and what it leaves.
-use Rattle.std.specs.Prelude.{◌≡◌, ◌≢◌, ℕ, ◌<◌, ◌⊎◌, Some, None, List, Result, Err}
+-- The results of uploads, and their effect on the store.
+use Rattle.std.specs.Prelude.{◌≡◌, ◌≢◌, ℕ, ◌<◌, ◌⊎◌, Some, None, List, length, Result, Err}
 use Rattle.std.specs.FinMap as map
+use Rattle.numbered.specs.Answers.{RanOut}
 use Rattle.instruction_set.specs.declared.insn.Insn.{Insn}
 use Rattle.instruction_set.specs.Machine.{IsSafe}
 use Rattle.insn_codec.specs.Encoding.{Spells}
 use Rattle.verifier.specs.declared.refusal.Refusal.{Refusal}
+use Rattle.verifier.specs.declared.refusal.VerifyFault.TheVariants.{Refused}
 use Rattle.program.specs.Programs.{IsAccepted, IsProgramFault}
-use Rattle.program.specs.declared.fault.ProgramFault.TheVariants.{Refused}
+use Rattle.program.specs.declared.fault.ProgramFault.TheVariants.{Verify}
 use Rattle.clash_record.specs.declared.registrations.ProgramId.{ProgramId}
 use Rattle.upload_store.specs.declared.fault.UploadFault.{UploadFault}
 use Rattle.upload_store.specs.declared.fault.UploadFault.TheVariants.{Program, DigestClash, StoreFull, OutOfMemory}
+use Rattle.upload_store.specs.declared.store.Uploaded.{Uploaded}
+use Rattle.upload_store.specs.Faults.{upload_fault_number}
 use Rattle.upload_store.specs.Programs.{Programs, id_of, max_programs}
 
 -- the bytes spell code that the verifier doesn't accept
@@ -43,19 +47,15 @@ pub record Overflows (store : Programs) (bytes : List ℕ) : Type 0 where
   pub fresh : map.get store (id_of bytes) ≡ None
   pub full : map.len store ≡ max_programs
 
--- why bytes can't be kept; that memory ran out says nothing of them
+-- bytes can't be kept for this reason; running out of memory is no fault of the bytes
 abbrev pub IsUploadFault : Programs → List ℕ → UploadFault → Type 0
 IsUploadFault store bytes (Program fault) = IsProgramFault bytes fault
 IsUploadFault store bytes DigestClash = Clashes store bytes
 IsUploadFault store bytes StoreFull = Overflows store bytes
 IsUploadFault store bytes OutOfMemory = ⊥
 
--- a refusal tells why the bytes can't be kept, or that memory ran out
-abbrev pub IsUploadRefusal : Programs → List ℕ → UploadFault → Type 0
-IsUploadRefusal store bytes fault = IsUploadFault store bytes fault ⊎ (fault ≡ OutOfMemory)
-
--- what is told of bytes that are kept: they spell accepted code, which is safe, the id is theirs, and the store then
--- has the code under the id and is otherwise as it was
+-- the bytes are kept: they spell accepted code, which is safe, the id is theirs, and the store then has the code under
+-- the id and is otherwise unchanged
 pub record IsKept (before : Programs) (bytes : List ℕ) (id : ProgramId) (after : Programs) : Type 0 where
   pub code : List Insn
   pub accepted : IsAccepted bytes code
@@ -65,13 +65,20 @@ pub record IsKept (before : Programs) (bytes : List ℕ) (id : ProgramId) (after
   pub inserted : after ≡ map.insert before id code
   pub found : map.get after id ≡ Some code
 
--- ---- answers, where memory may run out
+-- ---- uploads with the number of instructions
 
--- the answer is this one, or memory ran out
-abbrev pub UploadAnswers : Result ProgramId UploadFault → Result ProgramId UploadFault → Type 0
-UploadAnswers result due = (result ≡ due) ⊎ (result ≡ Err OutOfMemory)
+-- the id and the number of instructions of code
+abbrev pub uploaded_as : ProgramId → List Insn → Uploaded
+uploaded_as id code = record { id = id; len = length code }
 
--- the answer is a refusal by the verifier, or memory ran out
-abbrev pub IsRejection : Result ProgramId UploadFault → Type 0
+-- the bytes are kept, and the upload counts the instructions of their code
+pub record IsUploaded (before : Programs) (bytes : List ℕ) (uploaded : Uploaded) (after : Programs) : Type 0 where
+  pub kept : IsKept before bytes uploaded.id after
+  pub counted : uploaded.len ≡ length kept.code
+
+-- ---- rejections
+
+-- the verifier rejects the bytes, or memory runs out
+abbrev pub IsRejection : {A : Type 0} → Result A UploadFault → Type 0
 IsRejection result =
-    ((refusal : Refusal) × (result ≡ Err (Program (Refused refusal)))) ⊎ (result ≡ Err OutOfMemory)
+    ((refusal : Refusal) × (result ≡ Err (Program (Verify (Refused refusal))))) ⊎ RanOut upload_fault_number result

@@ -1,25 +1,26 @@
-//! Why an upload was refused.
+//! The faults of uploads.
 ghost use Rattle.std.specs.Prelude.{◌≡◌};
-ghost use Rattle.upload_store.specs.Faults.{of_program, upload_fault_number, upload_fault_place};
+ghost use Rattle.upload_store.specs.Faults.{upload_fault_number, upload_fault_place};
+ghost use Rattle.upload_store.specs.declared.fault.UploadFault.TheVariants.{Program};
 
-use numbered::{Numbered, Place};
+use numbered::{Numbered, OUT_OF_MEMORY, Place, words_of};
 use program::ProgramFault;
 use thiserror::Error;
 
-/// Why bytes were not taken into a store.
+/// The reason why a store did not take bytes.
 #[derive(Clone, Copy, Debug, PartialEq, Eq, Error)]
 pub enum UploadFault {
-    /// The bytes are no program that the verifier accepts. Want of memory isn't told by this, but by `OutOfMemory`.
+    /// The bytes aren't a program that the verifier accepts, or memory ran out while reading them.
     #[error(transparent)]
     Program(ProgramFault),
-    /// Other bytes are kept under the digest of these.
-    #[error("other bytes are kept under this digest")]
+    /// The store has other code with the same digest.
+    #[error("{}", words_of(self.number()))]
     DigestClash,
-    /// The store has as many programs as it holds.
-    #[error("the store is full")]
+    /// The store is full.
+    #[error("{}", words_of(self.number()))]
     StoreFull,
-    /// Memory ran out.
-    #[error("out of memory")]
+    /// Memory ran out while keeping the program.
+    #[error("{}", words_of(OUT_OF_MEMORY))]
     OutOfMemory,
 }
 
@@ -33,7 +34,7 @@ impl Numbered for UploadFault {
             UploadFault::Program(fault) => fault.number(),
             UploadFault::DigestClash => 42,
             UploadFault::StoreFull => 43,
-            UploadFault::OutOfMemory => 90,
+            UploadFault::OutOfMemory => OUT_OF_MEMORY,
         }
     }
 
@@ -46,12 +47,9 @@ impl Numbered for UploadFault {
 }
 
 impl From<ProgramFault> for UploadFault {
-    ghost from_gives = { λ fault converted. converted ≡ of_program fault };
+    ghost from_gives = { λ fault converted. converted ≡ Program fault };
 
     fn from(fault: ProgramFault) -> UploadFault {
-        match fault {
-            ProgramFault::OutOfMemory => UploadFault::OutOfMemory,
-            _ => UploadFault::Program(fault),
-        }
+        UploadFault::Program(fault)
     }
 }

@@ -1,8 +1,8 @@
-//! The store of uploaded programs: safe code by the digest of its bytes.
+//! Keeps uploaded programs: safe code under the digest of its bytes.
 #![tactic(auto)]
 
 mod fault;
 mod store;
 
 pub use fault::UploadFault;
-pub use store::{MAX_PROGRAMS, UploadStore};
+pub use store::{MAX_PROGRAMS, UploadStore, Uploaded};

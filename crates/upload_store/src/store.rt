@@ -1,12 +1,13 @@
 //! The store.
-ghost use Rattle.std.specs.Prelude.{◌≡◌, ◌≤◌, Ok, Err, IfOk, IfErr, IfSome, OnOk, OnErr};
+ghost use Rattle.std.specs.Prelude.{◌≡◌, ◌≤◌, ◌↔◌, IsTrue, Ok, Err, IfOk, IfErr, IfSome, OnOk, OnErr};
 ghost use Rattle.std.specs.Option.{option_map};
 ghost use Rattle.std.specs.Arc.{arc_value};
 ghost use Rattle.std.specs.FinMap as map;
+ghost use Rattle.numbered.specs.Answers.{HasCause, ReturnsOrRunsOut};
 ghost use Rattle.upload_store.specs.declared.fault.UploadFault.{UploadFault};
 ghost use Rattle.upload_store.specs.Programs.{IsProgram, id_of};
-ghost use Rattle.upload_store.specs.Uploads.{Fits, HasPlace, IsKept, IsRejection, IsUnaccepted, IsUploadFault};
-ghost use Rattle.upload_store.specs.Uploads.{IsUploadRefusal, UploadAnswers};
+ghost use Rattle.upload_store.specs.Uploads.{uploaded_as, Fits, HasPlace, IsKept, IsRejection, IsUnaccepted, IsUploadFault, IsUploaded};
+ghost use Rattle.upload_store.specs.Faults.{upload_fault_number};
 ghost use Rattle.upload_store.specs.model.Keeping.{IsKeepingFault};
 
 use crate::fault::UploadFault;
@@ -23,18 +24,27 @@ use verifier::Verified;
 /// The most programs that a store holds.
 pub const MAX_PROGRAMS: usize = 256;
 
+/// The id of an uploaded program, and the number of its instructions.
+#[derive(Clone, Copy, Debug, PartialEq, Eq)]
+pub struct Uploaded {
+    /// The id: the SHA-256 digest of the program's bytes.
+    pub id: ProgramId,
+    /// The number of instructions.
+    pub len: usize,
+}
+
 /// At most 256 uploaded programs: safe code, each under the SHA-256 digest of the bytes that spell it (FIPS 180-4).
 ///
-/// A contract sees it as the finite map from ids to code.
-#[derive(Drop)]
+/// Contracts see it as the finite map from ids to code.
+#[derive(Debug, Drop)]
 pub struct UploadStore {
     programs: BTreeMap<ProgramId, Arc<Verified>>,
 }
 
 impl Model for UploadStore {
     ghost use Rattle.std.specs.Arc.{arc_value};
-    ghost use Rattle.upload_store.specs.Programs.{Programs};
-    ghost use Rattle.upload_store.specs.model.Keeping.{coded_programs, programs_by, AreKept};
+    ghost use Rattle.upload_store.specs.Programs.{programs_by, Programs};
+    ghost use Rattle.upload_store.specs.model.Keeping.{coded_programs, AreKept};
 
     ghost Value = { Programs };
 
@@ -46,7 +56,7 @@ impl Model for UploadStore {
 }
 
 impl UploadStore {
-    /// A store without programs. Takes no memory.
+    /// Creates a store without programs. Allocates nothing.
     pub fn new(alloc: Global) -> UploadStore
         ensures { result ≡ map.empty }
     {
@@ -55,7 +65,7 @@ impl UploadStore {
         }
     }
 
-    /// How many programs it has, at most 256. Takes no memory.
+    /// Returns the number of programs, at most 256. Allocates nothing.
     pub fn len(&self) -> usize
         ensures count { result ≡ map.len self.now }
         ensures few { result ≤ MAX_PROGRAMS }
@@ -63,59 +73,91 @@ impl UploadStore {
         self.programs.len()
     }
 
-    /// The program with this id, if it has one. Takes no memory.
+    /// Returns whether it has no program. Allocates nothing.
+    pub fn is_empty(&self) -> bool
+        ensures { IsTrue result ↔ (map.len self.now ≡ 0) }
+    {
+        self.programs.is_empty()
+    }
+
+    /// Returns the program with this id, if any. Allocates nothing.
     pub fn get(&self, id: &ProgramId) -> Option<&Arc<Verified>>
         ensures code { option_map (λ program. arc_value program.now) result ≡ map.get self.now id.now }
-        // What it has under an id is safe code, and the bytes that spell it have this id.
+        // It is safe code, and the bytes that spell it are accepted and have this id.
         ensures program { IfSome result (λ program. IsProgram id.now (arc_value program.now)) }
     {
         self.programs.get(id)
     }
 
-    /// Keeps the program that these bytes spell under their SHA-256 digest, which is its id (FIPS 180-4).
+    /// Keeps the program that these bytes spell, and returns its id: the SHA-256 digest of the bytes (FIPS 180-4).
     ///
-    /// Bytes that are kept already answer their id again, also in a full store. Refusals are 1 to 7 for bytes that are
-    /// no code, 10 to 26 for code that fails a rule of the verifier, 42 where other code is kept under the id, and 43
-    /// where the store is full; the least that stands is answered. 90 is answered where memory runs out: it takes some
-    /// to read and to check the bytes and to keep one program, all before the store changes.
+    /// Bytes that are already kept return their id again, also in a full store. Rejects bytes that spell no code (1 to
+    /// 7), code that breaks a rule of the verifier (10 to 26), an id that other code has (42) and a new program in a full
+    /// store (43), with the least of these numbers. Returns 90 when out of memory: it allocates the code, the states of
+    /// the verifier and one entry. A refused call changes nothing.
     pub fn upload(&mut self, alloc: Global, bytes: &[u8]) -> Result<ProgramId, UploadFault>
-        // The bytes spell accepted code, the id is their digest, and the store is as it was but for that code.
+        // The bytes spell accepted code, the id is their digest, and the store is unchanged but for that code.
         ensures kept { IfOk result (λ id. IsKept self.old bytes.now id self.new) }
         // Accepted code that has a place is kept, unless memory runs out.
-        ensures taken { Fits self.old bytes.now → UploadAnswers result (Ok (id_of bytes.now)) }
-        // A refusal has its cause, and leaves the store as it was.
-        ensures refused { IfErr result (IsUploadRefusal self.old bytes.now) }
+        ensures taken { Fits self.old bytes.now → ReturnsOrRunsOut upload_fault_number result (Ok (id_of bytes.now)) }
+        // A refusal has its cause, and leaves the store unchanged.
+        ensures refused { IfErr result (HasCause upload_fault_number (IsUploadFault self.old bytes.now)) }
         ensures unchanged { OnErr result (self.new ≡ self.old) }
-        // Each cause has its refusal, unless memory runs out: what is wrong with the bytes, other code under their id,
-        // and a new id where the store is full.
-        ensures told { (f : UploadFault) → IsUploadFault self.old bytes.now f → UploadAnswers result (Err f) }
-        // Code that isn't accepted is refused by a rule.
+        // Each cause has its refusal, unless memory runs out: a fault of the bytes, other code under their id, and a new
+        // id in a full store.
+        ensures told { (f : UploadFault) → IsUploadFault self.old bytes.now f
+            → ReturnsOrRunsOut upload_fault_number result (Err f) }
+        // Code that the verifier doesn't accept is refused by a rule.
         ensures rejected { IsUnaccepted bytes.now → IsRejection result }
     {
-        // For the prover alone: bytes are read in one way.
+        let uploaded = self.upload_program(alloc, bytes)?;
+        Ok(uploaded.id)
+    }
+
+    /// Keeps a program like `upload`, and also returns the number of its instructions.
+    pub fn upload_program(&mut self, alloc: Global, bytes: &[u8]) -> Result<Uploaded, UploadFault>
+        // The bytes are kept as by `upload`, and the count is that of their code.
+        ensures kept { IfOk result (λ uploaded. IsUploaded self.old bytes.now uploaded self.new) }
+        // Accepted code that has a place is kept, unless memory runs out.
+        ensures taken { (fits : Fits self.old bytes.now)
+            → ReturnsOrRunsOut upload_fault_number result (Ok (uploaded_as (id_of bytes.now) fits.code)) }
+        // A refusal has its cause, and leaves the store unchanged.
+        ensures refused { IfErr result (HasCause upload_fault_number (IsUploadFault self.old bytes.now)) }
+        ensures unchanged { OnErr result (self.new ≡ self.old) }
+        // Each cause has its refusal, unless memory runs out.
+        ensures told { (f : UploadFault) → IsUploadFault self.old bytes.now f
+            → ReturnsOrRunsOut upload_fault_number result (Err f) }
+        // Code that the verifier doesn't accept is refused by a rule.
+        ensures rejected { IsUnaccepted bytes.now → IsRejection result }
+    {
+        // For the proof: bytes have one reading.
         one_reading_theorem();
         let program = read_program(alloc, bytes)?;
         let id = ProgramId(Sha256::digest(bytes));
         self.keep(alloc, id, program)
     }
 
-    // Keeps a program under its id, unless other code is there or it finds no room.
+    // Keeps a program under its id, unless other code has the id or the store is full.
     fn keep(
         &mut self,
         alloc: Global,
         id: ProgramId,
         program: Verified,
-    ) -> Result<ProgramId, UploadFault>
+    ) -> Result<Uploaded, UploadFault>
         requires { IsProgram id program }
-        ensures answer { IfOk result (λ answer. answer ≡ id) }
+        ensures answer { IfOk result (λ uploaded. uploaded ≡ uploaded_as id program) }
         ensures place { OnOk result (HasPlace self.old id program) }
         ensures kept { OnOk result (self.new ≡ map.insert self.old id program) }
-        ensures refused { IfErr result (IsKeepingFault self.old id program) }
+        ensures refused { IfErr result (HasCause upload_fault_number (IsKeepingFault self.old id program)) }
         ensures unchanged { OnErr result (self.new ≡ self.old) }
     {
+        let uploaded = Uploaded {
+            id,
+            len: program.code().len(),
+        };
         if let Some(kept) = self.programs.get(&id) {
             if kept.code() == program.code() {
-                return Ok(id);
+                return Ok(uploaded);
             }
             return Err(UploadFault::DigestClash);
         }
@@ -126,7 +168,7 @@ impl UploadStore {
             return Err(UploadFault::OutOfMemory);
         };
         match self.programs.insert(id, program) {
-            Ok(_) => Ok(id),
+            Ok(_) => Ok(uploaded),
             Err(_) => Err(UploadFault::OutOfMemory),
         }
     }

@@ -19,15 +19,15 @@ use atomic_table::Table;
 use once_cell::race::OnceBox;
 use partition_table::{ClashList, Ruling, Verdict};
 use std::alloc::{AllocError, Global};
+use std::fmt;
 use std::marker::Model;
 
-// The most numbers that a seat draws in a round. One of them is past the count of clashes.
+// The maximum number of draws of a seat in a round. One of them is past the count of clashes.
 const MOST_DRAWN: u32 = 4097;
 
 /// The draws and the verdicts of one exchange.
 ///
-/// The cell of a clash holds the word of the verdict that was posted first. The ruling is made again from that word,
-/// by a run of the resolver.
+/// The cell of a clash holds the word of its first verdict. `read` runs the resolver at that word to return the ruling.
 #[derive(Drop)]
 pub struct Board<'p> {
     site: Site<'p>,
@@ -58,9 +58,10 @@ impl<'p> Model for Board<'p> {
         × (b.words.shared.table_id.words ≡ 4) × (b.words.shared.table_id.slots ≡ 0) };
 }
 
-/// The board of an exchange with this number, this seed and these clashes, and its seats, which have drawn nothing.
+/// Opens the board of an exchange with this number, seed and clashes. Returns it with its seats, which have drawn
+/// nothing.
 ///
-/// It asks for 1 to 16 seats. Takes memory for one cell a clash.
+/// Requires 1 to 16 seats. Allocates one cell for each clash.
 pub fn open<'p>(
     alloc: Global,
     number: u64,
@@ -97,29 +98,39 @@ pub fn open<'p>(
     Ok((board, all))
 }
 
+impl<'p> fmt::Debug for Board<'p> {
+    fn fmt<W: fmt::Write>(&self, f: &mut fmt::Formatter<W>) -> fmt::Result {
+        f.debug_struct("Board")
+            .field("number", &self.site.number)
+            .field("seed", &self.site.seed)
+            .field("seats", &self.seats)
+            .finish()
+    }
+}
+
 impl<'p> Board<'p> {
-    /// The number of the exchange.
+    /// Returns the number of the exchange.
     pub fn number(&self) -> u64
         ensures { result ≡ self.now.place.number }
     {
         self.site.number
     }
 
-    /// The seed of the exchange.
+    /// Returns the seed of the exchange.
     pub fn seed(&self) -> u64
         ensures { result ≡ self.now.place.seed }
     {
         self.site.seed
     }
 
-    /// The clashes of the exchange.
+    /// Returns the clashes of the exchange.
     pub fn clashes(&self) -> &'p ClashList
         ensures { result.now ≡ self.entry.now.place.clashes }
     {
         self.site.clashes
     }
 
-    /// A pass that has seen nothing.
+    /// Returns a pass that has seen nothing. Allocates one note for each clash.
     pub fn pass(&self) -> Result<Pass<'p>, AllocError>
         ensures board { IfOk result (λ pass. pass.place ≡ self.now.place) }
         ensures nothing { IfOk result (λ pass. (k : ℕ) → seen pass k ≡ None) }
@@ -131,9 +142,9 @@ impl<'p> Board<'p> {
         Ok(Pass::new(self.site, notes))
     }
 
-    /// Draws the next number of a round, counted from 0. Below the count of clashes it is a clash's place.
+    /// Draws the next number of a round, counted from 0. Below the count of clashes it is the position of a clash.
     ///
-    /// It asks for a seat of this board, and for a round from 0 to 3. It waits for nobody.
+    /// Requires a seat of this board and a round from 0 to 3. Never waits.
     pub fn draw(&self, seat: &mut Seat, round: u32) -> Draw
         requires board { seat.old.draws ≡ self.now.draws }
         requires round { round < 4 }
@@ -156,10 +167,10 @@ impl<'p> Board<'p> {
         }
     }
 
-    /// Posts a verdict of clash `k`, and says what the pass has then seen of that clash.
+    /// Posts a verdict of clash `k` and returns what the pass has then seen of that clash.
     ///
-    /// It asks for a pass of this board, and for a verdict of clash `k` at one of its four words. Where no verdict was
-    /// posted before, this one is kept, and where memory is refused, none is. It waits for nobody.
+    /// Requires a pass of this board, and a verdict of clash `k` at one of its four words. Keeps the verdict if it is
+    /// the first; keeps nothing if an allocation fails. Never waits.
     pub fn post(&self, k: u32, verdict: Verdict<'p>, pass: &mut Pass<'p>) -> Posted<'p>
         requires board { pass.old.place ≡ self.now.place }
         requires clash { slice_get self.now.place.clashes k ≡ Some (clash_of_verdict verdict) }
@@ -176,9 +187,9 @@ impl<'p> Board<'p> {
         }
     }
 
-    /// The ruling of clash `k`, if there is one. What a pass has seen it sees again. Past the count there is none.
+    /// Returns the ruling of clash `k`, if any. A pass that has seen a ruling sees it again. Returns none past the count.
     ///
-    /// It asks for a pass of this board. It runs the resolver of the clash, takes no memory and waits for nobody.
+    /// Requires a pass of this board. Runs the clash's resolver, allocates nothing and never waits.
     pub fn read(&self, k: u32, pass: &mut Pass<'p>) -> Option<Ruling<'p>>
         requires board { pass.old.place ≡ self.now.place }
         ensures answer { option_map as_ruling result ≡ seen pass.new k }
@@ -189,10 +200,10 @@ impl<'p> Board<'p> {
         self.site.ruling(k, word)
     }
 
-    /// Takes all seats back, and tells how many numbers were drawn in each round. What was drawn in a round are the
-    /// numbers below its count, each once.
+    /// Takes all seats and returns the number of draws in each round. The numbers drawn in a round are those below its
+    /// count, each once.
     ///
-    /// It asks for all seats of this board.
+    /// Requires all seats of this board.
     pub fn gather(&self, seats: Vec<Seat>) -> [u64; 4]
         requires all { vec_len seats ≡ self.now.seats }
         requires board { All (λ seat. seat.draws ≡ self.now.draws) seats.items }

@@ -10,7 +10,7 @@ use std::alloc::{AllocError, Global};
 
 pub(crate) type DrawWords = Shared<(), Hand, u64, GivenOnce>;
 
-// So many seats, of the one that has all parts.
+// Splits the seat that has all parts into this many.
 pub(crate) fn deal(
     alloc: Global,
     words: &DrawWords,
@@ -34,7 +34,7 @@ pub(crate) fn deal(
     Ok(all)
 }
 
-// The seats as one, with what all drew.
+// Joins the seats into one, with the draws of all.
 pub(crate) fn join_all(words: &DrawWords, seats: Vec<Seat>) -> Token
     requires some { 0 < vec_len seats }
     requires words { All (λ s. s.draws ≡ words.now.table_id) seats.items × (0 < words.now.table_id.words) }
@@ -53,7 +53,7 @@ pub(crate) fn join_all(words: &DrawWords, seats: Vec<Seat>) -> Token
     all
 }
 
-// How many numbers were drawn in a round, for who has all parts.
+// Returns the number of draws in a round, for the owner of all parts.
 pub(crate) fn drawn_in(words: &DrawWords, all: &mut Token, round: usize) -> u64
     requires words { (all.old.table_id ≡ words.now.table_id) × (words.now.table_id.words ≡ 4) }
     requires whole { (all.old.me.0.parts ≡ words.now.key) × (all.old.me.1 ≡ []) }

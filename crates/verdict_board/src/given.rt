@@ -5,7 +5,7 @@ ghost use Rattle.verdict_board.specs.model.Given.{hand, Given, Drew, Counted};
 use atomic_table::{Join, Play, Split, TableRule};
 use std::collections::LinkedList;
 
-// What a seat has drawn, and its parts of the right to know what all drew. No value of it is made.
+// The draws of a seat, and its parts of the right to know all draws. A type of the proof: no value of it exists.
 pub(crate) struct Hand {
     pub parts: u64,
     pub drawn: LinkedList<(u64, u64)>,
@@ -27,7 +27,7 @@ impl Play<(), Hand> for Took {
     ghost then = { Drew };
 }
 
-// Who has every part looks at a word.
+// The owner of every part reads a word.
 pub(crate) struct Looked;
 
 impl Play<(), Hand> for Looked {

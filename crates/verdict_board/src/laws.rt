@@ -1,12 +1,12 @@
-//! The law of what is seen of a board.
+//! The law of what a pass sees.
 ghost use Rattle.std.specs.Prelude.{◌≡◌, ℕ, ◌<◌, Some, IsTrue, slice_get};
 ghost use Rattle.exchange_core.specs.Sides.{Offer, is_lawful};
 ghost use Rattle.exchange_core.specs.Worlds.{Ruling, clashes_between, ruling_on};
 ghost use Rattle.verdict_board.specs.Boards.{Pass, seen, IsBoardOf};
 
-/// What a pass has seen of a clash is a ruling that a judging step of the exchange adds.
+/// States that what a pass has seen of a clash is a ruling that a judging step of the exchange adds.
 ///
-/// It does nothing when it runs: its contract is the law.
+/// Does nothing at run time: its contract is the law.
 pub fn seen_theorem()
     // Where the board was opened with the number, the seed and the clashes of two offers, it is what some judging step
     // adds.

@@ -1,6 +1,6 @@
-//! A board of verdicts: seats that draw the clashes of an exchange, and passes that post verdicts and read rulings.
+//! A board of verdicts: seats draw the clashes of an exchange, and passes post verdicts and read rulings.
 //!
-//! Drawing, posting and reading wait for nobody.
+//! Drawing, posting and reading never wait.
 #![tactic(auto)]
 
 mod board;

@@ -1,4 +1,4 @@
-//! What one caller has seen of a board.
+//! Passes: what one caller has seen of a board.
 ghost use Rattle.std.specs.Prelude.{◌≡◌, ℕ, ◌<◌, ◌≤◌, List, map, length, slice_index, IfSome};
 ghost use Rattle.std.specs.declared.option.Option.TheVariants.{None, Some};
 ghost use Rattle.once_cell.specs.Once.{cell_name};
@@ -8,9 +8,10 @@ ghost use Rattle.verdict_board.specs.model.Places.{place_of, names, words};
 use crate::site::Site;
 use once_cell::race::{Note, OnceBox};
 use std::alloc::Global;
+use std::fmt;
 use std::marker::Model;
 
-/// What one caller has seen of a board. A contract sees it as the ruling, if any, that it has seen of each clash.
+/// What one caller has seen of a board. Contracts see it as the ruling, if any, that it has seen of each clash.
 #[derive(Drop)]
 pub struct Pass<'p> {
     site: Site<'p>,
@@ -26,6 +27,15 @@ impl<'p> Model for Pass<'p> {
     ghost view = { λ p. pass_of p.site.number p.site.seed p.site.clashes.now p.notes.items };
 }
 
+impl<'p> fmt::Debug for Pass<'p> {
+    fn fmt<W: fmt::Write>(&self, f: &mut fmt::Formatter<W>) -> fmt::Result {
+        f.debug_struct("Pass")
+            .field("number", &self.site.number)
+            .field("seed", &self.site.seed)
+            .finish()
+    }
+}
+
 impl<'p> Pass<'p> {
     pub(crate) fn new(site: Site<'p>, notes: Vec<Note<u64>>) -> Pass<'p>
         ensures place { result.place
@@ -35,7 +45,7 @@ impl<'p> Pass<'p> {
         Pass { site, notes }
     }
 
-    // The word of clash k, if there is one.
+    // Returns the word of clash k, if any.
     pub(crate) fn look(&mut self, cell: &OnceBox<u64>, k: usize) -> Option<u64>
         requires inside { k < length self.old.place.cells }
         requires cell { slice_index self.old.place.cells k ≡ cell_name cell.now }
@@ -46,7 +56,7 @@ impl<'p> Pass<'p> {
         Some(*found)
     }
 
-    // The word of clash k, which is this one where there was none. None only if memory is refused.
+    // Returns the word of clash k after offering this one. Returns none only if an allocation fails.
     pub(crate) fn offer(
         &mut self,
         alloc: Global,
@@ -66,9 +76,9 @@ impl<'p> Pass<'p> {
         Some(*found)
     }
 
-    /// Two passes of one board that have both seen clash `k` have seen the same ruling of it.
+    /// States that two passes of one board which have both seen clash `k` have seen the same ruling of it.
     ///
-    /// It does nothing when it runs: its contract is the law.
+    /// Does nothing at run time: its contract is the law.
     pub fn agree(&mut self, other: &mut Pass<'p>, k: u32)
         requires { self.old.place ≡ other.old.place }
         ensures same { (self.new ≡ self.old) × (other.new ≡ other.old) }

@@ -1,13 +1,13 @@
-//! What a post answers.
+//! The outcome of a post.
 use partition_table::Verdict;
 
-/// What a pass has seen of a clash once it posted a verdict of it.
-#[derive(Clone, Copy)]
+/// What a pass has seen of a clash after it posted a verdict of the clash.
+#[derive(Clone, Copy, Debug)]
 pub enum Posted<'p> {
     /// The posted verdict.
     Kept,
     /// A verdict at another word.
     Earlier,
-    /// Nothing, since memory was refused. The posted verdict is handed back.
+    /// Nothing, since an allocation failed. Returns the posted verdict.
     Refused(Verdict<'p>),
 }

@@ -3,15 +3,16 @@ ghost use Rattle.std.specs.Prelude.{◌≡◌, []};
 ghost use Rattle.verdict_board.specs.model.Given.{hand};
 
 use crate::given::Hand;
+use std::fmt;
 use std::marker::Model;
 
 pub(crate) type Token = atomic_table::Seat<(), Hand>;
 
-/// One of a board's seats. A contract sees it as the draws that it made, and whose they are.
+/// A seat of a board. Contracts see it as the draws that it made and the board that they belong to.
 #[derive(Drop)]
 pub struct Seat {
     pub(crate) token: Token,
-    // How many numbers it drew in each round.
+    // The number of draws in each round.
     pub(crate) used: [u32; 4],
 }
 
@@ -27,6 +28,12 @@ impl Model for Seat {
     ghost invariant = { λ s. (s.token.me ≡ (hand 1 s.token.me.0.drawn, [])) × ((round : ℕ) → round < 4
         → (slice_index s.used round ≡ taken round s.token.me.0.drawn)
         × (taken round s.token.me.0.drawn ≤ most_drawn)) };
+}
+
+impl fmt::Debug for Seat {
+    fn fmt<W: fmt::Write>(&self, f: &mut fmt::Formatter<W>) -> fmt::Result {
+        f.debug_struct("Seat").field("used", &self.used).finish()
+    }
 }
 
 impl Seat {

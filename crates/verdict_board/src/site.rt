@@ -1,4 +1,4 @@
-//! Whose clashes a board is of, and their rulings.
+//! The exchange of a board, and the rulings of its clashes.
 ghost use Rattle.std.specs.Prelude.{◌≡◌, length};
 ghost use Rattle.std.specs.Option.{option_map};
 ghost use Rattle.exchange_core.specs.Sides.{is_one_of_four};
@@ -15,7 +15,7 @@ pub(crate) struct Site<'p> {
 }
 
 impl<'p> Site<'p> {
-    // Whether the word is one of the four of clash k.
+    // Checks whether the word is one of the four of clash k.
     pub(crate) fn is_word(self, k: u32, found: u64) -> bool
         ensures { result ≡ is_one_of_four found self.entry.seed (length self.entry.clashes.now) k }
     {
@@ -26,7 +26,7 @@ impl<'p> Site<'p> {
             || found == word(self.seed, 3, count, k)
     }
 
-    // The ruling of clash k at the word, where it is one of its four. Runs the resolver.
+    // Returns the ruling of clash k at the word, if the word is one of its four. Runs the resolver.
     pub(crate) fn ruling(self, k: u32, word: u64) -> Option<Ruling<'p>>
         ensures { option_map as_ruling result
             ≡ ruling_at self.entry.number self.entry.seed self.entry.clashes.now k word }

@@ -1,4 +1,4 @@
--- What fulfils the rules over one domain does so over each that knows no less.
+-- Code that fulfils the rules over one domain fulfils them over every more precise one.
 use Rattle.std.proofs.Common.{◌≡◌, ℕ, ◌+◌, ◌-◌, ◌^◌, Bool, true, false, cond, ◌==◌, ◌&&◌, ◌||◌, refl, ap, ap₂, ◌∙◌, sym, subst, List, [], ◌∷◌, Option, Some, None, ℤ}
 use Rattle.std.specs.Prelude.{IsTrue, pos, ◌-ℤ◌, nat_le, not}
 use Rattle.std.specs.List.{list_all}
@@ -24,7 +24,7 @@ use Rattle.abstract_value.specs.declared.states.Span.{Span}
 use Rattle.abstract_value.specs.declared.states.RegState.{RegState}
 use Rattle.abstract_value.specs.declared.states.RegState.TheVariants.{Scalar, Record, Stack, Unreadable}
 use Rattle.verifier.specs.declared.rule.Rule.{Rule}
-use Rattle.verifier.specs.declared.rule.Rule.TheVariants.{Backward, Outside, IntoWide, FallsOff, NoEdge, Unreadable as unreadable_rule, WritesR10, PointerOperation, PointerRange, PointerCompared, PointerStored, OutsideRecord, WritesRecord, OutsideStack, UnwrittenStack, ScalarAddress, PointerResult}
+use Rattle.verifier.specs.declared.rule.Rule.TheVariants.{Backward, Outside, IntoWide, FallsOff, NoEdge, Unreadable as UnreadableRule, WritesR10, PointerOperation, PointerRange, PointerCompared, PointerStored, OutsideRecord, WritesRecord, OutsideStack, UnwrittenStack, ScalarAddress, PointerResult}
 use Rattle.verifier.specs.Structure.{leads_to}
 use Rattle.verifier.specs.Rules.{is_readable, is_pointer, is_scalar, reads, operand, steps_of, moved_by, moved_span, is_move, pointers_fit, sum_in_range, operation_in_range, Access, access_of, inside_record, spares_record, inside_stack, finds_written, of_access, meets_operation, meets_range, meets_comparison, meets_stored, meets_result, meets_for, PassesFor, to_record, to_stack, sum_of, of_scalar, of_scalars, result_of, after_store, cut_one, cut_both, refined_imm, refined_pair, on_edge, fall, jump}
 use Rattle.verifier.specs.Assignments.{Assignment, Carries, EdgeCarries, FulfilsBeforeFor, IsTypableFor}
@@ -195,7 +195,7 @@ module _ {D E : Type 0} {o : Ops D} {p : Ops E} (laws : Laws p) (wide : Widens o
 
   meets_same : (len : ℕ) (i : Insn) (s : View D) (rule : Rule)
       → meets_for len p i (lift_view wide.lift s) rule ≡ meets_for len o i s rule
-  meets_same len i s unreadable_rule =
+  meets_same len i s UnreadableRule =
       all_same (λ r. is_readable (lift_register wide.lift (s.registers r))) (λ r. is_readable (s.registers r)) (reads i)
       (λ r. readable_same wide.lift (s.registers r))
   meets_same len i s WritesR10 = refl

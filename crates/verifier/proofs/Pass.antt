@@ -26,7 +26,7 @@ use Rattle.verifier.proofs.RuleOrder.{FlowBelow, passes_down, fall_up, jump_up}
 same_some : {X : Type 0} (a b : X) (x : Option X) → x ≡ Some a → x ≡ Some b → a ≡ b
 same_some a b x h k = cc
 
--- the first instruction stands at slot 0
+-- the first instruction is at slot 0
 pub insn_first : (code : List Insn) → 1 ≤ slot_count code → IsSome (insn_at code 0)
 insn_first [] h = absurd (omega arith)
 insn_first (i ∷ code) h = refl

@@ -5,7 +5,7 @@ use Rattle.std.specs.Int.{w16}
 use Rattle.std.proofs.lemmas.Int.{ints}
 use Rattle.instruction_set.specs.Machine.{Memory, Placement, IsPlacementFor, read_bytes, written, bytes_of, address_of, stack_len}
 use Rattle.instruction_set.specs.declared.insn.Size.{Size}
-use Rattle.instruction_set.specs.declared.insn.Size.TheVariants.{Byte as byte_size, Half, Word, Double}
+use Rattle.instruction_set.specs.declared.insn.Size.TheVariants.{Byte as ByteSize, Half, Word, Double}
 use Rattle.abstract_value.specs.Domain.{Ops}
 use Rattle.abstract_value.specs.StackBytes.{all_written, with_marks}
 use Rattle.abstract_value.specs.States.{View}
@@ -22,13 +22,13 @@ le_tells : (x y : ℤ) → int_le x y ≡ true → x ≤ℤ y
 le_tells x y h = grind (arith, ints)
 
 some_bytes : (size : Size) → 1 ≤ bytes_of size
-some_bytes byte_size = omega arith
+some_bytes ByteSize = omega arith
 some_bytes Half = omega arith
 some_bytes Word = omega arith
 some_bytes Double = omega arith
 
 pub size_bound : (size : Size) (v : ℕ) → v < 256 ^ bytes_of size → v < 2 ^ (8 * bytes_of size)
-size_bound byte_size v h = h
+size_bound ByteSize v h = h
 size_bound Half v h = h
 size_bound Word v h = h
 size_bound Double v h = h

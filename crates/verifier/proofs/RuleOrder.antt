@@ -25,7 +25,7 @@ use Rattle.abstract_value.specs.laws.OrderOfStates.{span_within}
 use Rattle.abstract_value.specs.declared.states.Span.{Span}
 use Rattle.abstract_value.specs.declared.states.RegState.{RegState}
 use Rattle.abstract_value.specs.declared.states.RegState.TheVariants.{Scalar}
-use Rattle.verifier.specs.declared.rule.Rule.TheVariants.{Backward, Outside, IntoWide, FallsOff, NoEdge, Unreadable as unreadable_rule, WritesR10, PointerOperation, PointerRange, PointerCompared, PointerStored, OutsideRecord, WritesRecord, OutsideStack, UnwrittenStack, ScalarAddress, PointerResult}
+use Rattle.verifier.specs.declared.rule.Rule.TheVariants.{Backward, Outside, IntoWide, FallsOff, NoEdge, Unreadable as UnreadableRule, WritesR10, PointerOperation, PointerRange, PointerCompared, PointerStored, OutsideRecord, WritesRecord, OutsideStack, UnwrittenStack, ScalarAddress, PointerResult}
 use Rattle.verifier.specs.Rules.{is_readable, is_pointer, is_scalar, reads, source_reads, operand, reach_of, whole, stack_index, is_written_at, Access, inside_record, spares_record, inside_stack, finds_written, of_access, meets, Passes, operation_in_range, result_of, marks, after_store, cut_one, cut_both, refined_imm, refined_pair, on_edge, fall, jump}
 use Rattle.verifier.proofs.Accesses.{whole_of}
 use Rattle.verifier.proofs.Moves.{truth, is_mov}
@@ -177,7 +177,7 @@ module _ {D : Type 0} {o : Ops D} (laws : Laws o) (s t : View D) (below : ViewBe
       (laws.below_same (o.single (cast_unsigned w64 n)))
   operand_at (Reg r) h = readable_at r.number h
 
-  reads_down : (i : Insn) → IsTrue (meets o i t unreadable_rule) → IsTrue (meets o i s unreadable_rule)
+  reads_down : (i : Insn) → IsTrue (meets o i t UnreadableRule) → IsTrue (meets o i s UnreadableRule)
   reads_down i h = all_down (λ r. is_readable (s.registers r)) (λ r. is_readable (t.registers r)) (reads i)
       (λ r k. readable_down (readable_at r k)) h
 
@@ -188,11 +188,11 @@ module _ {D : Type 0} {o : Ops D} (laws : Laws o) (s t : View D) (below : ViewBe
       elim (truth (is_mov op)) [
         | inl n ↦ operand_at src (source_readable o t src (subst
             (λ rs. IsTrue (list_all (λ r. is_readable (t.registers r)) rs)) (reads_mov w op dst src n)
-            (p unreadable_rule)))
+            (p UnreadableRule)))
         | inr n ↦
             let h : IsTrue (list_all (λ r. is_readable (t.registers r)) (dst.number ∷ source_reads src)) =
             subst (λ rs. IsTrue (list_all (λ r. is_readable (t.registers r)) rs)) (reads_alu w op dst src n)
-            (p unreadable_rule) in
+            (p UnreadableRule) in
             operand_at src (source_readable o t src (both (is_readable (t.registers dst.number))
             (list_all (λ r. is_readable (t.registers r)) (source_reads src)) h).1)
       ]
@@ -202,7 +202,7 @@ module _ {D : Type 0} {o : Ops D} (laws : Laws o) (s t : View D) (below : ViewBe
   alu_target w op dst src n p =
       let h : IsTrue (list_all (λ r. is_readable (t.registers r)) (dst.number ∷ source_reads src)) =
       subst (λ rs. IsTrue (list_all (λ r. is_readable (t.registers r)) rs)) (reads_alu w op dst src n)
-      (p unreadable_rule) in
+      (p UnreadableRule) in
       readable_at dst.number (both (is_readable (t.registers dst.number))
       (list_all (λ r. is_readable (t.registers r)) (source_reads src)) h).0
 
@@ -222,12 +222,12 @@ module _ {D : Type 0} {o : Ops D} (laws : Laws o) (s t : View D) (below : ViewBe
       (λ n. same_pointer (alu_target w op dst src n p)) (same_pointer (alu_source w op dst src p)) in
       subst IsTrue (sym e) (p PointerOperation)
   operation_down (Neg w dst) p = same_not (is_pointer (s.registers dst.number)) (is_pointer (t.registers dst.number))
-      (same_pointer (first_at dst.number [] (p unreadable_rule))) (p PointerOperation)
+      (same_pointer (first_at dst.number [] (p UnreadableRule))) (p PointerOperation)
   operation_down (MovSx w bits dst src) p = same_not (is_pointer (s.registers src.number))
-      (is_pointer (t.registers src.number)) (same_pointer (first_at src.number [] (p unreadable_rule)))
+      (is_pointer (t.registers src.number)) (same_pointer (first_at src.number [] (p UnreadableRule)))
       (p PointerOperation)
   operation_down (End kind bits dst) p = same_not (is_pointer (s.registers dst.number))
-      (is_pointer (t.registers dst.number)) (same_pointer (first_at dst.number [] (p unreadable_rule)))
+      (is_pointer (t.registers dst.number)) (same_pointer (first_at dst.number [] (p UnreadableRule)))
       (p PointerOperation)
   operation_down i p = refl
 
@@ -241,8 +241,8 @@ module _ {D : Type 0} {o : Ops D} (laws : Laws o) (s t : View D) (below : ViewBe
 
   comparison_down : (i : Insn) → Passes o i t → IsTrue (meets o i s PointerCompared)
   comparison_down (JumpIf w test dst src distance) p =
-      let a = first_at dst.number (source_reads src) (p unreadable_rule) in
-      let b = operand_at src (source_readable o t src (rest_at dst.number (source_reads src) (p unreadable_rule))) in
+      let a = first_at dst.number (source_reads src) (p UnreadableRule) in
+      let b = operand_at src (source_readable o t src (rest_at dst.number (source_reads src) (p UnreadableRule))) in
       same_not (is_pointer (s.registers dst.number) || is_pointer (operand o s src))
       (is_pointer (t.registers dst.number) || is_pointer (operand o t src))
       (ap₂ (λ x y. x || y) (same_pointer a) (same_pointer b)) (p PointerCompared)
@@ -250,14 +250,14 @@ module _ {D : Type 0} {o : Ops D} (laws : Laws o) (s t : View D) (below : ViewBe
 
   stored_down : (i : Insn) → Passes o i t → IsTrue (meets o i s PointerStored)
   stored_down (Store size base offset src) p =
-      let a = first_at src.number [] (rest_at base.number (src.number ∷ []) (p unreadable_rule)) in
+      let a = first_at src.number [] (rest_at base.number (src.number ∷ []) (p UnreadableRule)) in
       same_not (is_pointer (s.registers src.number)) (is_pointer (t.registers src.number)) (same_pointer a)
       (p PointerStored)
   stored_down i p = refl
 
   result_down : (i : Insn) → Passes o i t → IsTrue (meets o i s PointerResult)
   result_down Exit p = same_not (is_pointer (s.registers 0)) (is_pointer (t.registers 0))
-      (same_pointer (first_at 0 [] (p unreadable_rule))) (p PointerResult)
+      (same_pointer (first_at 0 [] (p UnreadableRule))) (p PointerResult)
   result_down i p = refl
 
   -- a test of an access holds, if it holds of bases that are readable
@@ -271,30 +271,30 @@ module _ {D : Type 0} {o : Ops D} (laws : Laws o) (s t : View D) (below : ViewBe
     offset = offset;
     size = size;
     is_store = false;
-  }) (first_at base.number [] (p unreadable_rule)) (p OutsideStack) h
+  }) (first_at base.number [] (p UnreadableRule)) (p OutsideStack) h
   reach_down (LoadSx size dst base offset) f g p k h = k (record {
     base = base.number;
     offset = offset;
     size = size;
     is_store = false;
-  }) (first_at base.number [] (p unreadable_rule)) (p OutsideStack) h
+  }) (first_at base.number [] (p UnreadableRule)) (p OutsideStack) h
   reach_down (Store size base offset src) f g p k h = k (record {
     base = base.number;
     offset = offset;
     size = size;
     is_store = true;
-  }) (first_at base.number (src.number ∷ []) (p unreadable_rule)) (p OutsideStack) h
+  }) (first_at base.number (src.number ∷ []) (p UnreadableRule)) (p OutsideStack) h
   reach_down (StoreImm size base offset imm) f g p k h = k (record {
     base = base.number;
     offset = offset;
     size = size;
     is_store = true;
-  }) (first_at base.number [] (p unreadable_rule)) (p OutsideStack) h
+  }) (first_at base.number [] (p UnreadableRule)) (p OutsideStack) h
   reach_down i f g p k h = refl
 
   -- what passes passes in each state below
   pub passes_down : (i : Insn) → Passes o i t → Passes o i s
-  passes_down i p unreadable_rule = reads_down i (p unreadable_rule)
+  passes_down i p UnreadableRule = reads_down i (p UnreadableRule)
   passes_down i p WritesR10 = p WritesR10
   passes_down i p PointerOperation = operation_down i p
   passes_down i p PointerRange = ranges_down i p
@@ -413,11 +413,11 @@ module _ {D : Type 0} {o : Ops D} (laws : Laws o) (s t : View D) (below : ViewBe
       → Passes o (JumpIf w test dst src distance) t → FlowBelow o (on_edge o w test taken s dst.number src)
       (on_edge o w test taken t dst.number src)
   refined_up w test taken dst (Imm n) distance p = refined_imm_up w test taken dst.number (cast_unsigned w64 n)
-      (first_at laws s t below dst.number [] (p unreadable_rule))
+      (first_at laws s t below dst.number [] (p UnreadableRule))
   refined_up w test taken dst (Reg r) distance p =
-      let a = first_at laws s t below dst.number (r.number ∷ []) (p unreadable_rule) in
+      let a = first_at laws s t below dst.number (r.number ∷ []) (p UnreadableRule) in
       let b = first_at laws s t below r.number [] (rest_at laws s t below dst.number (r.number ∷ [])
-      (p unreadable_rule)) in
+      (p UnreadableRule)) in
       same_or_pair (dst.number == r.number) (refined_pair o w test taken s dst.number r.number (s.registers dst.number)
       (s.registers r.number)) (refined_pair o w test taken t dst.number r.number (t.registers dst.number)
       (t.registers r.number))
@@ -442,13 +442,13 @@ module _ {D : Type 0} {o : Ops D} (laws : Laws o) (s t : View D) (below : ViewBe
       (result_of o w op (t.registers dst.number) (operand o t src)) below (alu_up w op dst src p)
   fall_up (Neg w dst) l p = put_below o s t dst.number _ _ below
       (scalar_up laws (o.neg w) (o.neg w) (laws.neg_monotone w)
-      (first_at laws s t below dst.number [] (p unreadable_rule)))
+      (first_at laws s t below dst.number [] (p UnreadableRule)))
   fall_up (MovSx w bits dst src) l p = put_below o s t dst.number _ _ below
       (scalar_up laws (o.mov_sx w bits) (o.mov_sx w bits) (λ a b h. laws.mov_sx_monotone w bits a b l.selected h)
-      (first_at laws s t below src.number [] (p unreadable_rule)))
+      (first_at laws s t below src.number [] (p UnreadableRule)))
   fall_up (End kind bits dst) l p = put_below o s t dst.number _ _ below
       (scalar_up laws (o.end kind bits) (o.end kind bits) (λ a b h. laws.end_monotone kind bits a b l.selected h)
-      (first_at laws s t below dst.number [] (p unreadable_rule)))
+      (first_at laws s t below dst.number [] (p UnreadableRule)))
   fall_up (LoadWide dst value) l p = put_below o s t dst.number (Scalar (o.single value)) (Scalar (o.single value))
       below (laws.below_same (o.single value))
   fall_up (Load size dst base offset) l p = put_below o s t dst.number (Scalar (o.load size false))
@@ -460,14 +460,14 @@ module _ {D : Type 0} {o : Ops D} (laws : Laws o) (s t : View D) (below : ViewBe
     offset = offset;
     size = size;
     is_store = true;
-  }) below (first_at laws s t below base.number (src.number ∷ []) (p unreadable_rule))
+  }) below (first_at laws s t below base.number (src.number ∷ []) (p UnreadableRule))
       (p OutsideStack)
   fall_up (StoreImm size base offset imm) l p = stored_up s t (record {
     base = base.number;
     offset = offset;
     size = size;
     is_store = true;
-  }) below (first_at laws s t below base.number [] (p unreadable_rule)) (p OutsideStack)
+  }) below (first_at laws s t below base.number [] (p UnreadableRule)) (p OutsideStack)
   fall_up (Jump distance) l p = tt
   fall_up (JumpLong distance) l p = tt
   fall_up (JumpIf w test dst src distance) l p = refined_up w test false dst src distance p

@@ -22,7 +22,7 @@ use Rattle.abstract_value.specs.Domain.{Ops, Laws, Keeps}
 use Rattle.abstract_value.specs.States.{View, put, with_register}
 use Rattle.abstract_value.specs.declared.states.RegState.{RegState}
 use Rattle.abstract_value.specs.declared.states.RegState.TheVariants.{Scalar, Record, Stack, Unreadable}
-use Rattle.verifier.specs.declared.rule.Rule.TheVariants.{Unreadable as unreadable_rule, WritesR10, PointerOperation, PointerRange, PointerCompared, PointerStored, OutsideRecord, WritesRecord, OutsideStack, UnwrittenStack, ScalarAddress, PointerResult}
+use Rattle.verifier.specs.declared.rule.Rule.TheVariants.{Unreadable as UnreadableRule, WritesR10, PointerOperation, PointerRange, PointerCompared, PointerStored, OutsideRecord, WritesRecord, OutsideStack, UnwrittenStack, ScalarAddress, PointerResult}
 use Rattle.verifier.specs.Structure.{distance_of, forward_target, leads_to}
 use Rattle.verifier.specs.Rules.{is_readable, is_pointer, reads, source_reads, operand, PassesFor, of_scalar, of_scalars, result_of, cut_one, cut_both, refined_imm, refined_pair, on_edge, fall, jump}
 use Rattle.verifier.proofs.Tags.{Tag, num, ptr, raw, raw_option, Tagged, Matches, tells, word_at, with_tag, Covers, Covered, covers_put, covers_cut, NumberAt}
@@ -113,7 +113,7 @@ go_on p bytes t u m raw_slot slot e = (
   },
 )
 
--- a forward jump leads where it says
+-- a forward jump leads to its target
 target_is : (slot to : ℕ) (distance : ℤ) → forward_target slot (Some distance) ≡ Some to → to < 2 ^ 64
     → target slot distance ≡ to
 target_is slot to (pos n) e h = let f : slot + 1 + n ≡ to = cc in omega (arith, ints)
@@ -141,7 +141,7 @@ module _ {D : Type 0} {o : Ops D} (laws : Laws o) (bytes : List ℕ) (each : All
   alu_on w op dst src s t n f c p =
       let all : IsTrue (list_all (λ r. is_readable (s.registers r)) (dst.number ∷ source_reads src)) =
       subst (λ rs. IsTrue (list_all (λ r. is_readable (s.registers r)) rs)) (reads_alu w op dst src n)
-      (p unreadable_rule) in
+      (p UnreadableRule) in
       let q = both (is_readable (s.registers dst.number)) (list_all (λ r. is_readable (s.registers r))
       (source_reads src)) all in
       let b_readable = source_readable o s src q.1 in
@@ -169,7 +169,7 @@ module _ {D : Type 0} {o : Ops D} (laws : Laws o) (bytes : List ℕ) (each : All
   mov_on : (w : Width) (dst : Register) (src : Source) (s : View D) (t : Tagged) → SourceFits src → Covered o s t
       → PassesFor (length bytes) o (Alu w Mov dst src) s → Onward o bytes (Alu w Mov dst src) s t
   mov_on W64 dst src s t f c p =
-      let b_readable = source_readable o s src (p unreadable_rule) in
+      let b_readable = source_readable o s src (p UnreadableRule) in
       let b = operand o s src in
       let cb = covers_source s t c src f in
       let y = tag_of o b (source_tag t src) b_readable cb in
@@ -178,7 +178,7 @@ module _ {D : Type 0} {o : Ops D} (laws : Laws o) (bytes : List ℕ) (each : All
       (covered_with o s t dst.number b y.0 1 c cy)
       (goes_mov bytes W64 dst src t y.0 y.0 (free dst.number (p WritesR10)) y.1 (copied b y.0 b_readable cy))
   mov_on W32 dst src s t f c p =
-      let b_readable = source_readable o s src (p unreadable_rule) in
+      let b_readable = source_readable o s src (p UnreadableRule) in
       let b = operand o s src in
       let v = number_at o b (source_tag t src) b_readable (p PointerOperation) (covers_source s t c src f) in
       let z = num (alu_of W32 Mov v.word v.word) in
@@ -296,7 +296,7 @@ module _ {D : Type 0} {o : Ops D} (laws : Laws o) (bytes : List ℕ) (each : All
       → Onward o bytes (JumpIf w test dst src distance) s t
   jump_if_on w test dst src distance s t f c p fits to leads =
       let q = both (is_readable (s.registers dst.number)) (list_all (λ r. is_readable (s.registers r))
-      (source_reads src)) (p unreadable_rule) in
+      (source_reads src)) (p UnreadableRule) in
       let n = neither (is_pointer (s.registers dst.number)) (is_pointer (operand o s src)) (p PointerCompared) in
       let a = number_at o (s.registers dst.number) (t.registers dst.number) q.0 n.0 (c.registers dst.number) in
       let b = number_at o (operand o s src) (source_tag t src) (source_readable o s src q.1) n.1
@@ -342,7 +342,7 @@ module _ {D : Type 0} {o : Ops D} (laws : Laws o) (bytes : List ℕ) (each : All
       → Covered o s t → PassesFor (length bytes) o (StoreImm size base offset imm) s
       → Onward o bytes (StoreImm size base offset imm) s t
   store_imm_on size base offset imm s t f c p =
-      let q = both (is_readable (s.registers base.number)) true (p unreadable_rule) in
+      let q = both (is_readable (s.registers base.number)) true (p UnreadableRule) in
       let r = store_there o s t (s.registers base.number) (t.registers base.number) offset size base.number c f
       (c.registers base.number) q.0 (p WritesRecord) (p OutsideStack) (p ScalarAddress) in
       let word = cast_unsigned w64 imm in
@@ -361,7 +361,7 @@ module _ {D : Type 0} {o : Ops D} (laws : Laws o) (bytes : List ℕ) (each : All
       → Onward o bytes (Store size base offset src) s t
   store_reg_on size base offset src s t f c p =
       let q = both (is_readable (s.registers base.number)) (is_readable (s.registers src.number) && true)
-      (p unreadable_rule) in
+      (p UnreadableRule) in
       let q' = both (is_readable (s.registers src.number)) true q.1 in
       let v = number_at o (s.registers src.number) (t.registers src.number) q'.0 (p PointerStored)
       (c.registers src.number) in
@@ -382,7 +382,7 @@ module _ {D : Type 0} {o : Ops D} (laws : Laws o) (bytes : List ℕ) (each : All
 
   exit_on : (s : View D) (t : Tagged) → Covered o s t → PassesFor (length bytes) o Exit s → Onward o bytes Exit s t
   exit_on s t c p =
-      let q = both (is_readable (s.registers 0)) true (p unreadable_rule) in
+      let q = both (is_readable (s.registers 0)) true (p UnreadableRule) in
       let v = number_at o (s.registers 0) (t.registers 0) q.0 (p PointerResult) (c.registers 0) in
       ends v.word refl v.is_tag
 
@@ -393,15 +393,15 @@ module _ {D : Type 0} {o : Ops D} (laws : Laws o) (bytes : List ℕ) (each : All
   onward (Alu w Mov dst src) s t l c p fits forward = mov_on w dst src s t l.numbers c p
   onward (Alu w op dst src) s t l c p fits forward = alu_on w op dst src s t refl l.numbers c p
   onward (Neg w dst) s t l c p fits forward =
-      let q = both (is_readable (s.registers dst.number)) true (p unreadable_rule) in
+      let q = both (is_readable (s.registers dst.number)) true (p UnreadableRule) in
       unary_on (Neg w dst) dst dst s t (o.neg w) (neg_of w) refl refl (laws.neg_holds w) (λ at u. refl) (p WritesR10)
       q.0 (p PointerOperation) c
   onward (MovSx w bits dst src) s t l c p fits forward =
-      let q = both (is_readable (s.registers src.number)) true (p unreadable_rule) in
+      let q = both (is_readable (s.registers src.number)) true (p UnreadableRule) in
       unary_on (MovSx w bits dst src) dst src s t (o.mov_sx w bits) (mov_sx_of w bits) refl refl
       (λ a v h. laws.mov_sx_holds w bits a v l.selected h) (λ at u. refl) (p WritesR10) q.0 (p PointerOperation) c
   onward (End kind bits dst) s t l c p fits forward =
-      let q = both (is_readable (s.registers dst.number)) true (p unreadable_rule) in
+      let q = both (is_readable (s.registers dst.number)) true (p UnreadableRule) in
       unary_on (End kind bits dst) dst dst s t (o.end kind bits) (end_of kind bits) refl refl
       (λ a v h. laws.end_holds kind bits a v l.selected h) (λ at u. refl) (p WritesR10) q.0 (p PointerOperation) c
   onward (LoadWide dst value) s t l c p fits forward =
@@ -409,14 +409,14 @@ module _ {D : Type 0} {o : Ops D} (laws : Laws o) (bytes : List ℕ) (each : All
       (covered_with o s t dst.number (Scalar (o.single value)) (num value) 2 c (laws.single_holds value l.numbers))
       (goes_wide bytes dst value t (free dst.number (p WritesR10)))
   onward (Load size dst base offset) s t l c p fits forward =
-      let q = both (is_readable (s.registers base.number)) true (p unreadable_rule) in
+      let q = both (is_readable (s.registers base.number)) true (p UnreadableRule) in
       load_on (Load size dst base offset) dst base size offset s t (o.load size false) (λ v. v) refl refl
       (laws.load_holds size) (λ at u. refl) (p WritesR10) c
       (load_there o bytes s t (s.registers base.number) (t.registers base.number) offset size base.number each c
       l.numbers (c.registers base.number) q.0 (p OutsideRecord) (p OutsideStack) (p UnwrittenStack)
       (p ScalarAddress))
   onward (LoadSx size dst base offset) s t l c p fits forward =
-      let q = both (is_readable (s.registers base.number)) true (p unreadable_rule) in
+      let q = both (is_readable (s.registers base.number)) true (p UnreadableRule) in
       load_on (LoadSx size dst base offset) dst base size offset s t (o.load size true)
       (mov_sx_of W64 (8 * bytes_of size)) refl refl (laws.load_sx_holds size) (λ at u. refl) (p WritesR10) c
       (load_there o bytes s t (s.registers base.number) (t.registers base.number) offset size base.number each c

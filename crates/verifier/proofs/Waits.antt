@@ -64,7 +64,7 @@ same_slot n = grind (arith, nat_tests)
 slot_is : (x : Option ℕ) (to : ℕ) → x ≡ Some to → IsTrue (is_slot x to)
 slot_is x to e = rw e (same_slot to)
 
--- where a jump leads is a target from then on
+-- a jump's target is due afterwards
 jump_target : (code : List Insn) (n : ℕ) (i : Insn) (to : ℕ) → insn_at code n ≡ Some i → leads_to n i ≡ Some to
     → IsTrue (is_target code (n + 1) to)
 jump_target code n i to at e =
@@ -82,7 +82,7 @@ jump_past n i to e = absurd (cc)
 
 -- ---- what is due
 
--- the states of an assignment stand at slots that are due before slot n
+-- the states of an assignment are at slots that are due before slot n
 abbrev pub AllDue : {D : Type 0} → List Insn → ℕ → Assignment D → Type 0
 AllDue {D} code n states = (slot : ℕ) (s : View D) → states slot ≡ Some s → IsDue code n slot
 

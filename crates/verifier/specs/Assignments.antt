@@ -21,7 +21,7 @@ abbrev pub EdgeCarries : {D : Type 0} → Ops D → Assignment D → Option ℕ 
 EdgeCarries o states (Some slot) (Some s) = Carries o states slot s
 EdgeCarries o states _ _ = Unit {0}
 
--- the instructions before a slot fulfil the rules, where a record has so many bytes
+-- the instructions before a slot fulfil the rules, for records of len bytes
 pub record FulfilsBeforeFor {D : Type 0} (len : ℕ) (o : Ops D) (code : List Insn) (end : ℕ)
     (states : Assignment D) : Type 0 where
   pub start : Carries o states 0 entry

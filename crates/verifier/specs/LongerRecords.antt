@@ -3,12 +3,12 @@ use Rattle.std.specs.Prelude.{ℕ, ◌≤◌, List, length, take}
 use Rattle.instruction_set.specs.declared.insn.Insn.{Insn}
 use Rattle.instruction_set.specs.Machine.{Ends, EndsFor}
 
--- how many bytes the shorter record has
+-- bytes of the shorter record
 abbrev pub shorter_len : ℕ
 shorter_len = 128
 
--- on a record, and on the front of it as a shorter record, code ends with one value in one number of steps, wherever
--- record and stack lie
+-- on a record and on its front as a shorter record, code ends with the same value in the same number of steps, at every
+-- placement
 pub record EndsAlike (code : List Insn) (bytes : List ℕ) : Type 0 where
   pub value : ℕ
   pub steps : ℕ

@@ -1,5 +1,6 @@
--- When code is refused.
+-- The refusals of code.
 use Rattle.std.specs.Prelude.{ℕ, ◌+◌, List, Option, Some, None}
+use Rattle.numbered.specs.Answers.{out_of_memory}
 use Rattle.numbered.specs.declared.Place.{Place}
 use Rattle.numbered.specs.declared.Place.TheVariants.{Slot}
 use Rattle.instruction_set.specs.declared.insn.Insn.{Insn}
@@ -25,16 +26,16 @@ IsRefusedAt o code slot FallsOff = IsIllStructured code slot FallsOff
 IsRefusedAt o code slot NoEdge = IsIllStructured code slot NoEdge
 IsRefusedAt o code slot rule = IsUnfulfilled o code slot rule
 
--- why `verify` gives nothing; that memory ran out says nothing of the code
+-- the code has this fault; running out of memory is no fault of the code
 abbrev pub IsRefused : {D : Type 0} → Ops D → List Insn → VerifyFault → Type 0
 IsRefused o code (Refused r) = IsRefusedAt o code r.slot r.rule
-IsRefused o code OutOfMemory = Unit {0}
+IsRefused o code OutOfMemory = ⊥
 
--- ---- the numbers of refusals, and the places that they name
+-- ---- the numbers and the places of refusals
 
 abbrev pub verify_fault_number : VerifyFault → ℕ
 verify_fault_number (Refused r) = rule_number r.rule
-verify_fault_number OutOfMemory = 90
+verify_fault_number OutOfMemory = out_of_memory
 
 abbrev pub verify_fault_place : VerifyFault → Option Place
 verify_fault_place (Refused r) = Some (Slot r.slot)

@@ -1,4 +1,4 @@
--- The rules 15 to 26, as tests of an instruction in an abstract state, and what is carried along its edges.
+-- The rules 15 to 26, as tests of an instruction in an abstract state, and the states on its edges.
 use Rattle.std.specs.Prelude.{◌≡◌, ℕ, ◌+◌, ◌-◌, ◌^◌, ◌<◌, Bool, true, false, not, ◌&&◌, ◌||◌, ◌==◌, nat_le, int_le, ◌+ℤ◌, ◌-ℤ◌, if◌then◌else◌, ℤ, pos, negsuc, IsTrue, Option, Some, None, List, [], ◌∷◌}
 use Rattle.std.specs.List.{list_all}
 use Rattle.std.specs.Int.{w64, cast_unsigned}
@@ -21,7 +21,7 @@ use Rattle.abstract_value.specs.declared.states.Span.{Span}
 use Rattle.abstract_value.specs.declared.states.RegState.{RegState}
 use Rattle.abstract_value.specs.declared.states.RegState.TheVariants.{Scalar, Record, Stack, Unreadable}
 use Rattle.verifier.specs.declared.rule.Rule.{Rule}
-use Rattle.verifier.specs.declared.rule.Rule.TheVariants.{Unreadable as unreadable_rule, WritesR10, PointerOperation, PointerRange, PointerCompared, PointerStored, OutsideRecord, WritesRecord, OutsideStack, UnwrittenStack, ScalarAddress, PointerResult}
+use Rattle.verifier.specs.declared.rule.Rule.TheVariants.{Unreadable as UnreadableRule, WritesR10, PointerOperation, PointerRange, PointerCompared, PointerStored, OutsideRecord, WritesRecord, OutsideStack, UnwrittenStack, ScalarAddress, PointerResult}
 use Rattle.verifier.specs.Structure.{rule_number}
 
 -- ---- kinds of registers
@@ -90,7 +90,7 @@ steps_of o b =
 abbrev pub is_near : ℤ → ℤ → Bool
 is_near lo hi = int_le (negsuc 65535) lo && int_le hi (pos 65536)
 
--- the offsets moved by the steps, where they stay near
+-- the offsets moved by the steps, if they stay in range
 abbrev pub span_moved : AluOp → Span → ℤ × ℤ → Option Span
 span_moved Sub a steps = if is_near (a.lo -ℤ steps.1) (a.hi -ℤ steps.0)
     then Some (make_span (a.lo -ℤ steps.1) (a.hi -ℤ steps.0)) else None
@@ -107,7 +107,7 @@ moved_span o op a b = moved_by op a (steps_of o b)
 
 -- ---- accesses
 
--- the offsets of the first bytes that an access may reach, and how many bytes from there
+-- the offsets of the first bytes that an access may reach, and the number of bytes from there
 pub record Reach : Type 0 where
   pub lo : ℤ
   pub hi : ℤ
@@ -223,7 +223,7 @@ abbrev pub meets_result : {D : Type 0} → Insn → View D → Bool
 meets_result Exit s = not (is_pointer (s.registers 0))
 meets_result _ s = true
 
--- in a record of so many bytes
+-- in a record of len bytes
 abbrev pub inside_record : {D : Type 0} → ℕ → RegState D → Access → Bool
 inside_record len (Record a) r = in_record len (reach_of a r.offset r.size)
 inside_record len _ r = true
@@ -248,9 +248,9 @@ abbrev pub is_r10 : Option ℕ → Bool
 is_r10 None = false
 is_r10 (Some r) = r == 10
 
--- whether an instruction in a state meets a rule, where a record has so many bytes
+-- whether an instruction in a state meets a rule, for records of len bytes
 abbrev pub meets_for : {D : Type 0} → ℕ → Ops D → Insn → View D → Rule → Bool
-meets_for len o i s unreadable_rule = list_all (λ r. is_readable (s.registers r)) (reads i)
+meets_for len o i s UnreadableRule = list_all (λ r. is_readable (s.registers r)) (reads i)
 meets_for len o i s WritesR10 = not (is_r10 (writes i))
 meets_for len o i s PointerOperation = meets_operation o i s
 meets_for len o i s PointerRange = meets_range o i s

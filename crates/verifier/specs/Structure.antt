@@ -1,4 +1,4 @@
--- The rules of structure, 10 to 14: where jumps lead, what stands after an instruction, and what leads to it.
+-- The rules of structure, 10 to 14: jump targets, the last instruction and reachability.
 use Rattle.std.specs.Prelude.{◌≡◌, ℕ, ◌+◌, ◌<◌, ◌⊎◌, ℤ, pos, negsuc, Option, Some, None, IfSome, IsSome, List, Bool, true, false}
 use Rattle.instruction_set.specs.Machine.{slots_of, insn_at, slot_count}
 use Rattle.instruction_set.specs.declared.insn.Insn.{Insn}
@@ -44,7 +44,7 @@ forward_target slot None = None
 forward_target slot (Some (pos n)) = Some (slot + 1 + n)
 forward_target slot (Some (negsuc n)) = None
 
--- where the jump at a slot leads, if it doesn't lead back
+-- the target of the jump at a slot, unless it is backward
 abbrev pub leads_to : ℕ → Insn → Option ℕ
 leads_to slot i = forward_target slot (distance_of i)
 

@@ -1,4 +1,4 @@
--- How many different slots ahead the jumps so far lead to.
+-- The number of pending jump targets.
 use Rattle.std.specs.Prelude.{ℕ, zero, suc, ◌+◌, max, Bool, false, ◌&&◌, ◌||◌, nat_lt, ◌==◌, Option, Some, None, List}
 use Rattle.instruction_set.specs.declared.insn.Insn.{Insn}
 use Rattle.instruction_set.specs.Machine.{insn_at, slot_count}

@@ -1,4 +1,4 @@
--- What mirrors the code.
+-- Definitions that mirror the code.
 pub mod Accesses
 pub mod Edges
 pub mod Flow

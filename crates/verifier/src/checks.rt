@@ -1,4 +1,4 @@
-//! The rules 15 to 26: what an instruction may do in an abstract state.
+//! The rules 15 to 26, on an instruction in an abstract state.
 ghost use Rattle.std.specs.Prelude.{◌≡◌, MatchOption};
 ghost use Rattle.std.specs.List.{list_all};
 ghost use Rattle.abstract_value.specs.States.{view};
@@ -27,7 +27,7 @@ fn reads_source<D: Domain>(state: &State<D>, source: Source) -> bool
     }
 }
 
-/// Whether each register that an instruction reads can be read.
+// Returns whether every register that an instruction reads is readable.
 fn meets_reads<D: Domain>(insn: Insn, state: &State<D>) -> bool
     ensures { result ≡ list_all (λ r. is_readable ((view state.now).registers r)) (reads insn) }
 {
@@ -51,7 +51,7 @@ fn meets_reads<D: Domain>(insn: Insn, state: &State<D>) -> bool
     }
 }
 
-/// Whether an instruction writes R10.
+// Returns whether an instruction writes R10.
 fn writes_r10(insn: Insn) -> bool
     ensures { result ≡ is_r10 (writes insn) }
 {
@@ -61,8 +61,8 @@ fn writes_r10(insn: Insn) -> bool
     }
 }
 
-/// Whether an operation takes these operands: a move copies an address, a sum takes it on either side, a difference on
-/// the left.
+// Returns whether an operation accepts these operands: a move copies an address, a sum accepts one on either side, a
+// difference on the left.
 fn pointers_fit<D>(width: Width, op: AluOp, a: &RegState<D>, b: &RegState<D>) -> bool
     ensures { result ≡ pointers_fit width op a.now b.now }
 {
@@ -75,7 +75,7 @@ fn pointers_fit<D>(width: Width, op: AluOp, a: &RegState<D>, b: &RegState<D>) ->
     }
 }
 
-/// Whether no address is taken as a number by an operation.
+// Returns whether no operation uses an address as a number.
 fn meets_operation<D: Domain>(insn: Insn, state: &State<D>) -> bool
     ensures { result ≡ meets_operation D.ops insn (view state.now) }
 {
@@ -93,7 +93,7 @@ fn meets_operation<D: Domain>(insn: Insn, state: &State<D>) -> bool
     }
 }
 
-/// Whether an operation leaves an address near.
+// Returns whether an operation keeps an address in range.
 fn operation_in_range<D: Domain>(width: Width, op: AluOp, a: &RegState<D>, b: &RegState<D>) -> bool
     ensures { result ≡ operation_in_range D.ops width op a.now b.now }
 {
@@ -118,7 +118,7 @@ fn meets_range<D: Domain>(insn: Insn, state: &State<D>) -> bool
     }
 }
 
-/// Whether no address is compared.
+// Returns whether no test compares an address.
 fn meets_comparison<D: Domain>(insn: Insn, state: &State<D>) -> bool
     ensures { result ≡ meets_comparison D.ops insn (view state.now) }
 {
@@ -130,7 +130,7 @@ fn meets_comparison<D: Domain>(insn: Insn, state: &State<D>) -> bool
     }
 }
 
-/// Whether no address is stored.
+// Returns whether no address is stored.
 fn meets_stored<D: Domain>(insn: Insn, state: &State<D>) -> bool
     ensures { result ≡ meets_stored insn (view state.now) }
 {
@@ -140,7 +140,7 @@ fn meets_stored<D: Domain>(insn: Insn, state: &State<D>) -> bool
     }
 }
 
-/// Whether no address is the answer.
+// Returns whether the answer isn't an address.
 fn meets_result<D: Domain>(insn: Insn, state: &State<D>) -> bool
     ensures { result ≡ meets_result insn (view state.now) }
 {
@@ -150,7 +150,7 @@ fn meets_result<D: Domain>(insn: Insn, state: &State<D>) -> bool
     }
 }
 
-/// The first of the rules 21 to 25 that the access of an instruction fails.
+// Returns the first of the rules 21 to 25 that the access of an instruction fails.
 fn check_access<D: Domain>(insn: Insn, state: &State<D>) -> Option<Rule>
     ensures { MatchOption result (InsnAccessPasses insn (view state.now))
         (λ rule. InsnAccessFails insn (view state.now) rule) }
@@ -159,7 +159,7 @@ fn check_access<D: Domain>(insn: Insn, state: &State<D>) -> Option<Rule>
     access.check(&state.register(access.base), state.stack())
 }
 
-/// The first of the rules 15 to 26 that an instruction fails in a state.
+/// Returns the first of the rules 15 to 26 that an instruction fails in a state.
 pub(crate) fn check<D: Domain>(insn: Insn, state: &State<D>) -> Option<Rule>
     ensures { MatchOption result (Passes D.ops insn (view state.now))
         (λ rule. FailsFirst D.ops insn (view state.now) rule) }

@@ -1,4 +1,4 @@
-//! Kinds of registers: numbers, addresses, and those that can't be read.
+//! Kinds of registers: numbers, addresses and unreadable ones.
 ghost use Rattle.std.specs.Prelude.{◌≡◌};
 ghost use Rattle.abstract_value.specs.States.{view};
 ghost use Rattle.verifier.specs.Rules.{is_readable, is_pointer, is_scalar, operand, writes};
@@ -7,28 +7,28 @@ ghost use Rattle.verifier.specs.model.Values.{number_of};
 use abstract_value::{Domain, RegState, State};
 use instruction_set::{Insn, Register, Source};
 
-/// Whether a register can be read.
+/// Returns whether a register is readable.
 pub(crate) fn is_readable<D>(state: &RegState<D>) -> bool
     ensures { result ≡ is_readable state.now }
 {
     !matches!(state, RegState::Unreadable)
 }
 
-/// Whether a register has an address.
+/// Returns whether a register holds an address.
 pub(crate) fn is_pointer<D>(state: &RegState<D>) -> bool
     ensures { result ≡ is_pointer state.now }
 {
     matches!(state, RegState::Record(_) | RegState::Stack(_))
 }
 
-/// Whether a register has a number.
+/// Returns whether a register holds a number.
 pub(crate) fn is_scalar<D>(state: &RegState<D>) -> bool
     ensures { result ≡ is_scalar state.now }
 {
     matches!(state, RegState::Scalar(_))
 }
 
-/// The second operand: a register, or a number of the instruction extended by its sign.
+/// Returns the second operand: a register, or the sign-extended immediate.
 pub(crate) fn operand<D: Domain>(state: &State<D>, source: Source) -> RegState<D>
     ensures { result ≡ operand D.ops (view state.now) source }
 {
@@ -38,7 +38,7 @@ pub(crate) fn operand<D: Domain>(state: &State<D>, source: Source) -> RegState<D
     }
 }
 
-/// The register that an instruction writes, if it writes one.
+/// Returns the register that an instruction writes, if any.
 pub(crate) fn destination(insn: Insn) -> Option<Register>
     ensures { number_of result ≡ writes insn }
 {

@@ -1,4 +1,4 @@
-//! Accepts code that is safe, by one forward pass over a domain of ranges, or names the first rule that fails.
+//! Accepts safe code by one forward pass over an abstract domain, or returns the first rule that fails.
 #![tactic(auto)]
 
 mod checks;

@@ -1,4 +1,4 @@
-//! Code that was judged for a shorter record.
+//! Code that was verified for a shorter record.
 ghost use Rattle.std.specs.Prelude.{ℕ, List};
 ghost use Rattle.instruction_set.specs.declared.insn.Insn.{Insn};
 ghost use Rattle.instruction_set.specs.Machine.{IsRecord};
@@ -9,16 +9,15 @@ ghost use Rattle.verifier.specs.LongerRecords.{shorter_len, EndsAlike};
 
 use abstract_value::Domain;
 
-/// How many bytes a clash record had before the sizes and the uptimes of the halves joined it.
+/// Bytes of a clash record before it gained the sizes and the uptimes of the halves.
 pub const SHORTER_RECORD_LEN: usize = 128;
 
-/// Code that was judged for the shorter clash record, of 128 bytes, goes on as it was for the record of 160.
-///
-/// It does nothing when it runs: its contract is the law.
+/// States that code accepted for records of 128 bytes is accepted for records of 160 bytes, with the same results. Does
+/// nothing at run time.
 pub fn longer_record_theorem<D: Domain>()
-    // What fulfils the rules for the shorter record fulfils them for the record.
+    // Code that fulfils the rules for the shorter record fulfils them for the longer one.
     ensures typable { (code : List Insn) → IsTypableFor shorter_len D.ops code → IsTypable D.ops code }
-    // On each record it ends with the same value in the same number of steps as on the first 128 bytes of it.
+    // On each record it ends with the same value in the same number of steps as on its first 128 bytes.
     ensures alike { (code : List Insn) (bytes : List ℕ) → IsCode code → IsStructured code
         → IsTypableFor shorter_len D.ops code → IsRecord bytes → EndsAlike code bytes }
 {}

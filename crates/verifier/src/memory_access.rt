@@ -19,7 +19,7 @@ pub(crate) struct Access {
     pub(crate) is_store: bool,
 }
 
-/// The access of an instruction, if it has one.
+/// Returns the access of an instruction, if any.
 pub(crate) fn access_of(insn: &Insn) -> Option<Access>
     ensures { as_accesses result ≡ access_of insn.now }
 {
@@ -58,7 +58,7 @@ pub(crate) fn access_of(insn: &Insn) -> Option<Access>
     })
 }
 
-/// How many bytes a load or a store moves.
+/// Returns the number of bytes that a load or a store moves.
 pub(crate) fn bytes_of(size: Size) -> usize
     ensures value { result ≡ bytes_of size }
     ensures few { result ≤ 8 }
@@ -71,7 +71,7 @@ pub(crate) fn bytes_of(size: Size) -> usize
     }
 }
 
-/// The offset of the first byte that an access may reach through an address, and the one after the last.
+// Returns the offsets of the first byte that an access may reach through an address and just past the last.
 fn reach(span: Span, offset: i16, size: Size) -> (i32, i32)
     ensures first { result.0 ≡ (reach_of span offset size).lo }
     ensures end { result.1 ≡ (reach_of span offset size).hi +ℤ pos (bytes_of size) }
@@ -81,7 +81,7 @@ fn reach(span: Span, offset: i16, size: Size) -> (i32, i32)
     (span.lo + offset, span.hi + offset + bytes)
 }
 
-/// The first byte of the stack that an access may reach, counted from the lowest, and how many from there on.
+/// Returns the first stack byte that an access may reach, counted from the lowest, and the number of bytes from there.
 pub(crate) fn stack_bytes(span: Span, offset: i16, size: Size) -> (usize, usize)
     requires { IsTrue (in_stack (reach_of span offset size)) }
     ensures first { result.0 ≡ stack_index (reach_of span offset size).lo }
@@ -95,7 +95,7 @@ pub(crate) fn stack_bytes(span: Span, offset: i16, size: Size) -> (usize, usize)
 }
 
 impl Access {
-    /// Whether all bytes that it may reach lie from `first` on before `end`.
+    // Returns whether all bytes that it may reach lie from `first` on and before `end`.
     fn is_within(&self, span: Span, first: i32, end: i32) -> bool
         ensures { result ≡ is_inside first end (reach_of span self.now.offset self.now.size) }
     {
@@ -143,7 +143,7 @@ impl Access {
         }
     }
 
-    /// The first of the rules 21 to 25 that it fails, through a register in this state.
+    /// Returns the first of the rules 21 to 25 that it fails, through a register in this state.
     pub(crate) fn check<D>(&self, base: &RegState<D>, stack: &StackState) -> Option<Rule>
         ensures { MatchOption result (AccessPasses (is_written stack.now) base.now (as_access self.now))
             (λ rule. AccessFails (is_written stack.now) base.now (as_access self.now) rule) }

@@ -1,4 +1,4 @@
-//! Addresses moved by numbers.
+//! Address arithmetic.
 ghost use Rattle.std.specs.Prelude.{◌≡◌, ◌-◌, ◌^◌, ◌≤◌, ◌-ℤ◌, ◌≤ℤ◌, pos, negsuc, Some, None, IfSome, if◌then◌else◌};
 ghost use Rattle.abstract_value.specs.States.{make_span};
 ghost use Rattle.verifier.specs.Rules.{steps_of, is_near, moved_span, sum_in_range, to_record, to_stack, sum_of};
@@ -6,7 +6,7 @@ ghost use Rattle.verifier.specs.Rules.{steps_of, is_near, moved_span, sum_in_ran
 use abstract_value::{Domain, RegState, Span};
 use instruction_set::{AluOp, Width};
 
-/// A word just below 2 ^ 64, as the number below zero that it stands for.
+// Returns a word just below 2 ^ 64 as the negative number that it represents.
 fn below_zero(word: u64) -> i32
     requires { 2 ^ 64 - 65536 ≤ word }
     ensures { result ≡ pos word -ℤ pos (2 ^ 64) }
@@ -14,7 +14,7 @@ fn below_zero(word: u64) -> i32
     -1 - (u64::MAX - word) as i32
 }
 
-/// The least and the greatest step by which a number moves an address: small, or small below zero.
+// Returns the least and the greatest step by which a number moves an address, if both are small.
 fn steps_of<D: Domain>(number: &D) -> Option<(i32, i32)>
     ensures value { result ≡ steps_of D.ops number.now }
     ensures small { IfSome result (λ steps. (negsuc 65535 ≤ℤ steps.0) × (steps.0 ≤ℤ steps.1) × (steps.1 ≤ℤ pos 65535)) }
@@ -29,7 +29,7 @@ fn steps_of<D: Domain>(number: &D) -> Option<(i32, i32)>
     }
 }
 
-/// The offsets from `lo` to `hi`, where they are near.
+// Returns the offsets from `lo` to `hi`, if they are in range.
 fn span_in_range(lo: i32, hi: i32) -> Option<Span>
     requires { lo ≤ℤ hi }
     ensures { result ≡ (if is_near lo hi then Some (make_span lo hi) else None) }
@@ -41,7 +41,7 @@ fn span_in_range(lo: i32, hi: i32) -> Option<Span>
     }
 }
 
-/// The offsets after an address is moved by a number, where they are near.
+/// Returns the offsets of an address moved by a number, if they are in range.
 pub(crate) fn moved_span<D: Domain>(op: AluOp, span: Span, number: &D) -> Option<Span>
     ensures { result ≡ moved_span D.ops op span number.now }
 {
@@ -52,7 +52,7 @@ pub(crate) fn moved_span<D: Domain>(op: AluOp, span: Span, number: &D) -> Option
     }
 }
 
-/// Whether a sum or a difference of 64 bits leaves an address near.
+/// Returns whether a sum or a difference of 64 bits keeps an address in range.
 pub(crate) fn sum_in_range<D: Domain>(op: AluOp, a: &RegState<D>, b: &RegState<D>) -> bool
     ensures { result ≡ sum_in_range D.ops op a.now b.now }
 {
@@ -83,7 +83,7 @@ fn to_stack<D>(span: Option<Span>) -> RegState<D>
     }
 }
 
-/// A sum or a difference of 64 bits, of numbers or of an address and a number.
+/// Returns a sum or a difference of 64 bits, of numbers or of an address and a number.
 pub(crate) fn sum_of<D: Domain>(op: AluOp, a: &RegState<D>, b: &RegState<D>) -> RegState<D>
     ensures { result ≡ sum_of D.ops op a.now b.now }
 {

@@ -1,29 +1,29 @@
-//! Why code was not accepted.
+//! The refusals of the verifier.
 ghost use Rattle.std.specs.Prelude.{◌≡◌};
 ghost use Rattle.verifier.specs.Refusals.{verify_fault_number, verify_fault_place};
 
 use crate::rule::Rule;
-use numbered::{Numbered, Place};
+use numbered::{Numbered, OUT_OF_MEMORY, Place, words_of};
 use thiserror::Error;
 
-/// The instruction that fails, by its first slot, and the rule.
+/// A failing instruction, by its first slot, and the rule.
 #[derive(Clone, Copy, Debug, PartialEq, Eq, Error)]
 #[error("slot {slot}: {rule}")]
 pub struct Refusal {
     /// The first slot of the instruction.
     pub slot: u32,
-    /// The rule that it fails.
+    /// The failing rule.
     pub rule: Rule,
 }
 
-/// Why `verify` gave nothing.
+/// The reason why code was not accepted.
 #[derive(Clone, Copy, Debug, PartialEq, Eq, Error)]
 pub enum VerifyFault {
     /// The code fails a rule.
     #[error(transparent)]
     Refused(Refusal),
     /// Memory ran out.
-    #[error("out of memory")]
+    #[error("{}", words_of(OUT_OF_MEMORY))]
     OutOfMemory,
 }
 
@@ -35,7 +35,7 @@ impl Numbered for VerifyFault {
     fn number(&self) -> u32 {
         match self {
             VerifyFault::Refused(refusal) => refusal.rule.number(),
-            VerifyFault::OutOfMemory => 90,
+            VerifyFault::OutOfMemory => OUT_OF_MEMORY,
         }
     }
 

@@ -2,66 +2,51 @@
 ghost use Rattle.std.specs.Prelude.{◌≡◌};
 ghost use Rattle.verifier.specs.Structure.{rule_number};
 
+use numbered::words_of;
 use thiserror::Error;
 
-/// A rule that an instruction may fail.
+/// The rules of the verifier.
 #[derive(Clone, Copy, Debug, PartialEq, Eq, Error)]
+#[error("{}", words_of(self.number()))]
 pub enum Rule {
-    /// A jump leads back.
-    #[error("a jump leads back")]
+    /// A backward jump.
     Backward,
-    /// A jump leads past the end.
-    #[error("a jump leads past the end")]
+    /// A jump to the end or past it.
     Outside,
-    /// A jump leads into the second slot of a wide load.
-    #[error("a jump leads into the second slot of a wide load")]
+    /// A jump into the second slot of a wide load.
     IntoWide,
-    /// The code ends after an instruction that goes on.
-    #[error("the code ends after an instruction that goes on")]
+    /// A last instruction that neither exits nor jumps.
     FallsOff,
-    /// No instruction leads here.
-    #[error("no instruction leads here")]
+    /// An unreachable instruction.
     NoEdge,
-    /// A register is read that can't be.
-    #[error("a register is read that can't be")]
+    /// A read of an unreadable register.
     Unreadable,
-    /// R10 is written.
-    #[error("R10 is written")]
+    /// A write to R10.
     WritesR10,
-    /// An operation takes an address as a number.
-    #[error("an operation takes an address as a number")]
+    /// An address in an operation that addresses don't have.
     PointerOperation,
-    /// An address is moved too far, or by a number that isn't known well enough.
-    #[error("an address is moved too far, or by a number that isn't known well enough")]
+    /// An address moved too far, or by an unknown amount.
     PointerRange,
-    /// An address is compared.
-    #[error("an address is compared")]
+    /// An address in a test.
     PointerCompared,
-    /// An address is stored.
-    #[error("an address is stored")]
+    /// A store of an address.
     PointerStored,
-    /// An access lies outside the record.
-    #[error("an access lies outside the record")]
+    /// An access that may leave the record.
     OutsideRecord,
-    /// The record is written.
-    #[error("the record is written")]
+    /// A store into the record.
     WritesRecord,
-    /// An access lies outside the stack.
-    #[error("an access lies outside the stack")]
+    /// An access that may leave the stack.
     OutsideStack,
-    /// A byte of the stack is read that was not written.
-    #[error("a byte of the stack is read that was not written")]
+    /// A load of stack bytes that may be unwritten.
     UnwrittenStack,
-    /// A number is used as an address.
-    #[error("a number is used as an address")]
+    /// A number used as an address.
     ScalarAddress,
-    /// An address is the answer.
-    #[error("an address is the answer")]
+    /// An address as the answer.
     PointerResult,
 }
 
 impl Rule {
-    /// Its number among the refusals.
+    /// Returns its number among the refusals.
     pub fn number(self) -> u32
         ensures { result ≡ rule_number self }
     {

@@ -1,4 +1,4 @@
-//! The rules of structure, 10 to 14: where jumps lead, what stands after an instruction, and what leads to it.
+//! The rules of structure, 10 to 14: jump targets, the last instruction and reachability.
 ghost use Rattle.std.specs.Prelude.{◌≡◌, ℕ, ◌+◌, ◌<◌, ◌≤◌, ◌⊎◌, true, false, length, Some, MatchOption};
 ghost use Rattle.instruction_set.specs.Machine.{insn_at, slot_count, slots_of};
 ghost use Rattle.verifier.specs.declared.rule.Rule.{Rule};
@@ -9,7 +9,7 @@ use crate::refusal::Refusal;
 use crate::rule::Rule;
 use instruction_set::{Code, Insn, MAX_SLOTS};
 
-/// A jump's distance, counted from the slot after it.
+// Returns a jump's distance, counted from the slot after it.
 fn distance_of(insn: &Insn) -> Option<i32>
     ensures { result ≡ distance_of insn.now }
 {
@@ -21,14 +21,14 @@ fn distance_of(insn: &Insn) -> Option<i32>
     }
 }
 
-/// Whether the next instruction may follow.
+// Returns whether the next instruction may follow.
 fn goes_on(insn: &Insn) -> bool
     ensures { result ≡ goes_on insn.now }
 {
     !matches!(insn, Insn::Jump { .. } | Insn::JumpLong { .. } | Insn::Exit)
 }
 
-/// Where the jump at a slot leads, if it doesn't lead back.
+/// Returns the target of the jump at a slot, unless it is backward.
 pub(crate) fn leads_to(slot: usize, insn: &Insn) -> Option<usize>
     requires { slot < MAX_SLOTS }
     ensures { result ≡ leads_to slot insn.now }
@@ -39,7 +39,7 @@ pub(crate) fn leads_to(slot: usize, insn: &Insn) -> Option<usize>
     }
 }
 
-/// The slot of the next instruction, where it may follow.
+// Returns the slot of the next instruction, if it may follow.
 fn falls_to(slot: usize, insn: &Insn) -> Option<usize>
     requires { slot < MAX_SLOTS }
     ensures { result ≡ falls_to slot insn.now }
@@ -51,7 +51,7 @@ fn falls_to(slot: usize, insn: &Insn) -> Option<usize>
     }
 }
 
-/// The first of the rules 10 to 12 that an instruction fails.
+// Returns the first of the rules 10 to 12 that an instruction fails.
 fn jump_fault(code: &Code, slot: usize, insn: &Insn) -> Option<Rule>
     requires { slot < slot_count code.now }
     ensures { MatchOption result (MeetsBelow code.now slot insn.now 13)
@@ -69,8 +69,8 @@ fn jump_fault(code: &Code, slot: usize, insn: &Insn) -> Option<Rule>
     }
 }
 
-/// The first of the rules 10 to 14 that an instruction fails; an edge leads to it, or it is the first, if it is
-/// reached.
+// Returns the first of the rules 10 to 14 that an instruction fails; `reached` means that it is the first instruction or
+// the target of an edge.
 fn fault(code: &Code, slot: usize, insn: &Insn, is_reached: bool) -> Option<Rule>
     requires slot { slot < slot_count code.now }
     requires reached { is_reached ≡ true → (slot ≡ 0) ⊎ HasEdge code.now slot }
@@ -100,7 +100,7 @@ fn mark(reached: &mut [bool], to: Option<usize>)
     }
 }
 
-/// Looks at the instruction at a slot, and marks the slots to which it leads.
+// Checks the instruction at a slot, and marks its successors as reached.
 fn visit(code: &Code, slot: usize, insn: &Insn, reached: &mut [bool]) -> Option<Rule>
     requires slot { slot < slot_count code.now }
     requires is_at { insn_at code.now slot ≡ Some insn.now }
@@ -118,13 +118,13 @@ fn visit(code: &Code, slot: usize, insn: &Insn, reached: &mut [bool]) -> Option<
     None
 }
 
-/// The first slot whose instruction fails one of the rules 10 to 14, and the least rule that it fails.
+/// Returns the first slot whose instruction fails one of the rules 10 to 14, and the least rule that it fails.
 ///
-/// Edges lead forward only, so all edges into a slot are known when the slot is looked at.
+/// Edges lead forward only, so all edges into a slot are known before its check.
 pub(crate) fn check_structure(code: &Code) -> Option<Refusal>
     ensures { MatchOption result (IsStructured code.now) (λ r. IsIllStructured code.now r.slot r.rule) }
 {
-    // For the prover alone: it has few slots.
+    // For the proof: it has few slots.
     code.known();
     let mut reached = [false; MAX_SLOTS];
     mark(&mut reached, Some(0));

@@ -1,4 +1,4 @@
-//! What an instruction carries along its edges.
+//! The abstract states on the edges of an instruction.
 ghost use Rattle.std.specs.Prelude.{◌≡◌, IsTrue};
 ghost use Rattle.instruction_set.specs.Operations.{low, IsMovSxBits, IsEndBits};
 ghost use Rattle.instruction_set.specs.Slots.{IsSelected};
@@ -26,7 +26,7 @@ fn alu_scalars<D: Domain>(width: Width, op: AluOp, a: &RegState<D>, b: &RegState
     }
 }
 
-/// The result of an operation. A move reads its source alone.
+// Returns the result of an operation. A move reads only its source.
 fn result_of<D: Domain>(width: Width, op: AluOp, a: &RegState<D>, b: &RegState<D>) -> RegState<D>
     ensures { result ≡ result_of D.ops width op a.now b.now }
 {
@@ -68,7 +68,7 @@ fn swap_of<D: Domain>(kind: EndKind, bits: u32, a: &RegState<D>) -> RegState<D>
     }
 }
 
-/// Marks what a store writes: its bytes, where its offset is known exactly.
+// Marks the bytes that a store writes, if its offset is known exactly.
 fn after_store<D: Domain>(state: &mut State<D>, base: Register, offset: i16, size: Size)
     requires { (a : Span) → (view state.old).registers base.number ≡ Stack a
         → IsTrue (in_stack (reach_of a offset size)) }
@@ -82,7 +82,7 @@ fn after_store<D: Domain>(state: &mut State<D>, base: Register, offset: i16, siz
     }
 }
 
-/// The number of a test, cut to its width.
+// Returns the immediate of a test at its width.
 fn tested_number(width: Width, number: i32) -> u64
     ensures { result ≡ low width (cast_unsigned w64 number) }
 {
@@ -92,7 +92,7 @@ fn tested_number(width: Width, number: i32) -> u64
     }
 }
 
-/// Makes a state the one on an edge of a test against a number, with the register cut, unless the edge is dead.
+// Refines the register on this branch of a test against a number. Returns false if the branch is impossible.
 fn on_edge_with_number<D: Domain>(
     width: Width,
     test: Test,
@@ -115,7 +115,7 @@ fn on_edge_with_number<D: Domain>(
     true
 }
 
-/// Makes a state the one on an edge of a test of two registers, with both cut, unless the edge is dead.
+// Refines both registers on this branch. Returns false if the branch is impossible.
 fn on_edge_with_register<D: Domain>(
     width: Width,
     test: Test,
@@ -142,7 +142,7 @@ fn on_edge_with_register<D: Domain>(
     true
 }
 
-/// Makes a state the one on an edge of a test, unless the edge is dead.
+// Refines a state on this branch of a test. Returns false if the branch is impossible.
 fn on_edge<D: Domain>(
     width: Width,
     test: Test,
@@ -159,7 +159,7 @@ fn on_edge<D: Domain>(
     }
 }
 
-/// What the destination holds after an instruction that writes a register.
+// Returns the destination's contents after an instruction that writes a register.
 fn value_of<D: Domain>(insn: Insn, state: &State<D>) -> RegState<D>
     requires { IsSelected insn }
     ensures { result ≡ value_of D.ops insn (view state.now) }
@@ -180,13 +180,13 @@ fn value_of<D: Domain>(insn: Insn, state: &State<D>) -> RegState<D>
         } => sign_extension_of(width, bits, &state.register(src)),
         Insn::End { kind, bits, dst } => swap_of(kind, bits, &state.register(dst)),
         Insn::LoadWide { value, .. } => RegState::Scalar(D::single(value)),
-        Insn::Load { size, .. } => RegState::Scalar(D::load(size, false)),
-        Insn::LoadSx { size, .. } => RegState::Scalar(D::load(size, true)),
+        Insn::Load { size, .. } => RegState::Scalar(D::loaded(size, false)),
+        Insn::LoadSx { size, .. } => RegState::Scalar(D::loaded(size, true)),
         _ => RegState::Unreadable,
     }
 }
 
-/// Gives the destination what an instruction writes, if it writes a register.
+// Writes an instruction's result to its destination. Returns false if it writes no register.
 fn write_destination<D: Domain>(insn: Insn, state: &mut State<D>) -> bool
     requires { IsSelected insn }
     ensures { if_live result (view state.new) ≡ with_value D.ops insn (view state.old) (writes insn) }
@@ -200,13 +200,13 @@ fn write_destination<D: Domain>(insn: Insn, state: &mut State<D>) -> bool
     }
 }
 
-/// Makes a state the one that goes on to the next instruction, if one does.
+/// Turns a state into the one of the next instruction. Returns false if none follows.
 pub(crate) fn fall<D: Domain>(insn: Insn, state: &mut State<D>) -> bool
     requires selected { IsSelected insn }
     requires passes { Passes D.ops insn (view state.old) }
     ensures { if_live result (view state.new) ≡ fall D.ops insn (view state.old) }
 {
-    // For the prover alone: its numbers have the widths of their fields.
+    // For the proof: its numbers have the widths of their fields.
     insn.known();
     match insn {
         Insn::JumpIf {
@@ -238,7 +238,7 @@ pub(crate) fn fall<D: Domain>(insn: Insn, state: &mut State<D>) -> bool
     }
 }
 
-/// Makes a state the one that goes along the jump, if one does.
+/// Turns a state into the one at the jump's target. Returns false if the instruction doesn't jump.
 pub(crate) fn jump<D: Domain>(insn: Insn, state: &mut State<D>) -> bool
     ensures { if_live result (view state.new) ≡ jump D.ops insn (view state.old) }
 {

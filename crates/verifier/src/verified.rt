@@ -1,4 +1,4 @@
-//! Code that is safe.
+//! Verified code.
 ghost use Rattle.std.specs.Prelude.{◌≡◌};
 ghost use Rattle.std.specs.List.{list_any};
 ghost use Rattle.verifier.specs.Stores.{is_store};
@@ -6,8 +6,10 @@ ghost use Rattle.verifier.specs.Stores.{is_store};
 use instruction_set::{Code, Insn};
 use std::marker::Model;
 
-/// Code that on each record ends with one answer wherever record and stack lie, in at most as many steps as it has
-/// instructions. It is seen as the list of its instructions.
+/// Safe code: on each record it ends with one answer at every placement, in at most as many steps as it has
+/// instructions.
+///
+/// Contracts see it as the list of its instructions.
 #[derive(Debug, Drop)]
 pub struct Verified {
     code: Code,
@@ -42,7 +44,7 @@ impl Verified {
         Verified { code, stores }
     }
 
-    /// The code, which is safe, and no jump of which leads back.
+    /// Returns the code, which is safe and has no backward jump.
     pub fn code(&self) -> &Code
         ensures code { result.now ≡ self.now }
         ensures safe { IsSafe self.now }
@@ -51,7 +53,7 @@ impl Verified {
         &self.code
     }
 
-    /// Whether some instruction of the code writes memory.
+    /// Returns whether some instruction of the code writes memory.
     pub fn stores(&self) -> bool
         ensures { result ≡ list_any is_store self.now }
     {
@@ -59,7 +61,7 @@ impl Verified {
     }
 }
 
-/// Whether some instruction writes memory.
+// Returns whether some instruction writes memory.
 fn has_store(insns: &[Insn]) -> bool
     ensures { result ≡ list_any is_store insns.now }
 {

@@ -11,7 +11,8 @@ ghost use Rattle.verifier.specs.Assignments.{FailsLeast, IsTypable};
 ghost use Rattle.verifier.specs.Width.{widest};
 ghost use Rattle.verifier.specs.model.Flow.{flow_edge};
 ghost use Rattle.verifier.specs.model.Pending.{IsPending};
-ghost use Rattle.verifier.specs.Refusals.{IsUnfulfilled, IsRefused, IsRefusedAt};
+ghost use Rattle.numbered.specs.Answers.{HasCause};
+ghost use Rattle.verifier.specs.Refusals.{verify_fault_number, IsUnfulfilled, IsRefused, IsRefusedAt};
 ghost use Rattle.verifier.specs.declared.refusal.Refusal.{Refusal};
 
 use crate::checks::check;
@@ -24,7 +25,7 @@ use abstract_value::{Domain, Pending, State};
 use instruction_set::{Code, Insn};
 use std::alloc::{AllocError, Global};
 
-/// The state that goes along a jump, if one does, in a place of its own.
+// Returns the state that follows a jump, if any, in a new box.
 fn jumping<D: Domain>(
     alloc: Global,
     insn: Insn,
@@ -44,7 +45,7 @@ fn jumping<D: Domain>(
     }
 }
 
-/// The state that goes on to the next instruction, if one does, in the place of the one before.
+// Turns the state into the one of the next instruction, if any.
 fn falling<D: Domain>(insn: Insn, state: Box<State<D>>) -> Option<Box<State<D>>>
     requires selected { IsSelected insn }
     requires passes { Passes D.ops insn (view state.value) }
@@ -58,7 +59,7 @@ fn falling<D: Domain>(insn: Insn, state: Box<State<D>>) -> Option<Box<State<D>>>
     }
 }
 
-/// Carries a state along an edge, where there are both.
+// Puts a state at the target of an edge, if both exist.
 fn carry<D: Domain>(pending: &mut Pending<D>, to: Option<usize>, state: Option<Box<State<D>>>)
     requires { (k : ℕ) (s : View D) → to ≡ Some k → boxed_view state ≡ Some s → k < room pending.old }
     ensures states { held pending.new ≡ flow_edge D.ops (held pending.old) to (boxed_view state) }
@@ -73,7 +74,7 @@ fn carry<D: Domain>(pending: &mut Pending<D>, to: Option<usize>, state: Option<B
     }
 }
 
-/// Checks the instruction at a slot in its state, if it has one, gives that state up, and carries on what comes of it.
+// Checks the instruction at a slot in its state, if the slot has one, drops that state, and puts its successors.
 fn visit<D: Domain>(
     alloc: Global,
     code: &Code,
@@ -93,7 +94,7 @@ fn visit<D: Domain>(
     ensures kept { peak_of pending.old ≤ peak_of pending.new }
     ensures peak { peak_of pending.new ≤ max (peak_of pending.old) (1 + widest code.now) }
 {
-    // For the prover alone: its instructions are listed.
+    // For the proof: its instructions are listed.
     code.known();
     let state = match pending.take(at) {
         Some(state) => state,
@@ -108,7 +109,7 @@ fn visit<D: Domain>(
     Ok(None)
 }
 
-/// Goes over the instructions once, from first to last.
+// Visits the instructions once, from first to last.
 fn pass<D: Domain>(
     alloc: Global,
     code: &Code,
@@ -123,7 +124,7 @@ fn pass<D: Domain>(
     ensures some { OnOk result (1 ≤ peak_of pending.new) }
     ensures peak { peak_of pending.new ≤ 1 + widest code.now }
 {
-    // For the prover alone: it has few slots, and at least one.
+    // For the proof: it has few slots, and at least one.
     code.known();
     pending.put(0, Box::new(alloc, State::entry())?);
     let insns = code.insns();
@@ -140,22 +141,22 @@ fn pass<D: Domain>(
     Ok(None)
 }
 
-/// Answers as `verify` does, with the greatest number of states that it held at a time.
+/// Verifies code like `verify`, and also returns the peak number of states.
 pub fn verify_peak<D: Domain>(alloc: Global, code: Code) -> (Result<Verified, VerifyFault>, u32)
-    // What is accepted is the code that was handed in. That it is safe stands in its type.
+    // The result is the code passed in. Its type states that it is safe.
     ensures accepted { IfOk result.0 (λ verified. verified ≡ code) }
     ensures structured { IfOk result.0 (λ _. IsStructured code) }
     ensures typable { IfOk result.0 (λ _. IsTypable D.ops code) }
-    // A refusal says where and why, and no assignment fulfils the rules up to there.
-    ensures refused { IfErr result.0 (λ fault. IsRefused D.ops code fault) }
-    // Some state was held where code is accepted, and never more than so many.
+    // A refusal names the slot and the rule, and no assignment fulfils the rules up to there.
+    ensures refused { IfErr result.0 (HasCause verify_fault_number (IsRefused D.ops code)) }
+    // Accepted code needs at least one state; the peak is bounded by the code's width.
     ensures held { IfOk result.0 (λ _. 1 ≤ result.1) }
     ensures peak { result.1 ≤ 1 + widest code }
 {
     if let Some(refusal) = check_structure(&code) {
         return (Err(VerifyFault::Refused(refusal)), 0);
     }
-    // For the prover alone: it has few slots, and its instructions are listed.
+    // For the proof: it has few slots, and its instructions are listed.
     code.known();
     let mut pending: Pending<D> = match Pending::new(alloc, code.slot_count()) {
         Ok(pending) => pending,
@@ -170,28 +171,28 @@ pub fn verify_peak<D: Domain>(alloc: Global, code: Code) -> (Result<Verified, Ve
     }
 }
 
-/// Accepts code that is safe, or names the first slot that fails and the least rule that fails there.
+/// Accepts code that is safe, or returns the first slot that fails and the least rule that fails there.
 ///
-/// The rules of structure, 10 to 14, are looked at first, over the whole code; then the rules 15 to 26, in the least
-/// state that each slot can have. Takes eight bytes a slot, and memory for the states of slots that are still to come:
-/// the next one, and those to which jumps so far lead.
+/// Checks the rules of structure (10 to 14) over the whole code first, then the rules 15 to 26 in the least state of each
+/// slot. Returns 90 when out of memory: it allocates eight bytes per slot and at most one state plus one per pending jump
+/// target.
 pub fn verify<D: Domain>(alloc: Global, code: Code) -> Result<Verified, VerifyFault>
-    // What is accepted is the code that was handed in. That it is safe stands in its type.
+    // The result is the code passed in. Its type states that it is safe.
     ensures accepted { IfOk result (λ verified. verified ≡ code) }
     ensures structured { IfOk result (λ _. IsStructured code) }
     ensures typable { IfOk result (λ _. IsTypable D.ops code) }
-    // A refusal says where and why, and no assignment fulfils the rules up to there.
-    ensures refused { IfErr result (λ fault. IsRefused D.ops code fault) }
+    // A refusal names the slot and the rule, and no assignment fulfils the rules up to there.
+    ensures refused { IfErr result (HasCause verify_fault_number (IsRefused D.ops code)) }
 {
     verify_peak::<D>(alloc, code).0
 }
 
-/// Code is judged in one way: it fulfils the rules, or it is refused by one rule at one slot, and never both.
+/// States that code either fulfils the rules or fails exactly one rule at one slot. Does nothing at run time.
 pub fn one_verdict_theorem<D: Domain>()
-    // Code that fulfils the rules isn't refused; so `verify` accepts it, unless memory runs out.
+    // Code that fulfils the rules isn't refused, so `verify` accepts it unless memory runs out.
     ensures either { (code : List Insn) (refusal : Refusal) → IsStructured code → IsTypable D.ops code
         → IsRefusedAt D.ops code refusal.slot refusal.rule → ⊥ }
-    // Two refusals of code are the same; so `verify` names the only one that there is.
+    // Two refusals of code are equal, so `verify` returns the only one.
     ensures one_refusal { (code : List Insn) (a b : Refusal) → IsRefusedAt D.ops code a.slot a.rule
         → IsRefusedAt D.ops code b.slot b.rule → a ≡ b }
 {}

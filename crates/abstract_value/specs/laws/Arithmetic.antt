@@ -10,7 +10,7 @@ use Rattle.abstract_value.specs.declared.intervals.Interval.{Interval}
 
 -- ---- sums and differences
 
--- what is left of a number that is less than two moduli
+-- the remainder of a number below two moduli
 once : (m x : ℕ) → x < m + m → ((x < m) × (x % m ≡ x)) ⊎ ((m ≤ x) × (x % m ≡ x - m))
 once m x h =
     elim (less_tells x m) [

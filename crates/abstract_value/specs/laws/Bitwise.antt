@@ -12,7 +12,7 @@ use Rattle.abstract_value.specs.laws.MadeRanges.{less_tells, Holds, IsBelow, wit
 use Rattle.abstract_value.specs.laws.Signed.{arsh_fits, arsh_of_less}
 use Rattle.abstract_value.specs.declared.intervals.Interval.{Interval}
 
--- ---- numbers of so many digits
+-- ---- numbers of a number of digits
 
 -- a word is below the power of its length, whose half it isn't below
 record LengthOf (n : ℕ) : Type 0 where
@@ -57,7 +57,7 @@ and_row_holds a b v u h k =
 pub and_row_monotone : (a b c d : Interval) → IsBelow a c → IsBelow b d → IsBelow (and_row a b) (and_row c d)
 and_row_monotone a b c d h k = let i = within a c h in let j = within b d k in grind (arith, nat_tests)
 
--- words of so many digits from a low end on
+-- words of a number of digits from a low end on
 digits_hold : (lo r : ℕ) (a b : Interval) → lo ≤ r → r < 2 ^ bit_length (max a.hi b.hi) → Holds (digits_row lo a b) r
 digits_hold lo r a b h k =
     let e = power_le_word (max a.hi b.hi) in

@@ -134,7 +134,7 @@ pair_below (Some a) (Some b) None y' h k = absurd h
 pair_below (Some a) (Some b) (Some c) None h k = absurd k
 pair_below (Some a) (Some b) (Some c) (Some d) h k = (h, k)
 
--- what is kept in both orders is kept in normal form
+-- a pair kept in both orders is kept in normal form
 refined_keeps : (p q : Option (Interval × Interval)) (v w : ℕ) → Keeps interval_ops p v w
     → Keeps interval_ops q (flip v) (flip w) → Keeps both_ops (normal_pair p q) v w
 refined_keeps None q v w h k = absurd h
@@ -153,7 +153,7 @@ refined_below (Some p) (Some q) (Some p') (Some q') h k =
     pair_below (normal p.0 q.0) (normal p.1 q.1) (normal p'.0 q'.0) (normal p'.1 q'.1)
     (normal_below p.0 q.0 p'.0 q'.0 h.0 k.0) (normal_below p.1 q.1 p'.1 q'.1 h.1 k.1)
 
--- what a signed test says of turned words
+-- a signed test on flipped words
 less_of_turned : (v u : ℕ) (taken : Bool) → v < 2 ^ 64 → u < 2 ^ 64 → is_taken W64 Jslt v u ≡ taken
     → nat_lt (flip v) (flip u) ≡ taken
 less_of_turned v u taken h k e =

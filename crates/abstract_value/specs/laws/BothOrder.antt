@@ -38,11 +38,11 @@ within_both a b h = and_parts (interval_ops.below a.u b.u) (interval_ops.below a
 pub below_both : (a b : Both) → IsBelow a.u b.u → IsBelow a.s b.s → IsBelowBoth a b
 below_both a b h k = and_both (interval_ops.below a.u b.u) (interval_ops.below a.s b.s) h k
 
--- less holds less
+-- a lesser value holds less
 pub widened : (u s u' s' : Interval) (v : ℕ) → IsBelow u u' → IsBelow s s' → InBoth u s v → InBoth u' s' v
 widened u s u' s' v h k m = (interval_laws.holds_above u u' v h m.0, interval_laws.holds_above s s' (flip v) k m.1)
 
--- what holds less is below: the ends are words
+-- a value that holds less is below: the ends are words
 pub ends_below : (u s u' s' : Interval) → IsNormal u s → ((v : ℕ) → InBoth u s v → InBoth u' s' v)
     → IsBelow u u' × IsBelow s s'
 ends_below u s u' s' n h =
@@ -106,7 +106,7 @@ shaped_below u s u' s' w some h k =
     included_below (shaped u s) (shaped u' s') (λ v m. shaped_holds u' s' v
     (widened u s u' s' v h k (shaped_exact u s w v some m)))
 
--- the normal form: none where there are no words, else the value with these words
+-- the normal form: none without common words, else the value with these words
 pub data NormalIs (u s : Interval) : Option Both → Type 0 where
   no_words : ((v : ℕ) → InBoth u s v → ⊥) → NormalIs u s None
   some_words : (b : Both) → ((v : ℕ) → InBoth u s v → HoldsBoth b v) → ((v : ℕ) → HoldsBoth b v → InBoth u s v)
@@ -142,7 +142,7 @@ shaped_again a =
     same_words (shaped a.u a.s) a (λ v k. shaped_exact a.u a.s a.u.lo v (low_word a) k)
     (λ v k. shaped_holds a.u a.s v k)
 
--- ---- ranges of words, whatever their sign
+-- ---- ranges of words of any sign
 
 pub lift_holds : (u : Interval) (v : ℕ) → Holds u v → HoldsBoth (lift u) v
 lift_holds u v h = shaped_holds u (full_at 64) v (h, full_flip v)
@@ -159,7 +159,7 @@ lift_exact u v h = (shaped_exact u (full_at 64) u.lo v (low_end u) h).0
 pub lift_below : (u u' : Interval) → IsBelow u u' → IsBelowBoth (lift u) (lift u')
 lift_below u u' h = shaped_below u (full_at 64) u' (full_at 64) u.lo (low_end u) h (below_full (full_at 64))
 
--- the unsigned range is what was lifted
+-- the unsigned range is the lifted one
 pub lift_range : (u : Interval) → (lift u).u ≡ u
 lift_range u =
     let o : u.lo ≤ u.hi = u.ordered in

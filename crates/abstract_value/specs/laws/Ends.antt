@@ -1,4 +1,4 @@
--- The ends of a range, and those of a span, are in order and in range however they are asked for.
+-- The ends of a range, and those of a span, are in order and in range for any request.
 use Rattle.std.specs.Prelude.{ℕ, ◌-◌, ◌≤◌, ◌<◌, ◌^◌, min, ◌≤ℤ◌, ℤ, pos, negsuc}
 use Rattle.std.specs.Int.{int_min, int_max}
 use Rattle.std.proofs.Common.{arith}

@@ -1,4 +1,4 @@
--- Pairs of ranges, of words and of words with their sign bit turned, and the words that are in both.
+-- Pairs of ranges, of words and of words with their sign bit flipped, and the words that are in both.
 use Rattle.std.specs.Prelude.{◌≡◌, ℕ, ◌+◌, ◌-◌, ◌≤◌, ◌<◌, ◌^◌, ◌⊎◌, min, max, Option, Some, None}
 use Rattle.std.proofs.Common.{arith, inl, inr}
 use Rattle.std.proofs.lemmas.Bool.Decides.{leb_tells}
@@ -9,7 +9,7 @@ use Rattle.abstract_value.specs.laws.MadeRanges.{Holds, less_tells, held}
 use Rattle.abstract_value.specs.Ranges.{make, full_at, interval_ops}
 use Rattle.abstract_value.specs.declared.intervals.Interval.{Interval}
 
--- what a half is
+-- the ends of a half
 pub data LowIs (u s : Interval) : Option Interval → Type 0 where
   no_low : ((v : ℕ) → v < 2 ^ 63 → InBoth u s v → ⊥) → LowIs u s None
   some_low : (l : Interval) → l.hi < 2 ^ 63 → ((v : ℕ) → v < 2 ^ 63 → InBoth u s v → Holds l v)

@@ -1,4 +1,4 @@
--- What tests of numbers tell, and what a range made of two ends holds.
+-- The meaning of tests of numbers, and the words of a range made of two ends.
 use Rattle.std.specs.Prelude.{◌≡◌, ℕ, ◌-◌, ◌*◌, ◌/◌, ◌≤◌, ◌<◌, ◌^◌, ◌⊎◌, true, false, nat_lt, IsTrue}
 use Rattle.std.proofs.Common.{arith}
 use Rattle.std.proofs.lemmas.Bool.Decides.{nat_tests}
@@ -10,7 +10,7 @@ use Rattle.instruction_set.specs.declared.insn.Width.TheVariants.{W32, W64}
 use Rattle.abstract_value.specs.Ranges.{interval_ops, make, only, full_at}
 use Rattle.abstract_value.specs.declared.intervals.Interval.{Interval}
 
--- what a test of numbers tells
+-- the meaning of a test of numbers
 pub less_tells : (m n : ℕ) → ((nat_lt m n ≡ true) × (m < n)) ⊎ ((nat_lt m n ≡ false) × (n ≤ m))
 less_tells m n = grind (arith, nat_tests)
 

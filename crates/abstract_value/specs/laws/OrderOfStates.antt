@@ -21,14 +21,14 @@ span_within a b h = grind (arith, ints)
 pub within_span : (a b : Span) → b.lo ≤ℤ a.lo → a.hi ≤ℤ b.hi → IsTrue (span_below a b)
 within_span a b h k = grind (arith, ints)
 
--- spans in range are made as they are asked
+-- spans in range have the requested ends
 pub make_lo : (lo hi : ℤ) → lo ≤ℤ hi → negsuc 65535 ≤ℤ lo → hi ≤ℤ pos 65536 → (make_span lo hi).lo ≡ lo
 make_lo lo hi o l h = omega (arith, ints, clamps)
 
 pub make_hi : (lo hi : ℤ) → lo ≤ℤ hi → negsuc 65535 ≤ℤ lo → hi ≤ℤ pos 65536 → (make_span lo hi).hi ≡ hi
 make_hi lo hi o l h = omega (arith, ints, clamps)
 
--- the join of two spans is made as it is asked
+-- the join of two spans has the requested ends
 join_ends : (a b : Span) → ((span_join a b).lo ≡ int_min a.lo b.lo) × ((span_join a b).hi ≡ int_max a.hi b.hi)
 join_ends a b =
     let al : negsuc 65535 ≤ℤ a.lo = a.near_below in

@@ -61,7 +61,7 @@ both_below (Some a) (Some b) None y' h k = absurd h
 both_below (Some a) (Some b) (Some c) None h k = absurd k
 both_below (Some a) (Some b) (Some c) (Some d) h k = (h, k)
 
--- ---- what each row promises
+-- ---- the contract of a row
 
 -- it keeps every pair of words that takes the edge, is monotone, and only cuts
 pub record RowLaws (takes : ℕ → ℕ → Type 0) (row : Interval → Interval → Option (Interval × Interval)) : Type 0 where

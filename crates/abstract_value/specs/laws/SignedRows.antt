@@ -112,7 +112,7 @@ signed_sub_monotone a b c d h k =
 
 -- ---- shifts
 
--- a turned word shifted by its sign
+-- a flipped word shifted by its sign
 pub low_shift : (v d k : ℕ) → v < 2 ^ 63 → 0 < d → k * d ≡ 2 ^ 63 → flip (v / d) ≡ flip v / d + (2 ^ 63 - k)
 low_shift v d k l p m =
     let x : v / d ≤ v = div-le_self v d in
@@ -178,7 +178,7 @@ quotient_room x d k w p m = elim (leb_tells (2 * k) (x / d)) [
   | inr z ↦ z.1
 ]
 
--- a turned word shifted is a word
+-- a flipped word shifted is a word
 pub shift_room : (x n : ℕ) → x < 2 ^ 64 → n < 64 → x / 2 ^ n + (2 ^ 63 - 1 * 2 ^ (63 - n) % 2 ^ 64) < 2 ^ 64
 shift_room x n h l = go x (2 ^ n) (2 ^ (63 - n)) h (pow_pos n) (halves n l)
   where
@@ -299,7 +299,7 @@ same_32 v h k = elim k [
   | inr p ↦ elim (less_tells (v % 2 ^ 32) (2 ^ 31)) [ inl q ↦ absurd (omega arith) | inr q ↦ rw q.0 (omega arith) ]
 ]
 
--- a number of so many bits with a sign stays as it is
+-- a signed number of that many bits is unchanged
 same_part : (bits v : ℕ) → (bits ≡ 8) ⊎ (bits ≡ 16) ⊎ (bits ≡ 32) → v < 2 ^ 64 → Holds (signed_bits bits) (flip v)
     → mov_sx_of W64 bits v ≡ v
 same_part bits v (inl e) h k =
@@ -309,7 +309,7 @@ same_part bits v (inr (inl e)) h k =
 same_part bits v (inr (inr e)) h k =
     rw e (same_32 v h (let l = rw e at k in kept (2 ^ 31) v h (omega arith) (omega arith) (omega arith)))
 
--- a range, if it lies within another, else that
+-- a range if it lies within another, else that other
 either_holds : (p : Bool) (x r : Interval) (n : ℕ) → (IsTrue p → Holds x n) → Holds r n → Holds (if p then x else r) n
 either_holds true x r n h k = h refl
 either_holds false x r n h k = k

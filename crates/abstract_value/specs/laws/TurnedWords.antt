@@ -1,4 +1,4 @@
--- Words with their sign bit turned.
+-- Words with their sign bit flipped.
 use Rattle.std.specs.Prelude.{◌≡◌, ℕ, ◌+◌, ◌%◌, ◌≤◌, ◌<◌, ◌^◌, ◌⊎◌, true, false, nat_lt, nat_le, int_lt, int_le, pos, negsuc, ◌-◌}
 use Rattle.std.specs.Int.{w64, cast_signed}
 use Rattle.std.proofs.Common.{arith, inl, inr, ◌∙◌, ap, sym}
@@ -29,14 +29,14 @@ flip_tells v h = elim (less_tells v (2 ^ 63)) [
   | inr p ↦ inr (p.1, flip_high v p.1 h)
 ]
 
--- turned twice, a word is as it was
+-- flipping twice leaves a word unchanged
 pub flip_flip : (v : ℕ) → v < 2 ^ 64 → flip (flip v) ≡ v
 flip_flip v h = elim (flip_tells v h) [
   | inl p ↦ let e = flip_high (flip v) (omega arith) (flip_fits v) in omega arith
   | inr p ↦ let e = flip_low (flip v) (omega arith) in omega arith
 ]
 
--- the number that a word stands for, read as signed
+-- the signed number that a word represents
 pub signed_low : (v : ℕ) → v < 2 ^ 63 → signed W64 v ≡ pos v
 signed_low v h =
     let e : v % 2 ^ 64 ≡ v = mod-eq_of_lt (omega arith) in
@@ -50,7 +50,7 @@ signed_high v h k =
       | inr p ↦ rw (e, p.0) (ap negsuc (omega arith))
     ]
 
--- signed words are in the order of turned ones
+-- signed numbers have the order of their flipped words
 pub flip_less : (v u : ℕ) → v < 2 ^ 64 → u < 2 ^ 64 → int_lt (signed W64 v) (signed W64 u) ≡ nat_lt (flip v) (flip u)
 flip_less v u h k = elim (flip_tells v h) [
   | inl p ↦ elim (flip_tells u k) [

@@ -13,7 +13,7 @@ abbrev pub high_half : Interval → Interval → Option Interval
 high_half u s =
     if nat_lt s.lo (2 ^ 63) then nonempty (max u.lo (s.lo + 2 ^ 63)) (min u.hi (s.hi + 2 ^ 63)) else None
 
--- the hull of two halves in the order of words; all words where there are none
+-- the hull of two halves in the order of words; all words if both are empty
 abbrev pub hull : Option Interval → Option Interval → Interval
 hull None None = full_at 64
 hull (Some l) None = l

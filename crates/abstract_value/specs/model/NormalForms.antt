@@ -6,7 +6,7 @@ use Rattle.abstract_value.specs.laws.Halves.{low_is, high_is, hulls_normal}
 use Rattle.abstract_value.specs.declared.intervals.Interval.{Interval}
 use Rattle.abstract_value.specs.declared.boths.Both.{Both}
 
--- the hulls of the words of both; of all words, where there are none
+-- the hulls of the common words; of all words if none is common
 abbrev pub shaped : Interval → Interval → Both
 shaped u s = record {
   u = hull (low_half u s) (high_half u s);
@@ -19,10 +19,10 @@ where_some None None b = None
 where_some (Some l) h b = Some b
 where_some None (Some h) b = Some b
 
--- the same; none where there are no words
+-- the same; none if no word is common
 abbrev pub normal : Interval → Interval → Option Both
 normal u s = where_some (low_half u s) (high_half u s) (shaped u s)
 
--- the words of a range, whatever their sign
+-- the words of a range, of any sign
 abbrev pub lift : Interval → Both
 lift u = shaped u (full_at 64)

@@ -1,10 +1,8 @@
-//! What the values are and compute, in the words of signed numbers.
+//! The exactness of `Both`, in terms of signed numbers.
 ghost use Rattle.abstract_value.specs.SignedResults.{BothIsExact};
 
-/// A value stands for the words that lie in both its ranges, which are the hulls of these words, and the result of each
-/// operation is exact.
-///
-/// It does nothing when it runs: its contract is the law.
+/// States that a value represents the words in both its ranges, that the ranges are the hulls of these words, and that
+/// the result of each operation is exact. Does nothing at run time.
 pub fn both_is_exact_theorem()
     ensures { BothIsExact }
 {}

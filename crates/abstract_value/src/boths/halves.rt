@@ -11,7 +11,7 @@ use crate::{Domain, Interval};
 /// The sign bit.
 pub const SIGN: u64 = 0x8000_0000_0000_0000;
 
-/// The words of both below 2^63.
+// Returns the words of both ranges below 2^63.
 fn low_half(u: &Interval, s: &Interval) -> Option<Interval>
     ensures { result ≡ halves.low_half u.now s.now }
 {
@@ -22,7 +22,7 @@ fn low_half(u: &Interval, s: &Interval) -> Option<Interval>
     }
 }
 
-/// The words of both from 2^63.
+// Returns the words of both ranges from 2^63 on.
 fn high_half(u: &Interval, s: &Interval) -> Option<Interval>
     ensures { result ≡ halves.high_half u.now s.now }
 {
@@ -33,7 +33,7 @@ fn high_half(u: &Interval, s: &Interval) -> Option<Interval>
     }
 }
 
-/// From the least word of two halves to the greatest.
+// Returns the hull of two halves.
 fn hull(low: Option<Interval>, high: Option<Interval>) -> Interval
     ensures { result ≡ halves.hull low high }
 {
@@ -45,7 +45,7 @@ fn hull(low: Option<Interval>, high: Option<Interval>) -> Interval
     }
 }
 
-/// The same in the order of signed numbers.
+// Returns the hull of two halves in the order of signed numbers.
 fn signed_hull(low: Option<Interval>, high: Option<Interval>) -> Interval
     ensures { result ≡ halves.signed_hull low high }
 {
@@ -57,7 +57,7 @@ fn signed_hull(low: Option<Interval>, high: Option<Interval>) -> Interval
     }
 }
 
-/// The normal form of two ranges; all words where there are none of both.
+/// Normalizes two ranges; returns all words if they have no common word.
 pub fn shaped(u: &Interval, s: &Interval) -> Both
     ensures { result ≡ forms.shaped u.now s.now }
 {
@@ -71,7 +71,7 @@ pub fn shaped(u: &Interval, s: &Interval) -> Both
     }
 }
 
-/// The normal form of two ranges, if there are words of both.
+/// Normalizes two ranges, or returns `None` if they have no common word.
 pub fn normal(u: &Interval, s: &Interval) -> Option<Both>
     ensures { result ≡ forms.normal u.now s.now }
 {
@@ -81,14 +81,14 @@ pub fn normal(u: &Interval, s: &Interval) -> Option<Both>
     }
 }
 
-/// The words of a range, whatever their sign.
+/// Lifts a range of words: no bound on the signed order.
 pub fn lift(u: &Interval) -> Both
     ensures { result ≡ forms.lift u.now }
 {
     shaped(u, &Interval::full())
 }
 
-/// The hull of each range.
+/// Joins both ranges.
 pub fn join(a: &Both, b: &Both) -> Both
     ensures { result ≡ both_join a.now b.now }
 {

@@ -12,7 +12,7 @@ use crate::intervals::unary::bits_of_size;
 use crate::{Domain, Interval};
 use instruction_set::{AluOp, Size, Test, Width};
 
-/// The sums, if none leaves the signed range.
+// Returns the sums, or all words if one leaves the signed range.
 fn add(a: &Interval, b: &Interval) -> Interval
     ensures { result ≡ boths.signed_add a.now b.now }
 {
@@ -26,7 +26,7 @@ fn add(a: &Interval, b: &Interval) -> Interval
     }
 }
 
-/// The differences, if none leaves the signed range.
+// Returns the differences, or all words if one leaves the signed range.
 fn sub(a: &Interval, b: &Interval) -> Interval
     ensures { result ≡ boths.signed_sub a.now b.now }
 {
@@ -40,7 +40,7 @@ fn sub(a: &Interval, b: &Interval) -> Interval
     }
 }
 
-/// Shifted by one amount, filled by the sign.
+// Shifts right by a single amount, filling with the sign.
 fn shift(a: &Interval, by: &Interval) -> Interval
     ensures { result ≡ boths.signed_shift a.now by.now }
 {
@@ -53,7 +53,7 @@ fn shift(a: &Interval, by: &Interval) -> Interval
     }
 }
 
-/// The signed range of an operation on two operands.
+/// Returns the signed range of an operation on two operands.
 pub fn alu(width: Width, op: AluOp, a: &Both, b: &Both) -> Interval
     ensures { result ≡ boths.signed_alu width op a.now b.now }
 {
@@ -66,7 +66,7 @@ pub fn alu(width: Width, op: AluOp, a: &Both, b: &Both) -> Interval
     }
 }
 
-/// The numbers of so many bits with a sign.
+// Returns the signed numbers of `bits` bits.
 fn signed_bits(bits: u32) -> Interval
     requires some { 0 < bits }
     requires word { bits ≤ 64 }
@@ -76,7 +76,7 @@ fn signed_bits(bits: u32) -> Interval
     between(SIGN - half, SIGN + (half - 1))
 }
 
-/// Kept if it lies in the numbers of so many bits, else these.
+/// Returns the range if it lies within the signed numbers of `bits` bits, else all of these.
 pub fn movsx(width: Width, bits: u32, a: &Both) -> Interval
     requires { IsMovSxBits width bits }
     ensures { result ≡ boths.signed_mov_sx width bits a.now }
@@ -90,8 +90,8 @@ pub fn movsx(width: Width, bits: u32, a: &Both) -> Interval
     }
 }
 
-/// The numbers of the size where a sign is extended.
-pub fn load(size: Size, signed: bool) -> Interval
+/// Returns the signed numbers of the size if the load extends the sign.
+pub fn loaded(size: Size, signed: bool) -> Interval
     ensures { result ≡ boths.signed_load size signed }
 {
     if signed {
@@ -101,7 +101,7 @@ pub fn load(size: Size, signed: bool) -> Interval
     }
 }
 
-/// Both ranges cut to the numbers with which an edge is taken or not; none if one of them is empty.
+/// Refines both ranges to the numbers that take the edge, or returns `None` if one of them is empty.
 pub fn refine(
     width: Width,
     test: Test,

@@ -10,7 +10,7 @@ use super::ends::{full, only};
 use instruction_set as meaning;
 use instruction_set::{AluOp, Width};
 
-/// What an operation gives on operands of the width: one word on single ones.
+/// Returns the results of an operation on operands of the width: a single word on single words.
 pub fn of_cut(width: Width, op: AluOp, a: &Interval, b: &Interval) -> Interval
     requires left { a.now.hi < 2 ^ bits_of width }
     requires right { b.now.hi < 2 ^ bits_of width }
@@ -23,7 +23,7 @@ pub fn of_cut(width: Width, op: AluOp, a: &Interval, b: &Interval) -> Interval
     }
 }
 
-/// What an operation gives on operands that aren't both single.
+// Returns the results of an operation on operands that aren't both single words.
 fn of_several(width: Width, op: AluOp, a: &Interval, b: &Interval) -> Interval
     requires left { a.now.hi < 2 ^ bits_of width }
     requires right { b.now.hi < 2 ^ bits_of width }

@@ -7,7 +7,7 @@ use super::Interval;
 use super::ends::{between, full, greatest};
 use instruction_set::Width;
 
-/// The sums: exact if no pair wraps or every pair does, else all words.
+/// Returns the sums: exact if no pair wraps or every pair does, else all words.
 pub fn add(width: Width, a: &Interval, b: &Interval) -> Interval
     requires left { a.now.hi < 2 ^ bits_of width }
     requires right { b.now.hi < 2 ^ bits_of width }
@@ -23,7 +23,7 @@ pub fn add(width: Width, a: &Interval, b: &Interval) -> Interval
     }
 }
 
-/// The differences: exact if no pair wraps or every pair does, else all words.
+/// Returns the differences: exact if no pair wraps or every pair does, else all words.
 pub fn sub(width: Width, a: &Interval, b: &Interval) -> Interval
     requires left { a.now.hi < 2 ^ bits_of width }
     requires right { b.now.hi < 2 ^ bits_of width }
@@ -39,7 +39,7 @@ pub fn sub(width: Width, a: &Interval, b: &Interval) -> Interval
     }
 }
 
-/// The products: exact if none wraps, else all words.
+/// Returns the products: exact if none wraps, else all words.
 pub fn mul(width: Width, a: &Interval, b: &Interval) -> Interval
     ensures { result ≡ mul_row (bits_of width) a.now b.now }
 {
@@ -49,7 +49,7 @@ pub fn mul(width: Width, a: &Interval, b: &Interval) -> Interval
     }
 }
 
-/// The quotients, of which those by zero are 0.
+/// Returns the quotients; a quotient by zero is 0.
 pub fn div(a: &Interval, b: &Interval) -> Interval
     ensures { result ≡ div_row a.now b.now }
 {
@@ -60,7 +60,7 @@ pub fn div(a: &Interval, b: &Interval) -> Interval
     }
 }
 
-/// The remainders, of which those by zero are the number itself.
+/// Returns the remainders; a remainder by zero is the number itself.
 pub fn modulo(a: &Interval, b: &Interval) -> Interval
     ensures { result ≡ mod_row a.now b.now }
 {

@@ -7,35 +7,35 @@ use super::Interval;
 use super::ends::{between, full, greatest};
 use instruction_set::Width;
 
-/// From 0 to the less of the greatest words.
+/// Returns the range from 0 to the lesser of the upper bounds.
 pub fn and(a: &Interval, b: &Interval) -> Interval
     ensures { result ≡ and_row a.now b.now }
 {
     between(0, a.hi.min(b.hi))
 }
 
-/// The greatest number with as many binary digits as `n`.
+// Returns the greatest number with as many binary digits as `n`.
 fn all_ones_as_long(n: u64) -> u64
     ensures { result ≡ 2 ^ bit_length n - 1 }
 {
     u64::MAX.checked_shr(n.leading_zeros()).unwrap_or(0)
 }
 
-/// From the greater of the least words, to as many binary digits as there are.
+/// Returns the range from the greater of the lower bounds to the greatest word of as many binary digits.
 pub fn or(a: &Interval, b: &Interval) -> Interval
     ensures { result ≡ digits_row (max a.now.lo b.now.lo) a.now b.now }
 {
     between(a.lo.max(b.lo), all_ones_as_long(a.hi.max(b.hi)))
 }
 
-/// From 0 to as many binary digits as there are.
+/// Returns the range from 0 to the greatest word of as many binary digits.
 pub fn xor(a: &Interval, b: &Interval) -> Interval
     ensures { result ≡ digits_row 0 a.now b.now }
 {
     between(0, all_ones_as_long(a.hi.max(b.hi)))
 }
 
-/// How far an operation of the width shifts by this amount.
+/// Returns the distance by which an operation of the width shifts for this amount.
 pub fn amount(width: Width, by: u64) -> u64
     ensures exact { result ≡ shift_amount width by }
     ensures fits { result < 64 }
@@ -46,7 +46,7 @@ pub fn amount(width: Width, by: u64) -> u64
     }
 }
 
-/// Shifted to the left by one amount: exact if nothing is lost, else all words.
+/// Shifts left by a single amount: exact if no bit is lost, else all words.
 pub fn lsh(width: Width, a: &Interval, b: &Interval) -> Interval
     ensures { result ≡ lsh_row width a.now b.now }
 {
@@ -61,7 +61,7 @@ pub fn lsh(width: Width, a: &Interval, b: &Interval) -> Interval
     }
 }
 
-/// Shifted to the right by one amount: exact; by several, from 0.
+/// Shifts right: exact for a single amount, from 0 for several.
 pub fn rsh(width: Width, a: &Interval, b: &Interval) -> Interval
     ensures { result ≡ rsh_row width a.now b.now }
 {
@@ -73,7 +73,7 @@ pub fn rsh(width: Width, a: &Interval, b: &Interval) -> Interval
     }
 }
 
-/// Shifted to the right, filled by the sign: as by zeros if no sign bit can be set, else all words.
+/// Shifts right, filling with the sign: as with zeros if no sign bit can be set, else all words.
 pub fn arsh(width: Width, a: &Interval, b: &Interval) -> Interval
     ensures { result ≡ arsh_row width a.now b.now }
 {

@@ -6,21 +6,21 @@ ghost use Rattle.abstract_value.specs.Ranges as ranges;
 use super::Interval;
 use instruction_set::Width;
 
-/// The words from `lo` to `hi`; where `lo` is greater, `hi` alone.
+/// Returns the words from `lo` to `hi`, or `hi` alone if `lo` is greater.
 pub fn between(lo: u64, hi: u64) -> Interval
     ensures { result ≡ ranges.make lo hi }
 {
     Interval { lo: lo.min(hi), hi }
 }
 
-/// One word alone.
+/// Returns the range of one word.
 pub fn only(v: u64) -> Interval
     ensures { result ≡ ranges.only v }
 {
     Interval { lo: v, hi: v }
 }
 
-/// The words from `lo` to `hi`, if there are any.
+/// Returns the words from `lo` to `hi`, or `None` if `lo` is greater.
 pub fn nonempty(lo: u64, hi: u64) -> Option<Interval>
     ensures { result ≡ ranges.nonempty lo hi }
 {
@@ -31,7 +31,7 @@ pub fn nonempty(lo: u64, hi: u64) -> Option<Interval>
     }
 }
 
-/// The greatest word of a width.
+/// Returns the greatest word of a width.
 pub fn greatest(width: Width) -> u64
     ensures { result + 1 ≡ 2 ^ bits_of width }
 {
@@ -41,14 +41,14 @@ pub fn greatest(width: Width) -> u64
     }
 }
 
-/// All words of a width.
+/// Returns all words of a width.
 pub fn full(width: Width) -> Interval
     ensures { result ≡ ranges.full_at (bits_of width) }
 {
     between(0, greatest(width))
 }
 
-/// What an operation of the width reads of a range.
+/// Reduces an operand to the words that an operation of the width reads.
 pub fn cut(width: Width, a: &Interval) -> Interval
     ensures exact { result ≡ ranges.cut width a.now }
     ensures fits { result.hi < 2 ^ bits_of width }

@@ -7,7 +7,7 @@ use super::Interval;
 use super::ends::{between, greatest, nonempty};
 use instruction_set::{Test, Width};
 
-/// Both ranges cut to the words with which an edge is taken or not; none if one of them is empty.
+/// Refines both ranges to the words that take the edge, or returns `None` if one of them is empty.
 pub fn refine(
     width: Width,
     test: Test,
@@ -25,7 +25,7 @@ pub fn refine(
     }
 }
 
-/// Both ranges cut to the words with which an edge is taken or not, where these are words of the test.
+/// Refines both ranges to the words that take the edge, where the test reads the whole words.
 pub fn of_words(test: Test, taken: bool, a: &Interval, b: &Interval) -> Option<(Interval, Interval)>
     ensures { result ≡ ranges.refine_row test taken a.now b.now }
 {
@@ -40,7 +40,7 @@ pub fn of_words(test: Test, taken: bool, a: &Interval, b: &Interval) -> Option<(
     }
 }
 
-/// Both ranges cut to the words that are equal to one of the other.
+// Refines both ranges to the words that they share.
 fn equal(a: &Interval, b: &Interval) -> Option<(Interval, Interval)>
     ensures { result ≡ ranges.where_equal a.now b.now }
 {
@@ -48,7 +48,7 @@ fn equal(a: &Interval, b: &Interval) -> Option<(Interval, Interval)>
     Some((both, both))
 }
 
-/// A range without an end that is the other's only word.
+// Drops an end that is the other range's only word.
 fn without(a: &Interval, b: &Interval) -> Option<Interval>
     ensures { result ≡ ranges.without a.now b.now }
 {
@@ -63,14 +63,14 @@ fn without(a: &Interval, b: &Interval) -> Option<Interval>
     nonempty(lo, hi)
 }
 
-/// Both ranges cut where the other is a single word.
+// Refines both ranges to different words.
 fn different(a: &Interval, b: &Interval) -> Option<(Interval, Interval)>
     ensures { result ≡ ranges.where_different a.now b.now }
 {
     Some((without(a, b)?, without(b, a)?))
 }
 
-/// Both ranges cut to the words with which the first is greater.
+// Refines both ranges to words where the first is greater.
 fn greater(a: &Interval, b: &Interval) -> Option<(Interval, Interval)>
     ensures { result ≡ ranges.where_greater a.now b.now }
 {
@@ -83,7 +83,7 @@ fn greater(a: &Interval, b: &Interval) -> Option<(Interval, Interval)>
     ))
 }
 
-/// Both ranges cut to the words with which the first is no less.
+// Refines both ranges to words where the first is greater or equal.
 fn at_least(a: &Interval, b: &Interval) -> Option<(Interval, Interval)>
     ensures { result ≡ ranges.where_at_least a.now b.now }
 {
@@ -93,7 +93,7 @@ fn at_least(a: &Interval, b: &Interval) -> Option<(Interval, Interval)>
     Some((between(a.lo.max(b.lo), a.hi), between(b.lo, b.hi.min(a.hi))))
 }
 
-/// Both ranges cut to the words with which the first is less.
+// Refines both ranges to words where the first is less.
 fn less(a: &Interval, b: &Interval) -> Option<(Interval, Interval)>
     ensures { result ≡ ranges.where_less a.now b.now }
 {
@@ -106,7 +106,7 @@ fn less(a: &Interval, b: &Interval) -> Option<(Interval, Interval)>
     ))
 }
 
-/// Both ranges cut to the words with which the first is no greater.
+// Refines both ranges to words where the first is less or equal.
 fn at_most(a: &Interval, b: &Interval) -> Option<(Interval, Interval)>
     ensures { result ≡ ranges.where_at_most a.now b.now }
 {

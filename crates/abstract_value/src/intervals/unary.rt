@@ -9,7 +9,7 @@ use super::ends::{between, full, only};
 use instruction_set as meaning;
 use instruction_set::{EndKind, Size, Width};
 
-/// Negated: one word on a single one, else all words.
+/// Negates: a single word on a single word, else all words.
 pub fn neg(width: Width, a: &Interval) -> Interval
     ensures { result ≡ neg_of_cut width a.now }
 {
@@ -20,7 +20,7 @@ pub fn neg(width: Width, a: &Interval) -> Interval
     }
 }
 
-/// The sign of the low bits extended: as they are if the sign bit can't be set, else all words.
+/// Extends the sign of the low bits: unchanged if the sign bit can't be set, else all words.
 pub fn movsx(width: Width, bits: u32, a: &Interval) -> Interval
     requires { IsMovSxBits width bits }
     ensures { result ≡ mov_sx_of_cut width bits a.now }
@@ -34,7 +34,7 @@ pub fn movsx(width: Width, bits: u32, a: &Interval) -> Interval
     }
 }
 
-/// All words of so many bits.
+// Returns all words of `bits` bits.
 fn full_of_bits(bits: u32) -> Interval
     requires some { 0 < bits }
     requires word { bits ≤ 64 }
@@ -43,7 +43,7 @@ fn full_of_bits(bits: u32) -> Interval
     between(0, u64::MAX >> (64 - bits))
 }
 
-/// The order of bytes changed: as they are if it is kept and they fit, else all words of so many bits.
+/// Swaps bytes: unchanged if the order stays and the words fit, else all words of `bits` bits.
 pub fn end(kind: EndKind, bits: u32, a: &Interval) -> Interval
     requires { IsEndBits bits }
     ensures { result ≡ interval_end kind bits a.now }
@@ -57,7 +57,7 @@ pub fn end(kind: EndKind, bits: u32, a: &Interval) -> Interval
     }
 }
 
-/// How many bits a load or store of the size moves.
+/// Returns the number of bits that a load or store of the size moves.
 pub fn bits_of_size(size: Size) -> u32
     ensures { result ≡ 8 * bytes_of size }
 {
@@ -69,8 +69,8 @@ pub fn bits_of_size(size: Size) -> u32
     }
 }
 
-/// All words of the size, or all words where the sign is extended.
-pub fn load(size: Size, signed: bool) -> Interval
+/// Returns all words of the size, or all words if the sign is extended.
+pub fn loaded(size: Size, signed: bool) -> Interval
     ensures { result ≡ interval_load size signed }
 {
     if signed {

@@ -1,4 +1,4 @@
-//! What is done with states that wait.
+//! Operations on pending states.
 ghost use Rattle.std.specs.Prelude.{◌≡◌, ℕ, ◌<◌, ◌≤◌, ◌^◌, max, None, Some, IfOk, replicate};
 ghost use Rattle.abstract_value.specs.States.{view, put};
 ghost use Rattle.abstract_value.specs.Pending.{room, held, size, peak_of, boxed_view, nothing, with_joined};
@@ -7,7 +7,7 @@ use super::Pending;
 use crate::{Domain, State};
 use std::alloc::{AllocError, Global};
 
-/// No state, for each of so many slots.
+// Returns `slots` empty places.
 fn no_states<D: Domain>(
     alloc: Global,
     slots: usize,
@@ -22,7 +22,7 @@ fn no_states<D: Domain>(
 }
 
 impl<D: Domain> Pending<D> {
-    /// No state yet, with room for so many slots.
+    /// Creates a map without states, with room for `slots` slots.
     pub fn new(alloc: Global, slots: usize) -> Result<Pending<D>, AllocError>
         requires { slots < 2 ^ 32 }
         ensures room { IfOk result (λ p. room p ≡ slots) }
@@ -36,7 +36,7 @@ impl<D: Domain> Pending<D> {
         })
     }
 
-    /// The greatest number of states that it has held at a time.
+    /// Returns the peak number of states.
     pub fn peak(&self) -> u32
         ensures peak { result ≡ peak_of self.now }
         ensures least { size self.now ≤ result }
@@ -44,7 +44,7 @@ impl<D: Domain> Pending<D> {
         self.peak
     }
 
-    /// Gives up the state of a slot, if it has one.
+    /// Takes the state of a slot, if it has one.
     pub fn take(&mut self, at: usize) -> Option<Box<State<D>>>
         requires { at < room self.old }
         ensures state { boxed_view result ≡ held self.old at }
@@ -59,7 +59,7 @@ impl<D: Domain> Pending<D> {
         state
     }
 
-    /// Keeps a state for a slot that has none.
+    // Inserts a state for a slot that has none.
     fn insert(&mut self, at: usize, state: Box<State<D>>)
         requires place { at < room self.old }
         requires none { held self.old at ≡ None }
@@ -72,7 +72,7 @@ impl<D: Domain> Pending<D> {
         self.peak = self.peak.max(self.count);
     }
 
-    /// Joins a state to what a slot has, or keeps it where the slot has none.
+    /// Joins a state to the slot's state, or inserts it if the slot has none.
     pub fn put(&mut self, at: usize, state: Box<State<D>>)
         requires { at < room self.old }
         ensures states { held self.new

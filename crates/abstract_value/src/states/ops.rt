@@ -1,4 +1,4 @@
-//! What is done with abstract states, and the law of their order.
+//! Operations on abstract states, and the law of their order.
 ghost use Rattle.std.specs.Prelude.{◌≡◌, ℕ, ◌<◌, ◌≤◌, ◌+◌, ◌≤ℤ◌, pos, negsuc};
 ghost use Rattle.abstract_value.specs.StackBytes.{is_written, all_written, with_marks};
 ghost use Rattle.abstract_value.specs.StateOrder.{StateOrder};
@@ -9,7 +9,7 @@ use crate::{Domain, StackState};
 use instruction_set::{Register, STACK_LEN};
 
 impl Span {
-    /// The offsets from `lo` to `hi`.
+    /// Creates the span of the offsets from `lo` to `hi`.
     pub fn new(lo: i32, hi: i32) -> Span
         requires ordered { lo ≤ℤ hi }
         requires above { negsuc 65535 ≤ℤ lo }
@@ -19,7 +19,7 @@ impl Span {
         Span { lo, hi }
     }
 
-    /// The least span that has the offsets of both.
+    // Returns the least span that contains both.
     fn join(&self, other: &Span) -> Span
         ensures { result ≡ span_join self.now other.now }
     {
@@ -28,7 +28,7 @@ impl Span {
 }
 
 impl<D: Domain> RegState<D> {
-    /// The least above both: the join within one kind, and no access where the kinds differ.
+    /// Returns the least value above both: the join within one kind, `Unreadable` across kinds.
     pub fn join(&self, other: &RegState<D>) -> RegState<D>
         ensures { result ≡ reg_join D.ops self.now other.now }
     {
@@ -42,7 +42,7 @@ impl<D: Domain> RegState<D> {
 }
 
 impl<D: Domain> State<D> {
-    /// The state in which code begins: R1 is the record's address, R10 the address just past the stack.
+    /// Creates the state at entry: R1 is the record's address, R10 the address just past the stack.
     pub fn entry() -> State<D>
         ensures { view result ≡ entry }
     {
@@ -55,28 +55,28 @@ impl<D: Domain> State<D> {
         }
     }
 
-    /// What a register may hold.
+    /// Returns the possible contents of a register.
     pub fn register(&self, register: Register) -> RegState<D>
         ensures { result ≡ (view self.now).registers register.number }
     {
         self.registers[register.number as usize]
     }
 
-    /// Gives a register another state.
+    /// Sets the possible contents of a register.
     pub fn set_register(&mut self, register: Register, state: RegState<D>)
         ensures { view self.new ≡ with_register (view self.old) register.number state }
     {
         self.registers[register.number as usize] = state;
     }
 
-    /// Which bytes of the stack are written.
+    /// Returns the written stack bytes.
     pub fn stack(&self) -> &StackState
         ensures { is_written result.now ≡ (view self.now).written }
     {
         &self.stack
     }
 
-    /// Adds so many bytes of the stack from one on to those that are written.
+    /// Marks `count` stack bytes from `from` on as written.
     pub fn mark(&mut self, from: usize, count: usize)
         requires { from + count ≤ STACK_LEN }
         ensures { view self.new ≡ with_written (view self.old) (with_marks (view self.old).written from count) }
@@ -84,7 +84,7 @@ impl<D: Domain> State<D> {
         self.stack.mark(from, count);
     }
 
-    /// Makes it the least above both.
+    /// Joins `other` into this state.
     pub fn join(&mut self, other: &State<D>)
         ensures { view self.new ≡ view_join D.ops (view self.old) (view other.now) }
     {
@@ -94,7 +94,7 @@ impl<D: Domain> State<D> {
         self.stack.intersect(&other.stack);
     }
 
-    /// Makes one register the least above both.
+    // Joins one register of `other` into this state.
     fn join_register(&mut self, i: usize, other: &State<D>)
         requires { i < 11 }
         ensures { view self.new ≡ with_register (view self.old) i
@@ -104,7 +104,8 @@ impl<D: Domain> State<D> {
     }
 }
 
-/// Over any domain, states are ordered, and their join is the least above both. It does nothing when it is run.
+/// States that `below` orders states over any domain, and that their join is the least state above both. Does nothing at
+/// run time.
 pub fn state_order_theorem<D: Domain>()
     ensures { StateOrder D.ops }
 {}

@@ -1,4 +1,4 @@
--- Reading a text line by line, with the first faulty line that is met.
+-- Reads a text line by line, up to the first faulty line.
 use Rattle.std.specs.Prelude.{◌≡◌, ℕ, ◌+◌, nat_le, if◌then◌else◌, List, [], ◌∷◌, ◌++◌, Option, Some, None, Result, Ok, Err, sum_by}
 use Rattle.instruction_set.specs.Machine.{slots_of}
 use Rattle.instruction_set.specs.Slots.{max_slots}
@@ -6,7 +6,7 @@ use Rattle.instruction_set.specs.declared.insn.Insn.{Insn}
 use Rattle.assembler_text.specs.model.Results.{◌>>=◌}
 use Rattle.assembler_text.specs.declared.faults.Fault.{Fault}
 use Rattle.assembler_text.specs.declared.faults.LineFault.{LineFault}
-use Rattle.assembler_text.specs.declared.faults.LineFault.TheVariants.{Line, TooLong, Empty, OutOfMemory}
+use Rattle.assembler_text.specs.declared.faults.LineFault.TheVariants.{Line, TooLong, Empty}
 use Rattle.assembler_text.specs.model.Lines.{line_at}
 
 -- the code with the instruction of the line of this number
@@ -32,12 +32,6 @@ code_after number code (line ∷ lines) = do
 abbrev pub code_of : List (List ℕ) → Result (List Insn) LineFault
 code_of lines = code_after 0 [] lines
 
--- the fault is the one that reading meets, or memory ran out
-abbrev pub Tells : LineFault → Result (List Insn) LineFault → Type 0
-Tells OutOfMemory read = Unit {0}
-Tells fault read = read ≡ Err fault
-
--- the answer is what reading gives, or memory ran out
-abbrev pub Answers : Result (List Insn) LineFault → Result (List Insn) LineFault → Type 0
-Answers (Ok code) read = read ≡ Ok code
-Answers (Err fault) read = Tells fault read
+-- reading fails with this fault
+abbrev pub FailsWith : Result (List Insn) LineFault → LineFault → Type 0
+FailsWith read fault = read ≡ Err fault

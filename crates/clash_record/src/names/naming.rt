@@ -1,11 +1,21 @@
-//! Names, tested and made.
+//! Validation and construction of names.
 ghost use Rattle.std.specs.Prelude.{◌≡◌, ◌↔◌, IsTrue, IsOk, IfOk};
 ghost use Rattle.std.specs.List.{list_all};
 ghost use Rattle.clash_record.specs.Name.{is_name, is_visible};
 
 use crate::names::{BadName, NAME_LEN, Name};
 
-/// The name of these bytes, or `BadName` where they are none.
+impl TryFrom<&[u8]> for Name {
+    type Error = BadName;
+
+    ghost try_from_gives = { λ bytes named. (IsOk named ↔ IsTrue (is_name bytes.now)) × IfOk named (λ name. name ≡ bytes.now) };
+
+    fn try_from(bytes: &[u8]) -> Result<Name, BadName> {
+        name(bytes)
+    }
+}
+
+/// Returns the name with these bytes, or `BadName` (44) if they aren't 1 to 32 bytes from 0x21 to 0x7E.
 pub fn name(bytes: &[u8]) -> Result<Name, BadName>
     ensures accepted { IsOk result ↔ IsTrue (is_name bytes.now) }
     ensures value { IfOk result (λ name. name ≡ bytes.now) }
@@ -21,14 +31,14 @@ pub fn name(bytes: &[u8]) -> Result<Name, BadName>
     })
 }
 
-// Whether these bytes are a name.
+// Checks whether these bytes are a valid name.
 fn is_name(bytes: &[u8]) -> bool
     ensures { result ≡ is_name bytes.now }
 {
     !bytes.is_empty() && bytes.len() <= NAME_LEN && are_visible(bytes)
 }
 
-// Whether each byte is a visible character of ASCII.
+// Checks whether each byte is from 0x21 to 0x7E.
 fn are_visible(bytes: &[u8]) -> bool
     ensures { result ≡ list_all is_visible bytes.now }
 {

@@ -4,10 +4,11 @@ use Rattle.std.specs.Coded.{Coded, code_by, coded×, coded_ℕ, coded_bool, code
 use Rattle.builtin_resolvers.specs.contracts.verdicts.Verdict3 as verdict
 use Rattle.builtin_resolvers.specs.declared.verdicts.Verdict3.{Verdict3}
 use Rattle.clash_record.specs.laws.Codings.{coded_name}
-use Rattle.partition_table.specs.Tables.{Name, Table, Gone}
+use Rattle.clash_record.specs.Name.{Name}
+use Rattle.partition_table.specs.Tables.{Table}
 use Rattle.partition_table.specs.model.Keeping.{coded_table}
-use Rattle.exchange_core.specs.declared.side_id.SideId.{SideId}
-use Rattle.exchange_core.specs.declared.side_id.SideId.TheVariants.{A, B}
+use Rattle.clash_record.specs.declared.side_id.SideId.{SideId}
+use Rattle.clash_record.specs.declared.side_id.SideId.TheVariants.{A, B}
 use Rattle.exchange_core.specs.Sides.{Offer, Withdrawals, Judged, Heard, Exchange, Side}
 use Rattle.exchange_core.specs.Finished.{Finished}
 

@@ -1,9 +1,10 @@
 -- What a finish needs and makes.
-use Rattle.std.specs.Prelude.{◌≡◌, ℕ, true, List, length, Option, Some, is_some, slice_get, map}
+use Rattle.std.specs.Prelude.{◌≡◌, ℕ, true, List, length, Some, is_some, slice_get, map}
 use Rattle.std.specs.List.{list_all}
 use Rattle.std.specs.Arc.{arc_value}
-use Rattle.partition_table.specs.Tables.{Name, Table}
-use Rattle.exchange_core.specs.declared.side_id.SideId.{SideId}
+use Rattle.clash_record.specs.Name.{Name}
+use Rattle.partition_table.specs.Tables.{Table}
+use Rattle.clash_record.specs.declared.side_id.SideId.{SideId}
 use Rattle.exchange_core.specs.declared.finished.Finished.TheInside.{Inside}
 use Rattle.exchange_core.specs.Sides.{Judged, Heard, Exchange, clashes_for, fit_for, is_lawful, merge_for, answer_in}
 use Rattle.exchange_core.specs.Finished.{Finished, finished_by, all_held}

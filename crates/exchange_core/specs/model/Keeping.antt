@@ -1,6 +1,5 @@
 -- What a side's state keeps: its fields as contracts see them, and the clashes of the open exchange.
-use Rattle.std.specs.Prelude.{◌≡◌, List, [], Option, unwrap_or}
-use Rattle.partition_table.specs.Tables.{Clash}
+use Rattle.std.specs.Prelude.{◌≡◌, [], unwrap_or}
 use Rattle.exchange_core.specs.declared.state.State.TheInside.{Inside}
 use Rattle.exchange_core.specs.Sides.{Side, clashes_of}
 

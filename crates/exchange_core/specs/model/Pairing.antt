@@ -1,10 +1,11 @@
 -- A side's table beside the other's.
 use Rattle.std.specs.Prelude.{List, Option}
 use Rattle.partition_table.specs.declared.fault.TableFault.{TableFault}
-use Rattle.partition_table.specs.Tables.{Name, Table, clash_names}
+use Rattle.clash_record.specs.Name.{Name}
+use Rattle.partition_table.specs.Tables.{Table, clash_names}
 use Rattle.partition_table.specs.Faults.{fit_fault}
-use Rattle.exchange_core.specs.declared.side_id.SideId.{SideId}
-use Rattle.exchange_core.specs.declared.side_id.SideId.TheVariants.{A, B}
+use Rattle.clash_record.specs.declared.side_id.SideId.{SideId}
+use Rattle.clash_record.specs.declared.side_id.SideId.TheVariants.{A, B}
 
 -- why the two tables have no merge. A's goes first
 abbrev pub fit_fault_for : SideId → Table → Table → Option TableFault

@@ -3,7 +3,7 @@ use Rattle.std.specs.Prelude.{List}
 use Rattle.std.specs.Arc.{arc_value}
 use Rattle.std.specs.declared.sync.Arc.{Arc}
 use Rattle.std.specs.declared.vec.Vec.{Vec}
-use Rattle.partition_table.specs.Tables.{Name}
+use Rattle.clash_record.specs.Name.{Name}
 
 abbrev pub names_of : {Y Z : Type 0} → Arc (Vec Name Y) Z → List Name
 names_of names = (arc_value names).items

@@ -13,7 +13,8 @@ use Rattle.instruction_set.specs.laws.SameInsn as insns
 use Rattle.clash_record.specs.declared.registrations.Registration.{Registration}
 use Rattle.clash_record.specs.declared.records.Facts.{Facts}
 use Rattle.clash_record.specs.laws.Orders.{names_total, names_exact, registrations_total, registrations_exact}
-use Rattle.partition_table.specs.Tables.{Name, Row, Table, Clash, is_name, same_registration, same_code, same_row, same_entry, same_table, same_facts, same_clash}
+use Rattle.clash_record.specs.Name.{Name}
+use Rattle.partition_table.specs.Tables.{Row, Table, Clash, is_name, same_registration, same_code, same_row, same_entry, same_table, same_facts, same_clash}
 
 -- a test that tells when two are equal is an equivalence
 pub equivalent_by : {A : Type 0} {E : A → A → Bool} → ((x y : A) → Decides (E x y) (x ≡ y)) → IsEquivalence E

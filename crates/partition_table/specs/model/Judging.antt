@@ -7,7 +7,8 @@ use Rattle.instruction_set.specs.contracts.insn.Insn.{the_row}
 use Rattle.clash_record.specs.declared.registrations.Registration.{Registration}
 use Rattle.clash_record.specs.declared.records.Facts.{Facts}
 use Rattle.clash_record.specs.laws.Codings.{coded_name, coded_registration}
-use Rattle.partition_table.specs.Tables.{Name, Table, Clash, clash_at}
+use Rattle.clash_record.specs.Name.{Name}
+use Rattle.partition_table.specs.Tables.{Table, Clash, clash_at}
 
 -- facts are the pair of their numbers
 abbrev pub coded_facts : Coded Facts

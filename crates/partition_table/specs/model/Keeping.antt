@@ -11,7 +11,8 @@ use Rattle.clash_record.specs.declared.registrations.ResolverId.TheVariants.{Bui
 use Rattle.clash_record.specs.declared.registrations.Registration.{Registration}
 use Rattle.clash_record.specs.laws.Codings.{coded_name, coded_registration}
 use Rattle.upload_store.specs.Programs.{Programs}
-use Rattle.partition_table.specs.Tables.{Name, Row, Table, IsCodeOf, max_names, program_of, row_for, same_id}
+use Rattle.clash_record.specs.Name.{Name}
+use Rattle.partition_table.specs.Tables.{Row, Table, IsCodeOf, max_names, program_of, row_for, same_id}
 
 -- a row as the pair of its parts
 abbrev pub coded_row : Coded Row

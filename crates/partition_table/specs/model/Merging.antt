@@ -7,7 +7,8 @@ use Rattle.clash_record.specs.declared.registrations.Registration.{Registration}
 use Rattle.clash_record.specs.Orders.{name_cmp}
 use Rattle.builtin_resolvers.specs.declared.verdicts.Verdict3.{Verdict3}
 use Rattle.builtin_resolvers.specs.declared.verdicts.Verdict3.TheVariants.{Neither}
-use Rattle.partition_table.specs.Tables.{Name, Row, Table, same_registration, differ, merged_at, unless_gone, with_row}
+use Rattle.clash_record.specs.Name.{Name}
+use Rattle.partition_table.specs.Tables.{Row, Table, same_registration, differ, merged_at, unless_gone, with_row}
 
 -- a row of one of two tables
 abbrev pub IsRowOf : Table → Table → Name → Row → Type 0

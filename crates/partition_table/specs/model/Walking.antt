@@ -7,7 +7,8 @@ use Rattle.std.specs.FinMap.{get}
 use Rattle.std.specs.Map.Iter.{deref_pair}
 use Rattle.clash_record.specs.declared.registrations.Registration.{Registration}
 use Rattle.clash_record.specs.Orders.{name_cmp}
-use Rattle.partition_table.specs.Tables.{Name, Row, Table}
+use Rattle.clash_record.specs.Name.{Name}
+use Rattle.partition_table.specs.Tables.{Row, Table}
 use Rattle.partition_table.specs.declared.paired.Ahead.{Ahead}
 use Rattle.partition_table.specs.declared.paired.Paired.{Paired}
 

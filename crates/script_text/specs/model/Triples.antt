@@ -1,8 +1,8 @@
 -- What the code keeps of words in threes.
 use Rattle.std.specs.Prelude.{ℕ, Option, Some, None, Result, Ok, Err, List, Vec, [], ◌∷◌, ◌++◌, map}
 use Rattle.std.specs.declared.alloc.Global.{Global}
-use Rattle.script_text.specs.declared.command.Uptimes.{Uptimes}
-use Rattle.script_text.specs.declared.command.Withdrawal.{Withdrawal}
+use Rattle.clash_record.specs.declared.halves.Uptimes.{Uptimes}
+use Rattle.clash_record.specs.declared.halves.Withdrawal.{Withdrawal}
 use Rattle.script_text.specs.declared.fault.LineFault.{LineFault}
 use Rattle.script_text.specs.declared.parsing.Triple as code
 use Rattle.script_text.specs.Asking.{Triple, if_right, uptimes_of, no_uptimes}

@@ -1,5 +1,5 @@
--- How a store keeps its programs: as entries of a map, where each holds its code in some way.
-use Rattle.std.specs.Prelude.{◌≡◌, ◌≢◌, Some, None, List, length, map as map_list}
+-- The entries of a store, each of which holds its code in some way.
+use Rattle.std.specs.Prelude.{◌≡◌, ◌≢◌, Some, None, List, length}
 use Rattle.std.specs.FinMap.{code}
 use Rattle.std.specs.FinMap as map
 use Rattle.std.specs.Coded.{Coded, coded_list}
@@ -7,26 +7,22 @@ use Rattle.instruction_set.specs.declared.insn.Insn.{Insn}
 use Rattle.instruction_set.specs.contracts.insn.Insn.{the_row}
 use Rattle.clash_record.specs.declared.registrations.ProgramId.{ProgramId}
 use Rattle.clash_record.specs.laws.Codings.{coded_id}
-use Rattle.upload_store.specs.Programs.{Programs, IsStore, max_programs}
+use Rattle.upload_store.specs.Programs.{Programs, programs_by, IsStore, max_programs}
 use Rattle.upload_store.specs.declared.fault.UploadFault.{UploadFault}
 use Rattle.upload_store.specs.declared.fault.UploadFault.TheVariants.{Program, DigestClash, StoreFull, OutOfMemory}
 
--- how two of the maps are told apart
+-- the coding of stores, which decides their equality
 abbrev pub coded_programs : Coded Programs
 coded_programs = code coded_id (coded_list the_row.coded)
-
--- the map that entries make
-abbrev pub programs_by : {X : Type 0} → (X → List Insn) → List (ProgramId × X) → Programs
-programs_by code_of entries = map.from_entries (map_list (λ e. (e.0, code_of e.1)) entries)
 
 -- entries that are a store, no two of them under one id
 pub record AreKept {X : Type 0} (code_of : X → List Insn) (entries : List (ProgramId × X)) : Type 0 where
   pub store : IsStore (programs_by code_of entries)
   pub distinct : map.len (programs_by code_of entries) ≡ length entries
 
--- why code with this id isn't kept
+-- code with this id can't be kept
 abbrev pub IsKeepingFault : Programs → ProgramId → List Insn → UploadFault → Type 0
 IsKeepingFault store id code (Program fault) = ⊥
 IsKeepingFault store id code DigestClash = (other : List Insn) × (map.get store id ≡ Some other) × (other ≢ code)
 IsKeepingFault store id code StoreFull = (map.get store id ≡ None) × (map.len store ≡ max_programs)
-IsKeepingFault store id code OutOfMemory = Unit {0}
+IsKeepingFault store id code OutOfMemory = ⊥

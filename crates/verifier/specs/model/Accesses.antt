@@ -1,20 +1,20 @@
--- The rules of an access to memory, 21 to 25, apart from its instruction.
+-- The rules of an access to memory, 21 to 25, without its instruction.
 use Rattle.std.specs.Prelude.{◌≡◌, ℕ, ◌<◌, Bool, true, false, not, IsTrue, Option, Some, None}
 use Rattle.instruction_set.specs.declared.insn.Insn.{Insn}
 use Rattle.abstract_value.specs.States.{View}
 use Rattle.abstract_value.specs.declared.states.RegState.{RegState}
-use Rattle.verifier.specs.declared.memory_access.Access.{Access as access}
+use Rattle.verifier.specs.declared.memory_access.Access.{Access as CodeAccess}
 use Rattle.verifier.specs.declared.rule.Rule.{Rule}
 use Rattle.verifier.specs.declared.rule.Rule.TheVariants.{OutsideRecord, WritesRecord, OutsideStack, UnwrittenStack, ScalarAddress}
 use Rattle.verifier.specs.Structure.{rule_number}
 use Rattle.instruction_set.specs.Machine.{record_len}
 use Rattle.verifier.specs.Rules.{Access, of_access, is_scalar, inside_record, spares_record, inside_stack, finds_written}
 
--- what the code calls an access, in the words of the rules
-abbrev pub as_access : access → Access
+-- an access of the code, as the rules define accesses
+abbrev pub as_access : CodeAccess → Access
 as_access a = record { base = a.base.number; offset = a.offset; size = a.size; is_store = a.is_store }
 
-abbrev pub as_accesses : Option access → Option Access
+abbrev pub as_accesses : Option CodeAccess → Option Access
 as_accesses None = None
 as_accesses (Some a) = Some (as_access a)
 
@@ -36,7 +36,7 @@ pub record AccessFails {D : Type 0} (written : ℕ → Bool) (base : RegState D)
   pub fails : access_meets written base r rule ≡ false
   pub first : (other : Rule) → rule_number other < rule_number rule → IsTrue (access_meets written base r other)
 
--- the same of the access of an instruction in a state; it is met where there is none
+-- the same for the access of an instruction in a state; an instruction without an access meets it
 abbrev pub insn_access_meets : {D : Type 0} → Insn → View D → Rule → Bool
 insn_access_meets i s rule = of_access i s (λ base r. access_meets s.written base r rule)
 

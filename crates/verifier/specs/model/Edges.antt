@@ -1,4 +1,4 @@
--- What one pass over the slots knows of the rules of structure.
+-- The knowledge of one pass about the rules of structure.
 use Rattle.std.specs.Prelude.{◌≡◌, ℕ, ◌+◌, ◌<◌, ◌⊎◌, Option, Some, None, List, Bool, true, false, if◌then◌else◌, slice_index_or, slice_set}
 use Rattle.instruction_set.specs.Machine.{slots_of, insn_at, slot_count}
 use Rattle.instruction_set.specs.declared.insn.Insn.{Insn}
@@ -14,7 +14,7 @@ pub record FailsStructure (code : List Insn) (slot : ℕ) (i : Insn) (rule : Rul
   pub fails : MeetsStructure code slot i rule → ⊥
   pub first : MeetsBelow code slot i (rule_number rule)
 
--- the slot of the next instruction, where it may follow
+-- the slot of the next instruction, if it may follow
 abbrev pub falls_to : ℕ → Insn → Option ℕ
 falls_to slot i = if goes_on i then Some (slot + slots_of i) else None
 

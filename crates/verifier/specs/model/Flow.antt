@@ -1,4 +1,4 @@
--- How a pass carries states to slots.
+-- The flow of states to slots in a pass.
 use Rattle.std.specs.Prelude.{ℕ, Bool, if◌then◌else◌, Option, Some, None}
 use Rattle.abstract_value.specs.Domain.{Ops}
 use Rattle.abstract_value.specs.States.{View, put}
@@ -10,11 +10,11 @@ abbrev pub flow : {D : Type 0} → Ops D → Assignment D → ℕ → Option (Vi
 flow o states slot None = states
 flow o states slot (Some t) = put states slot (Some (with_joined o (states slot) t))
 
--- the same along an edge, where there is one
+-- the same along an edge, if any
 abbrev pub flow_edge : {D : Type 0} → Ops D → Assignment D → Option ℕ → Option (View D) → Assignment D
 flow_edge o states None t = states
 flow_edge o states (Some slot) t = flow o states slot t
 
--- a state, where it goes along an edge
+-- a state, if it follows an edge
 abbrev pub if_live : {D : Type 0} → Bool → View D → Option (View D)
 if_live is_live s = if is_live then Some s else None

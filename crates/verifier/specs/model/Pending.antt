@@ -1,4 +1,4 @@
--- What the pass holds before a slot.
+-- The pending states of a pass before a slot.
 use Rattle.std.specs.Prelude.{◌≡◌, ℕ, ◌≤◌, ◌⊎◌, IsTrue, Some, List}
 use Rattle.instruction_set.specs.declared.insn.Insn.{Insn}
 use Rattle.abstract_value.specs.Domain.{Ops}
@@ -10,7 +10,7 @@ use Rattle.verifier.specs.Width.{is_target}
 abbrev pub IsDue : List Insn → ℕ → ℕ → Type 0
 IsDue code at slot = (at ≤ slot) × ((slot ≡ at) ⊎ IsTrue (is_target code at slot))
 
--- what is held is what the least assignment has from a slot on, and no other slot is held but those that are due
+-- the pending states are those of the least assignment from a slot on, at due slots only
 pub record IsPending {D : Type 0} (o : Ops D) (code : List Insn) (at : ℕ) (states : Assignment D) : Type 0 where
   pub whole : Assignment D
   pub least : IsLeast o code at whole

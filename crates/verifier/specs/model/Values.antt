@@ -1,4 +1,4 @@
--- What an instruction writes, apart from where.
+-- The values that instructions write.
 use Rattle.std.specs.Prelude.{ℕ, true, false, Option, Some, None}
 use Rattle.instruction_set.specs.declared.insn.Register.{Register}
 use Rattle.instruction_set.specs.declared.insn.Insn.{Insn}
@@ -14,7 +14,7 @@ abbrev pub number_of : Option Register → Option ℕ
 number_of None = None
 number_of (Some r) = Some r.number
 
--- what the destination holds after an instruction that writes a register
+-- the destination's contents after an instruction that writes a register
 abbrev pub value_of : {D : Type 0} → Ops D → Insn → View D → RegState D
 value_of o (Alu width op dst src) s = result_of o width op (s.registers dst.number) (operand o s src)
 value_of o (Neg width dst) s = of_scalar (o.neg width) (s.registers dst.number)

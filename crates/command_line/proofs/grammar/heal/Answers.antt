@@ -11,8 +11,8 @@ with sub app = with_subcommand app sub.top
 
 pub returns : goal.returns
 returns c =
-    let none : app_of c.after_help-named.result ≡ new_app (codes "heal") =
-    ap app_of_fields c.after_help-named.ensures ∙ ap app_of_fields c.in_ok-bin_name.ensures.0 ∙ c.new.ensures.app in
+    let none : app_of c.in_ok-named.named ≡ new_app (codes "heal") =
+    ap app_of_fields c.in_ok-named.ensures.0 ∙ c.new.ensures.app in
     let one : app_of c.in_ok-checking.checking ≡ with check_app (new_app (codes "heal")) =
     c.in_ok-checking.ensures check_app c.check_command.ensures ∙ ap (with check_app) none in
     let two = c.in_ok-judging.ensures judge_app c.judge_command.ensures ∙ ap (with judge_app) one in

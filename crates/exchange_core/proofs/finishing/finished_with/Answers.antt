@@ -1,4 +1,4 @@
-use Rattle.std.proofs.Common.{◌≡◌, ℕ, Option, Some, List, ap, sym, subst, ◌∙◌}
+use Rattle.std.proofs.Common.{ℕ, ap, sym, subst}
 use Rattle.std.specs.Option.{option_map}
 use Rattle.partition_table.specs.Tables.{Table}
 use Rattle.exchange_core.specs.Sides.{Exchange}

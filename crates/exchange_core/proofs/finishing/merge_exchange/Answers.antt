@@ -1,6 +1,6 @@
-use Rattle.std.proofs.Common.{◌≡◌, Option, Some, List, length, true, ap, sym, subst, ◌∙◌}
+use Rattle.std.proofs.Common.{◌≡◌, length, true, ap, sym, subst, ◌∙◌}
 use Rattle.std.specs.Option.{option_map}
-use Rattle.partition_table.specs.Tables.{Name, Table}
+use Rattle.partition_table.specs.Tables.{Table}
 use Rattle.exchange_core.specs.Sides.{Exchange, fit_for, merge_for}
 use Rattle.exchange_core.specs.Finished.{all_held}
 use Rattle.exchange_core.specs.model.Pairing.{clash_names_for}

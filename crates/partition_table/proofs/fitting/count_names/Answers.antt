@@ -1,7 +1,7 @@
 use Rattle.std.proofs.Common.{◌+◌, not, map, length, filter, ap, sym, subst, ◌∙◌, arith}
 use Rattle.std.specs.FinMap.{contains_key, keys}
 use Rattle.std.specs.List.{AllByRecursion}
-use Rattle.partition_table.specs.Tables.{Name}
+use Rattle.clash_record.specs.Name.{Name}
 use Rattle.partition_table.specs.model.Walking.{pairs_left, IsPaired}
 use Rattle.partition_table.specs.declared.paired.Paired.{Paired}
 use Rattle.partition_table.proofs.OneClash.{keys_length, union_few}

@@ -1,18 +1,17 @@
-use Rattle.std.proofs.Common.{inl, refl}
+use Rattle.std.proofs.Common.{inl}
 use Rattle.script_machine.specs.declared.reply.Reply.TheVariants.{Refused}
+use Rattle.cluster.specs.Healings.{healing_of}
 use Rattle.script_machine.specs.Replies.{Heals}
 use Rattle.script_engine.proofs.Saying.{said}
 use Rattle.script_engine.proofs.serving.heal.Goals as goal
 
 pub returns-in-Ok : goal.returns-in-Ok
-returns-in-Ok g c =
-    let healing = c.in-Ok.healing in
-    record {
-      answer = Heals healing.clashes healing.rulings.items c.args.gone.now healing.count;
-      is_answer = (refl, c.in-Ok.ensures.healed);
-      sends = λ start before h. c.with_status.ensures.sent start _ _ (c.print_healing.ensures start before h);
-      status = c.with_status.ensures.status;
-    }
+returns-in-Ok g c = record {
+  answer = Heals (healing_of c.in-Ok.healing);
+  is_answer = c.in-Ok.ensures.healed;
+  sends = λ start before h. c.with_status.ensures.sent start _ _ (c.print_healing.ensures start before h);
+  status = c.with_status.ensures.status;
+}
 
 pub returns-in-Err : goal.returns-in-Err
 returns-in-Err g c =

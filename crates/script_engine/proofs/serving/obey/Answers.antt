@@ -6,7 +6,7 @@ use Rattle.script_machine.specs.Replies.{Answer, Says, Shows}
 use Rattle.script_machine.specs.Steps.{Answers}
 use Rattle.exchange_core.specs.Sides.{shown_table}
 use Rattle.partition_table.specs.Tables.{rows_of}
-use Rattle.script_healing.specs.Clusters.{at}
+use Rattle.cluster.specs.Clusters.{at}
 use Rattle.script_engine.proofs.Saying.{said}
 use Rattle.script_engine.proofs.serving.obey.Goals as goal
 

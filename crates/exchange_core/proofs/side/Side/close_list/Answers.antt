@@ -1,8 +1,22 @@
-use Rattle.std.proofs.Common.{◌++◌, ◌∷◌, [], ap, sym, ◌∙◌}
+use Rattle.std.proofs.Common.{◌++◌, ◌∷◌, [], ap, sym, subst, ◌∙◌}
 use Rattle.exchange_core.specs.declared.journal.Event.TheVariants as event
+use Rattle.exchange_core.specs.Sides.{Withdrawals}
+use Rattle.exchange_core.specs.Lists.{AreNamesOf}
 use Rattle.exchange_core.proofs.Due.{room_close_list}
 use Rattle.exchange_core.proofs.Journaled.{kept_on, few_on}
+use Rattle.exchange_core.proofs.Listed.{replayed_list}
+use Rattle.exchange_core.proofs.Replays.{replayed_names}
 use Rattle.exchange_core.proofs.side.Side.close_list.Goals as goal
+
+pub close_list-requires-clause-own : goal.close_list-requires-clause-own
+close_list-requires-clause-own c =
+    replayed_names c.args.self.now.journal.items c.args.self.now.state c.args.self.now.replayed
+
+pub returns-clause-own : goal.returns-clause-own
+returns-clause-own c =
+    let side = c.args.self.now in
+    subst (λ (l : Withdrawals). AreNamesOf side.state.table l.names) (sym c.in_ok-list.ensures.list)
+    (replayed_list side.journal.items side.state side.replayed)
 
 pub invariant_of-self-2-clause-replayed : goal.invariant_of-self-2-clause-replayed
 invariant_of-self-2-clause-replayed c =

@@ -1,5 +1,6 @@
 use Rattle.std.proofs.Common.{List, [], ap, sym, ◌∙◌}
-use Rattle.partition_table.specs.Tables.{Name, rows_of}
+use Rattle.clash_record.specs.Name.{Name}
+use Rattle.partition_table.specs.Tables.{rows_of}
 use Rattle.exchange_core.specs.Sides.{Side, shown_table}
 use Rattle.exchange_core.specs.Rows.{not_withdrawn}
 use Rattle.exchange_core.specs.model.Keeping.{side_of}

@@ -1,4 +1,4 @@
-use Rattle.std.proofs.Common.{Option, ap, sym, ◌∙◌}
+use Rattle.std.proofs.Common.{ap, sym, ◌∙◌}
 use Rattle.std.specs.Option.{option_map}
 use Rattle.std.specs.FinMap.{get}
 use Rattle.partition_table.specs.Tables.{Row, Table}

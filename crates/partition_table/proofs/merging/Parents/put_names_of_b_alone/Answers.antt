@@ -3,7 +3,8 @@ use Rattle.std.specs.List.{AllByRecursion}
 use Rattle.std.specs.BTreeSet.{contains}
 use Rattle.std.specs.FinMap.{get}
 use Rattle.clash_record.specs.Orders.{name_cmp}
-use Rattle.partition_table.specs.Tables.{Name, max_names, unless_gone, with_row}
+use Rattle.clash_record.specs.Name.{Name}
+use Rattle.partition_table.specs.Tables.{max_names, unless_gone, with_row}
 use Rattle.partition_table.specs.model.Walking.{pairs_left, IsPaired}
 use Rattle.partition_table.specs.model.Merging.{IsReady, put_all, each_kept, names_without, IsRowOf}
 use Rattle.partition_table.proofs.Settling.{ready_next, unless_gone_of, own_row, lacked, without_step}

@@ -1,6 +1,6 @@
 use Rattle.std.proofs.Common.{None, refl, ap, ◌∙◌}
-use Rattle.numbered.specs.declared.NumberedRefusal.{NumberedRefusal}
-use Rattle.script_healing.specs.Faults.{heal_fault_number}
+use Rattle.numbered.specs.declared.refusal.NumberedRefusal.{NumberedRefusal}
+use Rattle.cluster.specs.Faults.{heal_fault_number}
 use Rattle.script_machine.specs.declared.reply.Reply.TheVariants.{Refused}
 use Rattle.script_machine.proofs.machine.Machine.heal.Goals as goal
 

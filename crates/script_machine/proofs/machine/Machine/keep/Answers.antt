@@ -1,5 +1,4 @@
-use Rattle.std.proofs.Common.{◌≡◌, Some, inl, refl, length, ap, sym, ◌∙◌}
-use Rattle.std.specs.Option.{option_map}
+use Rattle.std.proofs.Common.{inl, refl, ap}
 use Rattle.script_machine.specs.declared.reply.Reply.TheVariants.{Uploaded}
 use Rattle.script_machine.specs.Machines.{machine_of}
 use Rattle.script_machine.proofs.Uploads.{upload_refused}
@@ -7,14 +6,11 @@ use Rattle.script_machine.proofs.machine.Machine.keep.Goals as goal
 
 pub returns-in-Ok : goal.returns-in-Ok
 returns-in-Ok c =
-    let kept = c.in-Ok.ensures.kept in
-    let counted : Some (length kept.code) ≡ Some c.code_len-count.result =
-    sym (ap (option_map length) kept.found) ∙ c.code_len-count.ensures in
-    let count : c.code_len-count.result ≡ length kept.code = cc (counted) in
+    let is = c.in-Ok.ensures.kept in
     inl (inl (record {
-      id = c.in-Ok.program;
-      kept = kept;
-      said = ap (Uploaded c.args.label) count;
+      id = c.in-Ok.uploaded.id;
+      kept = is.kept;
+      said = ap (Uploaded c.args.label) is.counted;
       labels = c.push_reserved.ensures.items;
       cluster = refl;
       latest = refl;

@@ -4,8 +4,8 @@ use Rattle.output.specs.Sending.{Sends, SendsOn}
 use Rattle.partition_table.specs.Tables.{rows_of}
 use Rattle.exchange_core.specs.Sides.{shown_table}
 use Rattle.exchange_core.specs.Rows.{rows_left}
-use Rattle.script_output.specs.Printed.{row_line}
-use Rattle.script_healing.specs.Clusters.{at, cluster_of}
+use Rattle.script_text.specs.Printed.{row_line}
+use Rattle.cluster.specs.Clusters.{at, cluster_of}
 use Rattle.script_machine.specs.Machines.{resolver_text}
 use Rattle.script_machine.specs.Replies.{shown_row}
 use Rattle.script_machine.proofs.Rows.{one_more, all_sent}

@@ -1,7 +1,7 @@
 use Rattle.partition_table.specs.Tables.{rows_of}
 use Rattle.exchange_core.specs.Sides.{shown_table}
 use Rattle.exchange_core.specs.Rows.{rows_left}
-use Rattle.script_healing.specs.Clusters.{at}
+use Rattle.cluster.specs.Clusters.{at}
 use Rattle.script_machine.specs.Machines.{machine_of}
 use Rattle.script_machine.specs.Replies.{shown_row}
 use Rattle.script_machine.proofs.Rows.{AreSent}

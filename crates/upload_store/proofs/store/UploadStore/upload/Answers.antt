@@ -1,58 +1,35 @@
-use Rattle.std.proofs.Common.{◌≡◌, ap, ℕ, List}
+use Rattle.std.proofs.Common.{◌≡◌, Err, ap}
 use Rattle.upload_store.specs.Programs.{id_of}
-use Rattle.upload_store.proofs.Outcomes.{unread_refused, unread_accepted, unread_told, unread_rejected}
-use Rattle.upload_store.proofs.Outcomes.{kept_from, refused_from, accepted_taken, accepted_told, accepted_rejected}
-use Rattle.upload_store.proofs.store.UploadStore.upload.Goals.{After-keep}
+use Rattle.upload_store.specs.Uploads.{uploaded_as}
+use Rattle.upload_store.proofs.Outcomes.{converted, fault_passed, rejection_passed, id_passed, no_fault, no_rejection}
 use Rattle.upload_store.proofs.store.UploadStore.upload.Goals as goal
 
-pub returns-in_err-program-clause-taken : goal.returns-in_err-program-clause-taken
-returns-in_err-program-clause-taken c = λ h.
-    unread_accepted c.args.self.now c.args.bytes.now c.in_err-program.field-0.0 c.from_residual.result
-    c.from_residual.ensures c.in_err-program.ensures.taken h.code h.accepted
+pub returns-in_err-uploaded-clause-taken : goal.returns-in_err-uploaded-clause-taken
+returns-in_err-uploaded-clause-taken c = λ fits.
+    let fault = c.in_err-uploaded.field-0.0 in
+    fault_passed fault c.from_residual.result (converted c.from_residual.result fault c.from_residual.ensures)
+    (λ e. absurd (cc)) (c.in_err-uploaded.ensures.taken fits)
 
-pub returns-in_err-program-clause-refused : goal.returns-in_err-program-clause-refused
-returns-in_err-program-clause-refused c =
-    unread_refused c.args.self.now c.args.bytes.now c.in_err-program.field-0.0 c.from_residual.result
-    c.from_residual.ensures c.in_err-program.ensures.refused
+pub returns-in_err-uploaded-clause-told : goal.returns-in_err-uploaded-clause-told
+returns-in_err-uploaded-clause-told c = λ other h.
+    let fault = c.in_err-uploaded.field-0.0 in
+    fault_passed fault c.from_residual.result (converted c.from_residual.result fault c.from_residual.ensures)
+    (λ e. let same : fault ≡ other = cc in ap Err same) (c.in_err-uploaded.ensures.told other h)
 
-pub returns-in_err-program-clause-told : goal.returns-in_err-program-clause-told
-returns-in_err-program-clause-told c =
-    unread_told c.args.self.now c.args.bytes.now c.in_err-program.field-0.0 c.from_residual.result
-    c.from_residual.ensures c.in_err-program.ensures.taken c.in_err-program.ensures.told
-
-pub returns-in_err-program-clause-rejected : goal.returns-in_err-program-clause-rejected
-returns-in_err-program-clause-rejected c =
-    unread_rejected c.args.self.now c.args.bytes.now c.in_err-program.field-0.0 c.from_residual.result
-    c.from_residual.ensures (c.one_reading_theorem.ensures.either c.args.bytes.now) c.in_err-program.ensures.refused
-
--- the id that is made of the bytes' digest is theirs
-named : (c : After-keep) → record { 0 = c.digest.result } ≡ id_of c.args.bytes.now
-named c = ap (λ (bytes : List ℕ). record { 0 = bytes }) c.digest.ensures
-
-pub returns-clause-kept : goal.returns-clause-kept
-returns-clause-kept c =
-    kept_from c.args.self.now c.args.bytes.now c.in_ok-program.program (record { 0 = c.digest.result })
-    c.in_ok-program.ensures.accepted (named c) c.in_ok-program.ensures.safe c.keep.new.self c.keep.result
-    c.keep.ensures.answer c.keep.ensures.place c.keep.ensures.kept
+pub returns-in_err-uploaded-clause-rejected : goal.returns-in_err-uploaded-clause-rejected
+returns-in_err-uploaded-clause-rejected c = λ u.
+    let fault = c.in_err-uploaded.field-0.0 in
+    rejection_passed fault c.from_residual.result (converted c.from_residual.result fault c.from_residual.ensures)
+    (c.in_err-uploaded.ensures.rejected u)
 
 pub returns-clause-taken : goal.returns-clause-taken
-returns-clause-taken c =
-    accepted_taken c.args.self.now c.args.bytes.now c.in_ok-program.program (record { 0 = c.digest.result })
-    c.in_ok-program.ensures.accepted (named c) c.in_ok-program.ensures.taken c.keep.result
-    c.keep.ensures.answer c.keep.ensures.refused
-
-pub returns-clause-refused : goal.returns-clause-refused
-returns-clause-refused c =
-    refused_from c.args.self.now c.args.bytes.now c.in_ok-program.program (record { 0 = c.digest.result })
-    c.in_ok-program.ensures.accepted (named c) c.keep.result c.keep.ensures.refused
+returns-clause-taken c = λ fits.
+    id_passed c.in_ok-uploaded.uploaded (uploaded_as (id_of c.args.bytes.now) fits.code)
+    (c.in_ok-uploaded.ensures.taken fits)
 
 pub returns-clause-told : goal.returns-clause-told
-returns-clause-told c =
-    accepted_told c.args.self.now c.args.bytes.now c.in_ok-program.program (record { 0 = c.digest.result })
-    c.in_ok-program.ensures.accepted (named c) c.in_ok-program.ensures.taken c.in_ok-program.ensures.told c.keep.result
-    c.keep.ensures.place c.keep.ensures.refused
+returns-clause-told c = λ other h.
+    no_fault c.in_ok-uploaded.uploaded other (c.in_ok-uploaded.ensures.told other h)
 
 pub returns-clause-rejected : goal.returns-clause-rejected
-returns-clause-rejected c =
-    accepted_rejected c.args.self.now c.args.bytes.now c.in_ok-program.program (record { 0 = c.digest.result })
-    c.in_ok-program.ensures.accepted (named c) (c.one_reading_theorem.ensures.one_code c.args.bytes.now) c.keep.result
+returns-clause-rejected c = λ u. no_rejection c.in_ok-uploaded.uploaded (c.in_ok-uploaded.ensures.rejected u)

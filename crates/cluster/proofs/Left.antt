@@ -1,0 +1,75 @@
+-- What a failure leaves of a half.
+use Rattle.std.proofs.Common.{◌≡◌, ℕ, List, [], ◌∷◌, ◌++◌, length, Option, None, refl, sym, ap, ◌∙◌, subst, take, drop, inl, inr, arith}
+use Rattle.std.specs.Option.{option_map_or}
+use Rattle.std.proofs.lemmas.List.{take-append-drop, take_all}
+use Rattle.std.proofs.lemmas.List.Elements.{filter_map-append}
+use Rattle.clash_record.specs.declared.side_id.SideId.{SideId}
+use Rattle.exchange_core.specs.Sides.{Exchange, Side, shown_table, without}
+use Rattle.exchange_core.specs.Finished.{Finished, IsFinished}
+use Rattle.clash_record.specs.declared.halves.Withdrawal.{Withdrawal}
+use Rattle.cluster.specs.Clusters.{Cluster, at}
+use Rattle.cluster.specs.Healing.{Plan, gone_of_side, idle_side, IsLeft, as_before, merged, left_open, untouched}
+use Rattle.cluster.specs.model.Stages.{IsRested, IsTrying, IsMerged, rested}
+
+module _ (plan : Plan) (was : Cluster) (id : SideId) (same : (at was id).side.id ≡ id) where
+  pub left_rested : (side : Side) → IsRested (at was id).side side → IsLeft plan was id 0 side
+  left_rested side r =
+      let is : side ≡ idle_side id (shown_table (at was id).side) side.latest =
+      λ i. record { id = (r.id ∙ same) i; table = r.table i; exchange = r.idle i; latest = side.latest } in
+      as_before side.latest is (inl r.latest)
+
+  pub left_trying : (n : ℕ) (side : Side) → IsTrying plan was id (gone_of_side id (take n plan.gone)) side →
+      IsLeft plan was id n side
+  left_trying n side t = left_open record {
+    exchange = t.exchange;
+    is_open = t.opened;
+    number = t.under_way.number;
+    seed = t.under_way.seed;
+    withdrawn = t.under_way.withdrawn;
+    table = t.table;
+    id = t.same_id ∙ sym same;
+    latest = t.latest;
+  }
+
+  pub left_all : (side : Side) → IsTrying plan was id (gone_of_side id plan.gone) side →
+      IsLeft plan was id (length plan.gone) side
+  left_all side t =
+      left_trying (length plan.gone) side
+      (subst (λ gone. IsTrying plan was id (gone_of_side id gone) side)
+      (sym (take_all (length plan.gone) plan.gone (omega arith))) t)
+
+  pub left_merged : (n : ℕ) (finished : Finished) (side : Side) → IsMerged plan was id finished side →
+      IsLeft plan was id n side
+  left_merged n finished side m =
+      merged finished.rulings finished.table (subst IsFinished m.is m.lawful) m.idle
+
+  -- an idle half that showed this table, after n withdrawals
+  idle_after : ℕ → Option ℕ → Side
+  idle_after n latest =
+      idle_side id (without (gone_of_side id (take n plan.gone)) (shown_table (at was id).side)) latest
+
+  -- abandoning an open exchange
+  pub left_abandoned : (n : ℕ) (side : Side) → IsLeft plan was id n side → IsLeft plan was id n (rested side)
+  unfolding idle_after
+  left_abandoned n side (as_before latest e l) = as_before latest (ap rested e) l
+  left_abandoned n side (merged rulings table lawful e) = merged rulings table lawful (ap rested e)
+  left_abandoned n side (left_open o) =
+      let names = gone_of_side id (take n plan.gone) in
+      let shows : shown_table side ≡ without names (shown_table (at was id).side) =
+      ap (λ (x : Option Exchange). option_map_or (λ exchange. without exchange.withdrawn side.table) x side.table)
+      o.is_open
+      ∙ (λ i. without (o.withdrawn i) (o.table i)) in
+      let is : rested side ≡ idle_after n side.latest =
+      λ i. record { id = (o.id ∙ same) i; table = shows i; exchange = None; latest = side.latest } in
+      as_before side.latest is (inr o.latest)
+  left_abandoned n side (untouched none e) =
+      let is : rested side ≡ idle_after 0 (at was id).side.latest =
+      ap rested e
+      ∙ (λ i. record {
+        id = same i;
+        table = shown_table (at was id).side;
+        exchange = None;
+        latest = (at was id).side.latest;
+      }) in
+      as_before (at was id).side.latest (is ∙ ap (λ m. idle_after m (at was id).side.latest) (sym none))
+      (inl (ap (λ (s : Side). s.latest) e))

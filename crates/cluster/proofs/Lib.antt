@@ -1,0 +1,9 @@
+mod Answered
+mod Called
+mod Carried
+mod Held
+mod Left
+mod Rounds
+mod Settled
+mod Steps
+mod Trying

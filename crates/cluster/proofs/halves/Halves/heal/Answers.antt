@@ -1,0 +1,21 @@
+use Rattle.cluster.specs.Healing.{plan_of}
+use Rattle.cluster.specs.model.Stages.{halves_of}
+use Rattle.cluster.proofs.Answered.{on_err}
+use Rattle.cluster.proofs.Trying.{nothing_done}
+use Rattle.cluster.proofs.halves.Halves.heal.Goals as goal
+
+pub returns-in_err-abandon_open-clause-failed : goal.returns-in_err-abandon_open-clause-failed
+returns-in_err-abandon_open-clause-failed g c = on_err c.from_residual.result (λ sides.
+    let plan = plan_of c.args.plan.now in
+    let was = halves_of c.args.self.now in
+    c.abandon_open.ensures.left plan was sides (nothing_done plan was))
+
+pub returns-in-Ok-clause-healed : goal.returns-in-Ok-clause-healed
+returns-in-Ok-clause-healed g c =
+    λ sides. c.in-Ok.ensures.healed (halves_of c.args.self.now) sides c.in_ok-abandon_open.ensures.rested
+
+pub returns-in-Err-clause-failed : goal.returns-in-Err-clause-failed
+returns-in-Err-clause-failed g c = λ sides.
+    let was = halves_of c.args.self.now in
+    c.give_up.ensures (plan_of c.args.plan.now) was sides
+    (c.in-Err.ensures.failed was sides c.in_ok-abandon_open.ensures.rested)

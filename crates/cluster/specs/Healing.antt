@@ -1,0 +1,121 @@
+-- What an exchange of the two halves leaves.
+use Rattle.std.specs.Prelude.{◌≡◌, ◌⊎◌, ℕ, ◌≤◌, Bool, true, not, ◌&&◌, IsTrue, if◌then◌else◌, List, [], ◌∷◌, ◌++◌, take, Option, Some, None}
+use Rattle.std.specs.List.{filter_map}
+use Rattle.std.specs.FinMap.{len, contains_key}
+use Rattle.clash_record.specs.Name.{Name}
+use Rattle.clash_record.specs.declared.halves.Uptimes.{Uptimes}
+use Rattle.clash_record.specs.declared.halves.Withdrawal.{Withdrawal}
+use Rattle.clash_record.specs.declared.side_id.SideId.{SideId}
+use Rattle.clash_record.specs.declared.side_id.SideId.TheVariants.{A, B}
+use Rattle.partition_table.specs.Tables.{Table, Gone, Clash, is_in}
+use Rattle.exchange_core.specs.declared.judged.Judged.{Judged}
+use Rattle.exchange_core.specs.Sides.{Side, Exchange, is_side, shown_table, without}
+use Rattle.exchange_core.specs.Finished.{Finished, IsFinished, clashes_merged}
+use Rattle.cluster.specs.Clusters.{Cluster, at}
+use Rattle.cluster.specs.Healings.{Healing}
+use Rattle.cluster.specs.declared.plan.Plan as code
+
+-- an exchange to try: its number, the seed of its words, the uptimes, and the names to withdraw while it is open
+pub record Plan : Type 0 where
+  pub number : ℕ
+  pub seed : ℕ
+  pub uptimes : Uptimes
+  pub gone : List Withdrawal
+
+abbrev pub plan_of : code.Plan → Plan
+plan_of plan =
+    record { number = plan.number; seed = plan.seed; uptimes = plan.uptimes; gone = plan.gone.now }
+
+-- the withdrawn names of one side
+abbrev pub gone_of_side : SideId → List Withdrawal → List Name
+gone_of_side id gone =
+    filter_map (λ withdrawal. if is_side withdrawal.side id then Some withdrawal.name else None) gone
+
+abbrev pub gone_of : List Withdrawal → Gone
+gone_of gone = record { of_a = gone_of_side A gone; of_b = gone_of_side B gone }
+
+-- each of these names is in the table, and none is among the names before it
+abbrev pub are_held_after : Table → List Name → List Name → Bool
+are_held_after table before [] = true
+are_held_after table before (name ∷ names) =
+    (contains_key table name && not (is_in name before)) && are_held_after table (before ++ name ∷ []) names
+
+-- the names are in the table, each once
+abbrev pub AreHeld : Table → List Name → Type 0
+AreHeld table names = IsTrue (are_held_after table [] names)
+
+-- an exchange of the tables that the two halves showed, with these rulings, and this table out of it
+abbrev pub finished_as : Plan → Cluster → List Judged → Table → Finished
+finished_as plan old rulings table = record {
+  number = plan.number;
+  seed = plan.seed;
+  a = shown_table old.a.side;
+  uptime_a = plan.uptimes.a;
+  b = shown_table old.b.side;
+  uptime_b = plan.uptimes.b;
+  gone = gone_of plan.gone;
+  rulings = rulings;
+  table = table;
+}
+
+-- the table is the merge of the two, without the withdrawn names, each clash decided by its resolver's meaning at one
+-- of its four words
+abbrev pub IsLawful : Plan → Cluster → List Judged → Table → Type 0
+IsLawful plan old rulings table = IsFinished (finished_as plan old rulings table)
+
+-- an idle side with this table, whose latest exchange has this number
+abbrev pub idle_side : SideId → Table → Option ℕ → Side
+idle_side id table latest = record { id = id; table = table; exchange = None; latest = latest }
+
+-- no event of a journal is lost
+pub record HasGrown (old new : Cluster) : Type 0 where
+  pub a : old.a.events ≤ new.a.events
+  pub b : old.b.events ≤ new.b.events
+
+-- the split is healed: both halves have one table, the lawful merge of the two that they showed, and each half held the
+-- names that it withdrew, each once
+pub record IsHealed (plan : Plan) (old new : Cluster) (healing : Healing) : Type 0 where
+  pub table : Table
+  pub lawful : IsLawful plan old healing.rulings table
+  pub clashes_are : healing.clashes ≡ clashes_merged (finished_as plan old healing.rulings table)
+  pub withdrawn_are : healing.withdrawn ≡ plan.gone
+  pub count_is : healing.names ≡ len table
+  pub held_a : AreHeld (shown_table old.a.side) (gone_of_side A plan.gone)
+  pub held_b : AreHeld (shown_table old.b.side) (gone_of_side B plan.gone)
+  pub a : new.a.side ≡ idle_side A table (Some plan.number)
+  pub b : new.b.side ≡ idle_side B table (Some plan.number)
+  pub grown : HasGrown old new
+
+-- the number of the side's latest exchange is unchanged, or the plan's
+abbrev pub IsLatest : Plan → Side → Side → Type 0
+IsLatest plan old new = (new.latest ≡ old.latest) ⊎ (new.latest ≡ Some plan.number)
+
+-- the planned exchange is open, of the table that the side showed, and the side withdrew these names
+pub record IsOpen (plan : Plan) (old new : Side) (names : List Name) : Type 0 where
+  pub exchange : Exchange
+  pub is_open : new.exchange ≡ Some exchange
+  pub number : exchange.number ≡ plan.number
+  pub seed : exchange.seed ≡ plan.seed
+  pub withdrawn : exchange.withdrawn ≡ names
+  pub table : new.table ≡ shown_table old
+  pub id : new.id ≡ old.id
+  pub latest : new.latest ≡ Some plan.number
+
+-- A side after an exchange that failed once the first `count` planned names were withdrawn: idle with the table that it
+-- showed, without its names among those; idle with a lawful merge; left open; or unchanged, where not even its earlier
+-- exchange was abandoned and nothing was withdrawn
+pub data IsLeft (plan : Plan) (old : Cluster) (id : SideId) (count : ℕ) (new : Side) : Type 0 where
+  as_before : (latest : Option ℕ) →
+      new ≡ idle_side id (without (gone_of_side id (take count plan.gone)) (shown_table (at old id).side)) latest →
+      IsLatest plan (at old id).side new → IsLeft plan old id count new
+  merged : (rulings : List Judged) (table : Table) → IsLawful plan old rulings table →
+      new ≡ idle_side id table (Some plan.number) → IsLeft plan old id count new
+  left_open : IsOpen plan (at old id).side new (gone_of_side id (take count plan.gone)) → IsLeft plan old id count new
+  untouched : count ≡ 0 → new ≡ (at old id).side → IsLeft plan old id count new
+
+-- the exchange failed; the names withdrawn of the two halves are the first `count` of the plan
+pub record IsFailed (plan : Plan) (old new : Cluster) : Type 0 where
+  pub count : ℕ
+  pub a : IsLeft plan old A count new.a.side
+  pub b : IsLeft plan old B count new.b.side
+  pub grown : HasGrown old new

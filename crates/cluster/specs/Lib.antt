@@ -1,0 +1,5 @@
+pub mod Clusters
+pub mod Faults
+pub mod Healing
+pub mod Healings
+pub mod model

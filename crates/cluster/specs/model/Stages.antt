@@ -1,0 +1,133 @@
+-- The two halves at each stage of an exchange.
+use Rattle.std.specs.Prelude.{◌≡◌, ℕ, ◌≤◌, List, length, Option, Some, None}
+use Rattle.std.specs.FinMap.{len}
+use Rattle.exchange_core.specs.declared.side.Side as code
+use Rattle.clash_record.specs.declared.side_id.SideId.{SideId}
+use Rattle.clash_record.specs.declared.side_id.SideId.TheVariants.{A, B}
+use Rattle.exchange_core.specs.Sides.{Side, Exchange, Heard, Offer, shown_table}
+use Rattle.exchange_core.specs.Finished.{Finished, IsFinished}
+use Rattle.exchange_core.specs.Shown.{calls}
+use Rattle.exchange_core.specs.declared.judged.Judged.{Judged}
+use Rattle.clash_record.specs.Name.{Name}
+use Rattle.partition_table.specs.Tables.{Table}
+use Rattle.verdict_board.specs.Boards.{Place, Pass}
+use Rattle.registry_lock.specs.Meeting as meeting
+use Rattle.clash_record.specs.declared.halves.Uptimes.{Uptimes}
+use Rattle.clash_record.specs.declared.halves.Withdrawal.{Withdrawal}
+use Rattle.cluster.specs.declared.halves.Halves as halves
+use Rattle.cluster.specs.Clusters.{Cluster, at, standing_of}
+use Rattle.cluster.specs.Healing.{Plan, HasGrown, gone_of_side, AreHeld, finished_as, idle_side}
+
+abbrev pub halves_of : halves.Halves → Cluster
+halves_of halves = record { a = standing_of halves.a; b = standing_of halves.b }
+
+abbrev pub other : SideId → SideId
+other A = B
+other B = A
+
+abbrev pub uptime_of : SideId → Uptimes → ℕ
+uptime_of A uptimes = uptimes.a
+uptime_of B uptimes = uptimes.b
+
+-- they are sides A and B
+pub record AreSides (halves : Cluster) : Type 0 where
+  pub a : halves.a.side.id ≡ A
+  pub b : halves.b.side.id ≡ B
+
+-- the journal of a side loses no call
+abbrev pub Grows : code.Side → code.Side → Type 0
+Grows old new = length (calls old) ≤ length (calls new)
+
+-- ---- before the exchange
+
+-- a side after abandoning its exchange, if one is open
+abbrev pub rested : Side → Side
+rested side = record side { table = shown_table side; exchange = None }
+
+-- a half after abandoning its exchange, if one was open
+pub record IsRested (was : Side) (now : Side) : Type 0 where
+  pub id : now.id ≡ was.id
+  pub table : now.table ≡ shown_table was
+  pub idle : now.exchange ≡ None
+  pub latest : now.latest ≡ was.latest
+
+pub record AreRested (was now : Cluster) : Type 0 where
+  pub a : IsRested was.a.side now.a.side
+  pub b : IsRested was.b.side now.b.side
+  pub grown : HasGrown was now
+
+-- ---- while it is open
+
+-- the offer that a half makes
+abbrev pub offer_in : Plan → Cluster → SideId → Offer
+offer_in plan was id = record {
+  side = id;
+  number = plan.number;
+  seed = plan.seed;
+  uptime = uptime_of id plan.uptimes;
+  table = shown_table (at was id).side;
+}
+
+pub record AreOffers (plan : Plan) (was : Cluster) (of_a of_b : Offer) : Type 0 where
+  pub a : of_a ≡ offer_in plan was A
+  pub b : of_b ≡ offer_in plan was B
+
+-- a half heard what the other half showed
+pub record HasHeard (plan : Plan) (was : Cluster) (id : SideId) (heard : Heard) : Type 0 where
+  pub table : heard.table ≡ shown_table (at was (other id)).side
+  pub uptime : heard.uptime ≡ uptime_of (other id) plan.uptimes
+
+-- the exchange of a half, which withdrew these names
+pub record IsUnderWay (plan : Plan) (was : Cluster) (id : SideId) (names : List Name) (exchange : Exchange) :
+    Type 0 where
+  pub number : exchange.number ≡ plan.number
+  pub seed : exchange.seed ≡ plan.seed
+  pub uptime : exchange.uptime ≡ uptime_of id plan.uptimes
+  pub withdrawn : exchange.withdrawn ≡ names
+  pub held : AreHeld (shown_table (at was id).side) names
+  pub heard : (heard : Heard) → exchange.heard ≡ Some heard → HasHeard plan was id heard
+  pub their_list : (theirs : List Name) → exchange.their_list ≡ Some theirs →
+      theirs ≡ gone_of_side (other id) plan.gone
+
+-- a half with its exchange open
+pub record IsTrying (plan : Plan) (was : Cluster) (id : SideId) (names : List Name) (now : Side) : Type 0 where
+  pub same_id : now.id ≡ id
+  pub table : now.table ≡ shown_table (at was id).side
+  pub latest : now.latest ≡ Some plan.number
+  pub exchange : Exchange
+  pub opened : now.exchange ≡ Some exchange
+  pub under_way : IsUnderWay plan was id names exchange
+
+-- each half withdrew its own of these names
+pub record AreTrying (plan : Plan) (was : Cluster) (gone : List Withdrawal) (now : Cluster) : Type 0 where
+  pub a : IsTrying plan was A (gone_of_side A gone) now.a.side
+  pub b : IsTrying plan was B (gone_of_side B gone) now.b.side
+  pub grown : HasGrown was now
+
+-- ---- after it finished
+
+pub record IsMerged (plan : Plan) (was : Cluster) (id : SideId) (finished : Finished) (now : Side) : Type 0 where
+  pub is : finished ≡ finished_as plan was finished.rulings finished.table
+  pub lawful : IsFinished finished
+  pub held : AreHeld (shown_table (at was id).side) (gone_of_side id plan.gone)
+  pub idle : now ≡ idle_side id finished.table (Some plan.number)
+
+-- a half in the rounds: still open, or finished
+abbrev pub IsInRounds : Plan → Cluster → SideId → Option Finished → Side → Type 0
+IsInRounds plan was id None now = IsTrying plan was id (gone_of_side id plan.gone) now
+IsInRounds plan was id (Some finished) now = IsMerged plan was id finished now
+
+pub record AreInRounds (plan : Plan) (was : Cluster) (of_a of_b : Option Finished) (now : Cluster) : Type 0 where
+  pub a : IsInRounds plan was A of_a now.a.side
+  pub b : IsInRounds plan was B of_b now.b.side
+  pub grown : HasGrown was now
+
+-- ---- after they met
+
+-- two finished halves met over the board, with these rulings and this many names in their table
+pub record HaveMet (place : Place) (first second : Finished) (rulings : List Judged) (count : ℕ) : Type 0 where
+  pub same_rulings : rulings ≡ first.rulings
+  pub table : Table
+  pub counted : count ≡ len table
+  pub pass : Pass
+  pub healed : meeting.IsHealed place pass first second table

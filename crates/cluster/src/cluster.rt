@@ -1,0 +1,94 @@
+//! The two halves of a cluster.
+ghost use Rattle.std.specs.Prelude.{◌≡◌};
+ghost use Rattle.exchange_core.specs.Shown.{shown};
+ghost use Rattle.clash_record.specs.declared.side_id.SideId.TheVariants.{A, B};
+
+use clash_record::{Name, Registration, SideId};
+use exchange_core::{Side, SideFault};
+use std::alloc::Global;
+use upload_store::UploadStore;
+
+/// The two halves of a cluster, as sides A and B of their exchange.
+#[derive(Debug, Drop)]
+pub struct Cluster {
+    pub(crate) a: Side,
+    pub(crate) b: Side,
+    pub ghost first: { (shown a).id ≡ A },
+    pub ghost second: { (shown b).id ≡ B },
+}
+
+impl Cluster {
+    ghost use Rattle.std.specs.Prelude.{OnOk, OnErr, IfOk, Some};
+    ghost use Rattle.std.specs.Option.{option_map};
+    ghost use Rattle.std.specs.FinMap.{get};
+    ghost use Rattle.partition_table.specs.Tables.{row_for};
+    ghost use Rattle.exchange_core.specs.Sides as sides;
+    ghost use Rattle.numbered.specs.Answers.{IsAnswered};
+    ghost use Rattle.exchange_core.specs.Faults.{side_fault_number};
+    ghost use Rattle.exchange_core.specs.Refusals as due;
+    ghost use Rattle.cluster.specs.Clusters.{standing_of, cluster_of, new_cluster, at, is_full_at, IsCalled};
+
+    /// Returns two idle halves without names. Allocates nothing.
+    pub fn new(alloc: Global) -> Cluster
+        ensures { cluster_of result ≡ new_cluster }
+    {
+        Cluster {
+            a: Side::new(alloc, SideId::A),
+            b: Side::new(alloc, SideId::B),
+        }
+    }
+
+    /// Returns one of the halves.
+    pub fn side(&self, id: SideId) -> &Side
+        ensures { standing_of result.now ≡ at (cluster_of self.entry.now) id }
+    {
+        match id {
+            SideId::A => &self.a,
+            SideId::B => &self.b,
+        }
+    }
+
+    /// Registers the name on an idle half, and keeps the store's program that the registration names.
+    ///
+    /// Rejects with the least number that applies: 30 for a registered name, 32 for a full table, 33 for an open
+    /// exchange, 40 for a full journal, 41 for an unknown program, and 42 for other code under the program's id.
+    /// Returns 90 when out of memory.
+    pub fn register(
+        &mut self,
+        id: SideId,
+        name: Name,
+        registration: Registration,
+        store: &UploadStore,
+    ) -> Result<(), SideFault>
+        ensures answer { let standing = at (cluster_of self.old) id in
+            IsAnswered side_fault_number (due.register_fault (is_full_at standing) standing.side name registration store.now) result }
+        ensures done { OnOk result (IsCalled (cluster_of self.old) id
+            (sides.register (at (cluster_of self.old) id).side name (row_for store.now registration))
+            (cluster_of self.new)) }
+        ensures untouched { OnErr result (cluster_of self.new ≡ cluster_of self.old) }
+    {
+        match id {
+            SideId::A => self.a.register(name, registration, store),
+            SideId::B => self.b.register(name, registration, store),
+        }
+    }
+
+    /// Unregisters the name on an idle half, and returns its registration.
+    ///
+    /// Rejects with the least number that applies: 31 for a name that isn't registered, 33 for an open exchange, and 40
+    /// for a full journal. Returns 90 when out of memory.
+    pub fn unregister(&mut self, id: SideId, name: &Name) -> Result<Registration, SideFault>
+        ensures answer { let standing = at (cluster_of self.old) id in
+            IsAnswered side_fault_number (due.unregister_fault (is_full_at standing) standing.side name.now) result }
+        ensures given { IfOk result (λ registration. option_map (λ row. row.registration)
+            (get (at (cluster_of self.old) id).side.table name.now) ≡ Some registration) }
+        ensures done { OnOk result (IsCalled (cluster_of self.old) id
+            (sides.unregister (at (cluster_of self.old) id).side name.now) (cluster_of self.new)) }
+        ensures untouched { OnErr result (cluster_of self.new ≡ cluster_of self.old) }
+    {
+        match id {
+            SideId::A => self.a.unregister(name),
+            SideId::B => self.b.unregister(name),
+        }
+    }
+}

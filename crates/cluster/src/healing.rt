@@ -1,0 +1,46 @@
+//! The outcome of a healed split.
+ghost use Rattle.std.specs.Prelude.{◌≡◌};
+ghost use Rattle.cluster.specs.Healings.{healing_of};
+
+use clash_record::Withdrawal;
+use exchange_core::Judged;
+use partition_table::ClashList;
+
+/// The outcome of a healed split.
+#[derive(Debug, Drop)]
+pub struct Healing {
+    pub(crate) clashes: ClashList,
+    pub(crate) rulings: Vec<Judged>,
+    pub(crate) withdrawn: Vec<Withdrawal>,
+    pub(crate) names: usize,
+}
+
+impl Healing {
+    /// Returns the clashes of the two tables, in the order of names.
+    pub fn clashes(&self) -> &ClashList
+        ensures { result.now ≡ (healing_of self.now).clashes }
+    {
+        &self.clashes
+    }
+
+    /// Returns the ruling of each clash, in the order of the clashes.
+    pub fn rulings(&self) -> &[Judged]
+        ensures { result.now ≡ (healing_of self.now).rulings }
+    {
+        &self.rulings
+    }
+
+    /// Returns the names that the halves withdrew, in the order of the plan.
+    pub fn withdrawn(&self) -> &[Withdrawal]
+        ensures { result.now ≡ (healing_of self.now).withdrawn }
+    {
+        &self.withdrawn
+    }
+
+    /// Returns the number of names in the one table.
+    pub fn names(&self) -> usize
+        ensures { result ≡ (healing_of self.now).names }
+    {
+        self.names
+    }
+}

@@ -1,0 +1,272 @@
+//! The lines that scripts print.
+ghost use Rattle.std.specs.Prelude.{◌≡◌, ◌++◌, codes};
+ghost use Rattle.std.specs.Fmt.{decimal};
+ghost use Rattle.output.specs.Sending.{SendsOn};
+ghost use Rattle.numbered.specs.Texts.{at_place, place_text};
+ghost use Rattle.clash_record.specs.Texts.{owner_text, side_text};
+ghost use Rattle.builtin_resolvers.specs.Texts.{notice_text};
+ghost use Rattle.script_text.specs.Printed.{numbers_text, owned_text, owner_line, uploaded_line, row_line, clash_line, notice_line};
+ghost use Rattle.script_text.specs.Printed.{withdrawal_line, healed_line, refusal_line};
+
+use builtin_resolvers::{Notice, Verdict3};
+use clash_record::{Name, Owner, Registration, SideId};
+use itoa::Buffer;
+use numbered::{NumberedRefusal, Place};
+use output::{DeviceFault, send_after};
+use std::io::Write;
+
+/// Prints the label of an uploaded program and its number of instructions.
+pub fn print_code_count<W: Write>(
+    sent: Result<(), DeviceFault>,
+    writer: &mut W,
+    label: &[u8],
+    count: usize,
+) -> Result<(), DeviceFault>
+    ensures { SendsOn sent (W.contents writer.old) (W.contents writer.new) (uploaded_line label.now count) result }
+{
+    let mut sent = send_after(sent, writer, b"uploaded ");
+    sent = send_after(sent, writer, label);
+    sent = send_after(sent, writer, b" ");
+    sent = print_number(sent, writer, count as u64);
+    send_after(sent, writer, b" instructions\n")
+}
+
+/// Prints an owner on a line.
+pub fn print_owner_line<W: Write>(
+    sent: Result<(), DeviceFault>,
+    writer: &mut W,
+    owner: Owner,
+) -> Result<(), DeviceFault>
+    ensures { SendsOn sent (W.contents writer.old) (W.contents writer.new) (owner_line owner) result }
+{
+    let sent = print_owner(sent, writer, owner);
+    send_after(sent, writer, b"\n")
+}
+
+/// Prints a row of a table: the name, its registration and the word of its resolver.
+pub fn print_row<W: Write>(
+    sent: Result<(), DeviceFault>,
+    writer: &mut W,
+    name: &Name,
+    registration: &Registration,
+    resolver: &[u8],
+) -> Result<(), DeviceFault>
+    ensures { SendsOn sent (W.contents writer.old) (W.contents writer.new)
+        (row_line name.now registration.now resolver.now) result }
+{
+    let mut sent = print_owned(sent, writer, name, registration.owner);
+    sent = print_numbers(sent, writer, registration);
+    sent = send_after(sent, writer, b" ");
+    sent = send_after(sent, writer, resolver);
+    send_after(sent, writer, b"\n")
+}
+
+/// Prints the verdict of a clash and its word.
+pub fn print_clash<W: Write>(
+    sent: Result<(), DeviceFault>,
+    writer: &mut W,
+    name: &Name,
+    verdict: Verdict3,
+    word: u64,
+) -> Result<(), DeviceFault>
+    ensures { SendsOn sent (W.contents writer.old) (W.contents writer.new) (clash_line name.now verdict word) result }
+{
+    let mut sent = send_after(sent, writer, name.bytes());
+    sent = send_after(sent, writer, b" ");
+    sent = send_after(sent, writer, verdict.as_str().as_bytes());
+    sent = send_after(sent, writer, b" word ");
+    sent = print_number(sent, writer, word);
+    send_after(sent, writer, b"\n")
+}
+
+/// Prints a notice to an owner on a line.
+pub fn print_notice<W: Write>(
+    sent: Result<(), DeviceFault>,
+    writer: &mut W,
+    notice: &Notice,
+) -> Result<(), DeviceFault>
+    ensures { SendsOn sent (W.contents writer.old) (W.contents writer.new) (notice_line notice.now) result }
+{
+    let sent = print_notice_text(sent, writer, notice);
+    send_after(sent, writer, b"\n")
+}
+
+// Prints a notice.
+fn print_notice_text<W: Write>(
+    sent: Result<(), DeviceFault>,
+    writer: &mut W,
+    notice: &Notice,
+) -> Result<(), DeviceFault>
+    ensures { SendsOn sent (W.contents writer.old) (W.contents writer.new) (notice_text notice.now) result }
+{
+    match notice {
+        Notice::Exit(owner) => {
+            let sent = send_after(sent, writer, b"exit ");
+            print_owner(sent, writer, *owner)
+        }
+        Notice::Conflict(name, to) => print_conflict(sent, writer, name, *to),
+        Notice::ConflictWith(name, to, other) => {
+            let mut sent = print_conflict(sent, writer, name, *to);
+            sent = send_after(sent, writer, b" other ");
+            print_owner(sent, writer, *other)
+        }
+    }
+}
+
+/// Prints that a name was withdrawn on a side.
+pub fn print_withdrawal<W: Write>(
+    sent: Result<(), DeviceFault>,
+    writer: &mut W,
+    side: SideId,
+    name: &Name,
+) -> Result<(), DeviceFault>
+    ensures { SendsOn sent (W.contents writer.old) (W.contents writer.new) (withdrawal_line side name.now) result }
+{
+    let mut sent = send_after(sent, writer, b"withdrew ");
+    sent = send_after(sent, writer, side_text(side));
+    sent = send_after(sent, writer, b" ");
+    sent = send_after(sent, writer, name.bytes());
+    send_after(sent, writer, b"\n")
+}
+
+/// Prints the number of names after a healing.
+pub fn print_healed<W: Write>(
+    sent: Result<(), DeviceFault>,
+    writer: &mut W,
+    count: usize,
+) -> Result<(), DeviceFault>
+    ensures { SendsOn sent (W.contents writer.old) (W.contents writer.new) (healed_line count) result }
+{
+    let mut sent = send_after(sent, writer, b"healed ");
+    sent = print_number(sent, writer, count as u64);
+    send_after(sent, writer, b" names\n")
+}
+
+/// Prints that the line with this number was refused.
+pub fn print_refusal<W: Write>(
+    sent: Result<(), DeviceFault>,
+    writer: &mut W,
+    line: u64,
+    refusal: NumberedRefusal,
+) -> Result<(), DeviceFault>
+    ensures { SendsOn sent (W.contents writer.old) (W.contents writer.new)
+        (refusal_line line refusal.number refusal.place) result }
+{
+    let mut sent = send_after(sent, writer, b"line ");
+    sent = print_number(sent, writer, line);
+    sent = send_after(sent, writer, b": refused ");
+    sent = print_number(sent, writer, u64::from(refusal.number));
+    sent = print_at_place(sent, writer, refusal.place);
+    send_after(sent, writer, b"\n")
+}
+
+// Prints the place of a refusal, if any.
+fn print_at_place<W: Write>(
+    sent: Result<(), DeviceFault>,
+    writer: &mut W,
+    place: Option<Place>,
+) -> Result<(), DeviceFault>
+    ensures { SendsOn sent (W.contents writer.old) (W.contents writer.new) (at_place place) result }
+{
+    match place {
+        None => send_after(sent, writer, b""),
+        Some(place) => {
+            let sent = send_after(sent, writer, b" at ");
+            print_place(sent, writer, place)
+        }
+    }
+}
+
+// Prints a place.
+fn print_place<W: Write>(
+    sent: Result<(), DeviceFault>,
+    writer: &mut W,
+    place: Place,
+) -> Result<(), DeviceFault>
+    ensures { SendsOn sent (W.contents writer.old) (W.contents writer.new) (place_text place) result }
+{
+    let (kind, number): (&[u8], u64) = match place {
+        Place::Slot(slot) => (b"slot ", u64::from(slot)),
+        Place::Line(line) => (b"line ", line as u64),
+        Place::Byte(byte) => (b"byte ", byte as u64),
+        Place::Item(item) => (b"item ", item as u64),
+    };
+    let sent = send_after(sent, writer, kind);
+    print_number(sent, writer, number)
+}
+
+// Prints the beginning of a conflict notice.
+fn print_conflict<W: Write>(
+    sent: Result<(), DeviceFault>,
+    writer: &mut W,
+    name: &Name,
+    to: Owner,
+) -> Result<(), DeviceFault>
+    ensures { SendsOn sent (W.contents writer.old) (W.contents writer.new)
+        (codes "conflict " ++ (name.now ++ (codes " to " ++ owner_text to))) result }
+{
+    let mut sent = send_after(sent, writer, b"conflict ");
+    sent = send_after(sent, writer, name.bytes());
+    sent = send_after(sent, writer, b" to ");
+    print_owner(sent, writer, to)
+}
+
+// Prints a name and its owner.
+fn print_owned<W: Write>(
+    sent: Result<(), DeviceFault>,
+    writer: &mut W,
+    name: &Name,
+    owner: Owner,
+) -> Result<(), DeviceFault>
+    ensures { SendsOn sent (W.contents writer.old) (W.contents writer.new) (owned_text name.now owner) result }
+{
+    let mut sent = send_after(sent, writer, name.bytes());
+    sent = send_after(sent, writer, b" ");
+    print_owner(sent, writer, owner)
+}
+
+// Prints the stamp and the weight of a registration, each after a space.
+fn print_numbers<W: Write>(
+    sent: Result<(), DeviceFault>,
+    writer: &mut W,
+    registration: &Registration,
+) -> Result<(), DeviceFault>
+    ensures { SendsOn sent (W.contents writer.old) (W.contents writer.new) (numbers_text registration.now) result }
+{
+    let mut sent = send_after(sent, writer, b" ");
+    sent = print_number(sent, writer, registration.stamp);
+    sent = send_after(sent, writer, b" ");
+    print_number(sent, writer, registration.weight)
+}
+
+fn print_owner<W: Write>(
+    sent: Result<(), DeviceFault>,
+    writer: &mut W,
+    owner: Owner,
+) -> Result<(), DeviceFault>
+    ensures { SendsOn sent (W.contents writer.old) (W.contents writer.new) (owner_text owner) result }
+{
+    let mut sent = print_number(sent, writer, u64::from(owner.node));
+    sent = send_after(sent, writer, b".");
+    print_number(sent, writer, u64::from(owner.serial))
+}
+
+fn print_number<W: Write>(
+    sent: Result<(), DeviceFault>,
+    writer: &mut W,
+    number: u64,
+) -> Result<(), DeviceFault>
+    ensures { SendsOn sent (W.contents writer.old) (W.contents writer.new) (decimal number) result }
+{
+    let mut buffer = Buffer::new();
+    send_after(sent, writer, buffer.format(number).as_bytes())
+}
+
+fn side_text(side: SideId) -> &'static [u8]
+    ensures { result.now ≡ side_text side }
+{
+    match side {
+        SideId::A => b"a",
+        SideId::B => b"b",
+    }
+}

@@ -1,0 +1,258 @@
+#!/usr/bin/env python3
+"""definitions.py [--write | --check | --list NAME]: counts the definitions that public contracts reach.
+
+For each promise of docs/PROOFS.md it follows the words of the contracts that carry it, and of the views of the types in
+their signatures, to the definitions in crates/*/specs, and counts these with their lines (comments included, imports
+and blank lines not). Definitions of the toolchain's crates are counted apart.
+
+Without an option it prints the table. --write puts it into docs/PROOFS.md, --check fails if the table there differs,
+and --list NAME prints the definitions of the promises whose text contains NAME, by module.
+"""
+import collections
+import glob
+import os
+import re
+import sys
+
+TOP = os.path.join(os.path.dirname(os.path.abspath(__file__)), "..")
+PAGE = os.path.join(TOP, "docs", "PROOFS.md")
+BEGIN, END = "<!-- definitions: begin -->", "<!-- definitions: end -->"
+
+# Each promise with the public functions whose contracts carry it.
+PROMISES = [
+    ("accepted code is safe, and `run` is its meaning", ["verifier::Verified::code", "interpreter::run"]),
+    ("bytes are decoded and encoded as the standard defines", ["insn_codec::decode", "insn_codec::encode"]),
+    ("the verifier is exact", ["verifier::verify", "program::read_program"]),
+    ("`verify` holds few states", ["verifier::verify_peak"]),
+    ("text is read and written by the grammar", ["assembler_text::assemble", "assembler_text::disassemble"]),
+    ("uploads", ["upload_store::UploadStore::upload", "upload_store::UploadStore::get"]),
+    ("tables, clashes, verdicts and the merge", [
+        "partition_table::Table::register", "partition_table::Table::unregister", "partition_table::clashes",
+        "partition_table::Verdict::judged", "partition_table::merge"]),
+    ("**two sides that finish hold one table** (the headline)", ["exchange_core::history_theorem"]),
+    ("each call of a side is a step, and each refusal has its cause", [
+        "exchange_core::Side::" + name for name in
+        ("register", "unregister", "begin", "hear", "take", "withdraw", "close_list", "hear_list", "finish", "abandon",
+         "whereis", "rows", "events")]),
+    ("what a board shows", ["verdict_board::Board::" + name for name in ("draw", "post", "read", "gather")]
+     + ["verdict_board::seen_theorem"]),
+    ("two sides that meet have one table", ["registry_lock::meet", "registry_lock::tell_round"]),
+    ("a cluster heals", ["cluster::Cluster::heal"]),
+    ("notices of a verdict", ["builtin_resolvers::notices"]),
+    ("answers to questions", ["QUESTIONS::reply_to"]),
+    ("what a script reads and writes", ["script_engine::run_script"]),
+    ("the whole program `heal`", ["heal_main::answer"]),
+]
+
+DEFINITION = re.compile(
+    r"^(?:abbrev pub|abbrev|unfoldable pub|unfoldable|pub record|record|pub data|data|pub)\s+([^\s:{(]+)")
+TOKEN = re.compile(r"[A-Za-z_][\w.']*")
+
+
+class Module:
+    """The imports, aliases and definitions of one file of specs/."""
+
+    def __init__(self, text):
+        self.imports, self.aliases, self.definitions, self.constructors = {}, {}, {}, {}
+        read_imports(text.split("\n"), "use", self)
+        block = []
+        for line in text.split("\n") + [""]:
+            if line.strip():
+                block.append(line)
+            else:
+                self.add(block)
+                block = []
+
+    def add(self, block):
+        name = None
+        for line in block:
+            if re.match(r"--|(pub )?use |(pub )?mod ", line):
+                continue
+            match = DEFINITION.match(line)
+            if match:
+                name = match.group(1)
+                break
+        if name is None:
+            return
+        self.definitions[name] = [line for line in block if not re.match(r"(pub )?use ", line)]
+        if any(re.match(r"(pub )?data ", line) for line in block):
+            for line in block:
+                match = re.match(r"\s+(\w+)\s*:", line)
+                if match:
+                    self.constructors[match.group(1)] = name
+
+
+def read_imports(lines, word, into):
+    """Adds the imports of lines such as `use Rattle.a.b.{c, d as e}` and `use Rattle.a.b as c`."""
+    for line in lines:
+        match = re.match(r"\s*(?:pub )?" + word + r" (Rattle\.[\w.]+?)\.\{(.*)\};?\s*$", line)
+        if match:
+            for item in filter(None, (item.strip() for item in match.group(2).split(","))):
+                name, _, alias = item.partition(" as ")
+                into.imports[(alias or name).strip()] = (match.group(1), name.strip())
+            continue
+        match = re.match(r"\s*(?:pub )?" + word + r" (Rattle\.[\w.]+) as (\w+);?\s*$", line)
+        if match:
+            into.aliases[match.group(2)] = match.group(1)
+
+
+class Source:
+    """The contracts and the views of one file of src/."""
+
+    def __init__(self, text):
+        self.imports, self.aliases, self.functions, self.views = {}, {}, {}, {}
+        lines = text.split("\n")
+        read_imports(lines, "ghost use", self)
+        owner, at = None, 0
+        while at < len(lines):
+            line = lines[at]
+            block = re.match(r"impl(?:<[^>]*>)? (?:Model for )?(\w+)", line)
+            if block:
+                owner = block.group(1)
+                if " Model for " in line:
+                    end = next(i for i in range(at, len(lines)) if lines[i] == "}")
+                    self.views[owner] = "\n".join(
+                        l for l in lines[at:end] if "ghost use" not in l and "invariant" not in l)
+            elif line == "}":
+                owner = None
+            function = re.match(r"\s*pub(?:\(crate\))? fn (\w+)", line) or re.match(r"\s*fn (\w+)", line)
+            if function:
+                name = function.group(1) if owner is None or not line.startswith(" ") else owner + "::" + function.group(1)
+                end = at
+                while not re.match(r"\s*\{(\})?$", lines[end]) and not lines[end].rstrip().endswith((" {", ";")):
+                    end += 1
+                text = [l for l in lines[at:end + 1] if not l.strip().startswith("//")]
+                self.functions[name] = "\n".join(text)
+                at = end
+            at += 1
+
+
+MODULES, SOURCES = {}, collections.defaultdict(list)
+
+
+def load():
+    for path in glob.glob(os.path.join(TOP, "crates/*/specs/**/*.antt"), recursive=True):
+        module = os.path.relpath(path, os.path.join(TOP, "crates"))[:-5].replace("/", ".")
+        MODULES["Rattle." + module] = Module(open(path, encoding="utf-8").read())
+    for path in glob.glob(os.path.join(TOP, "crates/*/src/**/*.rt"), recursive=True):
+        crate = os.path.relpath(path, os.path.join(TOP, "crates")).split("/")[0]
+        SOURCES[crate].append(Source(open(path, encoding="utf-8").read()))
+
+
+def resolve(module, name):
+    """Where a name of a module is defined: in a module of this repository, or outside."""
+    seen = set()
+    while (module, name) not in seen:
+        seen.add((module, name))
+        if module not in MODULES:
+            return (module, name)
+        here = MODULES[module]
+        if name in here.constructors:
+            name = here.constructors[name]
+        if name in here.definitions:
+            return (module, name)
+        if name not in here.imports:
+            return None
+        module, name = here.imports[name]
+    return None
+
+
+def words(text, scope):
+    """The definitions that a text names, of the imports of its file."""
+    text = re.sub(r'"[^"]*"', "", re.sub(r"--.*|//.*", "", text))
+    for token in TOKEN.findall(text):
+        parts = token.split(".")
+        if len(parts) > 1 and parts[0] in scope.aliases:
+            yield (scope.aliases[parts[0]], parts[1])
+        elif parts[0] in scope.imports:
+            yield scope.imports[parts[0]]
+
+
+def contract(path):
+    """The words of a function's contract, and of the views of the types in its signature."""
+    crate, _, name = path.partition("::")
+    crate = {"QUESTIONS": "questions" if "questions" in SOURCES else "answers"}.get(crate, crate)
+    found = [source for source in SOURCES[crate] if name in source.functions]
+    if not found:
+        sys.exit(f"definitions.py: {path} isn't found")
+    for source in found:
+        text = source.functions[name]
+        yield from words(text, source)
+        signature = re.split(r"\n\s*(?:requires|ensures)\b", text)[0]
+        types = set(re.findall(r"\b[A-Z]\w+", signature)) | {name.split("::")[0]}
+        for sources in SOURCES.values():
+            for other in sources:
+                for kind in types & set(other.views):
+                    yield from words(other.views[kind], other)
+
+
+def reach(roots):
+    """The definitions that these reach, in this repository and outside."""
+    inside, outside, queue = set(), set(), list(roots)
+    while queue:
+        place = resolve(*queue.pop())
+        if place is None or place in inside or place in outside:
+            continue
+        if place[0] not in MODULES:
+            outside.add(place)
+            continue
+        inside.add(place)
+        here = MODULES[place[0]]
+        own = "\n".join(here.definitions[place[1]])
+        queue += words(own, here)
+        own = re.sub(r'"[^"]*"', "", re.sub(r"--.*", "", own))
+        queue += [(place[0], token.split(".")[0]) for token in TOKEN.findall(own)]
+    return inside, outside
+
+
+def lines_of(places):
+    return sum(len(MODULES[module].definitions[name]) for module, name in places)
+
+
+def is_of_kit(module):
+    crate = module.split(".")[1]
+    return not os.path.isdir(os.path.join(TOP, "crates", crate))
+
+
+def table():
+    rows = ["| promise | contracts | definitions | lines | of the toolchain |", "|---|---|---|---|---|"]
+    for promise, paths in PROMISES:
+        inside, outside = reach(root for path in paths for root in contract(path))
+        kit = sum(1 for module, _ in outside if is_of_kit(module))
+        calls = f"`{paths[0]}`" + (f" and {len(paths) - 1} more" if len(paths) > 1 else "")
+        calls = calls.replace("QUESTIONS", "questions" if "questions" in SOURCES else "answers")
+        rows.append(f"| {promise} | {calls} | {len(inside)} | {lines_of(inside)} | {kit} |")
+    return "\n".join(rows)
+
+
+def list_promise(word):
+    for promise, paths in PROMISES:
+        if word not in promise:
+            continue
+        inside, _ = reach(root for path in paths for root in contract(path))
+        by_module = collections.defaultdict(list)
+        for module, name in inside:
+            by_module[module].append(name)
+        print(f"{promise}: {len(inside)} definitions, {lines_of(inside)} lines")
+        for module in sorted(by_module, key=lambda m: -lines_of((m, n) for n in by_module[m])):
+            names = sorted(by_module[module])
+            print(f"  {module[7:]} {lines_of((module, n) for n in names)}: {' '.join(names)}")
+
+
+def main():
+    load()
+    if sys.argv[1:2] == ["--list"]:
+        return list_promise(sys.argv[2])
+    made = table()
+    if not sys.argv[1:]:
+        return print(made)
+    page = open(PAGE, encoding="utf-8").read()
+    before, rest = page.split(BEGIN)
+    old, after = rest.split(END)
+    new = f"\n{made}\n"
+    if sys.argv[1] == "--check":
+        sys.exit(0 if old == new else "definitions.py: the table in docs/PROOFS.md is stale; run scripts/definitions.py --write")
+    open(PAGE, "w", encoding="utf-8").write(before + BEGIN + new + END + after)
+
+
+main()
