@@ -1,6 +1,6 @@
 #!/bin/sh
-# clashes.sh [COUNT]: prints a script of so many names (256 where no count is given) that two halves of a cluster registered for
-# different owners, of their healing, and of the names of one half afterwards.
+# clashes.sh [COUNT]: prints a script in which two halves of a cluster register COUNT names (256 by default) for
+# different owners, heal, and show the names of one half.
 awk -v count="${1:-256}" 'BEGIN {
     for (k = 0; k < count; k++) {
         printf "register a name%05d 1.%d %d 0 - exit\n", k, k, k

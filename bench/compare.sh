@@ -16,7 +16,7 @@ record=$(tail -1 ../heal_main/args)
 # The least number behind a word in what the rounds of a benchmark printed.
 number() { awk -v word="$1" '$1 == word && (least == "" || $2 < least) { least = $2 } END { print least }' "$2"; }
 
-# The benchmark of ours on a program, so many runs.
+# Measures our side on program $1 with $2 runs.
 measure() { "$ours" program "$1" "$record" "$2" >> "$out/ours"; }
 
 ratio() { awk -v ours="$1" -v peers="$2" 'BEGIN { printf "%.2f", ours / peers }'; }
@@ -41,7 +41,7 @@ done
 # So many times a slot in hex, and `exit`.
 repeated() { for _ in $(seq "$1"); do printf %s "$2"; done; printf 9500000000000000; }
 
-# `mov64 r0, 1`, then so many times `jeq r0, 1, +0`, and `exit`.
+# `mov64 r0, 1`, then N times `jeq r0, 1, +0`, and `exit`.
 tests() { printf b700000001000000; repeated "$1" 1500000001000000; }
 
 printf '\n%-22s %8s %8s %8s %6s\n' code decode verify run steps

@@ -1,5 +1,5 @@
 #!/bin/bash
-# native.sh [COUNT]: judges so many records (100 if left out) by each resolver in C, and runs the same C natively on them.
+# native.sh [COUNT]: judges COUNT records (100 by default) by each resolver in C, and runs the same C natively on them.
 # The records are made from a fixed seed; every second one has small numbers. Needs ./heal to have been run once, and gcc.
 set -eo pipefail
 here=$(cd "$(dirname "$0")" && pwd)
@@ -24,7 +24,7 @@ for source in "$here"/../resolvers/*.c; do
     while read -r record; do
         judged=$("$heal" judge "$code" "$record")
         natively=$("$out/native" "$record")
-        [ "${judged%% *}" = "$natively" ] || { echo "$name: heal says '$judged', C says '$natively' of $record" >&2; exit 1; }
+        [ "${judged%% *}" = "$natively" ] || { echo "$name: heal returns '$judged', C returns '$natively' for $record" >&2; exit 1; }
         echo "$natively"
     done < "$out/records" | sort | uniq -c | awk -v name="$name" '{ printf "%s%s %s", sep, $1, $2; sep = ", " } END { print " by " name }'
 done

@@ -5,8 +5,8 @@
  * at its end.
  *
  * Over a part of a run: a line `refuse N` on standard output begins a window, in which the Nth request alone is refused, counted
- * from 1 there, and a line `refuse all` one in which each is. A line `ample` ends it, and then standard error is told how many
- * requests were made in it, and how many of them were refused. */
+ * from 1 there, and a line `refuse all` one in which each is. A line `ample` ends it, and then the library prints on standard error
+ * how many requests were made in it, and how many of them were refused. */
 #define _GNU_SOURCE
 #include <dlfcn.h>
 #include <errno.h>

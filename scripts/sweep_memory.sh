@@ -13,60 +13,59 @@ out=$(mktemp -d) && trap 'rm -rf "$out"' EXIT
 cc -O2 -shared -fPIC -o "$out/refuse.so" "$here/refuse_memory.c" -ldl
 runs=0
 
-# Runs heal with these settings and words, and sets what it said and its status.
+# Runs heal with these settings and words, and keeps its output and its status.
 run() {
     local settings=$1
     shift
     status=0
-    said=$(env LD_PRELOAD="$out/refuse.so" $settings "$heal" "$@" 2> "$out/errors") || status=$?
+    printed=$(env LD_PRELOAD="$out/refuse.so" $settings "$heal" "$@" 2> "$out/errors") || status=$?
     runs=$((runs + 1))
 }
 
-# How many requests the latest run made that counted them.
+# Prints the number of requests that the latest counting run made.
 requests_made() {
     od -An -tu8 "$out/count" | tr -d ' '
 }
 
-# Whether the run answered as with ample memory, or told that memory ran out.
+# Succeeds if the run answered as with ample memory, or reported that memory ran out.
 is_right() {
-    [ "$status $said" = "$ample" ] && return
-    [ "$status" = 3 ] && { [ "$said" = "refused 90" ] || grep -q 'out of memory' "$out/errors"; }
+    [ "$status $printed" = "$ample" ] && return
+    [ "$status" = 3 ] && { [ "$printed" = "refused 90" ] || grep -q 'out of memory' "$out/errors"; }
 }
 
 # Refuses each request that heal makes of these words.
 sweep() {
     run "REFUSE_COUNT=$out/count" "$@"
-    ample="$status $said"
+    ample="$status $printed"
     local requests words="$*"
     requests=$(requests_made)
     for n in $(seq "$requests"); do
         for settings in "REFUSE_ALONE=$n" "REFUSE_FROM=$n"; do
             run "$settings" "$@"
-            is_right || { echo "$settings of $requests: '$said', status $status, for: ${words:0:200}" >&2; exit 1; }
+            is_right || { echo "$settings of $requests: '$printed', status $status, for: ${words:0:200}" >&2; exit 1; }
         done
     done
     echo "$1 $requests requests"
 }
 
-# Whether each line that a script said is one that it says with ample memory, or tells of a refusal or of what one leaves. Where
-# none says 90, memory was wanted in the rounds of a `heal` alone, and then no name is lost.
+# Succeeds if each line that a script printed is one that it prints with ample memory, or a refusal, or follows from one. Where
+# no line has 90, memory ran out only in the rounds of a `heal`, and then the table keeps every name.
 is_right_script() {
-    [ "$status $said" = "$ample" ] && return
-    [ "$status" = 3 ] && { [ "$said" = "refused 90" ] || grep -q 'out of memory' "$out/errors"; } && return
+    [ "$status $printed" = "$ample" ] && return
+    [ "$status" = 3 ] && { [ "$printed" = "refused 90" ] || grep -q 'out of memory' "$out/errors"; } && return
     local lines='line [0-9]+: refused (39|41|90)|[a-z]+ (first|second|none) word [0-9]+|exit [0-9]+\.[0-9]+'
     lines="$lines"'|conflict .*|[a-z]+ [0-9]+\.[0-9]+ .*'
-    case "$said" in
+    case "$printed" in
         *"refused 90"*) [ "$status" = 3 ] || return 1; lines="$lines|healed [0-9]+ names" ;;
         *) [ "$status" = 2 ] || [ "$status" = 0 ] || return 1 ;;
     esac
-    ! printf '%s\n' "$said" | grep -vxF "${ample#* }" | grep -vxE "$lines" | grep -q .
+    ! printf '%s\n' "$printed" | grep -vxF "${ample#* }" | grep -vxE "$lines" | grep -q .
 }
 
-# Reads what memory_sweep and the library say, and prints for each call how many requests it makes and how many refused ones it
-# does without. Wrong is a call that says so, one that was refused though no request was, one that answers though a request was
-# refused, one whose last window refused a request, one that takes memory and shouldn't, and one that should and was never
-# refused. A merge, and a finish by it, collects its rows into a map: where the room that it asks for ahead is refused, it asks
-# again as the rows come.
+# Reads the output of memory_sweep and of the library, and prints for each call how many requests it makes and how many refused
+# ones it does without. A call is wrong if it reports a fault, if it was refused though no request was, if it answers though a
+# request was refused, if its last window refused a request, if it allocates and shouldn't, and if it should and was never
+# refused. A merge, and so a finish, collects its rows into a map: if the room for all rows is refused, it allocates row by row.
 read_sweep() {
     awk -v asks_again='^(merge|Side::finish)$' '
         function fault(what) { print call ": " what > "/dev/stderr"; faults++ }
@@ -105,13 +104,13 @@ sweep_calls() {
 # Refuses each request that heal makes of this script.
 sweep_script() {
     run "REFUSE_COUNT=$out/count" run "$1" --workers 2
-    ample="$status $said"
+    ample="$status $printed"
     local requests lines
     requests=$(requests_made)
     for n in $(seq "$requests"); do
         for settings in "REFUSE_ALONE=$n" "REFUSE_FROM=$n"; do
             run "$settings" run "$1" --workers 2
-            is_right_script || { echo "$settings of $requests: '$said', status $status, for: run $1" >&2; exit 1; }
+            is_right_script || { echo "$settings of $requests: '$printed', status $status, for: run $1" >&2; exit 1; }
         done
     done
     echo "run ${1##*/} $requests requests"

@@ -300,81 +300,46 @@ equal a b =
     ))
     (λ h. elim h [ inl z ↦ inl (omega (arith, ints, clamps)) | inr z ↦ inr (omega (arith, ints, clamps)) ])
 
-greater : (a b : Interval) → IsGreater a b (where_greater a b)
-greater a b =
+-- the first range from p on and the second up to q; q is this number where the first has a word
+above : (a b : Interval) (p q : ℕ) (x y : ℤ) → number p ≡ x → y ≤ℤ number q → (p ≤ a.hi → number q ≡ y)
+    → HaveEnds (both (nonempty (max a.lo p) a.hi) (nonempty b.lo (min b.hi q)))
+    (int_max (least a) x) (greatest a) (least b) (int_min (greatest b) y)
+above a b p q x y e l f =
     let m : a.lo ≤ a.hi = a.ordered in
     let n : b.lo ≤ b.hi = b.ordered in
-    let f : a.hi < 2 ^ 64 = a.fits in
-    let g : b.hi < 2 ^ 64 = b.fits in
-    pair_ends (max a.lo (b.lo + 1)) a.hi b.lo (min b.hi (a.hi - 1))
-    (int_max (least a) (least b +ℤ pos 1)) (greatest a)
-    (least b) (int_min (greatest b) (greatest a -ℤ pos 1))
-    (λ h k. (
-      omega arith,
-      omega arith,
-      omega (arith, ints, clamps),
-      omega (arith, ints, clamps),
-      omega (arith, ints, clamps),
-      omega (arith, ints, clamps),
-    ))
+    let v : a.hi < 2 ^ 64 = a.fits in
+    let w : b.hi < 2 ^ 64 = b.fits in
+    pair_ends (max a.lo p) a.hi b.lo (min b.hi q)
+    (int_max (least a) x) (greatest a) (least b) (int_min (greatest b) y)
+    (λ h k.
+    let g : number q ≡ y = f (omega arith) in
+    (v, omega arith, omega (arith, ints, clamps), refl, refl, omega (arith, ints, clamps)))
     (λ h. elim h [ inl z ↦ inl (omega (arith, ints, clamps)) | inr z ↦ inr (omega (arith, ints, clamps)) ])
+
+swapped : (s t : Option Interval) (x y x' y' : ℤ) → HaveEnds (both t s) x' y' x y → HaveEnds (both s t) x y x' y'
+swapped None None x y x' y' h = elim h [ inl z ↦ inr z | inr z ↦ inl z ]
+swapped None (Some b) x y x' y' h = elim h [ inl z ↦ inr z | inr z ↦ inl z ]
+swapped (Some a) None x y x' y' h = elim h [ inl z ↦ inr z | inr z ↦ inl z ]
+swapped (Some a) (Some b) x y x' y' h = (h.1, h.0)
 
 at_least : (a b : Interval) → IsAtLeast a b (where_at_least a b)
-at_least a b =
-    let m : a.lo ≤ a.hi = a.ordered in
-    let n : b.lo ≤ b.hi = b.ordered in
-    let f : a.hi < 2 ^ 64 = a.fits in
-    let g : b.hi < 2 ^ 64 = b.fits in
-    pair_ends (max a.lo b.lo) a.hi b.lo (min b.hi a.hi)
-    (int_max (least a) (least b)) (greatest a)
-    (least b) (int_min (greatest b) (greatest a))
-    (λ h k. (
-      omega arith,
-      omega arith,
-      omega (arith, ints, clamps),
-      omega (arith, ints, clamps),
-      omega (arith, ints, clamps),
-      omega (arith, ints, clamps),
-    ))
-    (λ h. elim h [ inl z ↦ inl (omega (arith, ints, clamps)) | inr z ↦ inr (omega (arith, ints, clamps)) ])
+at_least a b = above a b b.lo a.hi (least b) (greatest a) refl (omega (arith, ints)) (λ h. refl)
 
-less : (a b : Interval) → IsLess a b (where_less a b)
-less a b =
-    let m : a.lo ≤ a.hi = a.ordered in
-    let n : b.lo ≤ b.hi = b.ordered in
-    let f : a.hi < 2 ^ 64 = a.fits in
-    let g : b.hi < 2 ^ 64 = b.fits in
-    pair_ends a.lo (min a.hi (b.hi - 1)) (max b.lo (a.lo + 1)) b.hi
-    (least a) (int_min (greatest a) (greatest b -ℤ pos 1))
-    (int_max (least b) (least a +ℤ pos 1)) (greatest b)
-    (λ h k. (
-      omega arith,
-      omega arith,
-      omega (arith, ints, clamps),
-      omega (arith, ints, clamps),
-      omega (arith, ints, clamps),
-      omega (arith, ints, clamps),
-    ))
-    (λ h. elim h [ inl z ↦ inl (omega (arith, ints, clamps)) | inr z ↦ inr (omega (arith, ints, clamps)) ])
+greater : (a b : Interval) → IsGreater a b (where_greater a b)
+greater a b =
+    above a b (b.lo + 1) (a.hi - 1) (least b +ℤ pos 1) (greatest a -ℤ pos 1)
+    (omega (arith, ints)) (omega (arith, ints)) (λ h. omega (arith, ints))
 
 at_most : (a b : Interval) → IsAtMost a b (where_at_most a b)
 at_most a b =
-    let m : a.lo ≤ a.hi = a.ordered in
-    let n : b.lo ≤ b.hi = b.ordered in
-    let f : a.hi < 2 ^ 64 = a.fits in
-    let g : b.hi < 2 ^ 64 = b.fits in
-    pair_ends a.lo (min a.hi b.hi) (max b.lo a.lo) b.hi
-    (least a) (int_min (greatest a) (greatest b))
-    (int_max (least b) (least a)) (greatest b)
-    (λ h k. (
-      omega arith,
-      omega arith,
-      omega (arith, ints, clamps),
-      omega (arith, ints, clamps),
-      omega (arith, ints, clamps),
-      omega (arith, ints, clamps),
-    ))
-    (λ h. elim h [ inl z ↦ inl (omega (arith, ints, clamps)) | inr z ↦ inr (omega (arith, ints, clamps)) ])
+    swapped (nonempty a.lo (min a.hi b.hi)) (nonempty (max b.lo a.lo) b.hi)
+    (least a) (int_min (greatest a) (greatest b)) (int_max (least b) (least a)) (greatest b) (at_least b a)
+
+less : (a b : Interval) → IsLess a b (where_less a b)
+less a b =
+    swapped (nonempty a.lo (min a.hi (b.hi - 1))) (nonempty (max b.lo (a.lo + 1)) b.hi)
+    (least a) (int_min (greatest a) (greatest b -ℤ pos 1))
+    (int_max (least b) (least a +ℤ pos 1)) (greatest b) (greater b a)
 
 exact_cut : (w : Width) (test : Test) (taken : Bool) (a b : Interval)
     → SignedCut w test taken a b (signed_refine w test taken a b)

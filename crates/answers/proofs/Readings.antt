@@ -1,4 +1,4 @@
--- From the bytes that reading gave to those that the reader had, and on to what is said.
+-- From the bytes that were read to those that the reader had, and on to the answer.
 use Rattle.std.specs.Prelude.{IfSome, option_map}
 use Rattle.std.proofs.Common.{◌≡◌, ◌≤◌, ◌+◌, ◌++◌, [], Ok, Err, IfOk, Result, Option, Some, None, inl, inr, ℕ, List, length, take, subst, arith, length-take, take_all}
 use Rattle.instruction_set.specs.declared.insn.Insn.{Insn}
@@ -27,7 +27,7 @@ given : (known : Option (List ℕ)) (bytes : List ℕ) → IfSome (option_map (t
 given None bytes h = tt
 given (Some all) bytes h = h
 
--- what a reader gives up to a limit
+-- the bytes that a reader returns up to a limit
 pub whole_read : {R : Type 0} (remaining : R → Option (List ℕ)) (reader inner : R) (limit : ℕ) (old bytes : List ℕ)
     → inner ≡ reader → limit ≡ max_file_len + 1 → old ≡ []
     → IfSome (option_map (take limit) (remaining inner)) (λ all. bytes ≡ old ++ all)
@@ -62,7 +62,7 @@ pub code_is : (known : Option (List ℕ)) (bytes : List ℕ) (code : List Insn) 
 code_is None bytes code reading h = inr (bytes, h)
 code_is (Some all) bytes code reading h = inr (all_right all code (subst (λ b. IsSource b code) reading h))
 
--- what is said of bytes that the reader tells is said of some bytes
+-- an answer for the reader's bytes is an answer for some bytes
 pub of_some_bytes : (known : Option (List ℕ)) (r : Result Answer Failure)
     → IfOk (answer_unless_memory r) (IsOfBytes known) → IfOk (answer_unless_memory r) (IsOfBytes None)
 of_some_bytes None r h = h

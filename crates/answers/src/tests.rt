@@ -1,4 +1,4 @@
-//! What no clause says: the worked rows, that calls succeed, and devices that fail in mid-stream.
+//! Tests of what no clause states: the worked rows, success, and devices that fail in mid-stream.
 ghost use Rattle.std.specs.Prelude.{Some};
 
 use crate::files::MAX_FILE_LEN;
@@ -78,7 +78,7 @@ impl Clash {
     }
 }
 
-/// What is asked of code.
+/// A question about code.
 #[derive(Clone, Copy)]
 enum Ask {
     Judge(Clash),
@@ -86,7 +86,7 @@ enum Ask {
     Dis,
 }
 
-/// A device that takes so many bytes a call, and fails from a call on.
+/// A device that takes a number of bytes a call, and fails from a call on.
 #[derive(Drop)]
 struct Device {
     held: Vec<u8>,
@@ -117,7 +117,7 @@ impl Write for Device {
     }
 }
 
-/// Whether the question is answered by this status and this text.
+/// Checks that the question is answered by this status and this text.
 fn is_answered(rt: &HostRuntime, question: &Question<'_>, status: u8, text: &str) -> bool {
     let mut out = Vec::new(rt.alloc());
     let got = reply_to(rt, question, &mut out);
@@ -133,7 +133,7 @@ fn code(alloc: Global, slots: &str) -> io::Result<String> {
     Ok(text)
 }
 
-/// Whether code of these slots is answered by this status and this text where this is asked of it.
+/// Checks that this question about code of these slots is answered by this status and this text.
 fn is_said(rt: &HostRuntime, ask: Ask, slots: &str, status: u8, text: &str) -> Result<bool, Fail> {
     let alloc = rt.alloc();
     let code = code(alloc, slots)?;
@@ -154,7 +154,7 @@ fn is_said(rt: &HostRuntime, ask: Ask, slots: &str, status: u8, text: &str) -> R
     }
 }
 
-/// Whether the judging of the clash by code is answered by this status and this text.
+/// Checks that judging the clash by code is answered by this status and this text.
 fn is_judged(
     rt: &HostRuntime,
     clash: Clash,
@@ -232,7 +232,7 @@ const BRANCH: &'static str =
 /// Reads the size of the first's table.
 const SIZE_OF_FIRST: &'static str = "7910800000000000 X";
 
-// A record of 128 bytes has zeros where the facts stand in the longer one.
+// A record of 128 bytes has zeros in place of the facts of the longer one.
 #[test]
 fn other_records(rt: HostRuntime) -> Result<(), Fail> {
     let with_size: &'static str =
@@ -264,7 +264,7 @@ fn other_records(rt: HostRuntime) -> Result<(), Fail> {
     Ok(())
 }
 
-/// Texts that are no code, and what is said of them.
+/// Texts that aren't code, and their answers.
 const NO_CODE: [(&'static str, &'static str); 8] = [
     ("", "refused 1\n"),
     ("95000000000000", "refused 3\n"),
@@ -351,7 +351,7 @@ const UNSAFE: [(&'static str, u32, u32); 32] = [
     ("bf10000000000000 X", 26, 1),
 ];
 
-/// Whether code of these slots is refused by this number at this slot where this is asked of it.
+/// Checks that this question about code of these slots is refused by this number at this slot.
 fn is_refused(
     rt: &HostRuntime,
     ask: Ask,
@@ -469,7 +469,7 @@ fn code_as_text(rt: HostRuntime) -> Result<(), Fail> {
     Ok(())
 }
 
-/// A device that gives so many bytes a call, and fails from a call on.
+/// A device that returns a number of bytes a call, and fails from a call on.
 #[derive(Drop)]
 struct Source<'a> {
     left: &'a [u8],
@@ -490,7 +490,7 @@ impl<'a> Read for Source<'a> {
     }
 }
 
-/// Whether a file of these bytes is answered by this status and this text.
+/// Checks that a file of these bytes is answered by this status and this text.
 fn is_assembled(alloc: Global, bytes: &[u8], status: u8, text: &str) -> Result<bool, Fail> {
     let reader = Source {
         left: bytes,
@@ -537,7 +537,7 @@ fn text_as_code(rt: HostRuntime) -> Result<(), Fail> {
     Ok(())
 }
 
-/// Whether a file is answered by this text and status 2 that begins so and goes on with a piece so many times.
+/// Checks the answer, with status 2, to a file that has this beginning and then repeats a piece.
 fn is_refused_file(
     alloc: Global,
     first: &[u8],
@@ -553,7 +553,7 @@ fn is_refused_file(
     is_assembled(alloc, &file, 2, text)
 }
 
-// The byte 255 stands in no text.
+// The byte 255 is in no text.
 #[test]
 fn long_files(rt: HostRuntime) -> Result<(), Fail> {
     for (first, piece, count, text) in [
@@ -595,7 +595,7 @@ fn long_files(rt: HostRuntime) -> Result<(), Fail> {
 fn a_failing_source(rt: HostRuntime) -> Result<(), Fail> {
     let alloc = rt.alloc();
     let text = b"exit";
-    // The call past the last byte finds that there is no more.
+    // The call past the last byte finds the end.
     for calls in 0..=text.len() + 1 {
         let reader = Source {
             left: text,
@@ -632,7 +632,7 @@ fn a_file(rt: HostRuntime) -> Result<(), Fail> {
     Ok(())
 }
 
-/// Whether code of so many moves and an `exit` judges with this status and text.
+/// Checks that code of `moves` moves and an `exit` judges with this status and text.
 fn is_long_judging(rt: &HostRuntime, moves: u32, status: u8, text: &str) -> Result<bool, Fail> {
     let mut code = String::new(rt.alloc());
     for _ in 0..moves {
@@ -650,7 +650,7 @@ fn the_longest_code(rt: HostRuntime) -> Result<(), Fail> {
     Ok(())
 }
 
-/// Digits of so many zero bytes.
+/// Returns the digits of `count` zero bytes.
 fn zeros(alloc: Global, count: usize) -> io::Result<String> {
     let mut text = String::new(alloc);
     for _ in 0..count {
@@ -697,8 +697,8 @@ fn wrong_records(rt: HostRuntime) -> Result<(), Fail> {
     Ok(())
 }
 
-/// What is answered to a device that takes a byte a call and fails after so many, and whether it holds the beginning of
-/// the line that it took.
+/// Returns the status for a device that takes a byte a call and fails after `calls` of them, and whether it has a prefix
+/// of the line.
 fn reply_to_device(rt: &HostRuntime, calls: usize, line: &[u8]) -> Result<(u8, bool), Fail> {
     let clash = ON_DB.digits(rt.alloc())?;
     let question = Question::Judge {

@@ -1,4 +1,4 @@
--- What is written is a line of the grammar.
+-- Each written line is a line of the grammar.
 use Rattle.std.proofs.Common.{◌≡◌, refl, sym, ℕ, drop, List, [], ◌∷◌, ◌++◌, append-nil, inl}
 use Rattle.instruction_set.specs.Slots.{IsListed}
 use Rattle.instruction_set.specs.declared.insn.Insn.{Insn}

@@ -1,4 +1,4 @@
--- What the grammar says of the operands of a line is what a reader of words finds.
+-- The reader of words finds the operands of a line by the grammar.
 use Rattle.std.proofs.Common.{◌≡◌, refl, ap, ◌∙◌, sym, subst, ℕ, suc, ◌<◌, List, [], ◌∷◌, ◌++◌, ℤ, pos, negsuc, inl, inr, append_assoc, arith}
 use Rattle.std.specs.Prelude.{◌==◌, ◌&&◌, not, FitsSigned}
 use Rattle.std.specs.Fmt.{decimal, signed_decimal}

@@ -1,4 +1,4 @@
--- What the reader of a number gives.
+-- The result of the reader of a number.
 use Rattle.std.proofs.Common.{◌≡◌, refl, ap, ◌∙◌, sym, subst, ℕ, suc, zero, ◌+◌, ◌*◌, ◌<◌, ◌≤◌, ◌^◌, false, cond, List, [], ◌∷◌, ◌++◌, length, get_or, Option, Some, None, Ok, Err, ℤ, pos, negsuc, inl, inr, arith, rules}
 use Rattle.std.specs.Prelude.{◌==◌, nat_lt, nat_le, codes, FitsSigned, option_and_then}
 use Rattle.std.specs.Fmt.{decimal, signed_decimal}

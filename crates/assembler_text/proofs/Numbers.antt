@@ -9,7 +9,7 @@ use Rattle.std.proofs.Math.Nat.{le-mul_of_pos_right}
 use Rattle.assembler_text.specs.declared.faults.Fault.{Fault}
 use Rattle.assembler_text.specs.model.Reading.{number_after, within}
 
--- a number past its range stays so, whatever digits follow
+-- a number past its range stays so for any further digits
 grown : (radix n d : ℕ) → 1 ≤ radix → n ≤ n * radix + d
 grown radix n d h = omega (arith, le-mul_of_pos_right {m = radix} n (omega arith))
 

@@ -1,10 +1,10 @@
--- What a word gives: a value of which something holds, or a fault; a number out of range is told apart from any other.
+-- The outcome of a word: a value with a fact, or a fault; a number out of range differs from any other fault.
 use Rattle.std.proofs.Common.{◌≡◌, refl, subst, Bool, true, false, cond, Result, Ok, Err}
 use Rattle.assembler_text.specs.declared.faults.Fault.{Fault}
 use Rattle.assembler_text.specs.declared.faults.Fault.TheVariants as fault
 use Rattle.assembler_text.specs.model.Results.{◌>>=◌}
 
--- a wrong operand: a number out of range, where that is said of it, or any other
+-- an invalid operand: a number out of range, where stated, or any other
 pub data Kind (Q : Type 0) : Fault → Type 0 where
   other : Kind Q fault.Operand
   range : Q → Kind Q fault.NumberRange

@@ -1,4 +1,4 @@
--- What the tables of names have.
+-- The contents of the tables of names.
 use Rattle.std.proofs.Common.{◌≡◌, refl, ℕ, zero, suc, ◌≤◌, Bool, true, false, cond, ◌++◌, Option, List, [], ◌∷◌, map, Some, Result, Ok, sym, ap, ◌∙◌, arith, rules}
 use Rattle.std.specs.Prelude.{◌&&◌, IfSome, slice_get, option_and_then, codes}
 use Rattle.std.specs.Fmt.{decimal, digits}

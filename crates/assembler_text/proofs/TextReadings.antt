@@ -65,7 +65,7 @@ text_reads text code h =
     ∙ read_before (lines_of text) code h.lines_give 0 [] (omega (arith, h.is_code.few)) []
     ∙ some_slots code h.is_code.some
 
--- ---- a first fault is told
+-- ---- the first fault is returned
 
 not_le : (n m : ℕ) → m < n → nat_le n m ≡ false
 not_le n m h = grind (arith, nat_tests)

@@ -1,4 +1,4 @@
--- What the grammar says of a word is what its reader gives.
+-- The reader of a word returns its meaning in the grammar.
 use Rattle.std.proofs.Common.{◌≡◌, refl, ap, ◌∙◌, sym, subst, ℕ, suc, zero, ◌+◌, ◌*◌, ◌<◌, ◌≤◌, true, false, cond, length, List, [], ◌∷◌, ◌++◌, get_or, Option, Some, None, Result, Ok, Err, ℤ, pos, negsuc, inl, inr, arith, lit≤}
 use Rattle.std.specs.Prelude.{◌==◌, not, ◌&&◌, nat_le, FitsSigned, option_and_then, slice_get}
 use Rattle.std.specs.Fmt.{decimal, signed_decimal, digits}

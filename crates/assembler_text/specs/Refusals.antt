@@ -16,7 +16,7 @@ use Rattle.assembler_text.specs.Words.{AreIn, StopsAt}
 use Rattle.assembler_text.specs.Text.{Operand, OfRegister, OfImm, OfValue, OfAddress, OfStep, mnemonic_of, register_text}
 use Rattle.assembler_text.specs.Grammar.{AreBlanks, IsComment, IsOperand, IsLine, lines_of, AreLines}
 
--- what a mnemonic asks for an operand; steps are of 16 bits or of 32
+-- the kind of operand that a mnemonic expects; steps have 16 bits or 32
 pub data OperandKind : Type 0 where
   ARegister : OperandKind
   ASource : OperandKind
@@ -131,7 +131,7 @@ pub record IsSplit (text word rest : List ℕ) : Type 0 where
 
 -- the leftmost fault of operands in these places
 pub data IsFaultIn : List OperandKind → List ℕ → Fault → Type 0 where
-  -- something stands where there is no operand
+  -- extra text after the operands
   none_asked : {text : List ℕ} → (AreBlanks text → ⊥) → IsFaultIn [] text fault.LineEnd
   -- the first word is no operand for its place
   wrong_word : {p : OperandKind} {ps : List OperandKind} {text word rest : List ℕ} {f : Fault}
@@ -151,7 +151,7 @@ pub data IsFaultIn : List OperandKind → List ℕ → Fault → Type 0 where
 pub data IsFaultOf (name text : List ℕ) : Fault → Type 0 where
   -- no instruction has this mnemonic
   no_mnemonic : ((i : Insn) → IsListed i → mnemonic_of i ≡ name → ⊥) → IsFaultOf name text fault.Mnemonic
-  -- an instruction has it, and the fault stands in its operands or after them
+  -- an instruction has it, and the fault is in its operands or after them
   in_operands : {f : Fault} (i : Insn)
       → IsListed i → mnemonic_of i ≡ name → IsFaultIn (kinds_of i) text f → IsFaultOf name text f
 
@@ -197,7 +197,7 @@ pub record IsTooLongAt (lines : List (List ℕ)) (number : ℕ) : Type 0 where
   pub gives : IsLine line (Some insn)
   pub past : max_slots < sum_by slots_of code + slots_of insn
 
--- the first fault of lines: of the first line that has one the leftmost; want of memory is no fault of lines
+-- the first fault of lines: the leftmost of the first faulty line. Out of memory isn't a fault of lines
 abbrev pub IsFirstOf : List (List ℕ) → LineFault → Type 0
 IsFirstOf lines (line_fault.Line f number) = IsFaultAt lines number f
 IsFirstOf lines (line_fault.TooLong number) = IsTooLongAt lines number

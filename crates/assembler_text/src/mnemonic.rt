@@ -23,7 +23,7 @@ pub enum Mnemonic {
     Exit,
 }
 
-/// The mnemonics with their spellings.
+// The mnemonics with their spellings.
 const NAMES: [(&[u8], Mnemonic); 85] = [
     (b"add32", Mnemonic::Alu(Width::W32, AluOp::Add)),
     (b"add64", Mnemonic::Alu(Width::W64, AluOp::Add)),

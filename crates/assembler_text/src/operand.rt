@@ -9,7 +9,7 @@ use crate::lexer::{Class, lookup, skip_blanks, split};
 use crate::number::{imm, short_step, strip};
 use instruction_set::{Register, Source};
 
-/// The registers' names and numbers.
+// The registers' names and numbers.
 const REGISTERS: [(&[u8], u8); 11] = [
     (b"r0", 0),
     (b"r1", 1),

@@ -1,4 +1,4 @@
--- What contracts see of the notices of a verdict.
+-- The notices of a verdict, as contracts see them.
 use Rattle.std.specs.Prelude.{List, []}
 use Rattle.builtin_resolvers.specs.declared.notice.Held.{Held}
 use Rattle.builtin_resolvers.specs.declared.notice.Held.TheVariants.{Nothing, One, Two}

@@ -1,4 +1,4 @@
--- How notices are printed.
+-- The printed form of notices.
 use Rattle.std.specs.Prelude.{ℕ, List, ◌++◌, codes}
 use Rattle.clash_record.specs.Texts.{owner_text}
 use Rattle.builtin_resolvers.specs.declared.notice.Notice.{Notice}

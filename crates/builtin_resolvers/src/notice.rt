@@ -76,7 +76,7 @@ impl Notices {
         self.as_slice().len()
     }
 
-    /// Checks whether there are no notices.
+    /// Checks whether the list is empty.
     pub fn is_empty(&self) -> bool
         ensures { IsTrue result ↔ (self.now ≡ []) }
     {

@@ -10,7 +10,7 @@ after : (front rest part : List ℕ) (a k : ℕ) → length front ≡ a
 after front rest part a k at =
     rw (take_at front rest a at, drop_at front rest a at) (sym (append_assoc front part (drop k rest)))
 
--- four parts that fill bytes stand in them one after another
+-- four parts that fill bytes lie in them one after another
 pub four_parts : (old n w a b : List ℕ) → length n ≡ 40 → length w ≡ 8 → length a ≡ 40
     → put_mid 88 (length (put_mid 48 40 (put_mid 40 8 (n ++ drop 40 old) w) a) - 88)
     (put_mid 48 40 (put_mid 40 8 (n ++ drop 40 old) w) a) b

@@ -37,7 +37,7 @@ impl fmt::Display for ProgramId {
     }
 }
 
-/// A resolver that needs no program.
+/// A resolver without a program.
 #[derive(Clone, Copy, Debug, PartialEq, Eq, PartialOrd, Ord)]
 pub enum Builtin {
     /// One of the two owners keeps the name, and the other exits.

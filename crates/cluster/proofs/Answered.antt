@@ -1,4 +1,4 @@
--- What holds of a side after a call.
+-- Facts about a side after a call.
 use Rattle.std.proofs.Common.{◌≡◌, ℕ, ◌≤◌, length, Some, sym, ap, subst, arith}
 use Rattle.std.specs.Prelude.{OnOk, OnErr, IfOk}
 use Rattle.std.specs.declared.result.Result.{Result}

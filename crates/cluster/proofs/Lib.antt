@@ -1,8 +1,8 @@
 mod Answered
 mod Called
-mod Carried
 mod Held
 mod Left
+mod Listed
 mod Rounds
 mod Settled
 mod Steps

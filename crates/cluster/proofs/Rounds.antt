@@ -1,4 +1,4 @@
--- What the rounds leave of both halves.
+-- Both halves after the rounds.
 use Rattle.std.proofs.Common.{◌≡◌, ℕ, ◌+◌, List, [], ◌∷◌, length, Option, Some, None, refl, sym, ap, ◌∙◌, subst, option_and_then, length-append, arith}
 use Rattle.std.specs.Prelude.{IfOk}
 use Rattle.std.specs.declared.result.Result.{Result}
@@ -19,7 +19,7 @@ use Rattle.cluster.specs.Clusters.{Cluster}
 use Rattle.cluster.specs.Healing.{Plan, gone_of_side, IsFailed, IsLeft}
 use Rattle.cluster.specs.model.Stages.{AreSides, Grows, IsTrying, AreTrying, IsMerged, IsInRounds, AreInRounds}
 use Rattle.cluster.proofs.Answered.{pair, grown_on}
-use Rattle.cluster.proofs.Carried.{some_inj, goes}
+use Rattle.exchange_core.specs.laws.Carried.{some_inj, goes}
 use Rattle.cluster.proofs.Steps.{takes}
 use Rattle.cluster.proofs.Left.{left_all, left_merged}
 

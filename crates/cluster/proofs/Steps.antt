@@ -1,4 +1,4 @@
--- What each call leaves of a half during an exchange.
+-- A half after each call of an exchange.
 use Rattle.std.proofs.Common.{◌≡◌, ℕ, Bool, true, false, if◌then◌else◌, List, [], ◌∷◌, ◌++◌, Option, Some, None, is_some, refl, sym, ap, ◌∙◌, subst, option_and_then}
 use Rattle.std.specs.Option.{option_map_or}
 use Rattle.exchange_core.specs.declared.judged.Judged.{Judged}
@@ -12,7 +12,7 @@ use Rattle.exchange_core.specs.Finished.{Finished, IsFinished, Half, finished_by
 use Rattle.cluster.specs.Clusters.{Cluster, at}
 use Rattle.cluster.specs.Healing.{Plan, gone_of_side, finished_as, idle_side}
 use Rattle.cluster.specs.model.Stages.{other, uptime_of, IsRested, offer_in, HasHeard, IsUnderWay, IsTrying, IsMerged}
-use Rattle.cluster.proofs.Carried.{some_inj, when, unless, when_some, goes, found}
+use Rattle.exchange_core.specs.laws.Carried.{some_inj, when, unless, when_some, goes, found}
 use Rattle.cluster.proofs.Held.{one_held}
 
 module _ (plan : Plan) (was : Cluster) (id : SideId) where

@@ -1,4 +1,4 @@
--- What each stage of an exchange leaves of both halves.
+-- Both halves after each stage of an exchange.
 use Rattle.std.proofs.Common.{◌≡◌, ℕ, List, [], ◌∷◌, ◌++◌, take, Some, refl, sym, ap, ◌∙◌, subst, length, get_or, ◌<◌, ◌+◌, arith}
 use Rattle.std.proofs.lemmas.Grind.{take_at_read}
 use Rattle.std.specs.Prelude.{OnOk, OnErr, IfOk}

@@ -1,4 +1,4 @@
--- What contracts see of the two halves of a cluster.
+-- The two halves of a cluster, as contracts see them.
 use Rattle.std.specs.Prelude.{◌≡◌, ℕ, ◌+◌, Bool, nat_le, length, Option, Some}
 use Rattle.exchange_core.specs.declared.side.Side as code
 use Rattle.clash_record.specs.declared.side_id.SideId.{SideId}

@@ -1,4 +1,4 @@
--- What contracts see of a healed split.
+-- A healed split, as contracts see it.
 use Rattle.std.specs.Prelude.{ℕ, List}
 use Rattle.clash_record.specs.declared.halves.Withdrawal.{Withdrawal}
 use Rattle.partition_table.specs.Tables.{Clash}

@@ -9,7 +9,7 @@ use registry_lock::MeetFault;
 use std::alloc::AllocError;
 use thiserror::Error;
 
-/// Why a split isn't healed.
+/// The reason why a split isn't healed.
 #[derive(Clone, Copy, Debug, PartialEq, Eq, Error)]
 pub enum HealFault {
     /// A half refuses a call.

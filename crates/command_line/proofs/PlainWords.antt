@@ -1,4 +1,4 @@
--- What plain words ask for.
+-- The request of plain words.
 use Rattle.std.proofs.Common.{◌≡◌, false, [], ◌∷◌, None, refl, codes}
 use Rattle.std.specs.Str.{bytes_eq}
 use Rattle.clap.specs.Lexer.{strip_byte}

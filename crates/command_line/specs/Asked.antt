@@ -1,4 +1,4 @@
--- What the words of a command line ask for, in the words of the crate that parses them.
+-- The request of a command line, in the terms of the crate that parses it.
 use Rattle.std.specs.Prelude.{◌≡◌, ℕ, true, List, codes, Option, Some, None, [], if◌then◌else◌, option_and_then, option_map}
 use Rattle.std.specs.Str.{bytes_eq}
 use Rattle.std.specs.declared.io.ErrorKind.{ErrorKind}
@@ -76,7 +76,7 @@ subcommands_app = with_subcommand (with_subcommand (with_subcommand (with_subcom
 abbrev pub heal_app : App
 heal_app = on_top (λ s. record s { subcommand_required = true }) subcommands_app
 
--- ---- what is asked
+-- ---- the request
 
 -- a task without where its words lie in memory
 pub data Asked : Type 0 where
@@ -101,7 +101,7 @@ profile_named (Some number) =
     if bytes_eq number (codes "1") then Some Unsigned
     else (if bytes_eq number (codes "2") then Some Both else None)
 
--- what the values of check ask for; and of judge, asm and dis
+-- the request of the values of check; and of judge, asm and dis
 abbrev pub check_asked : List Row → Option Asked
 check_asked rows =
     option_and_then (λ code. option_map (check code) (profile_named (first_of (codes "profile") rows)))
@@ -129,7 +129,7 @@ run_asked rows =
     option_and_then (λ file. option_map (run file) (workers_named (first_of (codes "workers") rows)))
     (first_of (codes "FILE") rows)
 
--- what a subcommand of this name asks for
+-- the request of a subcommand of this name
 abbrev pub asked_of : Text × List Row → Option Asked
 asked_of sub =
     if bytes_eq sub.0 (codes "check") then check_asked sub.1
@@ -138,17 +138,17 @@ asked_of sub =
     else (if bytes_eq sub.0 (codes "dis") then dis_asked sub.1
     else (if bytes_eq sub.0 (codes "run") then run_asked sub.1 else None))))
 
--- the words have no fault, and ask for this
+-- the words are valid, and request this
 abbrev pub Asks : List Text → Asked → Type 0
 Asks words task = (fault_of heal_app words ≡ []) × (option_and_then asked_of (subcommand_of heal_app words) ≡ Some task)
 
--- the fault is want of memory, and none of the words
+-- the fault is out of memory, not a usage error
 abbrev pub IsForMemory : CommandFault → Type 0
 IsForMemory (Parse e) = kind_of e ≡ OutOfMemory
 IsForMemory NoTask = ⊥
 IsForMemory NotText = ⊥
 
--- where reading the arguments fails by this kind, the fault is want of memory or that of no text
+-- if reading the arguments fails by this kind, the fault is out of memory or invalid UTF-8
 abbrev pub IsArgumentFault : ErrorKind → CommandFault → Type 0
 IsArgumentFault kind fault =
     (kind ≡ of_io.OutOfMemory → IsForMemory fault) × ((kind ≡ of_io.OutOfMemory → ⊥) → fault ≡ NotText)

@@ -7,8 +7,9 @@ use Rattle.clash_record.specs.Name.{Name}
 use Rattle.partition_table.specs.Tables.{Clash, Row, Table}
 use Rattle.exchange_core.specs.Sides.{Offer, Withdrawals, Judged, Heard, Exchange, Side, clashes_for, fit_for, clashes_heard, clashes_of, is_lawful, register, unregister, is_theirs, heard_of, hear_first, hear_in, hear, put_ruling, take_heard, take_in, take, withdraw_in, withdraw, hear_list_in, hear_list, finish, abandon}
 use Rattle.exchange_core.specs.Worlds.{Past, ruling_at}
-use Rattle.exchange_core.proofs.Rulings.{some_inj, Lawful, lawful, has_clash_is, clashes_are}
-use Rattle.exchange_core.proofs.Kept.{Has, other, made, made_list, clashes_with, Taken, HeardFits, our_offer, OpenFits, SideFits, IsTold, when, when_some, is_idle, other_side, none_held, length-put_ruling, Goes, goes, found, one_more_ruling}
+use Rattle.exchange_core.proofs.Rulings.{Lawful, lawful, has_clash_is, clashes_are}
+use Rattle.exchange_core.specs.laws.Carried.{some_inj, when, when_some, Goes, goes, found}
+use Rattle.exchange_core.proofs.Kept.{Has, other, made, made_list, clashes_with, Taken, HeardFits, our_offer, OpenFits, SideFits, IsTold, is_idle, other_side, none_held, length-put_ruling, one_more_ruling}
 
 module _ {id : SideId} {side : Side} {past : Past} (fits : SideFits id side past) where
   -- an idle side with another table

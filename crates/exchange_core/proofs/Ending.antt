@@ -12,7 +12,7 @@ use Rattle.exchange_core.specs.Sides.{Judged, Heard, Exchange, Side, clashes_for
 use Rattle.exchange_core.specs.Finished.{IsFinished, all_held, finished_at, finished_of, finished_in, finished_from}
 use Rattle.exchange_core.specs.model.Pairing.{clash_names_for}
 use Rattle.exchange_core.specs.model.Finishing.{IsMergeable, IsMergeOf}
-use Rattle.exchange_core.proofs.Rulings.{some_inj}
+use Rattle.exchange_core.specs.laws.Carried.{some_inj}
 use Rattle.exchange_core.proofs.Merges.{clash_names_are}
 
 abbrev pub answers : List Judged → List Verdict3

@@ -1,15 +1,14 @@
--- What every step keeps.
-use Rattle.std.proofs.Common.{◌≡◌, ◌⊎◌, ℕ, zero, suc, Bool, true, false, if◌then◌else◌, List, [], ◌∷◌, length, replicate, Option, Some, None, is_none, slice_get, slice_set, unwrap_or, refl, ap, inl, inr, ⊎_elim, option_map, option_and_then, length-set, is_some, subst, sym}
-use Rattle.std.proofs.lemmas.Bool.{and_parts}
-use Rattle.std.specs.List.{list_all}
+-- The invariant of every step.
+use Rattle.std.proofs.Common.{◌≡◌, ◌⊎◌, ℕ, zero, suc, Bool, true, false, if◌then◌else◌, List, [], ◌∷◌, length, replicate, Option, Some, None, is_none, slice_get, slice_set, unwrap_or, refl, ap, inl, inr, ⊎_elim, length-set, is_some, subst, sym}
 use Rattle.clash_record.specs.declared.side_id.SideId.{SideId}
 use Rattle.clash_record.specs.declared.side_id.SideId.TheVariants.{A, B}
 use Rattle.clash_record.specs.Name.{Name}
 use Rattle.partition_table.specs.Tables.{Table, Clash}
-use Rattle.exchange_core.specs.Sides.{Offer, Withdrawals, Judged, Heard, Exchange, Side, is_side, clashes_for, fit_for, is_above, has_clash, in_exchange, put_ruling, merged_table, finish_in, finish}
+use Rattle.exchange_core.specs.Sides.{Offer, Withdrawals, Judged, Heard, Exchange, Side, is_side, clashes_for, fit_for, is_above, has_clash, put_ruling}
 use Rattle.exchange_core.specs.Calls.{Call, Hear, Take, Hear_list}
 use Rattle.exchange_core.specs.Worlds.{Ruling, Past, World, side_of, ruling_at}
-use Rattle.exchange_core.proofs.Rulings.{some_inj, Lawful}
+use Rattle.exchange_core.proofs.Rulings.{Lawful}
+use Rattle.exchange_core.specs.laws.Carried.{some_inj}
 
 -- the value is somewhere in the list
 abbrev pub Has : {X : Type 0} → List X → X → Type 0
@@ -93,7 +92,7 @@ pub record Sound (w : World) : Type 0 where
   pub fits : (id : SideId) → SideFits id (side_of w id) w.past
   pub one : OneEach w.past
 
--- a ruling that is told is one of the map, and the side has its clash
+-- a ruling that reaches a side is one of the map, and the side has its clash
 pub record IsTold (side : Side) (number k : ℕ) (judged : Judged) (past : Past) : Type 0 where
   pub ruling : Ruling
   pub found : ruling_at number k past.rulings ≡ Some ruling
@@ -108,15 +107,6 @@ IsSent side past (Hear_list sent) = Has past.lists sent
 IsSent side past call = Unit {0}
 
 -- tests and options
-
-pub when : {X : Type 0} (b : Bool) (x y : X) → (if b then Some x else None) ≡ Some y → (b ≡ true) × (x ≡ y)
-when true x y e = (refl, some_inj e)
-when false x y e = cc
-
-pub when_some : {X : Type 0} (b : Bool) (o : Option X) (y : X) → (if b then o else None) ≡ Some y →
-    (b ≡ true) × (o ≡ Some y)
-when_some true o y e = (refl, e)
-when_some false o y e = cc
 
 pub is_idle : {X : Type 0} (o : Option X) → is_none o ≡ true → o ≡ None
 is_idle None e = refl
@@ -160,68 +150,6 @@ at_set (x ∷ xs) zero zero y z e = inl (refl, some_inj e)
 at_set (x ∷ xs) zero (suc k) y z e = inr e
 at_set (x ∷ xs) (suc i) zero y z e = inr e
 at_set (x ∷ xs) (suc i) (suc k) y z e = ⊎_elim (λ h. inl (ap suc h.0, h.1)) inr (at_set xs i k y z e)
-
--- what a call of an open side does
-pub record Goes (side new : Side) (call : Exchange → Option Exchange) : Type 0 where
-  pub before : Exchange
-  pub after : Exchange
-  pub opened : side.exchange ≡ Some before
-  pub does : call before ≡ Some after
-  pub new_is : record side { exchange = Some after } ≡ new
-
-pub goes : (side new : Side) (call : Exchange → Option Exchange) → in_exchange side call ≡ Some new → Goes side new call
-goes side new call e = in_phase side.exchange refl e
-  where
-    by_call : (x : Exchange) → side.exchange ≡ Some x → (o : Option Exchange) → call x ≡ o →
-        option_map (λ exchange. record side { exchange = Some exchange }) o ≡ Some new → Goes side new call
-    by_call x opened None is e = cc
-    by_call x opened (Some y) is e = record { before = x; after = y; opened = opened; does = is; new_is = some_inj e }
-
-    in_phase : (o : Option Exchange) → side.exchange ≡ o →
-        option_map (λ exchange. record side { exchange = Some exchange }) (option_and_then call o) ≡ Some new →
-        Goes side new call
-    in_phase None opened e = cc
-    in_phase (Some x) opened e = by_call x opened (call x) refl e
-
--- what a finish that is carried out found
-pub record Found (side new : Side) : Type 0 where
-  pub exchange : Exchange
-  pub heard : Heard
-  pub theirs : List Name
-  pub opened : side.exchange ≡ Some exchange
-  pub was_heard : exchange.heard ≡ Some heard
-  pub list_heard : exchange.their_list ≡ Some theirs
-  pub full : list_all is_some heard.rulings ≡ true
-  pub list_closed : exchange.closed ≡ true
-  pub new_is : record side { table = merged_table side exchange heard theirs; exchange = None } ≡ new
-
-pub found : (side new : Side) → finish side ≡ Some new → Found side new
-found side new e = in_phase side.exchange refl e
-  where
-    in_heard : (exchange : Exchange) → side.exchange ≡ Some exchange → (o : Option Heard) (l : Option (List Name)) →
-        exchange.heard ≡ o → exchange.their_list ≡ l → finish_in side exchange o l ≡ Some new → Found side new
-    in_heard exchange opened None l is at e = cc
-    in_heard exchange opened (Some heard) None is at e = cc
-    in_heard exchange opened (Some heard) (Some theirs) is at e =
-        let h = when _ _ _ e in
-        let c = and_parts _ _ h.0 in
-        record {
-          exchange = exchange;
-          heard = heard;
-          theirs = theirs;
-          opened = opened;
-          was_heard = is;
-          list_heard = at;
-          full = c.0;
-          list_closed = c.1;
-          new_is = h.1;
-        }
-
-    in_phase : (o : Option Exchange) → side.exchange ≡ o →
-        option_and_then (λ exchange. finish_in side exchange exchange.heard exchange.their_list) o ≡ Some new →
-        Found side new
-    in_phase None is e = cc
-    in_phase (Some exchange) is e = in_heard exchange is exchange.heard exchange.their_list refl refl e
 
 -- a ruling more at its place
 pub one_more_ruling : (P : ℕ → Judged → Type 0) (rulings : List (Option Judged)) (k : ℕ) (judged : Judged) →

@@ -1,4 +1,4 @@
--- The merge is what its definition by names says, and the clashes are of the names that clash.
+-- The merge is the one defined name by name, and the clashes are of the names that clash.
 use Rattle.std.proofs.Common.{◌≡◌, ℕ, Bool, true, false, not, cond, ◌||◌, ◌&&◌, if◌then◌else◌, List, [], ◌∷◌, ◌++◌, map, filter, Option, Some, None, is_some, refl, sym, ap, ◌∙◌}
 use Rattle.std.proofs.lemmas.Bool.{or_parts, or_from}
 use Rattle.std.specs.List.{list_any, filter_map, cons_option}
@@ -121,7 +121,7 @@ clash_names_are a b uptime_a uptime_b = by_names (keys a)
     by_names (name ∷ names) =
         one_name (facts_of a uptime_a) (facts_of b uptime_b) name (get a name) (get b name) _ _ (by_names names)
 
--- a table without names has the others as they were
+-- a table without some names has the others unchanged
 pub get_without : (names : List Name) (table : Table) (q : Name) →
     get (without names table) q ≡ cond (is_in q names) None (get table q)
 get_without [] table q = refl

@@ -9,7 +9,7 @@ use Rattle.exchange_core.specs.Sides.{Offer, Withdrawals, Exchange, Side, begin,
 use Rattle.exchange_core.specs.Calls.{Begin, Close_list}
 use Rattle.exchange_core.specs.Worlds.{Ruling, Past, World, Event, Does, side_of, past_after, with_side, world_after}
 use Rattle.exchange_core.specs.History.{Follows, number_of, BeganWith, FinishedWith, JudgedAt, ClosedWith}
-use Rattle.exchange_core.proofs.Rulings.{some_inj}
+use Rattle.exchange_core.specs.laws.Carried.{some_inj}
 use Rattle.exchange_core.proofs.Kept.{Has, made, made_list, Grows}
 use Rattle.exchange_core.proofs.Steps.{past_is, sound, grows_on}
 use Rattle.exchange_core.proofs.Theorem.{side_kept, merged}

@@ -1,4 +1,4 @@
--- What was sent and what was ruled has its place in the history.
+-- Each message and each ruling has its place in the history.
 use Rattle.std.proofs.Common.{◌≡◌, ℕ, zero, suc, Bool, true, false, if◌then◌else◌, List, [], ◌∷◌, Option, Some, None, refl, sym, ap, ◌∙◌, subst, ⊎_elim, option_map, option_and_then}
 use Rattle.clash_record.specs.declared.side_id.SideId.{SideId}
 use Rattle.clash_record.specs.declared.side_id.SideId.TheVariants.{A, B}
@@ -8,7 +8,7 @@ use Rattle.exchange_core.specs.Sides.{Offer, Withdrawals, Exchange, Side, has_cl
 use Rattle.exchange_core.specs.Calls.{Call, Register, Unregister, Begin, Hear, Take, Withdraw, Close_list, Hear_list, Finish, Abandon, carried_out}
 use Rattle.exchange_core.specs.Worlds.{Ruling, Past, World, Event, Does, Hears, Hears_list, Tells, Judges, side_of, offer_of, list_of, past_after, with_side, called, called_if, ruling_at, taken_by, happens, world_after}
 use Rattle.exchange_core.specs.History.{Follows, number_of, BeganWith, JudgedAt, ClosedWith}
-use Rattle.exchange_core.proofs.Rulings.{some_inj}
+use Rattle.exchange_core.specs.laws.Carried.{some_inj}
 use Rattle.exchange_core.proofs.Kept.{Has, made}
 use Rattle.exchange_core.proofs.Sent.{begun, closing, list_is}
 use Rattle.exchange_core.proofs.Steps.{past_is, judge_cases, at_more, step_grows, sound}

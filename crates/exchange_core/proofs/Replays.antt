@@ -1,4 +1,4 @@
--- What every side keeps that calls lead to.
+-- The invariant of every side that calls lead to.
 use Rattle.std.proofs.Common.{◌≡◌, ℕ, Bool, true, false, ◌&&◌, if◌then◌else◌, List, [], ◌∷◌, ◌++◌, length, Option, Some, None, is_some, slice_get, unwrap_or, refl, ap, ◌∙◌, subst, option_and_then, zero, suc, map, arith, sym}
 use Rattle.std.proofs.lemmas.List.{length-replicate}
 use Rattle.std.proofs.lemmas.Bool.{and_parts, or_parts, not-true}
@@ -18,9 +18,10 @@ use Rattle.exchange_core.specs.Calls.{Call, Register, Unregister, Begin, Hear, T
 use Rattle.clash_record.specs.declared.side_id.SideId.TheVariants.{A, B}
 use Rattle.exchange_core.specs.Worlds.{World, Event, Does, Hears, Hears_list, Tells, Judges, side_of, past_after, with_side, called, called_if, happens, world_after}
 use Rattle.exchange_core.specs.History.{answers_to}
-use Rattle.exchange_core.proofs.Rulings.{some_inj, Lawful, lawful, clashes_are}
+use Rattle.exchange_core.proofs.Rulings.{Lawful, lawful, clashes_are}
+use Rattle.exchange_core.specs.laws.Carried.{some_inj, when, when_some, Goes, goes, found}
 use Rattle.exchange_core.proofs.Words.{word_in, place_of, answers_same}
-use Rattle.exchange_core.proofs.Kept.{when, when_some, is_idle, none_held, length-put_ruling, Goes, goes, found, one_more_ruling}
+use Rattle.exchange_core.proofs.Kept.{is_idle, none_held, length-put_ruling, one_more_ruling}
 use Rattle.exchange_core.proofs.Sent.{begun}
 
 -- the tables fit together, there is one place a clash, and each ruling held is lawful

@@ -1,4 +1,4 @@
--- What the tests of a ruling mean.
+-- The meaning of the tests of a ruling.
 use Rattle.std.proofs.Common.{◌≡◌, ℕ, zero, suc, ◌<◌, Bool, true, false, ◌&&◌, ◌||◌, List, [], ◌∷◌, length, Option, Some, None, slice_get, eqb-true, eq-eqb, ◌==◌, refl, sym, ap, ◌∙◌, arith}
 use Rattle.std.proofs.Math.Bool.{and-true}
 use Rattle.std.proofs.lemmas.Bool.{and_parts}
@@ -9,9 +9,6 @@ use Rattle.builtin_resolvers.specs.declared.verdicts.Verdict3.TheVariants.{First
 use Rattle.partition_table.specs.Tables.{Clash, same_clash, answer, word_of, IsOneOfFour}
 use Rattle.partition_table.specs.laws.Sameness.{clash_decides}
 use Rattle.exchange_core.specs.Sides.{Judged, Heard, Exchange, Side, is_answer, is_one_of_four, is_lawful, clashes_heard, clashes_of, has_clash}
-
-pub some_inj : {X : Type 0} {x y : X} → Some x ≡ Some y → x ≡ y
-some_inj {X} {x} {y} e = cc
 
 -- an equal clash is the clash
 

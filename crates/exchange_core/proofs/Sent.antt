@@ -6,8 +6,8 @@ use Rattle.clash_record.specs.declared.side_id.SideId.{SideId}
 use Rattle.exchange_core.specs.Sides.{Offer, Withdrawals, Exchange, Side, new_exchange, is_above, begin, close_in, close_list}
 use Rattle.exchange_core.specs.Calls.{Call, Register, Unregister, Begin, Hear, Take, Withdraw, Close_list, Hear_list, Finish, Abandon, carried_out}
 use Rattle.exchange_core.specs.Worlds.{Past, offer_of, list_of, past_after}
-use Rattle.exchange_core.proofs.Rulings.{some_inj}
-use Rattle.exchange_core.proofs.Kept.{Has, other, made, Covers, made_list, OpenFits, SideFits, OneEach, IsSent, goes, Grows, grows_refl, NothingNew, heard_grows, when, is_idle, opposite}
+use Rattle.exchange_core.specs.laws.Carried.{some_inj, goes, when}
+use Rattle.exchange_core.proofs.Kept.{Has, other, made, Covers, made_list, OpenFits, SideFits, OneEach, IsSent, Grows, grows_refl, NothingNew, heard_grows, is_idle, opposite}
 use Rattle.exchange_core.proofs.Carried.{register_fits, unregister_fits, hear_fits, take_fits, withdraw_fits, hear_list_fits, finish_fits, abandon_fits}
 
 -- what a call of a side keeps

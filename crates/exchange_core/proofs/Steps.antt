@@ -7,11 +7,11 @@ use Rattle.partition_table.specs.Tables.{Clash, word_of}
 use Rattle.exchange_core.specs.Sides.{Offer, Withdrawals, Side}
 use Rattle.exchange_core.specs.Calls.{Call, Register, Unregister, Begin, Hear, Take, Withdraw, Close_list, Hear_list, Finish, Abandon, carried_out}
 use Rattle.exchange_core.specs.Worlds.{Ruling, Past, World, first_world, Event, Does, Hears, Hears_list, Tells, Judges, side_of, with_side, called, called_if, ruling_at, taken_by, offer_by, ruling_of, clashes_between, ruling_on, add_ruling, judge, happens, world_after}
-use Rattle.exchange_core.proofs.Rulings.{some_inj}
-use Rattle.exchange_core.proofs.Kept.{Has, SideFits, OneEach, Sound, IsSent, Grows, grows_refl, NothingNew, when, is_idle, side_fits_on}
+use Rattle.exchange_core.specs.laws.Carried.{some_inj, when}
+use Rattle.exchange_core.proofs.Kept.{Has, SideFits, OneEach, Sound, IsSent, Grows, grows_refl, NothingNew, is_idle, side_fits_on}
 use Rattle.exchange_core.proofs.Sent.{Keeps, call_keeps}
 
--- the side with its past, beside another that has nothing new
+-- the side with its past, next to another that has nothing new
 sides_fit : (w : World) (id : SideId) (new : Side) (more : Past) → Sound w → Keeps id new w.past more → (j : SideId) →
     SideFits j (side_of (with_side w id more (Some new)) j) (with_side w id more (Some new)).past
 sides_fit w A new more s k A = k.fits

@@ -11,9 +11,9 @@ use Rattle.exchange_core.specs.Calls.{Finish}
 use Rattle.exchange_core.specs.Worlds.{Ruling, Past, World, Event, Does, side_of, with_side, world_after, clashes_between}
 use Rattle.exchange_core.specs.History.{number_of, FinishedWith, JudgedAt, IsLawfulMerge}
 use Rattle.exchange_core.proofs.Merges.{merge_is}
-use Rattle.exchange_core.proofs.Rulings.{some_inj}
+use Rattle.exchange_core.specs.laws.Carried.{some_inj, found}
 use Rattle.exchange_core.proofs.Words.{same_list, word_in, place_of, answers_same, length-words}
-use Rattle.exchange_core.proofs.Kept.{Has, other, made, made_list, Taken, taken_grows, HeardFits, our_offer, OneEach, Grows, found}
+use Rattle.exchange_core.proofs.Kept.{Has, other, made, made_list, Taken, taken_grows, HeardFits, our_offer, OneEach, Grows}
 use Rattle.exchange_core.proofs.Steps.{step_grows, sound, grows_on}
 use Rattle.exchange_core.proofs.Places.{side_now, judged_at, began_with, closed_with}
 

@@ -8,7 +8,8 @@ use Rattle.exchange_core.specs.Sides.{Offer, Heard, Exchange, Side, is_side, cla
 use Rattle.exchange_core.specs.Calls.{Take, carried_out}
 use Rattle.exchange_core.specs.Worlds.{Ruling, Past, Event, side_of, ruling_at, taken_by, offer_by, clashes_between, judge, happens, world_after}
 use Rattle.exchange_core.specs.History.{TakesRulings}
-use Rattle.exchange_core.proofs.Rulings.{some_inj, lawful_passes, clashes_are, has_clash_passes}
+use Rattle.exchange_core.proofs.Rulings.{lawful_passes, clashes_are, has_clash_passes}
+use Rattle.exchange_core.specs.laws.Carried.{some_inj}
 use Rattle.exchange_core.proofs.Kept.{Has, other, made, OneEach, SideFits, Grows, same_side}
 use Rattle.exchange_core.proofs.Steps.{Made, judge_cases, at_more, found_key, step_grows, sound}
 use Rattle.exchange_core.proofs.Places.{only_judge}

@@ -5,7 +5,7 @@ use Rattle.builtin_resolvers.specs.declared.verdicts.Verdict3.{Verdict3}
 use Rattle.partition_table.specs.Tables.{Clash, answer}
 use Rattle.exchange_core.specs.Sides.{Judged, answer_in}
 use Rattle.exchange_core.specs.History.{answers_to}
-use Rattle.exchange_core.proofs.Rulings.{some_inj}
+use Rattle.exchange_core.specs.laws.Carried.{some_inj}
 
 -- two full lists that agree at each place are one list
 pub same_list : (xs ys : List (Option Judged)) → length xs ≡ length ys → list_all is_some xs ≡ true →

@@ -1,4 +1,4 @@
--- What a finish gives.
+-- The result of a finish.
 use Rattle.std.specs.Prelude.{◌≡◌, ℕ, IsTrue, List, [], ◌∷◌, length, map, Option, Some, None, slice_get}
 use Rattle.std.specs.Option.{option_and_then}
 use Rattle.clash_record.specs.Name.{Name}

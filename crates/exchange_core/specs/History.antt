@@ -10,7 +10,7 @@ use Rattle.exchange_core.specs.Sides.{Heard, Exchange, Side}
 use Rattle.exchange_core.specs.Calls.{Call, Begin, Close_list, Finish, carried_out, replay}
 use Rattle.exchange_core.specs.Worlds.{Event, Does, Judges, Ruling, side_of, world_after, ruling_at, taken_by}
 
--- the step stands in the history, right after these
+-- the step is in the history, right after these
 abbrev pub Follows : List Event → Event → List Event → Type 0
 Follows earlier step history = (later : List Event) × (later ++ step ∷ earlier ≡ history)
 

@@ -1,4 +1,5 @@
 pub mod Calls
+pub mod Codings
 pub mod Faults
 pub mod Finished
 pub mod History
@@ -8,5 +9,8 @@ pub mod Refusals
 pub mod Rows
 pub mod Shown
 pub mod Sides
+pub mod Steps
+pub mod Views
 pub mod Worlds
 pub mod model
+pub mod laws

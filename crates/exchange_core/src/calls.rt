@@ -55,7 +55,7 @@ impl Side {
         self.state.id()
     }
 
-    /// How many calls it answered Ok, aside from `whereis` and `rows`; at most 65,536. Allocates nothing.
+    /// Returns the number of calls that returned `Ok`, except for `whereis` and `rows`: at most 65,536. Allocates nothing.
     pub fn events(&self) -> usize
         ensures count { result ≡ length (calls self.now) }
         ensures few { result ≤ max_events }
@@ -88,9 +88,9 @@ impl Side {
 
     /// Registers the name on an idle side, and keeps the program that the registration names, as the store has it.
     ///
-    /// Refusals are 30 for a name that is registered, 32 where the table is full, 33 where an exchange is open, 40
-    /// where the journal is full, 41 where the store has no such program, and 42 where the table keeps other code
-    /// under its id; the least that stands is answered. 90 is answered where memory runs out.
+    /// Returns 30 for a registered name, 32 if the table is full, 33 if an exchange is open, 40 if the journal is full,
+    /// 41 if the store has no such program, and 42 if the table has other code under its id: the least that applies.
+    /// Returns 90 when out of memory.
     pub fn register(
         &mut self,
         name: Name,
@@ -113,10 +113,10 @@ impl Side {
         Ok(())
     }
 
-    /// Takes the name out on an idle side, and answers what it was registered with.
+    /// Unregisters the name on an idle side, and returns its registration.
     ///
-    /// Refusals are 31 for a name that isn't registered, 33 where an exchange is open, and 40 where the journal is
-    /// full; the least that stands is answered. 90 is answered where memory runs out.
+    /// Returns 31 for a name that isn't registered, 33 if an exchange is open, and 40 if the journal is full: the least
+    /// that applies. Returns 90 when out of memory.
     pub fn unregister(&mut self, name: &Name) -> Result<Registration, SideFault>
         ensures answer { IsAnswered side_fault_number (due.unregister_fault (is_full self.old) (shown self.old) name.now) result }
         ensures given { IfOk result (λ registration. option_map (λ row. row.registration)
@@ -133,12 +133,12 @@ impl Side {
         Ok(registration)
     }
 
-    /// Opens an exchange of this number, and gives the offer to be sent. The table then stays as it is until `finish`
+    /// Opens an exchange of this number, and returns the offer to be sent. The table then doesn't change until `finish`
     /// or `abandon`.
     ///
-    /// Refusals are 33 where an exchange is open, 35 for a number that isn't above every number that this side began,
-    /// and 40 where the journal is full; the least that stands is answered. 90 is answered where memory runs out: it
-    /// takes some for the offer's table and the event.
+    /// Returns 33 if an exchange is open, 35 for a number that isn't above every number that this side began, and 40 if
+    /// the journal is full: the least that applies. Returns 90 when out of memory: it allocates the offer's table and
+    /// the event.
     pub fn begin(
         &mut self,
         alloc: Global,
@@ -164,12 +164,11 @@ impl Side {
     /// Hears the other side's offer. One that comes after the first, of the open number, changes nothing but the
     /// journal.
     ///
-    /// Refusals are 34 where no exchange is open, 36 where the seeds differ, 37 where the two tables have more than
-    /// 4,096 names together, 40 where the journal is full, 42 where the tables have two codes under one id, 45 for
-    /// another number, and 46 for an own offer; the least that stands is answered. 36, 37 and 42 are looked for only
-    /// where it is the other side's first offer of the open number. 90 is answered where memory runs out: it takes
-    /// some for the list of clashes, one more owner of each program that judges, a place for each ruling, and two
-    /// owners of the table.
+    /// Returns 34 if no exchange is open, 36 if the seeds differ, 37 if the two tables have more than 4,096 names
+    /// together, 40 if the journal is full, 42 if the tables have two codes under one id, 45 for another number, and 46
+    /// for an offer of this side: the least that applies. 36, 37 and 42 apply only to the
+    /// other side's first offer of the open number. Returns 90 when out of memory: it allocates the list of clashes,
+    /// one more owner of each program that judges, a place for each ruling, and two owners of the table.
     pub fn hear(&mut self, alloc: Global, offer: &Offer) -> Result<(), SideFault>
         ensures answer { IsAnswered side_fault_number (due.hear_fault (is_full self.old) (shown self.old) offer.now) result }
         ensures done { OnOk result (IsDone self.old (call.Hear offer.now) self.new) }
@@ -187,9 +186,9 @@ impl Side {
 
     /// Takes a ruling of a clash. A second one of the same clash changes nothing but the journal.
     ///
-    /// Refusals are 34 where no exchange is open, 38 for a ruling of the open number that isn't of clash `k` of the
-    /// exchange at one of its four words, 40 where the journal is full, and 45 for another number; the least that
-    /// stands is answered. 90 is answered where memory runs out.
+    /// Returns 34 if no exchange is open, 38 for a ruling of the open number that isn't of clash `k` of the exchange at
+    /// one of its four words, 40 if the journal is full, and 45 for another number: the least that applies. Returns 90
+    /// when out of memory.
     pub fn take(&mut self, ruling: Ruling<'_>) -> Result<(), SideFault>
         ensures answer { IsAnswered side_fault_number (due.take_fault (is_full self.old) (shown self.old) ruling.entry.number
             ruling.entry.k
@@ -216,9 +215,9 @@ impl Side {
 
     /// Withdraws the name in the open exchange: its owner on this side is gone.
     ///
-    /// Refusals are 31 for a name that isn't in the side's table, 34 where no exchange is open, 40 where the journal is
-    /// full, 47 for a name that was withdrawn already, and 48 where the list is closed; the least that stands is
-    /// answered. 90 is answered where memory runs out.
+    /// Returns 31 for a name that isn't in the side's table, 34 if no exchange is open, 40 if the journal is full, 47 for
+    /// a name that is already withdrawn, and 48 if the list is closed: the least that applies. Returns 90 when out of
+    /// memory.
     pub fn withdraw(&mut self, name: &Name) -> Result<(), SideFault>
         ensures answer { IsAnswered side_fault_number (due.withdraw_fault (is_full self.old) (shown self.old) name.now) result }
         ensures done { OnOk result (IsDone self.old (call.Withdraw name.now) self.new) }
@@ -233,11 +232,11 @@ impl Side {
         Ok(())
     }
 
-    /// Closes the list of withdrawn names, and gives it to be sent. From then on the side withdraws no more in this
+    /// Closes the list of withdrawn names, and returns it to be sent. Afterwards the side withdraws no name in this
     /// exchange.
     ///
-    /// Refusals are 34 where no exchange is open, 40 where the journal is full, and 48 where the list is closed
-    /// already; the least that stands is answered. 90 is answered where memory runs out.
+    /// Returns 34 if no exchange is open, 40 if the journal is full, and 48 if the list is already closed: the least that
+    /// applies. Returns 90 when out of memory.
     pub fn close_list(&mut self, alloc: Global) -> Result<Withdrawals, SideFault>
         ensures answer { IsAnswered side_fault_number (due.close_list_fault (is_full self.old) (shown self.old)) result }
         ensures list { IfOk result (λ list. list ≡ list_of (shown self.old)) }
@@ -257,8 +256,8 @@ impl Side {
 
     /// Hears the other side's list of withdrawn names. One that comes after the first changes nothing but the journal.
     ///
-    /// Refusals are 34 where no exchange is open, 40 where the journal is full, 45 for another number, and 46 for an
-    /// own list; the least that stands is answered. 90 is answered where memory runs out.
+    /// Returns 34 if no exchange is open, 40 if the journal is full, 45 for another number, and 46 for a list of this
+    /// side: the least that applies. Returns 90 when out of memory.
     pub fn hear_list(&mut self, sent: &Withdrawals) -> Result<(), SideFault>
         ensures answer { IsAnswered side_fault_number (due.hear_list_fault (is_full self.old) (shown self.old) sent.now) result }
         ensures done { OnOk result (IsDone self.old (call.Hear_list sent.now) self.new) }
@@ -274,12 +273,11 @@ impl Side {
         Ok(())
     }
 
-    /// Makes the table the merge of the two by the rulings taken, and closes the exchange.
+    /// Replaces the table by the merge of the two under the rulings taken, and closes the exchange.
     ///
-    /// Refusals are 34 where no exchange is open, 39 with what is missing (the other's offer, else the first clash
-    /// without a ruling, else the own list, else the other's), and 40 where the journal is full; the least that stands
-    /// is answered. 90 is answered where memory runs out: it takes some for the merge, its copy, the rulings and the
-    /// answers.
+    /// Returns 34 if no exchange is open, 39 with the part that is missing (the other's offer, else the first clash
+    /// without a ruling, else this side's list, else the other's), and 40 if the journal is full: the least that applies.
+    /// Returns 90 when out of memory: it allocates the merge, its copy, the rulings and the answers.
     pub fn finish(&mut self, alloc: Global) -> Result<Finished, SideFault>
         ensures answer { IsAnswered side_fault_number (due.finish_fault (is_full self.old) (shown self.old)) result }
         ensures given { IfOk result (λ finished. finished_from (shown self.old) ≡ Some finished) }
@@ -295,10 +293,10 @@ impl Side {
         Ok(finished)
     }
 
-    /// Closes the exchange and leaves the table, without the names that were withdrawn.
+    /// Closes the exchange and keeps the table, without the withdrawn names.
     ///
-    /// Refusals are 34 where no exchange is open, and 40 where the journal is full; the least that stands is answered.
-    /// 90 is answered where memory runs out.
+    /// Returns 34 if no exchange is open, and 40 if the journal is full: the least that applies. Returns 90 when out of
+    /// memory.
     pub fn abandon(&mut self) -> Result<(), SideFault>
         ensures answer { IsAnswered side_fault_number (due.abandon_fault (is_full self.old) (shown self.old)) result }
         ensures done { OnOk result (IsDone self.old call.Abandon self.new) }

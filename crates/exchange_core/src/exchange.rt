@@ -6,7 +6,7 @@ ghost use Rattle.partition_table.specs.Tables.{is_in, is_name};
 ghost use Rattle.exchange_core.specs.Sides.{put_ruling, new_exchange};
 ghost use Rattle.exchange_core.specs.Refusals.{first_without, missing_of};
 ghost use Rattle.exchange_core.specs.model.Changing.{with_ruling};
-ghost use Rattle.exchange_core.specs.model.Sharing.{names_of};
+ghost use Rattle.exchange_core.specs.Codings.{names_of};
 
 use crate::fault::MissingPart;
 use crate::judged::Judged;
@@ -27,7 +27,7 @@ pub(crate) struct Heard {
 impl Model for Heard {
     ghost use Rattle.std.specs.Arc.{arc_value};
     ghost use Rattle.exchange_core.specs.Sides.{Heard};
-    ghost use Rattle.exchange_core.specs.model.Coding.{coded_heard};
+    ghost use Rattle.exchange_core.specs.Codings.{coded_heard};
 
     ghost Value = { Heard };
 
@@ -37,7 +37,7 @@ impl Model for Heard {
 }
 
 impl Heard {
-    // A table and an uptime that were heard, and so many places.
+    // Returns a heard table and uptime, with `places` empty places.
     pub(crate) fn new(
         alloc: Global,
         table: Arc<Table>,
@@ -104,8 +104,7 @@ pub(crate) struct Exchange {
 impl Model for Exchange {
     ghost use Rattle.std.specs.Option.{option_map};
     ghost use Rattle.exchange_core.specs.Sides.{Exchange};
-    ghost use Rattle.exchange_core.specs.model.Coding.{coded_exchange};
-    ghost use Rattle.exchange_core.specs.model.Sharing.{names_of};
+    ghost use Rattle.exchange_core.specs.Codings.{coded_exchange, names_of};
 
     ghost Value = { Exchange };
 
@@ -159,7 +158,7 @@ impl Exchange {
         self.closed
     }
 
-    // How long this side has been up.
+    // Returns the uptime of this side.
     pub(crate) fn uptime(&self) -> u64
         ensures { result ≡ self.now.uptime }
     {

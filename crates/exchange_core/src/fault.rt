@@ -8,7 +8,7 @@ use partition_table::TableFault;
 use std::alloc::AllocError;
 use thiserror::Error;
 
-/// What an exchange lacks before it can be finished.
+/// A part that an exchange lacks before it can be finished.
 #[derive(Clone, Copy, Debug, PartialEq, Eq)]
 pub enum MissingPart {
     /// The other side's offer.
@@ -21,7 +21,7 @@ pub enum MissingPart {
     OtherList,
 }
 
-/// Why a side refuses a call.
+/// The reason why a side refuses a call.
 #[derive(Clone, Copy, Debug, PartialEq, Eq, Error)]
 #[error("{}", words_of(self.number()))]
 pub enum SideFault {

@@ -1,8 +1,8 @@
-//! What a finish gives.
+//! The result of a finish.
 ghost use Rattle.std.specs.Prelude.{◌≡◌};
 ghost use Rattle.std.specs.Arc.{arc_value};
 ghost use Rattle.exchange_core.specs.Finished.{IsFinished, finished_by};
-ghost use Rattle.exchange_core.specs.model.Sharing.{names_of};
+ghost use Rattle.exchange_core.specs.Codings.{names_of};
 
 use crate::judged::Judged;
 use clash_record::{Name, SideId};
@@ -13,8 +13,8 @@ use std::sync::Arc;
 /// An exchange that a side finished: the two tables that it merged, A's and B's, with the uptimes of their halves and
 /// the names that each side withdrew, the ruling of each clash, and the merged table.
 ///
-/// That the table is the merge of the two under these rulings and lists, that each word is one of its clash's four, and
-/// each answer its resolver's at that word, stands in the type. Only a side's `finish` makes one.
+/// Its type guarantees that the table is the merge of the two under these rulings and lists, that each word is one of its
+/// clash's four, and each answer its resolver's at that word. Only a side's `finish` makes one.
 #[derive(Debug, Drop)]
 pub struct Finished {
     pub(crate) id: SideId,
@@ -32,14 +32,14 @@ pub struct Finished {
 
 impl Model for Finished {
     ghost use Rattle.exchange_core.specs.Finished.{Finished};
-    ghost use Rattle.exchange_core.specs.model.Coding.{coded_finished};
+    ghost use Rattle.exchange_core.specs.Codings.{coded_finished};
 
     ghost Value = { Finished };
 
     ghost coded = { coded_finished };
 
     ghost use Rattle.exchange_core.specs.Finished.{IsFinished};
-    ghost use Rattle.exchange_core.specs.model.Finishing.{finished_inside};
+    ghost use Rattle.exchange_core.specs.Views.{finished_inside};
 
     ghost view = { finished_inside };
 

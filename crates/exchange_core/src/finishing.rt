@@ -1,4 +1,4 @@
-//! How an exchange is finished.
+//! Finishes an exchange.
 ghost use Rattle.std.specs.Prelude.{◌≡◌, Some, IsTrue, IfOk, OnOk, OnErr, List, is_some, map};
 ghost use Rattle.std.specs.Arc.{arc_value};
 ghost use Rattle.exchange_core.specs.Sides as sides;
@@ -47,7 +47,7 @@ impl State {
     }
 }
 
-// What the exchange of a side with this table is merged to.
+// Merges the exchange of a side with this table.
 fn merge_exchange(
     alloc: Global,
     id: SideId,

@@ -3,6 +3,7 @@ ghost use Rattle.std.specs.Prelude.{◌≡◌, List, ℕ};
 ghost use Rattle.partition_table.specs.Tables.{Table};
 ghost use Rattle.clash_record.specs.declared.side_id.SideId.{SideId};
 ghost use Rattle.exchange_core.specs.Worlds.{Event};
+ghost use Rattle.exchange_core.specs.Steps.{CallsHappen, CallsSend, EventsAreCalls, JudgingsAdd};
 ghost use Rattle.exchange_core.specs.History.{BeginsOnce, ClosesOnce, FinishedWith, HasOneSeed, IsLawfulMerge, IsReplayed, JudgesOnce, TakesRulings};
 
 /// Two sides that finish one number hold, as they finish, one table: the merge of the tables with which they began it.
@@ -21,8 +22,14 @@ pub fn history_theorem()
     ensures begins_once { (history : List Event) → BeginsOnce history }
     ensures closes_once { (history : List Event) → ClosesOnce history }
     ensures judges_once { (history : List Event) → JudgesOnce history }
-    // What a side tests of a ruling stops none that was made for it.
+    // The tests of a side reject no ruling that was made for it.
     ensures told { (history : List Event) → TakesRulings history }
-    // The steps of a side are calls.
+    // Each event leaves both sides as the call that it is, and sends what the call sends.
+    ensures calls { (history : List Event) → EventsAreCalls history }
+    ensures sends { (history : List Event) → CallsSend history }
+    // Each call that is handed nothing or a message that was sent may be the next event, and each clash may be judged.
+    ensures happen { (history : List Event) → CallsHappen history }
+    ensures judgings { (history : List Event) → JudgingsAdd history }
+    // So each side is one that a list of calls leads to.
     ensures replayed { (history : List Event) → IsReplayed history }
 {}

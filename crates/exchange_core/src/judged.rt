@@ -1,4 +1,4 @@
-//! What a side keeps of a ruling.
+//! The part of a ruling that a side keeps.
 use builtin_resolvers::Verdict3;
 
 /// A word, and what the resolver of a clash answers at it.

@@ -2,7 +2,7 @@
 ghost use Rattle.std.specs.Prelude.{◌≡◌, IfOk};
 ghost use Rattle.std.specs.Arc.{arc_value};
 ghost use Rattle.exchange_core.specs.Lists.{IsNameList};
-ghost use Rattle.exchange_core.specs.model.Sharing.{names_of};
+ghost use Rattle.exchange_core.specs.Codings.{names_of};
 
 use clash_record::{Name, SideId};
 use partition_table::Table;
@@ -23,7 +23,7 @@ pub struct Offer {
 impl Model for Offer {
     ghost use Rattle.std.specs.Arc.{arc_value};
     ghost use Rattle.exchange_core.specs.Sides.{Offer};
-    ghost use Rattle.exchange_core.specs.model.Coding.{coded_offer};
+    ghost use Rattle.exchange_core.specs.Codings.{coded_offer};
 
     ghost Value = { Offer };
 
@@ -59,14 +59,14 @@ impl Offer {
         }
     }
 
-    /// Returns the side that made it.
+    /// Returns the side that began the exchange.
     pub fn side(&self) -> SideId
         ensures { result ≡ self.now.side }
     {
         self.side
     }
 
-    /// Returns the number of the exchange.
+    /// Returns the number that the side began.
     pub fn number(&self) -> u64
         ensures { result ≡ self.now.number }
     {
@@ -126,8 +126,7 @@ pub struct Withdrawals {
 
 impl Model for Withdrawals {
     ghost use Rattle.exchange_core.specs.Sides.{Withdrawals};
-    ghost use Rattle.exchange_core.specs.model.Coding.{coded_withdrawals};
-    ghost use Rattle.exchange_core.specs.model.Sharing.{names_of};
+    ghost use Rattle.exchange_core.specs.Codings.{coded_withdrawals, names_of};
 
     ghost Value = { Withdrawals };
 
@@ -153,14 +152,14 @@ impl Withdrawals {
         }
     }
 
-    /// Returns the side that made it.
+    /// Returns the side that withdrew the names.
     pub fn side(&self) -> SideId
         ensures { result ≡ self.now.side }
     {
         self.side
     }
 
-    /// Returns the number of the exchange.
+    /// Returns the number of the exchange in which it closed the list.
     pub fn number(&self) -> u64
         ensures { result ≡ self.now.number }
     {

@@ -1,4 +1,4 @@
-//! The table of a side beside the other's: A's goes first, whichever side asks.
+//! The table of a side paired with the other's. A's goes first on both sides.
 ghost use Rattle.std.specs.Prelude.{◌≡◌, IsTrue, IfOk, length};
 ghost use Rattle.partition_table.specs.Faults.{IsRefused, fit_fault};
 ghost use Rattle.exchange_core.specs.Sides as sides;

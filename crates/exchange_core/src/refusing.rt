@@ -1,4 +1,4 @@
-//! The refusals that are due, beside want of memory.
+//! The refusals that apply, other than out of memory.
 ghost use Rattle.std.specs.Prelude.{◌≡◌, ◌&&◌, ◌==◌, ◌<◌, ◌≤◌, ◌^◌, Some, None, MatchOption, not, nat_lt, true, false, is_some, length, if◌then◌else◌};
 ghost use Rattle.std.specs.FinMap.{len, contains_key};
 ghost use Rattle.clash_record.specs.declared.registrations.Registration.{Registration};
@@ -19,7 +19,7 @@ use clash_record::{Name, SideId};
 use partition_table::{Clash, MAX_NAMES, Ruling, TableFault, word};
 
 impl State {
-    // What refuses to register the name before its program is looked up.
+    // Returns the refusal to register the name before its program is looked up.
     pub(crate) fn early_register_fault(&self, full: bool, name: &Name) -> Option<SideFault>
         ensures { result ≡ early_register_fault full self.now name.now }
     {
@@ -38,7 +38,7 @@ impl State {
         None
     }
 
-    // What refuses to take the name out.
+    // Returns the refusal to unregister the name.
     pub(crate) fn unregister_fault(&self, full: bool, name: &Name) -> Option<SideFault>
         ensures { result ≡ due.unregister_fault full self.now name.now }
     {
@@ -54,7 +54,7 @@ impl State {
         None
     }
 
-    // What refuses to open an exchange of this number.
+    // Returns the refusal to open an exchange of this number.
     pub(crate) fn begin_fault(&self, full: bool, number: u64) -> Option<SideFault>
         ensures { result ≡ due.begin_fault full self.now number }
     {
@@ -70,7 +70,7 @@ impl State {
         None
     }
 
-    // What refuses to hear the offer.
+    // Returns the refusal to hear the offer.
     pub(crate) fn hear_fault(&self, full: bool, offer: &Offer) -> Option<SideFault>
         ensures { result ≡ due.hear_fault full self.now offer.now }
     {
@@ -84,7 +84,7 @@ impl State {
         sent_fault(full, self.id, exchange, offer.side(), offer.number())
     }
 
-    // What refuses the other side's first offer of the open number.
+    // Returns the refusal of the other side's first offer of the open number.
     fn first_offer_fault(&self, full: bool, exchange: &Exchange, offer: &Offer) -> Option<SideFault>
         ensures { result ≡ due.first_offer_fault full self.now exchange.now offer.now }
     {
@@ -104,7 +104,7 @@ impl State {
         None
     }
 
-    // What refuses to take the ruling.
+    // Returns the refusal to take the ruling.
     pub(crate) fn take_fault(&self, full: bool, ruling: Ruling<'_>) -> Option<SideFault>
         ensures { result ≡ due.take_fault full self.now ruling.entry.number ruling.entry.k
             (clash_of_verdict ruling.entry.verdict) (word_of_verdict ruling.entry.verdict) }
@@ -139,7 +139,7 @@ impl State {
         !(is_same_clash(clash, own) && is_one_of_four(at, exchange.seed(), clashes.len() as u32, k))
     }
 
-    // What refuses to withdraw the name.
+    // Returns the refusal to withdraw the name.
     pub(crate) fn withdraw_fault(&self, full: bool, name: &Name) -> Option<SideFault>
         ensures { result ≡ due.withdraw_fault full self.now name.now }
     {
@@ -161,7 +161,7 @@ impl State {
         None
     }
 
-    // What refuses to close the list of withdrawn names.
+    // Returns the refusal to close the list of withdrawn names.
     pub(crate) fn close_list_fault(&self, full: bool) -> Option<SideFault>
         ensures { result ≡ due.close_list_fault full self.now }
     {
@@ -177,7 +177,7 @@ impl State {
         None
     }
 
-    // What refuses to hear the list.
+    // Returns the refusal to hear the list.
     pub(crate) fn hear_list_fault(&self, full: bool, sent: &Withdrawals) -> Option<SideFault>
         ensures { result ≡ due.hear_list_fault full self.now sent.now }
     {
@@ -187,7 +187,7 @@ impl State {
         sent_fault(full, self.id, exchange, sent.side(), sent.number())
     }
 
-    // What refuses to finish.
+    // Returns the refusal to finish.
     pub(crate) fn finish_fault(&self, full: bool) -> Option<SideFault>
         ensures { result ≡ due.finish_fault full self.now }
     {
@@ -203,7 +203,7 @@ impl State {
         None
     }
 
-    // What refuses to abandon.
+    // Returns the refusal to abandon.
     pub(crate) fn abandon_fault(&self, full: bool) -> Option<SideFault>
         ensures { result ≡ due.abandon_fault full self.now }
     {

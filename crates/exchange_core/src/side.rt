@@ -5,8 +5,8 @@ ghost use Rattle.exchange_core.specs.Journal.{IsJournal, max_events};
 use crate::journal::Event;
 use crate::state::State;
 
-/// One side of an exchange: its table, the open exchange if there is one, and the journal of the calls that it answered
-/// Ok, at most 65,536. That it is where its journal leads stands in its type.
+/// One side of an exchange: its table, the open exchange if any, and the journal of the calls that returned `Ok`, at most
+/// 65,536. Its type guarantees that it is where its journal leads.
 #[derive(Debug, Drop)]
 pub struct Side {
     pub(crate) state: State,

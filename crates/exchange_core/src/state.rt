@@ -23,7 +23,7 @@ use std::marker::Model;
 use std::sync::Arc;
 use upload_store::UploadStore;
 
-// What a side keeps beside its journal, and the clashes of the open exchange.
+// The state of a side apart from its journal, and the clashes of the open exchange.
 #[derive(Debug, Drop)]
 pub(crate) struct State {
     pub(crate) id: SideId,
@@ -35,15 +35,16 @@ pub(crate) struct State {
 
 impl Model for State {
     ghost use Rattle.exchange_core.specs.Sides.{Side};
-    ghost use Rattle.exchange_core.specs.model.Coding.{coded_side};
+    ghost use Rattle.exchange_core.specs.Codings.{coded_side};
 
     ghost Value = { Side };
 
     ghost coded = { coded_side };
 
-    ghost use Rattle.exchange_core.specs.model.Keeping.{side_of, HasClashes};
+    ghost use Rattle.exchange_core.specs.model.Keeping.{HasClashes};
+    ghost use Rattle.exchange_core.specs.Views.{state_seen};
 
-    ghost view = { side_of };
+    ghost view = { state_seen };
 
     ghost invariant = { HasClashes };
 }

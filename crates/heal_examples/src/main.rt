@@ -1,4 +1,4 @@
-//! Runs the scripts under examples/, and says which of them answer as is written beside them.
+//! Runs the scripts under examples/, and prints which of them answer as written there.
 #![tactic(auto)]
 
 use judge_pool::OpenGate;
@@ -14,7 +14,7 @@ fn bytes_of<R: Files + AllocGlobal>(rt: &R, example: &str, ending: &str) -> io::
     fs::read(rt, path.as_str())
 }
 
-// Whether the example answers as is written beside it, byte for byte.
+// Checks whether the example answers as written, byte for byte.
 fn is_as_written<R: Files + Threads + Wait + Sync + AllocGlobal>(
     rt: &R,
     example: &str,

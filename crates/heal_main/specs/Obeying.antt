@@ -1,4 +1,4 @@
--- What heal does with a task.
+-- The effect of a task.
 use Rattle.std.specs.Prelude.{◌≡◌, ◌⊎◌, ℕ, List, codes, Option}
 use Rattle.output.specs.Sending.{AppendsFront}
 use Rattle.task.specs.declared.Task.{Task}

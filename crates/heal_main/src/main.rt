@@ -1,4 +1,4 @@
-//! heal: heals splits of a cluster's names, judges clashes by the code of strangers, and reads and writes such code.
+//! heal: heals splits of a cluster's names, judges clashes by untrusted code, and reads and writes such code.
 #![tactic(auto)]
 
 ghost use Rattle.std.specs.Prelude.{None};

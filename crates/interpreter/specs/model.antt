@@ -1,3 +1,3 @@
--- What mirrors the code.
+-- Definitions that mirror the code.
 pub mod Flat
 pub mod Effects

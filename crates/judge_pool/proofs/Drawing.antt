@@ -1,4 +1,4 @@
--- What a worker did so far.
+-- The steps of a worker so far.
 use Rattle.std.proofs.Common.{◌≡◌, ◌≢◌, inl, inr, ℕ, ◌+◌, ◌<◌, ◌≤◌, ◌&&◌, eqb, ltb, List, [], ◌∷◌, ◌++◌, eq-eqb, ne_eqb, refl, sym, ap, ◌∙◌, arith}
 use Rattle.std.proofs.lemmas.Bool.{lt-ltb, le-ltb}
 use Rattle.verdict_board.specs.Draws.{one_if, in_round, is_draw, taken, times, Draws}
@@ -7,7 +7,7 @@ use Rattle.verdict_board.specs.laws.Weights.{one_more}
 use Rattle.judge_pool.specs.declared.done.Done.{Done}
 use Rattle.judge_pool.specs.Work.{posts, is_clash_drawn, clashes_drawn, DrewIn, IsSpent}
 
--- so many turns were made, each with a draw and a post
+-- n turns were made, each with a draw and a post
 pub record IsUnderWay (n round turns : ℕ) (before : List (ℕ × ℕ)) (done : Done) : Type 0 where
   pub posted : posts done ≡ turns
   pub drawn : turns + clashes_drawn n round before ≡ clashes_drawn n round done.seat.drawn

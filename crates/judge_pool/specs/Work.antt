@@ -1,4 +1,4 @@
--- What a worker did with its seat in a round.
+-- The work of one seat in a round.
 use Rattle.std.specs.Prelude.{◌≡◌, ◌≢◌, ◌⊎◌, ℕ, ◌+◌, ◌<◌, ◌≤◌, ◌&&◌, ◌==◌, nat_lt, List}
 use Rattle.verdict_board.specs.Draws.{one_if, weigh, taken, times, most_drawn}
 use Rattle.judge_pool.specs.declared.done.Done.{Done}

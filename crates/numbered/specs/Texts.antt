@@ -1,4 +1,4 @@
--- How refusals are printed.
+-- The printed form of refusals.
 use Rattle.std.specs.Prelude.{ℕ, List, [], ◌++◌, codes, Option, Some, None}
 use Rattle.std.specs.Fmt.{decimal}
 use Rattle.numbered.specs.declared.place.Place.{Place}

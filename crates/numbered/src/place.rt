@@ -1,10 +1,10 @@
-//! Where something is wrong.
+//! The place of a fault.
 ghost use Rattle.std.specs.Prelude.{Some};
 ghost use Rattle.numbered.specs.Texts.{place_text};
 
 use std::fmt;
 
-/// Where something is wrong.
+/// The place of a fault.
 #[derive(Clone, Copy, Debug, PartialEq, Eq)]
 pub enum Place {
     /// The instruction with this first slot, counted from 0.

@@ -1,4 +1,4 @@
--- What a writer holds after bytes were sent to it.
+-- The contents of a writer after bytes were sent to it.
 use Rattle.std.specs.Prelude.{ℕ, List, ◌++◌, Option, Result, MatchResult, take}
 use Rattle.std.specs.Io.KnownBytes.{Appends}
 

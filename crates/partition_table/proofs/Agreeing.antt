@@ -13,10 +13,10 @@ use Rattle.clash_record.specs.declared.registrations.ResolverId.{ResolverId}
 use Rattle.clash_record.specs.declared.registrations.ResolverId.TheVariants.{Builtin, Program}
 use Rattle.clash_record.specs.Orders.{id_cmp}
 use Rattle.clash_record.specs.laws.Orders.{names_total, ids_exact}
-use Rattle.upload_store.specs.Programs.{Programs}
+use Rattle.upload_store.specs.Programs.{Programs, programs_by}
 use Rattle.clash_record.specs.Name.{Name}
 use Rattle.partition_table.specs.Tables.{Row, Table, IsCodeOf, program_of, agrees_with, tables_agree}
-use Rattle.partition_table.specs.model.Keeping.{programs_by, programs_agree, IsHeld, has_room_for}
+use Rattle.partition_table.specs.model.Keeping.{programs_agree, IsHeld, has_room_for}
 use Rattle.partition_table.proofs.Maps.{all_values_from, all_values_at}
 use Rattle.partition_table.proofs.Held.{IsLookedUp, code_at, named_program, agrees_from_room, room_from_agrees}
 use Rattle.partition_table.proofs.Holding.{get_code}

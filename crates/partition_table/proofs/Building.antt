@@ -14,7 +14,7 @@ use Rattle.clash_record.specs.laws.Orders.{names_total, names_exact}
 use Rattle.upload_store.specs.Programs.{Programs}
 use Rattle.clash_record.specs.Name.{Name}
 use Rattle.partition_table.specs.Tables.{row_for}
-use Rattle.partition_table.specs.model.Keeping.{table_by}
+use Rattle.partition_table.specs.Views.{table_by}
 use Rattle.partition_table.proofs.Held.{get_row}
 
 cond_or : {X : Type 0} (b : Bool) (x : X) (o p : Option X)

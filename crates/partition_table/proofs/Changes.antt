@@ -16,7 +16,8 @@ use Rattle.clash_record.specs.laws.Orders.{names_total, names_exact, ids_total, 
 use Rattle.upload_store.specs.Programs.{Programs}
 use Rattle.clash_record.specs.Name.{Name}
 use Rattle.partition_table.specs.Tables.{Row, Table, IsCodeOf, max_names, program_of, code_for, row_for, same_id}
-use Rattle.partition_table.specs.model.Keeping.{table_by, IsNamed, IsHeld, with_code, without_code, has_room_for}
+use Rattle.partition_table.specs.model.Keeping.{IsNamed, IsHeld, with_code, without_code, has_room_for}
+use Rattle.partition_table.specs.Views.{table_by}
 use Rattle.partition_table.proofs.Maps.{made_inserted, made_alike, get-insert_same, remove_insert}
 use Rattle.partition_table.proofs.Held.{IsLookedUp, get_row, same_id_is, same_id_from, named_program}
 

@@ -1,4 +1,4 @@
--- What is held of a table.
+-- The parts that a table keeps.
 use Rattle.std.proofs.Common.{◌≡◌, ◌⊎◌, Bool, true, false, not, ◌||◌, Option, Some, None, is_some, IfSome, Bor, List, [], ◌∷◌, length, map, refl, ap, sym, subst, ◌∙◌, inl, inr, arith}
 use Rattle.std.specs.Option.{option_map, option_copied}
 use Rattle.std.specs.Ordering.{is_eq}
@@ -15,10 +15,11 @@ use Rattle.clash_record.specs.declared.registrations.ResolverId.TheVariants.{Bui
 use Rattle.clash_record.specs.declared.registrations.Registration.{Registration}
 use Rattle.clash_record.specs.Orders.{name_cmp, id_cmp}
 use Rattle.clash_record.specs.laws.Orders.{names_total, names_exact, ids_total, ids_exact}
-use Rattle.upload_store.specs.Programs.{Programs}
+use Rattle.upload_store.specs.Programs.{Programs, programs_by}
 use Rattle.clash_record.specs.Name.{Name}
 use Rattle.partition_table.specs.Tables.{Row, Table, IsTable, IsCodeOf, program_of, code_for, row_for, rows_of, same_id, same_code, rows_agree, agrees_with}
-use Rattle.partition_table.specs.model.Keeping.{mapped, programs_by, table_by, IsHeld, has_room_for, IsKeptFor}
+use Rattle.partition_table.specs.model.Keeping.{IsHeld, has_room_for, IsKeptFor}
+use Rattle.partition_table.specs.Views.{mapped, table_by}
 use Rattle.partition_table.proofs.Maps.{get-mapped, entries-mapped, len-mapped, all_values_from, all_values_at}
 
 -- each row has the code that the programs have under its id

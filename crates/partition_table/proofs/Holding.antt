@@ -1,4 +1,4 @@
--- How programs are held under their ids.
+-- Programs under their ids.
 use Rattle.std.proofs.Common.{◌≡◌, ◌⊎◌, ◌↔◌, Bool, true, false, Option, Some, None, is_some, Bor, List, [], ◌∷◌, refl, ap, sym, ◌∙◌, inl, inr}
 use Rattle.std.specs.Option.{option_map, option_copied}
 use Rattle.std.specs.Bool.{IsTrue}
@@ -14,8 +14,9 @@ use Rattle.clash_record.specs.declared.registrations.ProgramId.{ProgramId}
 use Rattle.clash_record.specs.declared.registrations.ResolverId.TheVariants.{Program}
 use Rattle.clash_record.specs.Orders.{id_cmp}
 use Rattle.clash_record.specs.laws.Orders.{ids_total, ids_exact}
-use Rattle.upload_store.specs.Programs.{Programs}
-use Rattle.partition_table.specs.model.Keeping.{mapped, programs_by, has_room_for}
+use Rattle.upload_store.specs.Programs.{Programs, programs_by}
+use Rattle.partition_table.specs.model.Keeping.{has_room_for}
+use Rattle.partition_table.specs.Views.{mapped}
 use Rattle.partition_table.proofs.Maps.{get-mapped, made_inserted, insert_again}
 
 pub is_none_by : {X : Type 0} (o : Option X) → is_some o ≡ false → o ≡ None

@@ -14,7 +14,7 @@ use Rattle.std.specs.Map.{lookup, keys_of}
 use Rattle.std.specs.BTreeMap.{BTreeMap, is_at, Updates}
 use Rattle.std.specs.FinMap.{FinMap, IsAntisymmetric, get, insert, remove, len, entries, values, from_entries, from_sorted, len-entries, get-entries, get-from_entries, get-from_sorted, entries-from_sorted, entries_sorted, get-insert, get-remove, same_map}
 use Rattle.std.specs.FinMap.Entries.{find, is_sorted, below_all}
-use Rattle.partition_table.specs.model.Keeping.{mapped}
+use Rattle.partition_table.specs.Views.{mapped}
 
 from_true : (b : Bool) → b ≡ true → T b
 from_true b e = subst T (sym e) tt
@@ -104,7 +104,7 @@ made_alike {K = K} {X = X} {R = R} o exact f g es h = same_map o exact _ _ (λ q
     by q (Some x) e = ap Some (h q x e)
 
 module _ {K X : Type 0} {R : K → K → Ordering} (o : IsTotalOrder R) where
-  -- what is removed where it was put in newly leaves the map as it was
+  -- inserting a new key and removing it leaves the map unchanged
   pub remove_insert : IsAntisymmetric R → (m : FinMap R X) (k : K) (x : X) → get m k ≡ None
       → remove (insert m k x) k ≡ m
   remove_insert exact m k x none = same_map o exact _ _ (λ q.

@@ -1,4 +1,4 @@
--- What was put name by name is the merge.
+-- The table made name by name is the merge.
 use Rattle.std.proofs.Common.{◌≡◌, ℕ, ◌≤◌, Bool, true, false, cond, if◌then◌else◌, not, ◌||◌, filter, Option, Some, None, is_some, List, [], ◌∷◌, ◌++◌, refl, ap, sym, ◌∙◌, arith}
 use Rattle.std.proofs.lemmas.Bool.{and_parts, or_parts, or_from, leb-true}
 use Rattle.std.proofs.lemmas.Map.Keys.{sorted_head, sorted_tail}
@@ -294,7 +294,7 @@ any_append p (n ∷ ns) ms e =
     let t = any_append p ns ms h.1 in
     (or_from _ _ h.0 t.0, t.1)
 
--- the merge is what its definition says, name by name
+-- the merge is its definition, name by name
 pub merge_is : (a b : Table) (answers : List Verdict3) (gone : Gone) → IsMerge a b answers gone (merge a b answers gone)
 unfolding merge
 merge_is a b answers gone name = get-tabulated (keys a ++ keys b) (kept_at a b answers gone) name (λ e.

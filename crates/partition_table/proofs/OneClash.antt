@@ -28,7 +28,7 @@ named_length (e ∷ es) = ap suc (named_length es)
 pub keys_length : (table : Table) → length (keys table) ≡ len table
 keys_length table = named_length (entries table) ∙ sym (len-entries table)
 
--- there are no more clashes than names
+-- at most as many clashes as names
 pub few_found : (by_name : Name → Option Clash) (table : Table) → IsTable table
     → length (filter_map by_name (keys table)) ≤ max_names
 few_found by_name table kept = omega (arith, few_kept by_name (keys table), keys_length table, kept.few)

@@ -14,7 +14,8 @@ use Rattle.clash_record.specs.laws.Orders.{names_total, names_exact}
 use Rattle.upload_store.specs.Programs.{Programs}
 use Rattle.clash_record.specs.Name.{Name}
 use Rattle.partition_table.specs.Tables.{Row, Table, program_of, row_for, same_id}
-use Rattle.partition_table.specs.model.Keeping.{mapped, table_by, IsNamed, IsHeld, without_code, names, unnamed_in}
+use Rattle.partition_table.specs.model.Keeping.{IsNamed, IsHeld, without_code, names, unnamed_in}
+use Rattle.partition_table.specs.Views.{mapped, table_by}
 use Rattle.partition_table.proofs.Maps.{made_removed, entries-mapped, any_value_at, none_value_at}
 use Rattle.partition_table.proofs.Held.{IsLookedUp, same_id_is, same_id_from}
 use Rattle.partition_table.proofs.Changes.{held_less, held_released, made_released}

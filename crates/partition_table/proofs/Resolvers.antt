@@ -1,4 +1,4 @@
--- What the resolver of a clash answers.
+-- The answer of the resolver of a clash.
 use Rattle.std.proofs.Common.{◌≡◌, ℕ, Option, Some, None, List, ap, sym, ◌∙◌, refl}
 use Rattle.instruction_set.specs.declared.insn.Insn.{Insn}
 use Rattle.instruction_set.specs.Machine.{meaning}

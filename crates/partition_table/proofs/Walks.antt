@@ -14,7 +14,7 @@ use Rattle.clash_record.specs.Orders.{name_cmp}
 use Rattle.clash_record.specs.laws.Orders.{names_total}
 use Rattle.clash_record.specs.Name.{Name}
 use Rattle.partition_table.specs.Tables.{Row, Table, rows_of}
-use Rattle.partition_table.specs.model.Keeping.{mapped}
+use Rattle.partition_table.specs.Views.{mapped}
 use Rattle.partition_table.specs.model.Walking.{drop_before, first_at, walk, IsPaired}
 use Rattle.partition_table.proofs.Maps.{to_true}
 
@@ -52,7 +52,7 @@ module _ {Y : Type 0} where
           let turned = flipped e.0 n Greater is in
           rw (is, turned, is) (sym (below_least n e.0 es turned (and_parts _ _ h).0))
 
-  -- what comes before a name isn't looked for after it
+  -- names before a name aren't found after it
   found_behind : (n q : Name) (es : List (Name × Y)) → name_cmp n q ≡ Less
       → find name_cmp q (drop_before n es) ≡ find name_cmp q es
   found_behind n q [] less = refl

@@ -1,4 +1,4 @@
--- What a verdict holds.
+-- The contents of a verdict.
 use Rattle.std.specs.Prelude.{ℕ}
 use Rattle.builtin_resolvers.specs.declared.verdicts.Verdict3.{Verdict3}
 use Rattle.partition_table.specs.Tables.{Clash}

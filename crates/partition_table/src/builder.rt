@@ -1,9 +1,9 @@
 //! A table that is made row by row.
-ghost use Rattle.std.specs.Prelude.{◌≡◌, ◌<◌, None, IfOk, OnOk, OnErr, IsTrue};
+ghost use Rattle.std.specs.Prelude.{◌≡◌, IfOk, OnOk, OnErr};
 ghost use Rattle.std.specs.Option.{option_map};
 ghost use Rattle.std.specs.Arc.{arc_value};
 ghost use Rattle.std.specs.FinMap as map;
-ghost use Rattle.partition_table.specs.Tables.{IsCodeOf, agrees_with, max_names};
+ghost use Rattle.partition_table.specs.model.Keeping.{IsNewRow};
 
 use crate::programs::hold_program;
 use crate::table::Table;
@@ -27,7 +27,9 @@ impl Model for TableBuilder {
     ghost use Rattle.std.specs.Prelude.{reverse};
     ghost use Rattle.std.specs.Arc.{arc_value};
     ghost use Rattle.partition_table.specs.Tables.{Table};
-    ghost use Rattle.partition_table.specs.model.Keeping.{coded_table, programs_by, table_by, IsHeld};
+    ghost use Rattle.partition_table.specs.model.Keeping.{IsHeld};
+    ghost use Rattle.partition_table.specs.Views.{coded_table, table_by};
+    ghost use Rattle.upload_store.specs.Programs.{programs_by};
 
     ghost Value = { Table };
 
@@ -57,11 +59,8 @@ impl TableBuilder {
         registration: Registration,
         program: Option<&Arc<Verified>>,
     ) -> Result<(), AllocError>
-        requires new { map.get self.old name ≡ None }
-        requires room { map.len self.old < max_names }
-        requires coded { IsCodeOf registration.resolver (option_map (λ p. arc_value p.now) program) }
-        requires agrees { IsTrue (agrees_with self.old
-            record { registration = registration; code = option_map (λ p. arc_value p.now) program }) }
+        requires { IsNewRow self.old name
+            record { registration = registration; code = option_map (λ p. arc_value p.now) program } }
         ensures pushed { OnOk result (self.new ≡ map.insert self.old name
             record { registration = registration; code = option_map (λ p. arc_value p.now) program.entry }) }
         ensures unchanged { OnErr result (self.new ≡ self.old) }

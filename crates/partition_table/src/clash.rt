@@ -31,7 +31,7 @@ impl Model for Clash {
     ghost use Rattle.std.specs.Option.{option_map};
     ghost use Rattle.std.specs.Arc.{arc_value};
     ghost use Rattle.partition_table.specs.Tables.{Clash};
-    ghost use Rattle.partition_table.specs.model.Judging.{coded_clash};
+    ghost use Rattle.partition_table.specs.Views.{coded_clash};
 
     ghost Value = { Clash };
 
@@ -152,7 +152,7 @@ impl Model for ClashList {
     ghost use Rattle.std.specs.Prelude.{◌≤◌, List, length};
     ghost use Rattle.std.specs.Coded.{coded_list};
     ghost use Rattle.partition_table.specs.Tables.{Clash, max_names};
-    ghost use Rattle.partition_table.specs.model.Judging.{coded_clash};
+    ghost use Rattle.partition_table.specs.Views.{coded_clash};
 
     ghost Value = { List Clash };
 
@@ -180,7 +180,7 @@ impl ClashList {
         self.clashes.len()
     }
 
-    /// Checks whether there are no clashes.
+    /// Checks whether the list is empty.
     pub fn is_empty(&self) -> bool
         ensures { IsTrue result ↔ (self.now ≡ []) }
     {

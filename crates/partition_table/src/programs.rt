@@ -9,7 +9,8 @@ ghost use Rattle.clash_record.specs.declared.registrations.ResolverId.TheVariant
 ghost use Rattle.partition_table.specs.declared.fault.TableFault.TheVariants.{UnknownProgram};
 ghost use Rattle.partition_table.specs.Faults.{is_known};
 ghost use Rattle.partition_table.specs.Tables.{IsCodeOf, code_for, program_of};
-ghost use Rattle.partition_table.specs.model.Keeping.{programs_by, with_code, without_code, has_room_for, names, programs_agree, unnamed_in};
+ghost use Rattle.partition_table.specs.model.Keeping.{with_code, without_code, has_room_for, names, programs_agree, unnamed_in};
+ghost use Rattle.upload_store.specs.Programs.{programs_by};
 
 use crate::fault::TableFault;
 use clash_record::{Name, ProgramId, Registration, ResolverId};

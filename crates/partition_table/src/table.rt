@@ -1,13 +1,15 @@
 //! Tables.
-ghost use Rattle.std.specs.Prelude.{◌≡◌, ◌<◌, Some, None, Ok, Err, IfOk, OnOk, OnErr, IfSome, IsTrue, ◌↔◌, reverse};
+ghost use Rattle.std.specs.Prelude.{◌≡◌, Some, None, Ok, Err, IfOk, OnOk, OnErr, IfSome, IsTrue, ◌↔◌, reverse};
 ghost use Rattle.std.specs.Option.{option_map};
 ghost use Rattle.std.specs.Arc.{arc_value};
 ghost use Rattle.std.specs.FinMap as map;
 ghost use Rattle.std.specs.BTreeMap.{IsFromIterResult};
 ghost use Rattle.clash_record.specs.Orders.{name_cmp};
 ghost use Rattle.clash_record.specs.Name.{Name};
-ghost use Rattle.partition_table.specs.Tables.{IsTable, IsCodeOf, agrees_with, tables_agree, max_names, row_for, rows_of, Row};
-ghost use Rattle.partition_table.specs.model.Keeping.{programs_by, table_by, IsHeld, IsKeptFor};
+ghost use Rattle.partition_table.specs.Tables.{IsTable, tables_agree, row_for, rows_of, Row};
+ghost use Rattle.partition_table.specs.model.Keeping.{IsHeld, IsKeptFor, IsNewRow};
+ghost use Rattle.partition_table.specs.Views.{table_by};
+ghost use Rattle.upload_store.specs.Programs.{programs_by};
 ghost use Rattle.numbered.specs.Answers.{IsAnswered};
 ghost use Rattle.partition_table.specs.Faults.{register_fault, table_fault_number, unregister_answer};
 
@@ -41,7 +43,9 @@ pub struct Table {
 impl Model for Table {
     ghost use Rattle.std.specs.Arc.{arc_value};
     ghost use Rattle.partition_table.specs.Tables.{Table};
-    ghost use Rattle.partition_table.specs.model.Keeping.{coded_table, programs_by, table_by, IsHeld};
+    ghost use Rattle.partition_table.specs.model.Keeping.{IsHeld};
+    ghost use Rattle.partition_table.specs.Views.{coded_table, table_by};
+    ghost use Rattle.upload_store.specs.Programs.{programs_by};
 
     ghost Value = { Table };
 
@@ -73,7 +77,7 @@ impl Table {
         self.rows.len()
     }
 
-    /// Checks whether the table has no names. Allocates nothing.
+    /// Checks whether the table is empty. Allocates nothing.
     pub fn is_empty(&self) -> bool
         ensures { IsTrue result ↔ (map.len self.now ≡ 0) }
     {
@@ -190,11 +194,8 @@ impl Table {
         registration: Registration,
         program: Option<&Arc<Verified>>,
     ) -> Result<(), AllocError>
-        requires new { map.get self.old name ≡ None }
-        requires room { map.len self.old < max_names }
-        requires coded { IsCodeOf registration.resolver (option_map (λ p. arc_value p.now) program) }
-        requires agrees { IsTrue (agrees_with self.old
-            record { registration = registration; code = option_map (λ p. arc_value p.now) program }) }
+        requires { IsNewRow self.old name
+            record { registration = registration; code = option_map (λ p. arc_value p.now) program } }
         ensures kept { OnOk result (self.new ≡ map.insert self.old name
             record { registration = registration; code = option_map (λ p. arc_value p.now) program.entry }) }
         ensures unchanged { OnErr result (self.new ≡ self.old) }

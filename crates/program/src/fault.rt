@@ -11,7 +11,7 @@ use verifier::VerifyFault;
 /// The reason why bytes were not accepted as a program.
 #[derive(Clone, Copy, Debug, PartialEq, Eq, Error)]
 pub enum ProgramFault {
-    /// The bytes spell no code, or memory ran out while decoding.
+    /// The bytes don't spell code, or memory ran out while decoding.
     #[error(transparent)]
     Codec(CodecFault),
     /// The code fails a rule of the verifier, or memory ran out while verifying.

@@ -1,4 +1,4 @@
--- What is held beside what is seen.
+-- The rulings held, compared with those seen.
 use Rattle.std.proofs.Common.{◌≡◌, ◌≢◌, ◌⊎◌, inl, inr, ℕ, suc, ◌+◌, ◌≤◌, Bool, false, List, [], ◌∷◌, map, length, refl, sym, ap, ◌∙◌, subst, arith}
 use Rattle.std.proofs.lemmas.Option.{slice_get_within}
 use Rattle.std.specs.Prelude.{Option, Some, None, IfSome, slice_get}
@@ -16,7 +16,7 @@ use Rattle.exchange_core.specs.Finished.{Finished, IsFinished, clashes_merged}
 use Rattle.verdict_board.specs.Boards.{Pass, seen, LooksAt}
 use Rattle.registry_lock.specs.Meeting.{judged_of, AgreesWith, AgreesBelow, DiffersAt, IsStrangeAt, Keeps, answers_seen, SamePair}
 
--- ---- there are no more clashes than names of A
+-- ---- at most as many clashes as names of A
 
 few_kept : {X Y : Type 0} (h : X → Option Y) (xs : List X) → length (filter_map h xs) ≤ length xs
 few_kept h [] = omega arith

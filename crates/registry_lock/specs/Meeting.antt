@@ -1,4 +1,4 @@
--- What two finished exchanges hold, beside what a pass has seen of the board.
+-- Two finished exchanges, compared with what a pass has seen of the board.
 use Rattle.std.specs.Prelude.{◌≡◌, ◌≢◌, ◌⊎◌, ℕ, zero, suc, ◌+◌, ◌<◌, List, [], ◌∷◌, length, Option, Some, IfSome, slice_get}
 use Rattle.std.specs.Option.{option_map}
 use Rattle.builtin_resolvers.specs.declared.verdicts.Verdict3.{Verdict3}
@@ -90,7 +90,7 @@ pub record IsHealed (place : Place) (pass : Pass) (first second : Finished) (tab
   pub second_has : second.table ≡ table
   pub merged : table ≡ merge first.a first.b (answers_seen pass 0 (length (clashes_merged first))) first.gone
 
--- why two sides don't meet. The rulings are looked at last, and else the pass stays as it is
+-- why two sides don't meet. The rulings are checked last; before that the pass is unchanged
 abbrev pub IsFault : Place → Pass → Pass → Finished → Finished → MeetFault → Type 0
 IsFault place before after first second SeedDiffers =
     (after ≡ before) × ¬ (HaveSeed place first second)

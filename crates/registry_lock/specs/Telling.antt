@@ -1,4 +1,4 @@
--- A side that was told rulings, and nothing else.
+-- A side that took rulings, and did nothing else.
 use Rattle.std.specs.Prelude.{◌≡◌, List, [], ◌∷◌, ◌++◌, All, Option, Some, map, slice_get}
 use Rattle.std.specs.Option.{option_and_then}
 use Rattle.partition_table.specs.Tables.{answer}
@@ -25,8 +25,8 @@ pub record IsOfBoard (place : Place) (ruling : Ruling) : Type 0 where
   pub clash : slice_get place.clashes ruling.k ≡ Some ruling.clash
   pub judged : ruling.judged.answer ≡ answer ruling.clash ruling.judged.word
 
--- The side is as it was, followed by takes of rulings of this board, and by nothing else. Each was carried out in its
--- turn, and the journal has them before what it had, the latest first
+-- The side differs only by takes of rulings of this board. Each was carried out in its turn, and the journal has them in
+-- front of its earlier calls, the latest first
 pub record IsTold (place : Place) (old new : Side) : Type 0 where
   pub rulings : List Ruling
   pub of_board : All (IsOfBoard place) rulings

@@ -5,7 +5,7 @@ ghost use Rattle.registry_lock.specs.Faults.{meet_fault_number};
 use numbered::{Numbered, Place, words_of};
 use thiserror::Error;
 
-/// Why two sides that finished don't meet.
+/// The reason why two finished sides don't meet.
 #[derive(Clone, Copy, Debug, PartialEq, Eq, Error)]
 #[error("{}", words_of(self.number()))]
 pub enum MeetFault {

@@ -12,7 +12,7 @@ pub struct Healed {
 
 impl Model for Healed {
     ghost use Rattle.partition_table.specs.Tables.{Table};
-    ghost use Rattle.partition_table.specs.model.Keeping.{coded_table};
+    ghost use Rattle.partition_table.specs.Views.{coded_table};
 
     ghost Value = { Table };
 

@@ -12,21 +12,21 @@ use Rattle.script_machine.specs.Replies.{Answer, Says, reply_text, reply_status}
 use Rattle.script_machine.specs.Steps.{Step, AnswersText, Refuses}
 use Rattle.script_engine.specs.model.Progress.{SendsNext, IsSaid}
 
--- a reply that is sent is said
+-- a reply that is sent is an answer
 pub said : {E : Type 0} (IsAnswer : Answer → Type 0) (number : ℕ) (old new : Option (List ℕ)) (reply : Reply)
     (result : Result ℕ E) → IsAnswer (Says reply) → SendsNext old new (reply_text number reply) result
     → IfOk result (λ status. status ≡ reply_status reply) → IsSaid IsAnswer number old new result
 said IsAnswer number old new reply result is_answer sends status =
     record { answer = Says reply; is_answer = is_answer; sends = sends; status = status }
 
--- a line may be refused when out of memory, whatever it asks for
+-- any line may be refused when out of memory
 starved : (machine : Machine) (asked : Result (Option Asked) LineFault) (reply : Reply)
     → Refuses 90 None machine reply machine → AnswersText machine asked (Says reply) machine
 starved machine (Ok (Some asked)) reply h = inr h
 starved machine (Ok None) reply h = inr h
 starved machine (Err fault) reply h = inr h
 
--- what is wrong with a line is told
+-- an invalid line is refused
 pub fault_told : (machine : Machine) (text : List ℕ) (fault : LineFault) (reply : Reply)
     → (asked_of text ≡ Err fault) ⊎ (fault ≡ OutOfMemory)
     → reply ≡ Refused (record { number = line_fault_number fault; place = None })
@@ -37,7 +37,7 @@ fault_told machine text fault reply (inr e) told =
     starved machine (asked_of text) reply
     (subst (λ f. reply ≡ Refused (record { number = line_fault_number f; place = None })) e told, refl)
 
--- a line that asks for nothing is answered by nothing
+-- a blank line or a comment has an empty answer
 pub nothing_told : (machine : Machine) (text : List ℕ) → asked_of text ≡ Ok None
     → Step machine (Short text) (Says Silent) machine
 nothing_told machine text e =

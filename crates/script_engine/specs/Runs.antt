@@ -15,7 +15,7 @@ Run old (line ∷ lines) (answer ∷ answers) new =
 Run old [] (answer ∷ answers) new = ⊥
 Run old (line ∷ lines) [] new = ⊥
 
--- what is said to the lines from this number on, in order
+-- the answers to the lines from this number on, in order
 abbrev pub text_from : ℕ → List Answer → List ℕ
 text_from line [] = []
 text_from line (answer ∷ answers) = answer_text line answer ++ text_from (line + 1) answers

@@ -1,7 +1,7 @@
-//! Who carries the lines of a script out.
+//! The threads that carry out the lines of a script.
 ghost use Rattle.std.specs.Prelude.{◌<◌, ◌≤◌};
 
-// The runtime that threads are started on, how many workers judge, and who is asked before a post.
+// The runtime that starts threads, the number of workers, and the gate that each post passes.
 #[derive(Drop)]
 pub(crate) struct Crew<'a, T, G> {
     pub rt: &'a T,

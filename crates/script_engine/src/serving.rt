@@ -1,4 +1,4 @@
-//! A line, and what is said to it.
+//! A line and its answer.
 ghost use Rattle.std.specs.Prelude.{◌≡◌, ◌<◌, ◌-◌, ◌^◌, ℕ, List, Option, IfOk};
 ghost use Rattle.output.specs.Sending.{Sends};
 ghost use Rattle.script_text.specs.Reading.{seen_line};
@@ -19,7 +19,7 @@ use std::io::Write;
 use std::sync::Wait;
 use std::thread::Threads;
 
-// Carries out the line of this number, and says the answer. Answers the status of the line.
+// Carries out the line of this number and writes its answer. Returns the status of the line.
 pub(crate) fn serve<T: Threads + Wait + Sync + AllocGlobal, G: Gate + Sync, W: Write>(
     crew: &Crew<'_, T, G>,
     machine: &mut Machine,
@@ -42,7 +42,7 @@ pub(crate) fn serve<T: Threads + Wait + Sync + AllocGlobal, G: Gate + Sync, W: W
     }
 }
 
-// Carries a command out, and says the answer.
+// Carries out a command and writes its answer.
 fn obey<T: Threads + Wait + Sync + AllocGlobal, G: Gate + Sync, W: Write>(
     crew: &Crew<'_, T, G>,
     machine: &mut Machine,
@@ -80,7 +80,7 @@ fn obey<T: Threads + Wait + Sync + AllocGlobal, G: Gate + Sync, W: Write>(
     }
 }
 
-// Heals the split, and says how.
+// Heals the split and writes the outcome.
 fn heal<T: Threads + Wait + Sync + AllocGlobal, G: Gate + Sync, W: Write>(
     crew: &Crew<'_, T, G>,
     machine: &mut Machine,

@@ -21,7 +21,7 @@ reply_text line (Owned owner) = owner_line owner
 reply_text line Undefined = codes "undefined\n"
 reply_text line (Refused refusal) = refusal_line line refusal.number refusal.place
 
--- the least status of a script to which it was said
+-- the least status of a script with this answer
 abbrev pub refused_status : ℕ → ℕ
 refused_status number = if number == 90 then 3 else 2
 

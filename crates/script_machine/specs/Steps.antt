@@ -1,4 +1,4 @@
--- What a line leaves, and what is said to it.
+-- The effect of a line, and its answer.
 use Rattle.std.specs.Prelude.{◌≡◌, ◌⊎◌, ℕ, ◌+◌, Bool, not, ◌&&◌, ◌||◌, if◌then◌else◌, List, [], ◌∷◌, ◌++◌, length, Option, Some, None, is_some, is_none, Result, Ok, Err, nat_le}
 use Rattle.std.specs.Bool.{MatchBool}
 use Rattle.std.specs.Option.{option_map}
@@ -77,7 +77,7 @@ abbrev pub UploadsHex : {E : Type 0} → Machine → List ℕ → Result (List �
 UploadsHex old word (Ok bytes) reply new = UploadsBytes old word bytes reply new
 UploadsHex old word (Err fault) reply new = Refuses 50 None old reply new
 
--- the label is looked at before the code
+-- the label is checked before the code
 abbrev pub UploadStep : Machine → List ℕ → List ℕ → Reply → Machine → Type 0
 UploadStep old label code reply new =
     MatchBool (is_free old.labels label) (UploadsHex old label (decode_of code) reply new)
@@ -112,7 +112,7 @@ Registers old id name registration reply new =
     Edits old id (register_fault (is_full_at standing) standing.side name registration old.programs)
     (register standing.side name (row_for old.programs registration)) Registered reply new
 
--- the word for the resolver is looked at before the call
+-- the word for the resolver is checked before the call
 abbrev pub RegisterStep : Machine → SideId → Name → Terms → Option ResolverId → Reply → Machine → Type 0
 RegisterStep old id name terms (Some resolver) reply new =
     Registers old id name (registration_of terms resolver) reply new
@@ -126,7 +126,7 @@ UnregisterStep old id name reply new =
 
 -- ---- questions
 
--- what is said of what is registered under a name
+-- the answer about a registered name
 abbrev pub owned : Option Registration → Reply
 owned (Some registration) = Owned registration.owner
 owned None = Undefined
@@ -161,7 +161,7 @@ pub record HealsAs (plan : Plan) (old : Machine) (healing : Healing) (new : Mach
 
 -- ---- lines
 
--- a reply to what is asked for. A line may be refused when out of memory, and then nothing changes
+-- a reply to a request. A line may be refused when out of memory, and then nothing changes
 abbrev pub Replies : Machine → Asked → Reply → Machine → Type 0
 Replies old (Upload label code) reply new = UploadStep old label code reply new
 Replies old (Register id name terms resolver) reply new =
@@ -188,7 +188,7 @@ AnswersText old (Err fault) (Says reply) new =
     UnlessMemory (Refuses (line_fault_number fault) None old) old reply new
 AnswersText old (Err fault) answer new = ⊥
 
--- a line is answered so, and leaves new. A line that is too long is refused whatever it says
+-- a line has this answer, and leaves new. A line that is too long is refused for any contents
 abbrev pub Step : Machine → Line → Answer → Machine → Type 0
 Step old (Short text) answer new = AnswersText old (asked_of text) answer new
 Step old Long (Says reply) new = Refuses 54 None old reply new

@@ -13,10 +13,10 @@ use clash_record::{Name, Registration, ResolverId, SideId};
 use script_text::Terms;
 
 impl Machine {
-    /// Registers a name on a side. The resolver is the word for one that is built in, or a label.
+    /// Registers a name on a side. The resolver is a built-in resolver's word or a label.
     ///
-    /// Refusals are 41 for another resolver, and then those of the side. 90 is answered where memory runs out. A
-    /// refusal leaves all as it was.
+    /// Returns 41 for any other resolver, then the refusals of the side, and 90 when out of memory. A refusal changes
+    /// nothing.
     pub fn register(&mut self, side: SideId, name: Name, terms: Terms, resolver: &[u8]) -> Reply
         ensures { UnlessMemory (RegisterStep (machine_of self.old) side name terms
             (machines.resolver_of (machine_of self.old).labels resolver.now)) (machine_of self.old) result
@@ -32,9 +32,9 @@ impl Machine {
         }
     }
 
-    /// Takes a name out of a side.
+    /// Unregisters a name from a side.
     ///
-    /// Refusals are those of the side. 90 is answered where memory runs out. A refusal leaves all as it was.
+    /// Returns the refusals of the side, and 90 when out of memory. A refusal changes nothing.
     pub fn unregister(&mut self, side: SideId, name: &Name) -> Reply
         ensures { UnlessMemory (UnregisterStep (machine_of self.old) side name.now) (machine_of self.old) result
             (machine_of self.new) }
@@ -46,7 +46,7 @@ impl Machine {
     }
 }
 
-// What a name is registered with on these terms.
+// Returns the registration on these terms.
 fn registration_of(terms: Terms, resolver: ResolverId) -> Registration
     ensures { result ≡ steps.registration_of terms resolver }
 {

@@ -96,7 +96,7 @@ fn first_label<'a>(labels: &'a [Label], program: &ProgramId) -> Option<&'a Label
     labels.iter().find(|label| label.names(program))
 }
 
-// How a program is called.
+// Returns the name of a program.
 fn label_text<'a>(labels: &'a [Label], program: &ProgramId) -> &'a [u8]
     ensures { result.now ≡ machines.resolver_text labels.now (by.Program program.now) }
 {
@@ -116,7 +116,7 @@ fn builtin_text(builtin: Builtin) -> &'static [u8]
     }
 }
 
-// What a word for a resolver that is built in means.
+// Returns the built-in resolver that a word names.
 fn builtin_of(word: &[u8]) -> Option<ResolverId>
     ensures { result ≡ machines.builtin_of word.now }
 {

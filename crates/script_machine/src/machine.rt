@@ -1,4 +1,4 @@
-//! What a script keeps from line to line.
+//! The state of a script between its lines.
 ghost use Rattle.std.specs.Prelude.{◌≡◌};
 ghost use Rattle.script_machine.specs.Machines.{machine_of, new_machine};
 ghost use Rattle.script_machine.specs.Steps.{whereis_reply};

@@ -1,4 +1,4 @@
-//! What is said to a line.
+//! Answers to lines.
 ghost use Rattle.std.specs.Prelude.{◌≡◌};
 ghost use Rattle.output.specs.Sending.{SendsOn};
 ghost use Rattle.script_machine.specs.Replies.{reply_status, reply_text};
@@ -10,18 +10,18 @@ use output::{DeviceFault, send_after};
 use script_text::{print_code_count, print_owner_line, print_refusal};
 use std::io::Write;
 
-/// What is said to a line, aside from the names of a side and how a split was healed.
+/// The answer to a line, except for the names of a side and the outcome of a `heal`.
 #[derive(Clone, Copy, Debug)]
 pub enum Reply {
-    /// Nothing: the line asks for nothing.
+    /// Nothing: the line is blank or a comment.
     Silent,
-    /// A program was taken over under this label, and has so many instructions.
+    /// A program was stored under this label, and has this number of instructions.
     Uploaded { label: Name, count: usize },
     /// A name was registered.
     Registered,
     /// A name was taken out.
     Unregistered,
-    /// Who owns a name.
+    /// The owner of a name.
     Owned(Owner),
     /// Nobody owns the name.
     Undefined,
@@ -40,7 +40,7 @@ impl Reply {
         Reply::Refused(refusal_of(fault))
     }
 
-    /// The least status of a script to which it was said: 3 where memory ran out, 2 at another refusal, and else 0.
+    /// Returns the least status of a script with this answer: 3 if memory ran out, 2 at another refusal, else 0.
     pub fn status(&self) -> u8
         ensures { result ≡ reply_status self.now }
     {

@@ -12,11 +12,11 @@ use hex::FromHexError;
 use std::alloc::Global;
 
 impl Machine {
-    /// Keeps the program that these hex digits spell, under a label.
+    /// Stores the program that these hex digits spell, under a label.
     ///
-    /// Refusals are 53 for a label that isn't 1 to 32 visible characters of ASCII, is in use or is the word for a
-    /// resolver that is built in, then 50 for code that isn't hex digits, and then those of the store. 90 is answered
-    /// where memory runs out. A refusal leaves all as it was.
+    /// Returns 53 for a label that isn't 1 to 32 visible characters of ASCII, is in use or is a built-in resolver's
+    /// word, then 50 for invalid hex digits, then the refusals of the store, and 90 when out of memory. A refusal
+    /// changes nothing.
     pub fn upload(&mut self, alloc: Global, label: &[u8], code: &[u8]) -> Reply
         ensures { UnlessMemory (UploadStep (machine_of self.old) label.now code.now) (machine_of self.old) result
             (machine_of self.new) }

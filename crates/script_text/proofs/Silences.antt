@@ -1,4 +1,4 @@
--- A line with a command never asks for nothing.
+-- A line with a command is neither blank nor a comment.
 use Rattle.std.proofs.Common.{◌≡◌, ◌∙◌, ap, sym, true, false, List, ◌∷◌, ℕ, Ok, Err, None}
 use Rattle.std.specs.Prelude.{Result, if◌then◌else◌}
 use Rattle.std.specs.List.{list_all}

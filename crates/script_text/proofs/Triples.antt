@@ -1,4 +1,4 @@
--- Words that stand at places in a list.
+-- Words at places in a list.
 use Rattle.std.proofs.Common.{◌≡◌, ℕ, ◌+◌, ◌-◌, ◌<◌, ◌≤◌, List, [], ◌∷◌, ◌++◌, length, take, drop, map, refl, sym, ap, ◌∙◌, append_assoc, arith, get_or, Bor, Ok, Err, codes}
 use Rattle.std.proofs.lemmas.List.{take_rest, drop-drop, map-append}
 use Rattle.std.specs.Prelude.{if◌then◌else◌, Result}

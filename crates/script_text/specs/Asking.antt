@@ -1,4 +1,4 @@
--- What a line asks for.
+-- The request of a line.
 use Rattle.std.specs.Prelude.{ℕ, ◌-◌, ◌^◌, ◌==◌, Bool, false, if◌then◌else◌, Option, Some, None, Result, Ok, Err, List, [], ◌∷◌, replicate, codes}
 use Rattle.std.specs.List.{list_all}
 use Rattle.std.specs.Option.{option_map}
@@ -17,7 +17,7 @@ use Rattle.script_text.specs.declared.fault.LineFault.{LineFault}
 use Rattle.script_text.specs.declared.fault.LineFault.TheVariants.{NoName, HexText, Word, Number}
 use Rattle.script_text.specs.Words.{words_of, is_printable, number_of}
 
--- what a line may ask for. A label, code and a resolver stand as they are written
+-- a request. A label, code and a resolver are kept as written
 pub data Asked : Type 0 where
   Upload : (label code : List ℕ) → Asked
   Register : (side : SideId) → (name : Name) → (terms : Terms) → (resolver : List ℕ) → Asked
@@ -26,7 +26,7 @@ pub data Asked : Type 0 where
   Show : (side : SideId) → Asked
   Heal : (seed : ℕ) → (uptimes : Uptimes) → (gone : List Withdrawal) → Asked
 
--- what follows from a word, unless something is wrong with it. So the leftmost word that is wrong is told
+-- what follows from a word, unless the word is invalid. So the leftmost invalid word counts
 abbrev pub if_right : {A B : Type 0} → Result A LineFault → (A → Result B LineFault) → Result B LineFault
 if_right (Ok x) f = f x
 if_right (Err fault) f = Err fault
@@ -76,7 +76,7 @@ or_hex (Err fault) = Err HexText
 abbrev pub extra_of : List ℕ → Result (List ℕ) LineFault
 extra_of word = if is_word word (codes "-") then Ok (replicate 16 0) else or_hex (decode_sized word 16)
 
--- ---- what the words after the first ask for
+-- ---- the request of the words after the first
 
 abbrev pub upload_of : List (List ℕ) → Result Asked LineFault
 upload_of (label ∷ code ∷ []) = Ok (Upload label code)
@@ -143,7 +143,7 @@ healing seed uptimes triples =
     if_right seed (λ seed. if_right uptimes (λ uptimes. if_right (names_of triples)
     (λ gone. Ok (Heal seed uptimes gone))))
 
--- an unknown word and another count of words are told before what the words say
+-- an unknown word and a wrong number of words come before the contents of the words
 abbrev pub heal_after : List ℕ → List (List ℕ) → Result Asked LineFault
 heal_after seed [] = healing (long_of seed) (Ok no_uptimes) []
 heal_after seed (word ∷ []) = Err Word
@@ -176,7 +176,7 @@ abbrev pub some_asked : Result Asked LineFault → Result (Option Asked) LineFau
 some_asked (Ok asked) = Ok (Some asked)
 some_asked (Err fault) = Err fault
 
--- a line without a word and a comment ask for nothing, whatever bytes a comment has
+-- a blank line and a comment, with any bytes, have no request
 abbrev pub asked_of_words : Bool → List (List ℕ) → Result (Option Asked) LineFault
 asked_of_words printable [] = Ok None
 asked_of_words printable (first ∷ words) =

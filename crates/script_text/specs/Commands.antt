@@ -1,4 +1,4 @@
--- What code found that a line asks for.
+-- The request that the code found in a line.
 use Rattle.std.specs.Prelude.{◌≡◌, ◌⊎◌, Option, Result, Ok, Err}
 use Rattle.std.specs.Option.{option_map}
 use Rattle.script_text.specs.declared.command.Command.{Command}

@@ -1,4 +1,4 @@
--- What reading a line takes from an input.
+-- The bytes that reading a line takes from an input.
 use Rattle.std.specs.Prelude.{◌≡◌, ◌⊎◌, ℕ, ◌-◌, ◌^◌, ◌<◌, Bool, true, false, Option, List, [], ◌∷◌, ◌++◌, length}
 use Rattle.std.specs.Io.KnownBytes.{Keeps, Consumes, IsAtEnd, prepend_known}
 use Rattle.script_text.specs.declared.input.Found.{Found}

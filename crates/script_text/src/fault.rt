@@ -8,7 +8,7 @@ use numbered::{Numbered, Place, words_of};
 use std::alloc::AllocError;
 use thiserror::Error;
 
-/// Why the words of a line are rejected.
+/// The reason why the words of a line are rejected.
 #[derive(Clone, Copy, Debug, PartialEq, Eq, Error)]
 #[error("{}", words_of(self.number()))]
 pub enum LineFault {

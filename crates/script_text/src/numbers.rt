@@ -36,7 +36,7 @@ fn short(word: &[u8]) -> Result<u32, LineFault>
     }
 }
 
-// What stands before and after the first dot.
+// Returns the parts before and after the first dot.
 fn around_dot(word: &[u8]) -> Option<(&[u8], &[u8])>
     ensures { MatchOption result (around_dot word.now ≡ None) (λ parts. around_dot word.now
         ≡ Some (parts.0.now, parts.1.now)) }

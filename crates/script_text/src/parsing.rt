@@ -14,12 +14,12 @@ use clash_record::{Name, SideId, Uptimes, Withdrawal, name};
 use hex::decode_to_slice;
 use std::alloc::{AllocError, Global};
 
-/// What a line asks for, if it asks for anything. A line without a word and a comment ask for nothing.
+/// Parses a line. Returns no command for a blank line and for a comment.
 ///
-/// The line comes without its end. Refusals are 51 for an unknown word, another count of words or a byte outside of
-/// ASCII's printable characters, and else, of the leftmost word that is wrong, 44 for a name, 50 for hex digits and 52
-/// for a number. 90 is answered where memory runs out: it takes some for the list of the words, and for that of the
-/// names that go, but none for a line that asks for nothing.
+/// The line has no line feed. Returns 51 for an unknown word, a wrong number of words or a byte outside ASCII's printable
+/// characters, and otherwise, for the leftmost invalid word, 44 for a name, 50 for hex digits and 52 for a number.
+/// Returns 90 when out of memory: it allocates the list of words and the list of withdrawn names, and nothing for a
+/// blank line or a comment.
 #[tactic(auto, using(crate::proofs::Silences::asks_something))]
 pub fn command_of(alloc: Global, line: &[u8]) -> Result<Option<Command<'_>>, LineFault>
     ensures asked { IsRight (right_option result) (asked_of line.now) }
@@ -221,7 +221,7 @@ fn withdrawals(alloc: Global, triples: &[Triple<'_>]) -> Result<Vec<Withdrawal>,
     Ok(gone)
 }
 
-// What a registration says beside its resolver.
+// Returns the terms of a registration, apart from its resolver.
 fn terms(
     owner_word: &[u8],
     stamp: &[u8],

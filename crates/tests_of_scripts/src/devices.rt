@@ -92,7 +92,7 @@ pub(crate) fn is_answered<T: Threads + Wait + Sync + AllocGlobal>(
     ended == status && writer.written.as_slice() == said
 }
 
-/// A script, the status that it ends with, and what is said to its lines.
+/// A script, its status, and the answers to its lines.
 pub(crate) type Said = (&'static str, u8, &'static str);
 
 /// The first of these scripts that is answered otherwise, over devices that never fail.

@@ -22,7 +22,7 @@ fn a_writer_may_fail(rt: HostRuntime) {
     assert!(&rt; is_answered(&rt, SCRIPT, (reader, writer), (2, WRITTEN)));
 }
 
-/// What is written where a read fails after so many lines that ended.
+/// Returns the output when a read fails after this number of complete lines.
 const WRITTEN_BEFORE_FAULT: [&[u8]; 5] = [
     b"device fault\n",
     b"yes\ndevice fault\n",
@@ -31,7 +31,7 @@ const WRITTEN_BEFORE_FAULT: [&[u8]; 5] = [
     b"yes\n1.1\nend\nhealed 1 names\ndevice fault\n",
 ];
 
-/// What is written where a read fails after so many bytes.
+/// Returns the output when a read fails after this number of bytes.
 fn written_before_fault(bytes: usize) -> Option<&'static [u8]> {
     let begun = SCRIPT.iter().take(bytes);
     let ended = begun.filter(|byte| **byte == b'\n').count();

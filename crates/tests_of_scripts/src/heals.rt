@@ -1,4 +1,4 @@
-//! Splits that heal, and what is said of it.
+//! Splits that heal, and the answers.
 use crate::devices::{Said, first_other};
 
 /// Scripts that heal a split, or are refused.
@@ -15,7 +15,7 @@ const SCRIPTS: [Said; 11] = [
         0,
         "yes\nyes\ndb first word 0\nexit 2.20\nhealed 1 names\nhealed 1 names\n",
     ),
-    // Clashes are said in the order of names, from the seed's word on, which wraps.
+    // Clashes are printed in the order of names, from the seed's word on, which wraps.
     (
         "register a c1 1.10 5 0 - exit\nregister b c1 2.20 9 0 - exit\nregister a a1 1.10 5 0 - exit\nregister b a1 2.20 9 0 - exit\nregister a b1 1.10 5 0 - exit\nregister b b1 2.20 9 0 - exit\nheal 0\n",
         0,

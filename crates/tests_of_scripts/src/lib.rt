@@ -1,5 +1,5 @@
-//! Tests alone, of scripts from end to end: what is said to their lines, devices that give and take a few bytes a call
-//! and fail at a call, and workers that judge beside each other.
+//! Tests of scripts from end to end: answers to lines, devices that move a few bytes a call and fail at a call, and
+//! workers that judge concurrently.
 #![tactic(auto)]
 
 #[cfg(test)]

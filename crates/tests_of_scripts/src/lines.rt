@@ -1,4 +1,4 @@
-//! What is said to single lines, blank ones and too long ones among them.
+//! The answers to single lines, blank ones and too long ones included.
 use crate::devices::{Device, GOOD, Said, first_other, is_answered};
 
 /// Scripts of a few lines.

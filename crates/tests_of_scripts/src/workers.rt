@@ -1,40 +1,16 @@
-//! Workers that judge clashes beside each other.
+//! Workers that judge clashes concurrently.
 ghost use Rattle.std.specs.Prelude.{◌<◌, ◌≤◌};
 
-use judge_pool::Gate;
+use fixtures::Together;
 use script_engine::run_script;
 use std::alloc::Global;
 use std::io::Write;
 use std::sync::Wait;
-use std::sync::atomic::{AtomicU64, Ordering};
 use std::test::Fail;
-use std::thread;
 use std::thread::Threads;
-use std::time::{Clock, Duration};
+use std::time::Clock;
 
-/// Holds each post until it was asked for all clashes, for at most 10,000 turns.
-#[derive(Drop)]
-struct Together<'a, C> {
-    clock: &'a C,
-    all: u64,
-    asked: AtomicU64,
-    given_up: AtomicU64,
-}
-
-impl<'a, C: Clock> Gate for Together<'a, C> {
-    fn before_post<R: Wait>(&self, _rt: &R, _round: u32, _k: u32) {
-        self.asked.fetch_add(1, Ordering::SeqCst);
-        for _ in 0..10_000u32 {
-            if self.asked.load(Ordering::SeqCst) >= self.all {
-                return;
-            }
-            thread::sleep(&self.clock, Duration::from_millis(1));
-        }
-        self.given_up.fetch_add(1, Ordering::SeqCst);
-    }
-}
-
-/// So many names that clash, and a line that heals them.
+/// Returns a script with `count` clashing names, and a line that heals them.
 fn clashing(alloc: Global, count: u32) -> Result<Vec<u8>, Fail> {
     let mut script = Vec::new(alloc);
     for k in 0..count {
@@ -47,7 +23,7 @@ fn clashing(alloc: Global, count: u32) -> Result<Vec<u8>, Fail> {
     Ok(script)
 }
 
-/// Whether so many workers judge as many clashes of this script beside each other, one each.
+/// Checks that `workers` workers judge as many clashes of this script concurrently, one each.
 fn run_together<T: Threads + Wait + Sync + AllocGlobal + Clock>(
     rt: &T,
     workers: u32,
@@ -55,17 +31,11 @@ fn run_together<T: Threads + Wait + Sync + AllocGlobal + Clock>(
 ) -> bool
     requires { (0 < workers) × (workers ≤ 16) }
 {
-    let gate = Together {
-        clock: rt,
-        all: u64::from(workers),
-        asked: AtomicU64::new(0),
-        given_up: AtomicU64::new(0),
-    };
+    let gate = Together::new(rt, u64::from(workers));
     let mut reader = script;
     let mut written = Vec::new(rt.alloc());
     let status = run_script(rt, &mut reader, &mut written, workers, &gate);
-    let all_asked = gate.asked.load(Ordering::SeqCst) == u64::from(workers);
-    status == 0 && all_asked && gate.given_up.load(Ordering::SeqCst) == 0
+    status == 0 && gate.counts() == (u64::from(workers), 0)
 }
 
 #[test]

@@ -1,14 +1,17 @@
 -- Programs by the digests of their bytes.
 use Rattle.std.specs.Prelude.{◌≡◌, ℕ, ◌≤◌, Some, List, map as map_list}
-use Rattle.std.specs.FinMap.{FinMap}
+use Rattle.std.specs.Coded.{Coded, coded_list}
+use Rattle.std.specs.FinMap.{FinMap, code}
 use Rattle.std.specs.FinMap as map
 use Rattle.sha2.specs.Sha256.{sha256}
 use Rattle.instruction_set.specs.declared.insn.Insn.{Insn}
+use Rattle.instruction_set.specs.contracts.insn.Insn.{the_row}
 use Rattle.instruction_set.specs.Machine.{IsSafe}
 use Rattle.insn_codec.specs.Encoding.{Spells}
 use Rattle.program.specs.Programs.{IsAccepted}
 use Rattle.clash_record.specs.declared.registrations.ProgramId.{ProgramId}
 use Rattle.clash_record.specs.Orders.{id_cmp}
+use Rattle.clash_record.specs.laws.Codings.{coded_id}
 
 -- the id of bytes is their SHA-256 digest (FIPS 180-4)
 abbrev pub id_of : List ℕ → ProgramId
@@ -17,6 +20,10 @@ id_of bytes = record { 0 = sha256 bytes }
 -- the contents of a store: a finite map from ids to code
 abbrev pub Programs : Type 0
 Programs = FinMap id_cmp (List Insn)
+
+-- how two stores are compared
+abbrev pub coded_programs : Coded Programs
+coded_programs = code coded_id (coded_list the_row.coded)
 
 -- the map of these entries, each of which holds its code in some way
 abbrev pub programs_by : {X : Type 0} → (X → List Insn) → List (ProgramId × X) → Programs

@@ -43,8 +43,8 @@ pub struct UploadStore {
 
 impl Model for UploadStore {
     ghost use Rattle.std.specs.Arc.{arc_value};
-    ghost use Rattle.upload_store.specs.Programs.{programs_by, Programs};
-    ghost use Rattle.upload_store.specs.model.Keeping.{coded_programs, AreKept};
+    ghost use Rattle.upload_store.specs.Programs.{programs_by, Programs, coded_programs};
+    ghost use Rattle.upload_store.specs.model.Keeping.{AreKept};
 
     ghost Value = { Programs };
 
@@ -73,7 +73,7 @@ impl UploadStore {
         self.programs.len()
     }
 
-    /// Returns whether it has no program. Allocates nothing.
+    /// Checks whether the store is empty. Allocates nothing.
     pub fn is_empty(&self) -> bool
         ensures { IsTrue result ↔ (map.len self.now ≡ 0) }
     {

@@ -1,4 +1,4 @@
--- A pass whose note of clash k learns more has looked at clash k.
+-- A pass whose note of clash k learns more has read clash k.
 use Rattle.std.proofs.Common.{◌≡◌, ℕ, zero, suc, ◌+◌, ◌<◌, List, [], ◌∷◌, ◌++◌, take, length, get_or, set, Option, Some, None, IfSome, refl, sym, ap, ◌∙◌, subst, arith}
 use Rattle.std.proofs.lemmas.List.{map-append, map-set, length-map, get_or-map, get_or-set_same, get_or-set_other}
 use Rattle.std.proofs.Math.Seq.{map-set_same, take-suc}
@@ -7,7 +7,7 @@ use Rattle.once_cell.specs.Once.{Agrees}
 use Rattle.partition_table.specs.Tables.{Clash}
 use Rattle.exchange_core.specs.Worlds.{Ruling}
 use Rattle.verdict_board.specs.Boards.{Place, Pass, ruling_at, word_seen, seen, LooksAt}
-use Rattle.verdict_board.specs.model.Places.{WordNote, names, words, place_of, pass_of}
+use Rattle.verdict_board.specs.Views.{WordNote, names, words, place_of, pass_of}
 
 itself : {A : Type 0} (o : Option A) → IfSome o (λ x. o ≡ Some x)
 itself None = tt

@@ -1,4 +1,4 @@
--- What a pass sees at a word that it has found.
+-- The ruling that a pass sees at a word that it has found.
 use Rattle.std.proofs.Common.{◌≡◌, ◌≢◌, ℕ, zero, suc, ◌<◌, Bool, true, false, ◌||◌, ◌==◌, if◌then◌else◌, List, length, Option, Some, None, slice_get, eqb-true, eq-eqb, refl, sym, ap, ◌∙◌, subst, arith}
 use Rattle.std.specs.Option.{option_and_then}
 use Rattle.partition_table.specs.Tables.{Clash, IsOneOfFour, word_of, answer}

@@ -20,7 +20,7 @@ pub total-append : (f : Hand → ℕ) (us vs : List Hand) → total f (us ++ vs)
 total-append f [] vs = omega arith
 total-append f (u ∷ us) vs = omega (arith, total-append f us vs)
 
--- where f of each view is at most so many times g, so is the total
+-- if f of each view is at most n times g, so is the total
 pub total_le : (f g : Hand → ℕ) (views : List Hand) →
     ((by : ℕ) (v : Hand) → get_elem? views by ≡ some v → f v ≤ 4097 * g v) → total f views ≤ 4097 * total g views
 total_le f g [] h = omega arith

@@ -1,4 +1,5 @@
 pub mod Draws
 pub mod Boards
+pub mod Views
 pub mod model
 pub mod laws

@@ -42,7 +42,7 @@ impl<'p> Model for Board<'p> {
     ghost use Rattle.once_cell.specs.Once.{cell_name};
     ghost use Rattle.partition_table.specs.Tables.{max_names};
     ghost use Rattle.verdict_board.specs.Boards.{Board};
-    ghost use Rattle.verdict_board.specs.model.Places.{place_of};
+    ghost use Rattle.verdict_board.specs.Views.{place_of};
 
     ghost Value = { Board };
 

@@ -3,7 +3,7 @@ ghost use Rattle.std.specs.Prelude.{◌≡◌, ℕ, ◌<◌, ◌≤◌, List, ma
 ghost use Rattle.std.specs.declared.option.Option.TheVariants.{None, Some};
 ghost use Rattle.once_cell.specs.Once.{cell_name};
 ghost use Rattle.verdict_board.specs.Boards.{word_seen, seen, LooksAt};
-ghost use Rattle.verdict_board.specs.model.Places.{place_of, names, words};
+ghost use Rattle.verdict_board.specs.Views.{place_of, names, words};
 
 use crate::site::Site;
 use once_cell::race::{Note, OnceBox};
@@ -20,7 +20,7 @@ pub struct Pass<'p> {
 
 impl<'p> Model for Pass<'p> {
     ghost use Rattle.verdict_board.specs.Boards.{Pass};
-    ghost use Rattle.verdict_board.specs.model.Places.{pass_of};
+    ghost use Rattle.verdict_board.specs.Views.{pass_of};
 
     ghost Value = { Pass };
 

@@ -1,7 +1,7 @@
 //! The outcome of a post.
 use partition_table::Verdict;
 
-/// What a pass has seen of a clash after it posted a verdict of the clash.
+/// The part of a clash that a pass has seen after it posted a verdict.
 #[derive(Clone, Copy, Debug)]
 pub enum Posted<'p> {
     /// The posted verdict.

@@ -7,7 +7,6 @@ ghost use Rattle.abstract_value.specs.States.{view};
 ghost use Rattle.verifier.specs.Rules.{in_stack, reach_of, of_scalar, of_scalars, result_of, after_store, on_edge, Passes, fall, jump, writes};
 ghost use Rattle.verifier.specs.model.Flow.{if_live};
 ghost use Rattle.verifier.specs.model.Values.{value_of, with_value};
-ghost use Rattle.instruction_set.specs.declared.insn.Source.TheVariants.{Imm, Reg};
 ghost use Rattle.abstract_value.specs.declared.states.Span.{Span};
 ghost use Rattle.abstract_value.specs.declared.states.RegState.TheVariants.{Stack};
 
@@ -92,57 +91,7 @@ fn tested_number(width: Width, number: i32) -> u64
     }
 }
 
-// Refines the register on this branch of a test against a number. Returns false if the branch is impossible.
-fn on_edge_with_number<D: Domain>(
-    width: Width,
-    test: Test,
-    taken: bool,
-    state: &mut State<D>,
-    register: Register,
-    number: i32,
-) -> bool
-    ensures { if_live result (view state.new)
-        ≡ on_edge D.ops width test taken (view state.old) register.number (Imm number) }
-{
-    let RegState::Scalar(a) = state.register(register) else {
-        return false;
-    };
-    let b = D::single(tested_number(width, number));
-    let Some((a, _)) = D::refine(width, test, taken, &a, &b) else {
-        return false;
-    };
-    state.set_register(register, RegState::Scalar(a));
-    true
-}
-
-// Refines both registers on this branch. Returns false if the branch is impossible.
-fn on_edge_with_register<D: Domain>(
-    width: Width,
-    test: Test,
-    taken: bool,
-    state: &mut State<D>,
-    left: Register,
-    right: Register,
-) -> bool
-    ensures { if_live result (view state.new)
-        ≡ on_edge D.ops width test taken (view state.old) left.number (Reg right) }
-{
-    if left.number == right.number {
-        return true;
-    }
-    let (RegState::Scalar(a), RegState::Scalar(b)) = (state.register(left), state.register(right))
-    else {
-        return false;
-    };
-    let Some((a, b)) = D::refine(width, test, taken, &a, &b) else {
-        return false;
-    };
-    state.set_register(left, RegState::Scalar(a));
-    state.set_register(right, RegState::Scalar(b));
-    true
-}
-
-// Refines a state on this branch of a test. Returns false if the branch is impossible.
+// Refines the registers that a test reads on this branch. Returns false if the branch is impossible.
 fn on_edge<D: Domain>(
     width: Width,
     test: Test,
@@ -153,10 +102,22 @@ fn on_edge<D: Domain>(
 ) -> bool
     ensures { if_live result (view state.new) ≡ on_edge D.ops width test taken (view state.old) register.number source }
 {
-    match source {
-        Source::Imm(number) => on_edge_with_number(width, test, taken, state, register, number),
-        Source::Reg(other) => on_edge_with_register(width, test, taken, state, register, other),
+    let other = match source {
+        Source::Imm(number) => RegState::Scalar(D::single(tested_number(width, number))),
+        Source::Reg(other) if other.number == register.number => return true,
+        Source::Reg(other) => state.register(other),
+    };
+    let (RegState::Scalar(a), RegState::Scalar(b)) = (state.register(register), other) else {
+        return false;
+    };
+    let Some((a, b)) = D::refine(width, test, taken, &a, &b) else {
+        return false;
+    };
+    state.set_register(register, RegState::Scalar(a));
+    if let Source::Reg(other) = source {
+        state.set_register(other, RegState::Scalar(b));
     }
+    true
 }
 
 // Returns the destination's contents after an instruction that writes a register.
@@ -243,8 +204,7 @@ pub(crate) fn jump<D: Domain>(insn: Insn, state: &mut State<D>) -> bool
     ensures { if_live result (view state.new) ≡ jump D.ops insn (view state.old) }
 {
     match insn {
-        Insn::Jump { .. } => true,
-        Insn::JumpLong { .. } => true,
+        Insn::Jump { .. } | Insn::JumpLong { .. } => true,
         Insn::JumpIf {
             width,
             test,

@@ -35,6 +35,7 @@ impl Verified {
     ghost use Rattle.verifier.specs.Structure.{IsStructured};
     ghost use Rattle.verifier.specs.Stores.{is_store};
 
+    /// Marks safe and structured code as verified.
     pub(crate) fn new(code: Code) -> Verified
         requires safe { IsSafe code }
         requires structured { IsStructured code }

@@ -19,7 +19,7 @@ use Rattle.assembler_text.specs.model.Operands.{register_at, source_at, address_
 
 -- ---- operands
 
--- what is read where a kind of operand is asked
+-- the reading of an expected kind of operand
 abbrev pub Read : OperandKind → Type 0
 Read ARegister = Register
 Read ASource = Source

@@ -58,7 +58,7 @@ address_from text = do
 unfoldable pub address_at : List ℕ → Result (Register × ℤ) Fault
 address_at word = asked (inner word) >>= address_from
 
--- the text after the comma that has to stand at its front
+-- the text after its leading comma
 abbrev pub comma : List ℕ → Result (List ℕ) Fault
 comma text = asked (strip 44 text)
 

@@ -1,4 +1,4 @@
--- The pieces of a text: what stands at its front, and what follows.
+-- The pieces of a text: its front, and the rest.
 use Rattle.std.specs.Prelude.{ℕ, List, take, drop, [], ◌∷◌, Option, Some, None, if◌then◌else◌}
 use Rattle.std.specs.Str.{bytes_eq}
 use Rattle.std.specs.List.{prefix_len}

@@ -1,4 +1,4 @@
--- What clap is told of heal's command line.
+-- The description of heal's command line for clap.
 use Rattle.std.specs.Prelude.{◌≡◌, false}
 use Rattle.clap.specs.declared.builder.command.Command.{Command}
 use Rattle.clap.specs.declared.builder.command.Command.TheViews.{out-Command}

@@ -1,4 +1,4 @@
--- What a call changes in the open exchange.
+-- The change of the open exchange by a call.
 use Rattle.std.specs.Prelude.{ℕ}
 use Rattle.std.specs.Option.{option_map}
 use Rattle.exchange_core.specs.Sides.{Judged, Heard, Exchange, put_ruling}

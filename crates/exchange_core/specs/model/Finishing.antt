@@ -1,14 +1,11 @@
--- What a finish needs and makes.
+-- When an exchange can be finished, and with which result.
 use Rattle.std.specs.Prelude.{◌≡◌, ℕ, true, List, length, Some, is_some, slice_get, map}
 use Rattle.std.specs.List.{list_all}
-use Rattle.std.specs.Arc.{arc_value}
 use Rattle.clash_record.specs.Name.{Name}
 use Rattle.partition_table.specs.Tables.{Table}
 use Rattle.clash_record.specs.declared.side_id.SideId.{SideId}
-use Rattle.exchange_core.specs.declared.finished.Finished.TheInside.{Inside}
 use Rattle.exchange_core.specs.Sides.{Judged, Heard, Exchange, clashes_for, fit_for, is_lawful, merge_for, answer_in}
-use Rattle.exchange_core.specs.Finished.{Finished, finished_by, all_held}
-use Rattle.exchange_core.specs.model.Sharing.{names_of}
+use Rattle.exchange_core.specs.Finished.{all_held}
 
 -- the exchange of a side with this table can be finished
 pub record IsMergeable (id : SideId) (own : Table) (exchange : Exchange) : Type 0 where
@@ -29,11 +26,3 @@ IsMergeOf id own exchange rulings table =
     (heard : Heard) (theirs : List Name) → exchange.heard ≡ Some heard → exchange.their_list ≡ Some theirs →
     (rulings ≡ all_held heard.rulings)
     × (table ≡ merge_for id own heard.table (map answer_in heard.rulings) exchange.withdrawn theirs)
-
--- what contracts see of it
-abbrev pub finished_inside : Inside → Finished
-finished_inside f =
-    finished_by f.id f.number f.seed
-    (record { table = f.own; uptime = f.own_uptime; gone = f.own_gone.items })
-    (record { table = arc_value f.other; uptime = f.other_uptime; gone = names_of f.other_gone })
-    f.rulings.items f.table

@@ -1,4 +1,4 @@
--- A side's table beside the other's.
+-- A side's table paired with the other's.
 use Rattle.std.specs.Prelude.{List, Option}
 use Rattle.partition_table.specs.declared.fault.TableFault.{TableFault}
 use Rattle.clash_record.specs.Name.{Name}

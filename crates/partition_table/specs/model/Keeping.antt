@@ -1,40 +1,15 @@
 -- How a table keeps its rows: registrations by name, and the programs that they name by id.
-use Rattle.std.specs.Prelude.{◌≡◌, Bool, if◌then◌else◌, ◌⊎◌, ◌≤◌, Option, Some, None, List, map as map_list, refl}
+use Rattle.std.specs.Prelude.{◌≡◌, Bool, if◌then◌else◌, ◌⊎◌, ◌≤◌, ◌<◌, IsTrue, Option, Some, None, List}
 use Rattle.std.specs.List.{list_any}
-use Rattle.std.specs.Coded.{Coded, code_by, coded×, coded_list, coded_option}
-use Rattle.std.specs.FinMap.{get, insert, remove, len, from_entries, code}
+use Rattle.std.specs.FinMap.{get, insert, remove, len}
 use Rattle.instruction_set.specs.declared.insn.Insn.{Insn}
-use Rattle.instruction_set.specs.contracts.insn.Insn.{the_row}
 use Rattle.clash_record.specs.declared.registrations.ProgramId.{ProgramId}
 use Rattle.clash_record.specs.declared.registrations.ResolverId.{ResolverId}
 use Rattle.clash_record.specs.declared.registrations.ResolverId.TheVariants.{Builtin, Program}
 use Rattle.clash_record.specs.declared.registrations.Registration.{Registration}
-use Rattle.clash_record.specs.laws.Codings.{coded_name, coded_registration}
 use Rattle.upload_store.specs.Programs.{Programs}
 use Rattle.clash_record.specs.Name.{Name}
-use Rattle.partition_table.specs.Tables.{Row, Table, IsCodeOf, max_names, program_of, row_for, same_id}
-
--- a row as the pair of its parts
-abbrev pub coded_row : Coded Row
-coded_row =
-    code_by (Registration × Option (List Insn)) (coded× coded_registration (coded_option (coded_list the_row.coded)))
-    (λ r. (r.registration, r.code)) (λ p. record { registration = p.0; code = p.1 }) (λ _. refl)
-
--- how two tables are told apart
-abbrev pub coded_table : Coded Table
-coded_table = code coded_name coded_row
-
--- entries with another value at each key
-abbrev pub mapped : {K X Y : Type 0} → (X → Y) → List (K × X) → List (K × Y)
-mapped f entries = map_list (λ e. (e.0, f e.1)) entries
-
--- the programs that entries make
-abbrev pub programs_by : {P : Type 0} → (P → List Insn) → List (ProgramId × P) → Programs
-programs_by code_of entries = from_entries (mapped code_of entries)
-
--- the table that registrations make, with the code of these programs
-abbrev pub table_by : Programs → List (Name × Registration) → Table
-table_by programs rows = from_entries (mapped (row_for programs) rows)
+use Rattle.partition_table.specs.Tables.{Row, Table, IsCodeOf, max_names, program_of, same_id, agrees_with}
 
 -- some row names the program
 abbrev pub IsNamed : Table → ProgramId → Type 0
@@ -82,3 +57,10 @@ abbrev pub IsKeptFor : Table → ResolverId → List Insn → Type 0
 IsKeptFor table resolver c =
     (name : Name) × (row : Row) × (get table name ≡ Some row) × (row.registration.resolver ≡ resolver)
     × (row.code ≡ Some c)
+
+-- the row has its code, and can be added under this name
+pub record IsNewRow (table : Table) (name : Name) (row : Row) : Type 0 where
+  pub new : get table name ≡ None
+  pub room : len table < max_names
+  pub coded : IsCodeOf row.registration.resolver row.code
+  pub agrees : IsTrue (agrees_with table row)

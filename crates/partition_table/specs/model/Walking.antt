@@ -29,7 +29,7 @@ module _ {X Y : Type 0} where
   walk [] ys = []
   walk (x ∷ xs) ys = (x.0, x.1, first_at x.0 (drop_before x.0 ys)) ∷ walk xs (drop_before x.0 ys)
 
--- the next row and the rest; nothing where there is no next
+-- the next row and the rest; empty at the end
 abbrev pub from_next : Option (Bor Name × Bor Registration) → List (Name × Registration) → List (Name × Registration)
 from_next None rest = []
 from_next (Some row) rest = deref_pair row ∷ rest

@@ -1,4 +1,4 @@
--- How far a script has come.
+-- The progress of a script.
 use Rattle.std.specs.Prelude.{◌≡◌, ℕ, ◌≤◌, List, ◌++◌, length, Option, Result, IfOk}
 use Rattle.std.specs.Io.KnownBytes.{Consumes, Appends}
 use Rattle.output.specs.Sending.{Sends}
@@ -9,7 +9,7 @@ use Rattle.script_text.specs.Asking.{Asked}
 use Rattle.script_machine.specs.Steps.{Step, Answers}
 use Rattle.script_engine.specs.Runs.{Run, text_from, answer_status, status_of}
 
--- a text is sent after whatever was sent before
+-- a text is sent after the texts before it
 abbrev pub SendsNext : {A E : Type 0} → Option (List ℕ) → Option (List ℕ) → List ℕ → Result A E → Type 0
 SendsNext old new text result = (start : Option (List ℕ)) (before : List ℕ) →
     Appends start old before → Sends start new (before ++ text) result
@@ -28,7 +28,7 @@ abbrev pub Serves : {E : Type 0} → Machine → Machine → Line → ℕ → Op
 Serves old new line number written_old written_new result =
     IsSaid (λ answer. Step old line answer new) number written_old written_new result
 
--- what is asked for is answered
+-- the request is answered
 abbrev pub ServesAsked : {E : Type 0} → Machine → Machine → Asked → ℕ → Option (List ℕ) → Option (List ℕ) → Result ℕ E
     → Type 0
 ServesAsked old new asked number written_old written_new result =

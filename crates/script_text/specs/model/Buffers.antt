@@ -1,10 +1,10 @@
--- How buffers are laid out.
+-- The layout of buffers.
 use Rattle.std.specs.Prelude.{◌≡◌, ◌<◌, ◌≤◌, vec_len}
 use Rattle.script_text.specs.declared.input.ReadBuffer.TheInside as read
 use Rattle.script_text.specs.declared.input.LineBuffer.TheInside as line
 use Rattle.script_text.specs.Lines.{line_limit}
 
--- the unused bytes stand in the buffer, which has room
+-- the unused bytes are in the buffer, which has room
 pub record IsWithin (buffer : read.Inside) : Type 0 where
   pub ordered : buffer.start ≤ buffer.end
   pub within : buffer.end ≤ vec_len buffer.bytes

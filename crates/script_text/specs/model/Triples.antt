@@ -1,4 +1,4 @@
--- What the code keeps of words in threes.
+-- Words in threes, as the code keeps them.
 use Rattle.std.specs.Prelude.{ℕ, Option, Some, None, Result, Ok, Err, List, Vec, [], ◌∷◌, ◌++◌, map}
 use Rattle.std.specs.declared.alloc.Global.{Global}
 use Rattle.clash_record.specs.declared.halves.Uptimes.{Uptimes}

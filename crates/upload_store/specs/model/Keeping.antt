@@ -1,19 +1,11 @@
 -- The entries of a store, each of which holds its code in some way.
 use Rattle.std.specs.Prelude.{◌≡◌, ◌≢◌, Some, None, List, length}
-use Rattle.std.specs.FinMap.{code}
 use Rattle.std.specs.FinMap as map
-use Rattle.std.specs.Coded.{Coded, coded_list}
 use Rattle.instruction_set.specs.declared.insn.Insn.{Insn}
-use Rattle.instruction_set.specs.contracts.insn.Insn.{the_row}
 use Rattle.clash_record.specs.declared.registrations.ProgramId.{ProgramId}
-use Rattle.clash_record.specs.laws.Codings.{coded_id}
 use Rattle.upload_store.specs.Programs.{Programs, programs_by, IsStore, max_programs}
 use Rattle.upload_store.specs.declared.fault.UploadFault.{UploadFault}
 use Rattle.upload_store.specs.declared.fault.UploadFault.TheVariants.{Program, DigestClash, StoreFull, OutOfMemory}
-
--- the coding of stores, which decides their equality
-abbrev pub coded_programs : Coded Programs
-coded_programs = code coded_id (coded_list the_row.coded)
 
 -- entries that are a store, no two of them under one id
 pub record AreKept {X : Type 0} (code_of : X → List Insn) (entries : List (ProgramId × X)) : Type 0 where

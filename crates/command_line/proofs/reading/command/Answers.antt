@@ -23,7 +23,7 @@ given : (words : List Text) (o : Option Task) (r : Result Task CommandFault) (e 
 given words None r e is none same = rw is tt
 given words (Some t) r e is none same = rw is (none, sym same)
 
--- where the rows give no task, the words ask for none
+-- if the rows give no task, neither do the words
 not_given : (words : List Text) (o : Option Task) (r : Result Task CommandFault) (e : CommandFault) → r ≡ ok_or o e
     → option_map asked_by o ≡ option_and_then asked_of (subcommand_of heal_app words)
     → IfErr r (λ f. IsForMemory f ⊎ ((task : Asked) → Asks words task → ⊥))

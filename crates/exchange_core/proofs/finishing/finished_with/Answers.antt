@@ -3,7 +3,7 @@ use Rattle.std.specs.Option.{option_map}
 use Rattle.partition_table.specs.Tables.{Table}
 use Rattle.exchange_core.specs.Sides.{Exchange}
 use Rattle.exchange_core.specs.Finished.{IsFinished, finished_by}
-use Rattle.exchange_core.specs.model.Sharing.{names_of}
+use Rattle.exchange_core.specs.Codings.{names_of}
 use Rattle.exchange_core.specs.model.Finishing.{IsMergeable, IsMergeOf}
 use Rattle.exchange_core.proofs.Ending.{finished_so}
 use Rattle.exchange_core.proofs.finishing.finished_with.Goals as goal

@@ -4,7 +4,7 @@ use Rattle.partition_table.specs.Tables.{Table}
 use Rattle.exchange_core.specs.Sides.{Exchange, fit_for, merge_for}
 use Rattle.exchange_core.specs.Finished.{all_held}
 use Rattle.exchange_core.specs.model.Pairing.{clash_names_for}
-use Rattle.exchange_core.specs.model.Sharing.{names_of}
+use Rattle.exchange_core.specs.Codings.{names_of}
 use Rattle.exchange_core.proofs.Ending.{answers, fits, one_answer_each, merged_so}
 use Rattle.exchange_core.proofs.finishing.merge_exchange.Goals as goal
 

@@ -3,6 +3,7 @@ use Rattle.exchange_core.proofs.Theorem.{one_table, is_lawful_merge}
 use Rattle.exchange_core.proofs.Once.{one_seed, began_once, closed_once, judged_once}
 use Rattle.exchange_core.proofs.Replays.{led}
 use Rattle.exchange_core.proofs.Told.{told}
+use Rattle.exchange_core.proofs.Calling.{events_are_calls, calls_send, calls_happen, judgings_add}
 
 pub returns-clause-one_table : goal.returns-clause-one_table
 returns-clause-one_table c = one_table
@@ -27,3 +28,15 @@ returns-clause-told c = told
 
 pub returns-clause-replayed : goal.returns-clause-replayed
 returns-clause-replayed c = led
+
+pub returns-clause-calls : goal.returns-clause-calls
+returns-clause-calls c = events_are_calls
+
+pub returns-clause-sends : goal.returns-clause-sends
+returns-clause-sends c = calls_send
+
+pub returns-clause-happen : goal.returns-clause-happen
+returns-clause-happen c = calls_happen
+
+pub returns-clause-judgings : goal.returns-clause-judgings
+returns-clause-judgings c = judgings_add

@@ -2,7 +2,7 @@ use Rattle.std.proofs.Common.{◌≡◌, Some, None, ap, ◌∙◌}
 use Rattle.std.specs.Arc.{arc_value}
 use Rattle.std.specs.Cmp.Lexicographic.{pointwise}
 use Rattle.instruction_set.specs.contracts.insn.InsnPartialEq.TheImpl as insn_eq
-use Rattle.partition_table.specs.model.Keeping.{programs_by}
+use Rattle.upload_store.specs.Programs.{programs_by}
 use Rattle.partition_table.proofs.Holding.{code_lent, room_at_none, room_at_some}
 use Rattle.partition_table.proofs.programs.has_room_at.Goals as goal
 

@@ -1,7 +1,7 @@
 use Rattle.std.proofs.Common.{ap, sym, ◌∙◌}
 use Rattle.std.specs.Arc.{arc_value}
 use Rattle.partition_table.specs.Tables.{program_of}
-use Rattle.partition_table.specs.model.Keeping.{programs_by}
+use Rattle.upload_store.specs.Programs.{programs_by}
 use Rattle.partition_table.proofs.Holding.{held_already, held_newly, is_some_code, is_none_by}
 use Rattle.partition_table.proofs.programs.hold_program.Goals as goal
 

@@ -3,7 +3,7 @@ use Rattle.std.specs.Arc.{arc_value}
 use Rattle.std.specs.Map.Iter.{deref_pair}
 use Rattle.std.proofs.lemmas.Map.Iter.{btree_map_turn}
 use Rattle.clash_record.specs.laws.Orders.{ids_total}
-use Rattle.partition_table.specs.model.Keeping.{programs_by}
+use Rattle.upload_store.specs.Programs.{programs_by}
 use Rattle.partition_table.proofs.Agreeing.{AgreeSoFar, one_more_agrees, all_agree, one_differs}
 use Rattle.partition_table.proofs.programs.programs_agree.Goals as goal
 

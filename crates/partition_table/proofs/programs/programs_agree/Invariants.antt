@@ -5,7 +5,8 @@ use Rattle.std.specs.BTreeMap.{is_at}
 use Rattle.clash_record.specs.declared.registrations.ProgramId.{ProgramId}
 use Rattle.clash_record.specs.declared.registrations.ResolverId.TheVariants.{Program}
 use Rattle.clash_record.specs.Orders.{id_cmp}
-use Rattle.partition_table.specs.model.Keeping.{programs_by, has_room_for}
+use Rattle.partition_table.specs.model.Keeping.{has_room_for}
+use Rattle.upload_store.specs.Programs.{programs_by}
 use Rattle.partition_table.proofs.programs.programs_agree.Given as goal
 
 -- each program so far agrees, and the others are left

@@ -6,30 +6,28 @@ use Rattle.abstract_value.specs.States.{make_span}
 use Rattle.abstract_value.specs.declared.states.Span.{Span}
 use Rattle.abstract_value.proofs.states.Span.join.Goals as goal
 
-least : (a b : Span) (z : ℤ) → z ≡ int_min (to_z w32 (of_z w32 a.lo)) (to_z w32 (of_z w32 b.lo))
-    → to_z w32 (of_z w32 z) ≡ int_min a.lo b.lo
-least a b z e =
-    let l : negsuc 65535 ≤ℤ a.lo = a.near_below in
-    let h : a.hi ≤ℤ pos 65536 = a.near_above in
-    let o : a.lo ≤ℤ a.hi = a.ordered in
-    let m : negsuc 65535 ≤ℤ b.lo = b.near_below in
-    let n : b.hi ≤ℤ pos 65536 = b.near_above in
-    let p : b.lo ≤ℤ b.hi = b.ordered in
-    omega (arith, ints, clamps)
+abbrev Near : ℤ → Type 0
+Near z = (negsuc 65535 ≤ℤ z) × (z ≤ℤ pos 65536)
 
-greatest : (a b : Span) (z : ℤ) → z ≡ int_max (to_z w32 (of_z w32 a.hi)) (to_z w32 (of_z w32 b.hi))
-    → to_z w32 (of_z w32 z) ≡ int_max a.hi b.hi
-greatest a b z e =
+near : (a : Span) → Near a.lo × Near a.hi
+near a =
     let l : negsuc 65535 ≤ℤ a.lo = a.near_below in
     let h : a.hi ≤ℤ pos 65536 = a.near_above in
     let o : a.lo ≤ℤ a.hi = a.ordered in
-    let m : negsuc 65535 ≤ℤ b.lo = b.near_below in
-    let n : b.hi ≤ℤ pos 65536 = b.near_above in
-    let p : b.lo ≤ℤ b.hi = b.ordered in
-    omega (arith, ints, clamps)
+    ((l, omega (arith, ints)), (omega (arith, ints), h))
+
+least : (x y z : ℤ) → Near x → Near y → z ≡ int_min (to_z w32 (of_z w32 x)) (to_z w32 (of_z w32 y))
+    → to_z w32 (of_z w32 z) ≡ int_min x y
+least x y z (l, h) (m, n) e = omega (arith, ints, clamps)
+
+greatest : (x y z : ℤ) → Near x → Near y → z ≡ int_max (to_z w32 (of_z w32 x)) (to_z w32 (of_z w32 y))
+    → to_z w32 (of_z w32 z) ≡ int_max x y
+greatest x y z (l, h) (m, n) e = omega (arith, ints, clamps)
 
 pub returns : goal.returns
 returns c =
+    let a = near c.args.self.now in
+    let b = near c.args.other.now in
     c.new.ensures
-    ∙ ap₂ make_span (least c.args.self.now c.args.other.now c.min.result c.min.ensures.value)
-    (greatest c.args.self.now c.args.other.now c.max.result c.max.ensures.value)
+    ∙ ap₂ make_span (least _ _ c.min.result a.0 b.0 c.min.ensures.value)
+    (greatest _ _ c.max.result a.1 b.1 c.max.ensures.value)

@@ -2,9 +2,9 @@ use Rattle.std.proofs.Common.{◌≡◌, Some, ap, sym, subst, ◌∙◌}
 use Rattle.partition_table.specs.Tables.{Table}
 use Rattle.exchange_core.specs.Sides.{Exchange, Side, finish}
 use Rattle.exchange_core.specs.Finished.{finished_at, finished_from}
-use Rattle.exchange_core.specs.model.Keeping.{side_of}
+use Rattle.exchange_core.specs.Views.{state_seen}
 use Rattle.exchange_core.specs.model.Finishing.{IsMergeable, IsMergeOf}
-use Rattle.exchange_core.proofs.Rulings.{some_inj}
+use Rattle.exchange_core.specs.laws.Carried.{some_inj}
 use Rattle.exchange_core.proofs.Ending.{finishes, gives}
 use Rattle.exchange_core.proofs.state.State.finish.Goals.{After-replace-own}
 use Rattle.exchange_core.proofs.state.State.finish.Goals as goal
@@ -47,7 +47,7 @@ returns-clause-done c =
     let merged = made b m.heard m.theirs m.was_heard m.list_heard in
     let table = c.replace-own.ensures.after ∙ (c.in_ok-table.ensures ∙ merged.1) in
     ap finish (sym c.self.view_is)
-    ∙ (finishes (side_of c.self.inside) c.in-Some-take.exchange m (opened b)
+    ∙ (finishes (state_seen c.self.inside) c.in-Some-take.exchange m (opened b)
     ∙ (λ i. Some (record {
       id = c.self.inside.id;
       table = sym table i;
@@ -63,6 +63,6 @@ returns-clause-given c =
     let id = c.self.inside.id in
     let x = c.in-Some-take.exchange in
     ap finished_from (sym c.self.view_is)
-    ∙ (gives (side_of c.self.inside) x m (opened b)
+    ∙ (gives (state_seen c.self.inside) x m (opened b)
     ∙ sym (ap Some (c.finished_with.ensures m.heard m.theirs m.was_heard m.list_heard
     ∙ (λ i. finished_at id (c.replace-own.ensures.value i) x m.heard m.theirs (merged.0 i) (merged.1 i)))))

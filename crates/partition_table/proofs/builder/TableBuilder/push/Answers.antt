@@ -3,7 +3,9 @@ use Rattle.std.specs.Option.{option_map}
 use Rattle.std.specs.Arc.{arc_value}
 use Rattle.std.specs.FinMap.{insert}
 use Rattle.partition_table.specs.Tables.{Row}
-use Rattle.partition_table.specs.model.Keeping.{programs_by, table_by, IsHeld}
+use Rattle.partition_table.specs.model.Keeping.{IsHeld}
+use Rattle.partition_table.specs.Views.{table_by}
+use Rattle.upload_store.specs.Programs.{programs_by}
 use Rattle.partition_table.proofs.Held.{held_now, room_from_agrees}
 use Rattle.partition_table.proofs.Changes.{held_more, made_pushed}
 use Rattle.partition_table.proofs.builder.TableBuilder.push.Goals.{In-Ok}

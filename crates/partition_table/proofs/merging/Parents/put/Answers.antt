@@ -10,28 +10,26 @@ use Rattle.partition_table.specs.model.Merging.{IsRowOf}
 use Rattle.partition_table.proofs.Uniting.{coded_row_of, part_agrees, row_of_parts, row_with, stays_put}
 use Rattle.partition_table.proofs.merging.Parents.put.Goals as goal
 
-pub push-requires-clause-coded : goal.push-requires-clause-coded
-push-requires-clause-coded c =
+pub push-requires : goal.push-requires
+push-requires c =
     let p = c.args.self.now in
     let kept = c.in-Some.kept.now in
     let held = rw c.in-Some.is at c.requires.held in
     let code = option_map (λ p. arc_value p.now) c.program_for.result in
     let coded = c.program_for.ensures c.args.name.now held.0 held.1 (ap (λ r. r.resolver) held.2) in
-    subst (λ row. IsCodeOf row.registration.resolver row.code) (row_of_parts held.0 kept code held.2 coded)
-    (coded_row_of p.a.now p.b.now c.requires.tables.0 c.requires.tables.1 c.requires.agree c.args.name.now held.0
-    held.1)
-
-pub push-requires-clause-agrees : goal.push-requires-clause-agrees
-push-requires-clause-agrees c =
-    let p = c.args.self.now in
-    let kept = c.in-Some.kept.now in
-    let held = rw c.in-Some.is at c.requires.held in
-    let code = option_map (λ p. arc_value p.now) c.program_for.result in
-    let coded = c.program_for.ensures c.args.name.now held.0 held.1 (ap (λ r. r.resolver) held.2) in
-    subst (λ row. agrees_with c.args.merged.now row ≡ true) (row_of_parts held.0 kept code held.2 coded)
-    (part_agrees p.a.now p.b.now c.requires.tables.0 c.requires.tables.1 c.requires.agree c.args.merged.now
-    c.requires.part
-    c.args.name.now held.0 held.1)
+    let is_row = row_of_parts held.0 kept code held.2 coded in
+    record {
+      new = c.requires.new;
+      room = c.requires.room;
+      coded =
+          subst (λ row. IsCodeOf row.registration.resolver row.code) is_row
+          (coded_row_of p.a.now p.b.now c.requires.tables.0 c.requires.tables.1 c.requires.agree c.args.name.now held.0
+          held.1);
+      agrees =
+          subst (λ row. agrees_with c.args.merged.now row ≡ true) is_row
+          (part_agrees p.a.now p.b.now c.requires.tables.0 c.requires.tables.1 c.requires.agree c.args.merged.now
+          c.requires.part c.args.name.now held.0 held.1);
+    }
 
 pub returns : goal.returns
 returns c = on_ok_weaker c.push.result (λ e row shown of_row.

@@ -3,7 +3,9 @@ use Rattle.std.specs.Option.{option_map}
 use Rattle.std.specs.Arc.{arc_value}
 use Rattle.std.specs.FinMap.{insert}
 use Rattle.partition_table.specs.Tables.{Row}
-use Rattle.partition_table.specs.model.Keeping.{programs_by, table_by, IsHeld}
+use Rattle.partition_table.specs.model.Keeping.{IsHeld}
+use Rattle.partition_table.specs.Views.{table_by}
+use Rattle.upload_store.specs.Programs.{programs_by}
 use Rattle.partition_table.proofs.Held.{held_now, room_from_agrees}
 use Rattle.partition_table.proofs.Changes.{released, held_more, made_more}
 use Rattle.partition_table.proofs.table.Table.keep.Goals.{After-from, In_default}
@@ -17,7 +19,7 @@ hold_program-requires-clause-room c =
     record { registration = c.args.registration; code = option_map (λ p. arc_value p.now) c.args.program }
     c.requires.agrees
 
--- where there is no place for the row, the programs are as they were
+-- if the row can't be inserted, the programs are unchanged
 programs_back : (c : After-from) → programs_by arc_value c.release_program.new.programs.entries
     ≡ programs_by arc_value c.self.inside.programs.entries
 programs_back c =

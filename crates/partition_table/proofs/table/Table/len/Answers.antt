@@ -2,7 +2,8 @@ use Rattle.std.proofs.Common.{ap, sym, subst, ◌∙◌}
 use Rattle.std.specs.Arc.{arc_value}
 use Rattle.std.specs.FinMap.{len}
 use Rattle.partition_table.specs.Tables.{IsTable}
-use Rattle.partition_table.specs.model.Keeping.{programs_by, table_by}
+use Rattle.partition_table.specs.Views.{table_by}
+use Rattle.upload_store.specs.Programs.{programs_by}
 use Rattle.partition_table.proofs.Held.{count_of, is_table, looked_up}
 use Rattle.partition_table.proofs.table.Table.len.Goals as goal
 

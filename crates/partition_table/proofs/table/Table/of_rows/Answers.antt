@@ -1,6 +1,7 @@
 use Rattle.std.proofs.Common.{sym, subst}
 use Rattle.std.specs.Arc.{arc_value}
-use Rattle.partition_table.specs.model.Keeping.{programs_by, IsHeld}
+use Rattle.partition_table.specs.model.Keeping.{IsHeld}
+use Rattle.upload_store.specs.Programs.{programs_by}
 use Rattle.partition_table.proofs.Building.{made_of}
 use Rattle.partition_table.proofs.table.Table.of_rows.Goals as goal
 

@@ -1,7 +1,7 @@
 use Rattle.std.proofs.Common.{ap, sym, ◌∙◌}
 use Rattle.std.specs.Arc.{arc_value}
 use Rattle.partition_table.specs.Tables.{code_for}
-use Rattle.partition_table.specs.model.Keeping.{programs_by}
+use Rattle.upload_store.specs.Programs.{programs_by}
 use Rattle.partition_table.proofs.Held.{held_now, code_held, kept_for}
 use Rattle.partition_table.proofs.Holding.{code_lent}
 use Rattle.partition_table.proofs.table.Table.program_for.Goals as goal

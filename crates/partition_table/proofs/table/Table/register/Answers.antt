@@ -3,7 +3,7 @@ use Rattle.std.specs.Option.{option_map}
 use Rattle.std.specs.Arc.{arc_value}
 use Rattle.std.specs.FinMap.{len}
 use Rattle.partition_table.specs.Tables.{agrees_with}
-use Rattle.partition_table.specs.model.Keeping.{programs_by}
+use Rattle.upload_store.specs.Programs.{programs_by}
 use Rattle.partition_table.proofs.Holding.{is_none_by}
 use Rattle.partition_table.proofs.Held.{has_name, held_now, count_of}
 use Rattle.partition_table.proofs.Registering.{handed_on, taken_due, full_due, unknown_due, other_due, none_due, has_place, agrees_when, differs_when}
@@ -60,28 +60,23 @@ returns-then-not-has_room-clause-answer c =
     (option_map (λ p. arc_value p.now) c.in_ok-program.program)
     c.has_room.result c.has_room.ensures c.if-not-has_room.true))
 
-pub keep-requires-clause-new : goal.keep-requires-clause-new
-keep-requires-clause-new c =
+pub keep-requires : goal.keep-requires
+keep-requires c =
     let programs = programs_by arc_value c.self.inside.programs.entries in
+    let held = held_now programs c.self.inside.rows.entries c.args.self.now c.self.view_is c.self.invariant in
     let named = sym (has_name programs c.self.inside.rows.entries c.args.self.now c.self.view_is c.args.name)
     ∙ sym c.contains_key.ensures in
-    is_none_by _ (named ∙ c.if-contains_key.false)
-
-pub keep-requires-clause-room : goal.keep-requires-clause-room
-keep-requires-clause-room c =
-    let programs = programs_by arc_value c.self.inside.programs.entries in
-    let held = held_now programs c.self.inside.rows.entries c.args.self.now c.self.view_is c.self.invariant in
     let count = c.len.ensures.len ∙ sym (count_of programs c.self.inside.rows.entries c.len.ensures.ordered)
     ∙ ap len c.self.view_is in
-    has_place c.len.result (len c.args.self.now) count held.0.few c.if-len-eq-MAX_NAMES.false
-
-pub keep-requires-clause-agrees : goal.keep-requires-clause-agrees
-keep-requires-clause-agrees c =
-    let programs = programs_by arc_value c.self.inside.programs.entries in
-    let held = held_now programs c.self.inside.rows.entries c.args.self.now c.self.view_is c.self.invariant in
-    agrees_when programs c.args.self.now held.0 held.1 c.args.registration
-    (option_map (λ p. arc_value p.now) c.in_ok-program.program)
-    c.has_room.result c.has_room.ensures c.if-not-has_room.false
+    record {
+      new = is_none_by _ (named ∙ c.if-contains_key.false);
+      room = has_place c.len.result (len c.args.self.now) count held.0.few c.if-len-eq-MAX_NAMES.false;
+      coded = c.in_ok-program.ensures.coded;
+      agrees =
+          agrees_when programs c.args.self.now held.0 held.1 c.args.registration
+          (option_map (λ p. arc_value p.now) c.in_ok-program.program)
+          c.has_room.result c.has_room.ensures c.if-not-has_room.false;
+    }
 
 pub returns-clause-answer : goal.returns-clause-answer
 returns-clause-answer c =

@@ -1,7 +1,8 @@
 use Rattle.std.proofs.Common.{ap, subst, ◌∙◌}
 use Rattle.std.specs.Arc.{arc_value}
 use Rattle.partition_table.specs.Tables.{IsTable, rows_of}
-use Rattle.partition_table.specs.model.Keeping.{programs_by, table_by}
+use Rattle.partition_table.specs.Views.{table_by}
+use Rattle.upload_store.specs.Programs.{programs_by}
 use Rattle.partition_table.proofs.Held.{rows_made, is_table, looked_up}
 use Rattle.partition_table.proofs.table.Table.rows.Goals as goal
 

@@ -1,7 +1,9 @@
 use Rattle.std.proofs.Common.{◌≡◌, ap, sym, subst, ◌∙◌}
 use Rattle.std.specs.Arc.{arc_value}
 use Rattle.std.specs.FinMap.{from_entries}
-use Rattle.partition_table.specs.model.Keeping.{programs_by, table_by, IsHeld}
+use Rattle.partition_table.specs.model.Keeping.{IsHeld}
+use Rattle.partition_table.specs.Views.{table_by}
+use Rattle.upload_store.specs.Programs.{programs_by}
 use Rattle.partition_table.proofs.Holding.{same_clone, shared_clone}
 use Rattle.partition_table.proofs.table.Table.try_clone.Goals.{In_ok-clone-2}
 use Rattle.partition_table.proofs.table.Table.try_clone.Goals as goal

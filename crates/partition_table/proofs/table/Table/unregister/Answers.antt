@@ -5,7 +5,9 @@ use Rattle.std.specs.FinMap.{get, remove}
 use Rattle.clash_record.specs.laws.Orders.{names_total, names_exact}
 use Rattle.partition_table.specs.Tables.{row_for}
 use Rattle.partition_table.specs.Faults.{unregister_answer}
-use Rattle.partition_table.specs.model.Keeping.{programs_by, table_by, IsHeld}
+use Rattle.partition_table.specs.model.Keeping.{IsHeld}
+use Rattle.partition_table.specs.Views.{table_by}
+use Rattle.upload_store.specs.Programs.{programs_by}
 use Rattle.partition_table.proofs.Maps.{remove_absent}
 use Rattle.partition_table.proofs.Held.{held_now, get_row}
 use Rattle.partition_table.proofs.Removing.{left_held}

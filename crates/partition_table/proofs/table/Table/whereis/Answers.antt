@@ -1,5 +1,5 @@
 use Rattle.std.specs.Arc.{arc_value}
-use Rattle.partition_table.specs.model.Keeping.{programs_by}
+use Rattle.upload_store.specs.Programs.{programs_by}
 use Rattle.partition_table.proofs.Held.{registration_lent}
 use Rattle.partition_table.proofs.table.Table.whereis.Goals as goal
 

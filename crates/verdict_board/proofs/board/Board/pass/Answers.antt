@@ -1,7 +1,7 @@
 use Rattle.std.proofs.Common.{rules, ◌≡◌, ◌<◌, ℕ, ◌+◌, List, None, map, length, take, get_or, sym, ap, ◌∙◌, subst}
 use Rattle.once_cell.specs.Once.{cell_name}
 use Rattle.std.proofs.lemmas.List.{get_or-map, length-map}
-use Rattle.verdict_board.specs.model.Places.{WordNote, names, words}
+use Rattle.verdict_board.specs.Views.{WordNote, names, words}
 use Rattle.verdict_board.proofs.Looking.{none_more, names_more}
 use Rattle.verdict_board.proofs.board.Board.pass.Goals as goal
 

@@ -1,6 +1,6 @@
 use Rattle.std.proofs.Common.{◌≡◌, ℕ, None, map, take, get_or}
 use Rattle.once_cell.specs.Once.{cell_name}
-use Rattle.verdict_board.specs.model.Places.{names, words}
+use Rattle.verdict_board.specs.Views.{names, words}
 use Rattle.verdict_board.proofs.board.Board.pass.Given as goal
 
 abbrev pub invariant-loop-cell : goal.invariant-loop-cell

@@ -1,4 +1,4 @@
--- A board's place and a pass's view, of what the code keeps.
+-- What contracts see of a board and of a pass.
 use Rattle.std.specs.Prelude.{ℕ, List, map, Option}
 use Rattle.partition_table.specs.Tables.{Clash}
 use Rattle.once_cell.specs.declared.race.note.Note.{Note}

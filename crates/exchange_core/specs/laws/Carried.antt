@@ -1,10 +1,14 @@
--- What a successful call did.
-use Rattle.std.proofs.Common.{◌≡◌, Bool, true, false, if◌then◌else◌, List, Option, Some, None, refl, option_map, option_and_then}
+-- What a side had where a call was carried out, and what the call left.
+use Rattle.std.proofs.Common.{◌≡◌, Bool, true, false, if◌then◌else◌, List, Option, Some, None, is_some, refl, option_map, option_and_then}
+use Rattle.std.proofs.lemmas.Bool.{and_parts}
+use Rattle.std.specs.List.{list_all}
 use Rattle.clash_record.specs.Name.{Name}
 use Rattle.exchange_core.specs.Sides.{Heard, Exchange, Side, in_exchange, merged_table, finish_in, finish}
 
 pub some_inj : {X : Type 0} {x y : X} → Some x ≡ Some y → x ≡ y
 some_inj {X} {x} {y} e = cc
+
+-- ---- tests that were passed
 
 pub when : {X : Type 0} (b : Bool) (x y : X) → (if b then Some x else None) ≡ Some y → (b ≡ true) × (x ≡ y)
 when true x y e = (refl, some_inj e)
@@ -18,6 +22,8 @@ pub when_some : {X : Type 0} (b : Bool) (o : Option X) (y : X) → (if b then o 
     (b ≡ true) × (o ≡ Some y)
 when_some true o y e = (refl, e)
 when_some false o y e = cc
+
+-- ---- calls that were carried out
 
 -- a call of an open side
 pub record Goes (side new : Side) (call : Exchange → Option Exchange) : Type 0 where
@@ -49,6 +55,8 @@ pub record Found (side new : Side) : Type 0 where
   pub opened : side.exchange ≡ Some exchange
   pub was_heard : exchange.heard ≡ Some heard
   pub list_heard : exchange.their_list ≡ Some theirs
+  pub full : list_all is_some heard.rulings ≡ true
+  pub list_closed : exchange.closed ≡ true
   pub new_is : record side { table = merged_table side exchange heard theirs; exchange = None } ≡ new
 
 pub found : (side new : Side) → finish side ≡ Some new → Found side new
@@ -58,15 +66,20 @@ found side new e = in_phase side.exchange refl e
         exchange.heard ≡ o → exchange.their_list ≡ l → finish_in side exchange o l ≡ Some new → Found side new
     in_heard exchange opened None l is at e = cc
     in_heard exchange opened (Some heard) None is at e = cc
-    in_heard exchange opened (Some heard) (Some theirs) is at e = record {
-      exchange = exchange;
-      heard = heard;
-      theirs = theirs;
-      opened = opened;
-      was_heard = is;
-      list_heard = at;
-      new_is = (when _ _ _ e).1;
-    }
+    in_heard exchange opened (Some heard) (Some theirs) is at e =
+        let h = when _ _ _ e in
+        let c = and_parts _ _ h.0 in
+        record {
+          exchange = exchange;
+          heard = heard;
+          theirs = theirs;
+          opened = opened;
+          was_heard = is;
+          list_heard = at;
+          full = c.0;
+          list_closed = c.1;
+          new_is = h.1;
+        }
 
     in_phase : (o : Option Exchange) → side.exchange ≡ o →
         option_and_then (λ exchange. finish_in side exchange exchange.heard exchange.their_list) o ≡ Some new →

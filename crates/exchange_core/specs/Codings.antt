@@ -1,16 +1,23 @@
--- What a side keeps and sends, as data.
+-- How what a side keeps and sends is compared.
 use Rattle.std.specs.Prelude.{◌≡◌, ℕ, Bool, ◌==◌, if◌then◌else◌, List, Option, refl}
+use Rattle.std.specs.Arc.{arc_value}
+use Rattle.std.specs.declared.sync.Arc.{Arc}
+use Rattle.std.specs.declared.vec.Vec.{Vec}
 use Rattle.std.specs.Coded.{Coded, code_by, coded×, coded_ℕ, coded_bool, coded_list, coded_option}
 use Rattle.builtin_resolvers.specs.contracts.verdicts.Verdict3 as verdict
 use Rattle.builtin_resolvers.specs.declared.verdicts.Verdict3.{Verdict3}
 use Rattle.clash_record.specs.laws.Codings.{coded_name}
 use Rattle.clash_record.specs.Name.{Name}
 use Rattle.partition_table.specs.Tables.{Table}
-use Rattle.partition_table.specs.model.Keeping.{coded_table}
+use Rattle.partition_table.specs.Views.{coded_table}
 use Rattle.clash_record.specs.declared.side_id.SideId.{SideId}
 use Rattle.clash_record.specs.declared.side_id.SideId.TheVariants.{A, B}
 use Rattle.exchange_core.specs.Sides.{Offer, Withdrawals, Judged, Heard, Exchange, Side}
 use Rattle.exchange_core.specs.Finished.{Finished}
+
+-- names that have several owners
+abbrev pub names_of : {Y Z : Type 0} → Arc (Vec Name Y) Z → List Name
+names_of names = (arc_value names).items
 
 abbrev pub side_place : SideId → ℕ
 side_place A = 0
