@@ -2,7 +2,7 @@
 use crate::devices::{Said, first_other};
 
 /// Scripts that heal a split, or are refused.
-const SCRIPTS: [Said; 11] = [
+const SCRIPTS: [Said; 13] = [
     // Both halves have the merge: the clash `db`, and `web` of one half.
     (
         "register a db 1.10 5 0 - exit\nregister b db 2.20 9 0 - exit\nregister b web 2.21 1 0 - notify-all\nheal 0\nshow a\nshow b\n",
@@ -60,6 +60,18 @@ const SCRIPTS: [Said; 11] = [
         "register a db 1.10 5 0 - exit\nregister b db 2.20 9 0 - exit\nheal 0 gone a db gone a db\nshow a\nwhereis b db\nunregister a db\nregister a db 1.10 5 0 - exit\nregister b web 2.20 9 0 - exit\n",
         2,
         "yes\nyes\nline 3: refused 47\nend\n2.20\nline 6: refused 31\nyes\nyes\n",
+    ),
+    // Both halves withdraw, in the order of the line.
+    (
+        "register a x 1.1 0 0 - exit\nregister a z 1.2 0 0 - exit\nregister b y 2.1 0 0 - exit\nheal 0 gone b y gone a x\nshow a\nshow b\n",
+        0,
+        "yes\nyes\nyes\nwithdrew b y\nwithdrew a x\nhealed 1 names\nz 1.2 0 0 exit\nend\nz 1.2 0 0 exit\nend\n",
+    ),
+    // Nothing is withdrawn after a refusal.
+    (
+        "register a db 1.10 5 0 - exit\nregister b db 2.20 9 0 - exit\nregister b web 2.21 1 0 - exit\nheal 0 gone a db gone a x gone b web\nshow a\nshow b\n",
+        2,
+        "yes\nyes\nyes\nline 4: refused 31\nend\ndb 2.20 9 0 exit\nweb 2.21 1 0 exit\nend\n",
     ),
     // The next number heals after both.
     (

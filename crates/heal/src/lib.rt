@@ -1,0 +1,48 @@
+//! Heals the name registries of two halves of a cluster after a split: all that an embedder calls.
+//!
+//! This crate defines nothing. It re-exports the public items of the crates below, so that an embedder depends on this
+//! crate alone. docs/EMBEDDING.md shows how to use it.
+//!
+//! | task | items | crate |
+//! |---|---|---|
+//! | heal a split in one process | `Cluster`, `Plan`, `Healing`, `HealFault`, `Gate`, `OpenGate` | `cluster`, `judge_pool` |
+//! | run one half | `Side`, `Offer`, `Withdrawals`, `Finished`, `Judged`, `SideFault`, `history_theorem` | `exchange_core` |
+//! | judge clashes | `clashes`, `Clash`, `ClashList`, `word`, `Verdict`, `Ruling` | `partition_table` |
+//! | merge tables | `Table`, `Rows`, `fit`, `merge`, `TableFault` | `partition_table` |
+//! | keep uploaded programs | `UploadStore`, `Uploaded`, `UploadFault` | `upload_store` |
+//! | name and register | `name`, `Name`, `Owner`, `Registration`, `ResolverId`, `SideId`, `Withdrawal` | `clash_record` |
+//! | notify owners | `notices`, `Notice`, `Notices`, `Verdict3`, `decide` | `builtin_resolvers` |
+//! | report refusals | `Numbered`, `NumberedRefusal`, `Place`, `refusal_of`, `words_of`, `REFUSALS` | `numbered` |
+//! | read, write and run programs | the module `programs` | `program` and those below it |
+//! | judge with several threads | the module `boards` | `verdict_board`, `judge_pool`, `registry_lock` |
+//!
+//! Limits: 4,096 names in a table, 256 programs in a store, 65,536 events in the journal of a side, 1,024 slots in a
+//! program, 16 workers, and two halves in an exchange. The crate has no transport and no storage: the embedder delivers
+//! messages and notices, and messages have no encoding as bytes yet.
+//!
+//! Each fault implements `Numbered`. `REFUSALS` has the words of each number, and docs/REFUSALS.md an example.
+#![tactic(auto)]
+
+pub mod boards;
+pub mod programs;
+
+pub use builtin_resolvers::{Notice, Notices, Verdict3, decide, notices};
+pub use clash_record::{
+    BadName, Builtin, NAME_LEN, Name, Owner, ProgramId, Registration, ResolverId, SideId, Uptimes,
+    Withdrawal, name,
+};
+pub use cluster::{Cluster, HealFault, Healing, Plan};
+pub use exchange_core::{
+    Finished, Judged, MAX_EVENTS, MissingPart, Offer, ShownRows, Side, SideFault, Withdrawals,
+    history_theorem,
+};
+pub use judge_pool::{Gate, OpenGate};
+pub use numbered::{
+    Numbered, NumberedRefusal, OUT_OF_MEMORY, Place, REFUSALS, refusal_of, words_of,
+};
+pub use partition_table::{
+    Clash, ClashList, MAX_NAMES, Rows, Ruling, Table, TableFault, Verdict, clashes, fit, merge,
+    word,
+};
+pub use registry_lock::MeetFault;
+pub use upload_store::{MAX_PROGRAMS, UploadFault, UploadStore, Uploaded};
