@@ -14,10 +14,10 @@ use crate::ruling::judge_one;
 use abstract_value::{Both, Domain, Interval};
 use output::send;
 use std::alloc::{AllocError, Global};
-use std::io::{ErrorKind, Read, Write};
+use std::io::{ErrorKind, Input, Read, Write};
 use std::rt::Files;
 use std::{fs, io};
-use task::{Profile, Question};
+use task::{Profile, Question, is_standard_input};
 
 // Returns the failure to report of two: out of memory, else the refusal with the lesser number.
 fn first(e: Failure, f: Failure) -> Failure
@@ -109,11 +109,14 @@ pub fn asm_from<R: Read + Drop>(alloc: Global, reader: R) -> Result<Answer, Fail
     })
 }
 
-// Assembles a file's text.
+// Assembles the text of a file or of standard input.
 #[tactic(auto, using(crate::proofs::Readings::readings))]
-fn asm<R: Files + AllocGlobal>(rt: &R, file: &str) -> Result<Answer, Failure>
+fn asm<R: Files + Input + AllocGlobal>(rt: &R, file: &str) -> Result<Answer, Failure>
     ensures { IfOk (answer_unless_memory result) (IsOfBytes None) }
 {
+    if is_standard_input(file) {
+        return asm_from(rt.alloc(), rt.reader());
+    }
     match fs::open(rt, file) {
         Ok(file) => asm_from(rt.alloc(), file),
         Err(error) => reading_fault(error.kind()),
@@ -121,7 +124,10 @@ fn asm<R: Files + AllocGlobal>(rt: &R, file: &str) -> Result<Answer, Failure>
 }
 
 // Answers a question.
-fn answer_to<R: Files + AllocGlobal>(rt: &R, question: &Question<'_>) -> Result<Answer, Failure>
+fn answer_to<R: Files + Input + AllocGlobal>(
+    rt: &R,
+    question: &Question<'_>,
+) -> Result<Answer, Failure>
     ensures { IfOk (answer_unless_memory result) (IsAnswer question.now) }
 {
     let alloc = rt.alloc();
@@ -156,7 +162,7 @@ pub(crate) fn refuse_memory<W: Write>(writer: &mut W) -> u8
 
 /// Replies to a question, and returns the exit status: 0, or 2 for a refusal, or 3 when out of memory, when the file
 /// can't be read or when the writer fails.
-pub fn reply_to<R: Files + AllocGlobal, W: Write>(
+pub fn reply_to<R: Files + Input + AllocGlobal, W: Write>(
     rt: &R,
     question: &Question<'_>,
     writer: &mut W,

@@ -69,3 +69,11 @@ unfolding clap_on_literals
 plain_workers name file plain =
     let a = no_hyphen file plain in
     let b = no_end file plain in (simp (a, b), simp (a, b))
+
+pub hyphen_asm : (name : Text) → Asks (name ∷ codes "asm" ∷ codes "-" ∷ []) (asm (codes "-"))
+unfolding clap_on_literals
+hyphen_asm name = (refl, refl)
+
+pub hyphen_run : (name : Text) → Asks (name ∷ codes "run" ∷ codes "-" ∷ []) (run (codes "-") 4)
+unfolding clap_on_literals
+hyphen_run name = (refl, refl)

@@ -50,7 +50,13 @@ fn run_command<'a>(alloc: Global) -> Result<Command<'a>, AllocError>
     ensures { IfOk result (λ c. IsApp c run_app) }
 {
     let about = "Runs a script about two halves of a cluster: their names, and how a split heals";
-    let run = one_command(alloc, "run", about, "FILE", "The file of the script")?;
+    let run = one_command(
+        alloc,
+        "run",
+        about,
+        "FILE",
+        "The file of the script, or - for standard input",
+    )?;
     run.arg(workers_arg(alloc))
 }
 
@@ -79,7 +85,7 @@ fn judge_command<'a>(alloc: Global) -> Result<Command<'a>, AllocError>
 fn asm_command<'a>(alloc: Global) -> Result<Command<'a>, AllocError>
     ensures { IfOk result (λ c. IsApp c asm_app) }
 {
-    let file = "The file of the text";
+    let file = "The file of the text, or - for standard input";
     one_command(
         alloc,
         "asm",

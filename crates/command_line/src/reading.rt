@@ -115,7 +115,8 @@ pub fn command<'a, S: AsStr>(alloc: Global, words: &'a [S]) -> Result<Task<'a>, 
     task_of(&matches).ok_or(CommandFault::NoTask)
 }
 
-/// States that an argument without a leading hyphen is taken literally. Does nothing at run time.
+/// States that an argument without a leading hyphen is taken literally, and a single hyphen as a file. Does nothing at
+/// run time.
 pub fn plain_words_theorem()
     ensures check { (name code : List ℕ) → IsPlain code → Asks (name ∷ codes "check" ∷ code ∷ []) (check code Both) }
     ensures unsigned { (name code : List ℕ) → IsPlain code
@@ -129,4 +130,6 @@ pub fn plain_words_theorem()
     ensures run { (name file : List ℕ) → IsPlain file → Asks (name ∷ codes "run" ∷ file ∷ []) (run file 4) }
     ensures workers { (name file : List ℕ) → IsPlain file
         → Asks (name ∷ codes "run" ∷ file ∷ codes "--workers" ∷ codes "16" ∷ []) (run file 16) }
+    ensures asm_hyphen { (name : List ℕ) → Asks (name ∷ codes "asm" ∷ codes "-" ∷ []) (asm (codes "-")) }
+    ensures run_hyphen { (name : List ℕ) → Asks (name ∷ codes "run" ∷ codes "-" ∷ []) (run (codes "-") 4) }
 {}

@@ -6,16 +6,15 @@ use Rattle.task.specs.declared.Task.{Task}
 use Rattle.command_line.specs.Asked.{Asked, Asks, asked_by}
 use Rattle.heal_main.specs.Obeying.{Obeys}
 
--- the task that the words ask for is carried out; or they ask for none, with status 1; or memory ran out, with status
--- 3;
--- in both cases nothing goes out
+-- the task of the words is carried out; or they have none, with status 1; or memory ran out, with status 3. In the last
+-- two cases nothing is written
 pub data IsAnswered (words : List (List ℕ)) (old new : Option (List ℕ)) (status : ℕ) : Type 0 where
   carried_out : (task : Task) → Asks words (asked_by task) → Obeys task old new status → IsAnswered words old new status
   no_task : ((task : Asked) → Asks words task → ⊥) → status ≡ 1 → new ≡ old → IsAnswered words old new status
   no_memory : status ≡ 3 → new ≡ old → IsAnswered words old new status
 
--- the words could not be read: memory ran out, with status 3, or an argument is no text, with status 1; nothing goes
--- out
+-- the words could not be read: memory ran out, with status 3, or an argument isn't text, with status 1. Nothing is
+-- written
 pub record IsUnread (kind : ErrorKind) (old new : Option (List ℕ)) (status : ℕ) : Type 0 where
   pub memory : kind ≡ of_io.OutOfMemory → status ≡ 3
   pub text : kind ≢ of_io.OutOfMemory → status ≡ 1

@@ -10,7 +10,8 @@ use Rattle.script_engine.specs.Runs.{IsScriptRun}
 abbrev pub TellsUnopened : Option (List ℕ) → Option (List ℕ) → Type 0
 TellsUnopened old new = AppendsFront old new (codes "device fault\n") ⊎ AppendsFront old new (codes "refused 90\n")
 
--- the script in a file is carried out, whose bytes are known only by reading it; or the file could not be opened
+-- the script in a file or on standard input is carried out, whose bytes only the read shows; or the file could not be
+-- opened
 pub data RunsFile (old new : Option (List ℕ)) (status : ℕ) : Type 0 where
   ran : (read_old read_new : Option (List ℕ)) → IsScriptRun read_old read_new old new status → RunsFile old new status
   unopened : TellsUnopened old new → status ≡ 3 → RunsFile old new status

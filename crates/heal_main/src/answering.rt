@@ -1,4 +1,4 @@
-//! From the words of the command line to what is printed and the status.
+//! From the words of the command line to the output and the status.
 ghost use Rattle.std.specs.Prelude.{◌≡◌, ◌⊎◌, IfOk, IfErr, map};
 ghost use Rattle.std.specs.IoError.{error_kind};
 ghost use Rattle.std.specs.String.{string_bytes};
@@ -9,12 +9,12 @@ use crate::obeying::obey;
 use command_line::{CommandFault, command};
 use std::convert::AsStr;
 use std::io;
-use std::io::Write;
+use std::io::{Input, Write};
 use std::rt::Files;
 use std::sync::Wait;
 use std::thread::Threads;
 
-/// Tells a fault of the command line, and answers its status. What the device takes of it changes nothing.
+/// Prints a usage error and returns its status. A device failure changes nothing.
 fn refuse<E: Write>(fault: &CommandFault, errors: &mut E) -> u8
     ensures memory { IsForMemory fault.now → result ≡ 3 }
     ensures either { ((result ≡ 1) × (IsForMemory fault.now → ⊥)) ⊎ ((result ≡ 3) × IsForMemory fault.now) }
@@ -23,13 +23,13 @@ fn refuse<E: Write>(fault: &CommandFault, errors: &mut E) -> u8
     fault.status()
 }
 
-/// Carries out what the words ask for, and answers the program's status.
-fn answer_words<R: Files + Threads + Wait + Sync + AllocGlobal, S: AsStr, O: Write, E: Write>(
-    rt: &R,
-    words: &[S],
-    output: &mut O,
-    errors: &mut E,
-) -> u8
+/// Carries out the request of the words, and returns the program's status.
+fn answer_words<
+    R: Files + Input + Threads + Wait + Sync + AllocGlobal,
+    S: AsStr,
+    O: Write,
+    E: Write,
+>(rt: &R, words: &[S], output: &mut O, errors: &mut E) -> u8
     ensures { IsAnswered (map S.text words.now) (O.contents output.old) (O.contents output.new) result }
 {
     match command(rt.alloc(), words) {
@@ -38,9 +38,9 @@ fn answer_words<R: Files + Threads + Wait + Sync + AllocGlobal, S: AsStr, O: Wri
     }
 }
 
-/// The same of the words that were read, if they could be. A fault of the command line is told as an error, with
-/// status 1, and nothing goes out; want of memory while the words are read is status 3.
-pub fn answer<R: Files + Threads + Wait + Sync + AllocGlobal, O: Write, E: Write>(
+/// Like `answer_words`, for words that may be unreadable. A usage error is printed as an error, with status 1 and no
+/// output; out of memory while the words are read is status 3.
+pub fn answer<R: Files + Input + Threads + Wait + Sync + AllocGlobal, O: Write, E: Write>(
     rt: &R,
     words: io::Result<Vec<String>>,
     output: &mut O,

@@ -1,4 +1,4 @@
-//! Carrying a task out.
+//! Carries out a task.
 ghost use Rattle.std.specs.Prelude.{◌≡◌};
 ghost use Rattle.output.specs.Sending.{AppendsFront};
 ghost use Rattle.heal_main.specs.Obeying.{Obeys, RunsFile, TellsUnopened};
@@ -8,15 +8,15 @@ use judge_pool::OpenGate;
 use output::send;
 use script_engine::run_script;
 use std::fs;
-use std::io::{ErrorKind, Write};
+use std::io::{ErrorKind, Input, Write};
 use std::rt::Files;
 use std::sync::Wait;
 use std::thread::Threads;
-use task::{Task, Workers};
+use task::{Task, Workers, is_standard_input};
 
-/// Carries a task out, and answers the program's status: 0, or 2 where it or a line of a script was refused, or 3 where
-/// memory ran out, or a file could not be read, or the writer failed. What was written is handed on before it ends.
-pub(crate) fn obey<R: Files + Threads + Wait + Sync + AllocGlobal, W: Write>(
+/// Carries out a task, and returns the program's status: 0, or 2 if it or a line of a script was refused, or 3 if memory
+/// ran out, a file couldn't be read, or the writer failed. Flushes the writer at the end.
+pub(crate) fn obey<R: Files + Input + Threads + Wait + Sync + AllocGlobal, W: Write>(
     rt: &R,
     task: &Task<'_>,
     writer: &mut W,
@@ -30,8 +30,8 @@ pub(crate) fn obey<R: Files + Threads + Wait + Sync + AllocGlobal, W: Write>(
     }
 }
 
-// Carries a task out.
-fn carry_out<R: Files + Threads + Wait + Sync + AllocGlobal, W: Write>(
+// Carries out a task.
+fn carry_out<R: Files + Input + Threads + Wait + Sync + AllocGlobal, W: Write>(
     rt: &R,
     task: &Task<'_>,
     writer: &mut W,
@@ -44,8 +44,8 @@ fn carry_out<R: Files + Threads + Wait + Sync + AllocGlobal, W: Write>(
     }
 }
 
-// Carries out the script in a file.
-fn run<R: Files + Threads + Wait + Sync + AllocGlobal, W: Write>(
+// Carries out the script in a file or on standard input.
+fn run<R: Files + Input + Threads + Wait + Sync + AllocGlobal, W: Write>(
     rt: &R,
     file: &str,
     workers: Workers,
@@ -53,13 +53,16 @@ fn run<R: Files + Threads + Wait + Sync + AllocGlobal, W: Write>(
 ) -> u8
     ensures { RunsFile (W.contents writer.old) (W.contents writer.new) result }
 {
+    if is_standard_input(file) {
+        return run_script(rt, &mut rt.reader(), writer, workers.count(), &OpenGate);
+    }
     match fs::open(rt, file) {
         Ok(mut file) => run_script(rt, &mut file, writer, workers.count(), &OpenGate),
         Err(error) => tell_unopened(error.kind(), writer),
     }
 }
 
-// Tells that a file could not be opened, and answers the status of that.
+// Reports that a file could not be opened, and returns the status.
 fn tell_unopened<W: Write>(kind: ErrorKind, writer: &mut W) -> u8
     ensures status { result ≡ 3 }
     ensures told { TellsUnopened (W.contents writer.old) (W.contents writer.new) }
@@ -70,7 +73,7 @@ fn tell_unopened<W: Write>(kind: ErrorKind, writer: &mut W) -> u8
     tell(writer, b"device fault\n")
 }
 
-// Tells why nothing else is told, and answers status 3. That the device takes less doesn't change the status.
+// Prints the line and returns status 3, also if the device fails.
 fn tell<W: Write>(writer: &mut W, line: &[u8]) -> u8
     ensures status { result ≡ 3 }
     ensures front { AppendsFront (W.contents writer.old) (W.contents writer.new) line.now }

@@ -1,14 +1,14 @@
 //! The words of the command line, over two buffers.
 use crate::answering::answer;
 use std::io;
-use std::io::ErrorKind;
+use std::io::{ErrorKind, Input};
 use std::rt::Files;
 use std::sync::Wait;
 use std::test::Fail;
 use std::thread::Threads;
 
-/// What goes out for these words, what is told as an error, and the status.
-fn answered<R: Files + Threads + Wait + Sync + AllocGlobal>(
+/// Returns the status for these words, the output and the errors.
+fn answered<R: Files + Input + Threads + Wait + Sync + AllocGlobal>(
     rt: &R,
     words: &[&str],
 ) -> io::Result<(u8, Vec<u8>, Vec<u8>)> {
@@ -97,7 +97,7 @@ fn no_task(rt: HostRuntime) -> Result<(), Fail> {
     Ok(())
 }
 
-/// Words, and what is told for them begins with, has, and ends with.
+/// Words, and the beginning, a part and the end of the errors for them.
 const TOLD: [(&[&str], [&str; 3]); 5] = [
     (
         &["./heal"],

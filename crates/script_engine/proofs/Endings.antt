@@ -1,8 +1,9 @@
 -- What the loop over the lines keeps, and what it ends with.
 use Rattle.std.proofs.Common.{◌≡◌, ◌≢◌, ℕ, ◌+◌, ◌-◌, ◌^◌, ◌≤◌, ◌⊎◌, true, false, List, [], ◌∷◌, ◌++◌, length, Option, None, Some, Result, Ok, Err, refl, sym, ap, subst, ◌∙◌, append_assoc, append-nil, arith, max, inl, inr, length-append, codes, IfOk}
+use Rattle.std.proofs.Math.Seq.{take-length}
 use Rattle.std.specs.Result.{is_err}
-use Rattle.std.specs.Io.KnownBytes.{Consumes, Appends, IsAtEnd}
-use Rattle.std.proofs.KnownBytes.{Consumes-trans, Consumes-nil, prepend_known-nil}
+use Rattle.std.specs.Io.KnownBytes.{Consumes, Appends, Keeps, IsAtEnd}
+use Rattle.std.proofs.KnownBytes.{Appends-kept, Consumes-trans, Consumes-nil, prepend_known-nil}
 use Rattle.std.proofs.lemmas.Result.{IfOk-at_ok}
 use denote.Enum.Bare.{sameb}
 use Rattle.output.specs.Sending.{Sends, AppendsFront}
@@ -62,6 +63,26 @@ is_nothing : (stop : Stop) → sameb the_type stop Nothing ≡ true → stop ≡
 is_nothing LineFeed e = absurd (cc)
 is_nothing End e = absurd (cc)
 is_nothing Nothing e = refl
+
+-- the whole is a beginning
+whole_front : (a b : Option (List ℕ)) (text : List ℕ) → Appends a b text → AppendsFront a b text
+whole_front a b text h = (length text, subst (Appends a b) (sym (take-length text)) h)
+
+-- the answers so far are flushed
+pub flushed : (read_old left_now written_old written_now new : Option (List ℕ)) (machine : Machine) (count status : ℕ)
+    → Progress read_old left_now written_old written_now machine count status → Keeps written_now new
+    → Progress read_old left_now written_old new machine count status
+flushed read_old left_now written_old written_now new machine count status p kept = record {
+  front = p.front;
+  answers = p.answers;
+  whole = p.whole;
+  reads = p.reads;
+  run = p.run;
+  counted = p.counted;
+  latest = p.latest;
+  stands = p.stands;
+  writes = Appends-kept written_old written_now new (text_from 1 p.answers) p.writes kept;
+}
 
 module _ (read_old left_now written_old written_now : Option (List ℕ)) (machine : Machine) (count status : ℕ)
     (p : Progress read_old left_now written_old written_now machine count status) where
@@ -156,6 +177,21 @@ module _ (read_old left_now written_old written_now : Option (List ℕ)) (machin
     reaches = inr (p.whole, p.counted ∙ last);
     run = p.run;
     writes = inl (λ e. cc, p.writes, p.stands);
+  }
+
+  pub flush_failed : (unused : List ℕ) (remaining : Option (List ℕ)) → left_now ≡ left unused remaining
+      → IsScriptRun read_old remaining written_old written_now 3
+  flush_failed unused remaining e = record {
+    ending = Stopped;
+    front = p.front;
+    rest = unused;
+    answers = p.answers;
+    final = machine;
+    reads = unread read_old remaining unused p.front
+        (subst (λ (b : Option (List ℕ)). Consumes read_old b p.front) e p.reads);
+    reaches = inl p.whole;
+    run = p.run;
+    writes = inr (whole_front written_old written_now (text_from 1 p.answers) p.writes, refl);
   }
 
   pub writing_failed : (stop : Stop) (unused : List ℕ) (remaining new : Option (List ℕ)) (answer : Answer)

@@ -1,12 +1,13 @@
 //! The lines of a script, one after another.
 ghost use Rattle.std.specs.Prelude.{◌≡◌, ◌<◌, ◌≤◌, [], IfOk};
+ghost use Rattle.std.specs.Io.KnownBytes.{Keeps};
 ghost use Rattle.script_machine.specs.Machines.{machine_of, new_machine};
 ghost use Rattle.script_engine.specs.Runs.{IsScriptRun};
 
 use crate::crew::Crew;
 use crate::serving::serve;
 use judge_pool::Gate;
-use output::send_after;
+use output::{DeviceFault, send_after};
 use script_machine::Machine;
 use script_text::{LineBuffer, ReadBuffer, Stop, next_line};
 use std::alloc::{AllocError, Global};
@@ -14,13 +15,14 @@ use std::io::{Read, Write};
 use std::sync::Wait;
 use std::thread::Threads;
 
-/// Carries out the script that the reader gives, line by line, and writes what is said to each. Answers the status: 3
-/// where a line or the script itself was refused when out of memory or a device failed, else 2 where a line was
-/// refused, else 0.
+/// Carries out the reader's script line by line, and writes the answer to each line. Returns the status: 3 if a line or
+/// the whole script was refused 90 or a device failed, else 2 if a line was refused, else 0.
 ///
-/// Requires 1 to 16 workers, who judge the clashes of a `heal`; the gate is asked before each of their posts. The
-/// buffers are taken at the start: where there is no memory for them, nothing is read. Where a read fails, the
-/// unfinished line isn't carried out; where a write fails, a beginning of the output went out.
+/// Requires 1 to 16 workers, which judge the clashes of a `heal`; each of their posts passes the gate. Allocates the
+/// buffers first, and reads nothing if that fails. If a read fails, the unfinished line isn't carried out; if a write
+/// fails, a prefix of the output has been written.
+///
+/// Flushes the writer before each read, and at no other time.
 pub fn run_script<T, R, W, G>(rt: &T, reader: &mut R, writer: &mut W, workers: u32, gate: &G) -> u8
 where
     T: Threads + Wait + Sync + AllocGlobal,
@@ -42,13 +44,26 @@ where
     run_lines(&crew, &mut machine, &mut buffer, &mut line, reader, writer)
 }
 
-// What waits to be cut into lines, and a line.
+// Returns the buffer of unread bytes, and the buffer of a line.
 fn buffers(alloc: Global) -> Result<(ReadBuffer, LineBuffer), AllocError>
     ensures { IfOk result (λ buffers. (buffers.0 ≡ []) × (buffers.1 ≡ [])) }
 {
     let buffer = ReadBuffer::new(alloc)?;
     let line = LineBuffer::new(alloc)?;
     Ok((buffer, line))
+}
+
+// Flushes the writer unless a whole line is buffered, so that no answer waits for the next read.
+fn flush_before_read<W: Write>(buffer: &ReadBuffer, writer: &mut W) -> Result<(), DeviceFault>
+    ensures { Keeps (W.contents writer.old) (W.contents writer.new) }
+{
+    if buffer.has_line() {
+        return Ok(());
+    }
+    match writer.flush() {
+        Ok(()) => Ok(()),
+        Err(_) => Err(DeviceFault),
+    }
 }
 
 // The lines, until the input or their numbers end, or a device fails.
@@ -67,6 +82,9 @@ fn run_lines<T: Threads + Wait + Sync + AllocGlobal, R: Read, W: Write, G: Gate 
 {
     let mut status: u8 = 0;
     for before in 0..u64::MAX {
+        if flush_before_read(buffer, writer).is_err() {
+            return 3;
+        }
         let Ok(found) = next_line(buffer, reader, line) else {
             let _ = send_after(Ok(()), writer, b"device fault\n");
             return 3;

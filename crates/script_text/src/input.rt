@@ -1,5 +1,5 @@
 //! The lines of an input that is read in pieces of any size.
-ghost use Rattle.std.specs.Prelude.{◌≡◌, ◌↔◌, ◌<◌, ◌≤◌, IsTrue, ℕ, List, [], ◌∷◌, ◌++◌, length, OnErr, OnOk, IfOk, IfSome, IfNone};
+ghost use Rattle.std.specs.Prelude.{◌≡◌, ◌↔◌, ◌<◌, ◌≤◌, Contains, IsTrue, ℕ, List, [], ◌∷◌, ◌++◌, length, OnErr, OnOk, IfOk, IfSome, IfNone};
 ghost use Rattle.std.specs.Io.KnownBytes.{Keeps, Consumes, IsAtEnd, ReadConsumes};
 ghost use Rattle.std.specs.Io.{ReadsAtMost};
 ghost use Rattle.script_text.specs.Lines.{line_limit, line_of};
@@ -45,6 +45,13 @@ impl ReadBuffer {
             start: 0,
             end: 0,
         })
+    }
+
+    /// Checks whether a whole line is here, which `next_line` then finds without a read.
+    pub fn has_line(&self) -> bool
+        ensures { IsTrue result ↔ Contains self.now 10 }
+    {
+        self.bytes[self.start..self.end].contains(&b'\n')
     }
 
     // Reads once into an empty buffer.

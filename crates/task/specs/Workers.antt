@@ -1,4 +1,4 @@
--- How many workers there may be.
+-- The number of workers.
 use Rattle.std.specs.Prelude.{ℕ, ◌&&◌, nat_le, if◌then◌else◌, Option, Some, None}
 
 -- 1 to 16

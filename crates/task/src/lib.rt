@@ -1,11 +1,20 @@
 //! The tasks of heal.
 #![tactic(auto)]
 
+ghost use Rattle.std.specs.Prelude.{◌≡◌, ◌↔◌, IsTrue, codes};
+
 mod workers;
 
 pub use workers::{MAX_WORKERS, Workers};
 
-/// Over which ranges code is verified.
+/// Checks whether the name of a file means standard input: whether it is `-`.
+pub fn is_standard_input(file: &str) -> bool
+    ensures { IsTrue result ↔ (file.now ≡ codes "-") }
+{
+    file == "-"
+}
+
+/// The ranges over which code is verified.
 #[derive(Clone, Copy, Debug, PartialEq, Eq)]
 pub enum Profile {
     /// Ranges of words in their own order alone.
@@ -14,24 +23,24 @@ pub enum Profile {
     Both,
 }
 
-/// What heal is asked for, and answers on a few lines.
+/// A request that heal answers on a few lines.
 #[derive(Clone, Copy, Debug, PartialEq, Eq)]
 pub enum Question<'a> {
-    /// Says whether code, in hex digits, is accepted over these ranges.
+    /// Checks whether code, in hex digits, is accepted over these ranges.
     Check { code: &'a str, profile: Profile },
     /// Judges the clash of a record by code, both in hex digits.
     Judge { code: &'a str, clash: &'a str },
-    /// Reads a file as the text of code, and prints the code in hex digits.
+    /// Reads a file, or standard input for `-`, as the text of code, and prints the code in hex digits.
     Asm { file: &'a str },
     /// Prints code, in hex digits, as text.
     Dis { code: &'a str },
 }
 
-/// What heal does.
+/// A task of heal.
 #[derive(Clone, Copy, Debug, PartialEq, Eq)]
 pub enum Task<'a> {
     /// Answers a question.
     Answer(Question<'a>),
-    /// Carries out the script in a file, with so many workers who judge clashes.
+    /// Carries out the script in a file, or on standard input for `-`, with this number of workers.
     Run { file: &'a str, workers: Workers },
 }

@@ -1,12 +1,12 @@
-//! How many workers judge clashes.
+//! The number of workers that judge clashes.
 ghost use Rattle.std.specs.Prelude.{◌≡◌, ◌<◌, ◌≤◌, ◌&&◌, nat_le, nat_lt, if◌then◌else◌, Some, None};
 ghost use Rattle.std.specs.Option.{option_map};
 ghost use Rattle.task.specs.Workers.{workers_if};
 
-/// The most workers that a script may ask for.
+/// The maximum number of workers of a script.
 pub const MAX_WORKERS: u32 = 16;
 
-/// How many workers judge clashes: 1 to 16, which stands in the type.
+/// The number of workers that judge clashes. Its type guarantees 1 to 16.
 #[derive(Clone, Copy, Debug, PartialEq, Eq)]
 pub struct Workers {
     count: u32,
@@ -15,7 +15,7 @@ pub struct Workers {
 }
 
 impl Workers {
-    /// So many workers, where it is 1 to 16.
+    /// Returns this number of workers if it is 1 to 16.
     pub fn new(count: u32) -> Option<Workers>
         ensures { option_map (λ workers. workers.count) result ≡ workers_if count }
     {
@@ -26,7 +26,7 @@ impl Workers {
         }
     }
 
-    /// How many they are.
+    /// Returns the number.
     pub fn count(self) -> u32
         ensures count { result ≡ self.count }
         ensures some { 0 < result }

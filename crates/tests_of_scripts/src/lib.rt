@@ -1,5 +1,5 @@
-//! Tests of scripts from end to end: answers to lines, devices that move a few bytes a call and fail at a call, and
-//! workers that judge concurrently.
+//! Tests of scripts from end to end: answers to lines, lines that come one by one, devices that move a few bytes a call
+//! and fail at a call, and workers that judge concurrently.
 #![tactic(auto)]
 
 #[cfg(test)]
@@ -10,5 +10,7 @@ mod failing_devices;
 mod heals;
 #[cfg(test)]
 mod lines;
+#[cfg(test)]
+mod live_input;
 #[cfg(test)]
 mod workers;

@@ -3,7 +3,7 @@ use Rattle.std.specs.Io.KnownBytes.{Consumes}
 use Rattle.std.proofs.KnownBytes.{Consumes-nil, Appends-nil, prepend_known-nil}
 use Rattle.std.specs.Result.{is_err}
 use Rattle.script_text.specs.Reading.{left, seen_line}
-use Rattle.script_engine.proofs.Endings.{carried, failed_front, sent_whole, taken_status, other_stop, is_end, is_line_feed, reading_failed, nothing_left, numbers_spent, writing_failed, last_line, next_line_on}
+use Rattle.script_engine.proofs.Endings.{carried, flushed, flush_failed, failed_front, sent_whole, taken_status, other_stop, is_end, is_line_feed, reading_failed, nothing_left, numbers_spent, writing_failed, last_line, next_line_on}
 use Rattle.script_engine.proofs.running.run_lines.Goals as goal
 
 pub loop-before-init : goal.loop-before-init
@@ -21,21 +21,27 @@ loop-before-init g c = record {
   writes = Appends-nil _;
 }
 
+pub returns-then-is_err : goal.returns-then-is_err
+returns-then-is_err g c =
+    flush_failed _ _ _ _ _ _ _ (flushed _ _ _ _ _ _ _ _ c.loop-before.invariant c.flush_before_read.ensures)
+    c.loop-before.buffer _ refl
+
 pub returns-in_default : goal.returns-in_default
 returns-in_default g c =
-    let p = c.loop-before.invariant in
+    let p = flushed _ _ _ _ _ _ _ _ c.loop-before.invariant c.flush_before_read.ensures in
     reading_failed _ _ _ _ _ _ _ p _ _ _ c.in_default.ensures.failed c.send_after.result
     (c.send_after.ensures _ _ p.writes)
 
 pub returns-then-eq : goal.returns-then-eq
 returns-then-eq g c =
+    let p = flushed _ _ _ _ _ _ _ _ c.loop-before.invariant c.flush_before_read.ensures in
     let (text, plain, same, gone) = c.in-Ok.ensures.found in
-    nothing_left _ _ _ _ _ _ _ c.loop-before.invariant c.in-Ok.found.stop c.next_line.new.buffer text _
+    nothing_left _ _ _ _ _ _ _ p c.in-Ok.found.stop c.next_line.new.buffer text _
     (sym c.eq.ensures ∙ c.if-eq.true) gone
 
 pub returns-in-Err : goal.returns-in-Err
 returns-in-Err g c =
-    let p = c.loop-before.invariant in
+    let p = flushed _ _ _ _ _ _ _ _ c.loop-before.invariant c.flush_before_read.ensures in
     let (text, plain, same, gone) = c.in-Ok.ensures.found in
     let stop = c.in-Ok.found.stop in
     let served = c.serve.ensures in
@@ -46,7 +52,7 @@ returns-in-Err g c =
 
 pub returns-then-eq-2 : goal.returns-then-eq-2
 returns-then-eq-2 g c =
-    let p = c.loop-before.invariant in
+    let p = flushed _ _ _ _ _ _ _ _ c.loop-before.invariant c.flush_before_read.ensures in
     let (text, plain, same, gone) = c.in-Ok.ensures.found in
     let stop = c.in-Ok.found.stop in
     let served = c.serve.ensures in
@@ -60,7 +66,7 @@ returns-then-eq-2 g c =
 
 pub loop-before-preserved : goal.loop-before-preserved
 loop-before-preserved g c =
-    let p = c.loop-before.invariant in
+    let p = flushed _ _ _ _ _ _ _ _ c.loop-before.invariant c.flush_before_read.ensures in
     let (text, plain, same, gone) = c.in-Ok.ensures.found in
     let stop = c.in-Ok.found.stop in
     let served = c.serve.ensures in
