@@ -5,7 +5,7 @@ pub use Rattle.clash_record.specs.Name
 pub use Rattle.clash_record.specs.Orders
 pub use Rattle.clash_record.specs.Record
 pub use Rattle.clash_record.specs.Texts as NameTexts
-pub use Rattle.builtin_resolvers.specs.Telling
+pub use Rattle.builtin_resolvers.specs.Telling as Notifying
 pub use Rattle.builtin_resolvers.specs.Texts as NoticeTexts
 pub use Rattle.builtin_resolvers.specs.Verdicts
 pub use Rattle.upload_store.specs.Faults as UploadFaults
@@ -24,6 +24,7 @@ pub use Rattle.exchange_core.specs.Refusals as SideRefusals
 pub use Rattle.exchange_core.specs.Rows
 pub use Rattle.exchange_core.specs.Shown
 pub use Rattle.exchange_core.specs.Sides
+pub use Rattle.exchange_core.specs.Steps
 pub use Rattle.exchange_core.specs.Worlds
 pub use Rattle.cluster.specs.Clusters
 pub use Rattle.cluster.specs.Faults as HealFaults
