@@ -121,10 +121,11 @@ calls_happen history id (Unregister name) sent = (Does id (Unregister name), ref
 calls_happen history id (Begin number seed uptime) sent = (Does id (Begin number seed uptime), refl)
 calls_happen history id (Hear offer) sent = (Hears id sent.0, ap (option_map (λ offer. by_side id (Hear offer))) sent.1)
 calls_happen history id (Take number k judged) sent =
-    let side = side_of (world_after history) id in
-    (Tells id number k,
-    ap (λ o. option_map (by_side id) (option_and_then (taken_by side) o)) sent.1
-    ∙ ap (option_map (by_side id)) sent.2)
+    let side = side_of (world_after history) id in (
+      Tells id number k,
+      ap (λ o. option_map (by_side id) (option_and_then (taken_by side) o)) sent.1
+          ∙ ap (option_map (by_side id)) sent.2,
+    )
 calls_happen history id (Withdraw name) sent = (Does id (Withdraw name), refl)
 calls_happen history id Close_list sent = (Does id Close_list, refl)
 calls_happen history id (Hear_list list) sent =
