@@ -1,11 +1,11 @@
 -- Events are calls, calls are events, and judgings add rulings.
-use Rattle.std.proofs.Common.{◌≡◌, ℕ, Bool, true, false, ◌&&◌, nat_lt, if◌then◌else◌, List, [], ◌∷◌, Option, Some, None, is_some, is_none, unwrap_or, slice_get, refl, sym, ap, ◌∙◌, subst, option_map, option_and_then}
+use Rattle.std.proofs.Common.{◌≡◌, Bool, true, false, ◌&&◌, if◌then◌else◌, List, Option, Some, None, is_some, is_none, unwrap_or, slice_get, refl, ap, ◌∙◌, option_map, option_and_then}
 use Rattle.clash_record.specs.declared.side_id.SideId.{SideId}
 use Rattle.clash_record.specs.declared.side_id.SideId.TheVariants.{A, B}
 use Rattle.exchange_core.specs.Sides.{Offer, Withdrawals, Side, is_side}
 use Rattle.exchange_core.specs.Calls.{Call, Register, Unregister, Begin, Hear, Take, Withdraw, Close_list, Hear_list, Finish, Abandon, carried_out, takes_message}
 use Rattle.exchange_core.specs.Worlds.{Ruling, Past, World, Event, Does, Hears, Hears_list, Tells, Judges, side_of, past_after, with_side, called, called_if, ruling_at, taken_by, offer_by, ruling_on, add_ruling, world_after, happens}
-use Rattle.exchange_core.specs.Steps.{call_at, after_call, EventsAreCalls, CallsSend, IsHandedSent, CallsHappen, JudgingsAdd}
+use Rattle.exchange_core.specs.Steps.{call_at, after_call, EventsAreCalls, CallsSend, CallsHappen, JudgingsAdd}
 use Rattle.exchange_core.specs.laws.Carried.{some_inj}
 
 -- ---- events are calls

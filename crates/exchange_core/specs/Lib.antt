@@ -7,6 +7,7 @@ pub mod Journal
 pub mod Lists
 pub mod Refusals
 pub mod Rows
+pub mod Settling
 pub mod Shown
 pub mod Sides
 pub mod Steps

@@ -1,5 +1,5 @@
 -- Lists of withdrawn names.
-use Rattle.std.specs.Prelude.{ℕ, ◌≤◌, IsTrue, List, length}
+use Rattle.std.specs.Prelude.{◌≤◌, IsTrue, List, length}
 use Rattle.std.specs.List.{list_all, IsDistinct}
 use Rattle.std.specs.FinMap.{contains_key}
 use Rattle.clash_record.specs.Name.{Name}

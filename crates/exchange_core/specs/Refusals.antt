@@ -1,5 +1,5 @@
 -- The refusal that is due at each call of a side: the least number that stands.
-use Rattle.std.specs.Prelude.{ℕ, ◌+◌, Bool, not, ◌&&◌, ◌==◌, nat_lt, nat_le, if◌then◌else◌, List, [], ◌∷◌, length, Option, Some, None, is_some, is_none}
+use Rattle.std.specs.Prelude.{ℕ, ◌+◌, ◌-◌, Bool, not, ◌&&◌, ◌==◌, nat_lt, nat_le, if◌then◌else◌, List, [], ◌∷◌, length, Option, Some, None, is_some, is_none, filter}
 use Rattle.std.specs.Option.{option_map_or}
 use Rattle.std.specs.FinMap.{len, contains_key}
 use Rattle.clash_record.specs.declared.registrations.Registration.{Registration}
@@ -15,6 +15,7 @@ use Rattle.exchange_core.specs.declared.fault.MissingPart.TheVariants.{TheirOffe
 use Rattle.exchange_core.specs.declared.fault.SideFault.{SideFault}
 use Rattle.exchange_core.specs.declared.fault.SideFault.TheVariants.{Healing, NotHealing, StaleNumber, SeedDiffers, StrangeRuling, Missing, JournalFull, OtherNumber, OwnOffer, Withdrawn, ListClosed}
 use Rattle.exchange_core.specs.declared.fault.SideFault.TheVariants as of
+use Rattle.exchange_core.specs.Journal.{max_events}
 use Rattle.exchange_core.specs.Sides.{Offer, Withdrawals, Judged, Heard, Exchange, Side, is_one_of_four, is_side, is_above, clashes_of, has_clash}
 
 -- In each of these, `full` is whether the journal has 65,536 events.
@@ -146,3 +147,23 @@ finish_fault full side =
 abbrev pub abandon_fault : Bool → Side → Option SideFault
 abandon_fault full side =
     if is_none side.exchange then Some NotHealing else (if full then Some JournalFull else None)
+
+-- the clashes without a ruling
+abbrev pub count_lacking : List (Option Judged) → ℕ
+count_lacking rulings = length (filter is_none rulings)
+
+abbrev pub settle_fault_heard : ℕ → Option Heard → Option SideFault
+settle_fault_heard events None = Some (Missing TheirOffer)
+settle_fault_heard events (Some heard) =
+    if nat_lt (max_events - events) (count_lacking heard.rulings) then Some JournalFull else None
+
+abbrev pub settle_fault_in : ℕ → ℕ → Exchange → Option SideFault
+settle_fault_in events round exchange =
+    if not (nat_lt round 4) then Some StrangeRuling else settle_fault_heard events exchange.heard
+
+-- of a side whose journal has this many events: each ruling that is taken adds one
+abbrev pub settle_fault : ℕ → Side → ℕ → Option SideFault
+settle_fault events side round = option_map_or (settle_fault_in events round) side.exchange (Some NotHealing)
+
+abbrev pub renew_fault : Side → Option SideFault
+renew_fault side = if is_some side.exchange then Some Healing else None

@@ -103,10 +103,19 @@ merge_for B own other answers own_gone other_gone =
 abbrev pub clashes_heard : Side → Exchange → Heard → List Clash
 clashes_heard side exchange heard = clashes_for side.id side.table exchange.uptime heard.table heard.uptime
 
--- the clashes of the open exchange. There are none before an offer was heard
+-- the clashes of the open exchange, once an offer was heard
+abbrev pub heard_clashes : Side → Option (List Clash)
+heard_clashes side = option_and_then (λ exchange. option_map (clashes_heard side exchange) exchange.heard) side.exchange
+
+-- the same; there are none before an offer was heard
 abbrev pub clashes_of : Side → List Clash
 clashes_of side =
     option_map_or (λ exchange. option_map_or (clashes_heard side exchange) exchange.heard []) side.exchange []
+
+-- the places for its rulings. There are none before an offer was heard
+abbrev pub rulings_of : Side → List (Option Judged)
+rulings_of side =
+    option_map_or (λ exchange. option_map_or (λ heard. heard.rulings) exchange.heard []) side.exchange []
 
 -- the clash is clash k of the open exchange
 abbrev pub has_clash : Side → ℕ → Clash → Bool

@@ -3,3 +3,5 @@ pub mod Pairing
 pub mod Changing
 pub mod Early
 pub mod Finishing
+pub mod Settling
+pub mod Renewing

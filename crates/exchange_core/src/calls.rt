@@ -1,13 +1,14 @@
 //! The calls of a side.
-ghost use Rattle.std.specs.Prelude.{◌≡◌, ◌≤◌, [], ◌∷◌, Some, None, Ok, Err, IfOk, IfErr, OnOk, OnErr, length};
-ghost use Rattle.std.specs.Option.{option_map};
+ghost use Rattle.std.specs.Prelude.{◌≡◌, ◌≤◌, ◌+◌, [], ◌∷◌, Some, None, Ok, Err, IfOk, IfErr, OnOk, OnErr, length};
+ghost use Rattle.std.specs.Option.{option_map, option_map_or};
 ghost use Rattle.std.specs.Arc.{arc_value};
-ghost use Rattle.std.specs.FinMap.{get};
+ghost use Rattle.std.specs.FinMap.{get, len};
 ghost use Rattle.partition_table.specs.Tables.{row_for, code_for, rows_of};
 ghost use Rattle.exchange_core.specs.Lists.{AreNamesOf};
 ghost use Rattle.exchange_core.specs.Rows.{rows_left};
 ghost use Rattle.partition_table.specs.Judged.{clash_of_verdict, word_of_verdict, answer_of_verdict};
-ghost use Rattle.exchange_core.specs.Sides.{new_side, shown_table};
+ghost use Rattle.exchange_core.specs.Sides.{heard_clashes, new_side, shown_table};
+ghost use Rattle.exchange_core.specs.Settling.{IsSettled};
 ghost use Rattle.exchange_core.specs.Calls.{Call};
 ghost use Rattle.exchange_core.specs.Calls as call;
 ghost use Rattle.exchange_core.specs.Worlds.{offer_of, list_of};
@@ -27,7 +28,7 @@ use crate::shown_rows::ShownRows;
 use crate::side::Side;
 use crate::state::State;
 use clash_record::{Name, Registration, ResolverId, SideId};
-use partition_table::Ruling;
+use partition_table::{ClashList, Ruling, Table};
 use std::alloc::{AllocError, Global};
 use std::sync::Arc;
 use upload_store::UploadStore;
@@ -77,6 +78,34 @@ impl Side {
         ensures { rows_left result ≡ rows_of (shown_table (shown self.entry.now)) }
     {
         self.state.rows()
+    }
+
+    /// Returns the table. While an exchange is open, it has the withdrawn names too. Allocates nothing.
+    pub fn table(&self) -> &Table
+        ensures { result.now ≡ (shown self.now).table }
+    {
+        self.state.table()
+    }
+
+    /// Returns the number of the open exchange, if any. Allocates nothing.
+    pub fn open_number(&self) -> Option<u64>
+        ensures { result ≡ option_map (λ exchange. exchange.number) (shown self.now).exchange }
+    {
+        self.state.open_number()
+    }
+
+    /// Returns the names that the side withdrew in the open exchange, the earliest first. Allocates nothing.
+    pub fn withdrawn(&self) -> &[Name]
+        ensures { result.now ≡ option_map_or (λ exchange. exchange.withdrawn) (shown self.now).exchange [] }
+    {
+        self.state.withdrawn()
+    }
+
+    /// Returns the clashes of the open exchange, once the other side's offer is heard. Allocates nothing.
+    pub fn clashes(&self) -> Option<&ClashList>
+        ensures clashes { option_map (λ list. list.now) result ≡ heard_clashes (shown self.now) }
+    {
+        self.state.clashes()
     }
 
     // Checks whether the journal has as many events as it holds.
@@ -213,6 +242,25 @@ impl Side {
         Ok(())
     }
 
+    /// Judges each clash that has no ruling at its word of this round, and takes the rulings.
+    ///
+    /// Returns 34 if no exchange is open, 38 for a round above 3, 39 if the other's offer isn't heard, and 40 if the
+    /// journal has fewer free places than there are clashes without a ruling: the least that applies. Returns 90 when
+    /// out of memory: it allocates the events.
+    pub fn settle(&mut self, round: u32) -> Result<(), SideFault>
+        ensures answer { IsAnswered side_fault_number (due.settle_fault (length (calls self.old)) (shown self.old) round) result }
+        ensures done { OnOk result (IsSettled self.old round self.new) }
+        ensures untouched { OnErr result (IsUntouched self.old self.new) }
+    {
+        if let Some(fault) = self.state.settle_fault(self.events(), round) {
+            return Err(fault);
+        }
+        let lacking = self.state.count_lacking();
+        self.journal.reserve(lacking)?;
+        self.state.settle(round, &mut self.journal);
+        Ok(())
+    }
+
     /// Withdraws the name in the open exchange: its owner on this side is gone.
     ///
     /// Returns 31 for a name that isn't in the side's table, 34 if no exchange is open, 40 if the journal is full, 47 for
@@ -291,6 +339,25 @@ impl Side {
         let finished = self.state.finish(alloc)?;
         self.journal.push_reserved(Event::Finish);
         Ok(finished)
+    }
+
+    /// Shortens the journal of an idle side: afterwards it has at most two events more than the table has names. The
+    /// table and the greatest number that the side began stay as they are.
+    ///
+    /// Returns 33 if an exchange is open, and 90 when out of memory: it allocates the events, with one more owner of
+    /// each program.
+    pub fn renew(&mut self, alloc: Global) -> Result<(), SideFault>
+        ensures answer { IsAnswered side_fault_number (due.renew_fault (shown self.old)) result }
+        ensures same { OnOk result (shown self.new ≡ shown self.old) }
+        ensures short { OnOk result (length (calls self.new) ≤ len (shown self.old).table + 2) }
+        ensures untouched { OnErr result (IsUntouched self.old self.new) }
+    {
+        if self.state.is_open() {
+            return Err(SideFault::Healing);
+        }
+        let journal = self.state.fresh_journal(alloc)?;
+        self.journal = journal;
+        Ok(())
     }
 
     /// Closes the exchange and keeps the table, without the withdrawn names.

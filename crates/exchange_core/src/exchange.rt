@@ -1,17 +1,21 @@
 //! The open exchange of a side.
-ghost use Rattle.std.specs.Prelude.{◌≡◌, ◌∷◌, ◌++◌, [], Some, None, IfOk, OnOk, OnErr, replicate, is_some, true};
+ghost use Rattle.std.specs.Prelude.{◌≡◌, ◌≤◌, ◌+◌, ◌∷◌, ◌++◌, [], Some, None, IfOk, OnOk, OnErr, replicate, is_some, true, length, map, vec_len, vec_capacity};
 ghost use Rattle.std.specs.Option.{option_map};
 ghost use Rattle.std.specs.Arc.{arc_value};
 ghost use Rattle.partition_table.specs.Tables.{is_in, is_name};
 ghost use Rattle.exchange_core.specs.Sides.{put_ruling, new_exchange};
 ghost use Rattle.exchange_core.specs.Refusals.{first_without, missing_of};
 ghost use Rattle.exchange_core.specs.model.Changing.{with_ruling};
+ghost use Rattle.exchange_core.specs.Settling.{filled, lacking};
+ghost use Rattle.exchange_core.specs.model.Settling.{judge_by, take_event};
 ghost use Rattle.exchange_core.specs.Codings.{names_of};
 
 use crate::fault::MissingPart;
+use crate::journal::Event;
 use crate::judged::Judged;
+use crate::settling::{Course, fill};
 use clash_record::Name;
-use partition_table::Table;
+use partition_table::{ClashList, Table};
 use std::alloc::{AllocError, Global};
 use std::marker::Model;
 use std::sync::Arc;
@@ -78,6 +82,20 @@ impl Heard {
         if let Some(None) = self.rulings.get(k as usize) {
             self.rulings[k as usize] = Some(judged);
         }
+    }
+
+    // Gives each place without a ruling that of its clash, and writes an event for each.
+    pub(crate) fn fill(&mut self, course: Course, clashes: &ClashList, journal: &mut Vec<Event>)
+        requires places { length self.old.rulings ≡ length clashes.now }
+        requires room { vec_len journal.old
+            + length (lacking (judge_by course (length clashes.now)) 0 clashes.now self.old.rulings) ≤ vec_capacity journal.old }
+        ensures filled { self.new ≡ record self.old {
+          rulings = filled (judge_by course (length clashes.now)) 0 clashes.now self.old.rulings;
+        } }
+        ensures written { journal.new.items ≡ journal.old.items
+            ++ map (take_event course.number) (lacking (judge_by course (length clashes.now)) 0 clashes.now self.old.rulings) }
+    {
+        fill(course, clashes, &mut self.rulings, journal);
     }
 
     // The table with its owner, and the uptime.

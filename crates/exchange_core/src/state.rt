@@ -1,13 +1,13 @@
 //! The state of a side, and what each call leaves of it.
-ghost use Rattle.std.specs.Prelude.{◌≡◌, Some, None, IsTrue, IfOk, OnOk, OnErr, is_some};
+ghost use Rattle.std.specs.Prelude.{◌≡◌, [], Some, None, IsTrue, IfOk, OnOk, OnErr, is_some};
 ghost use Rattle.std.specs.FinMap.{get};
 ghost use Rattle.partition_table.specs.Tables.{row_for, rows_of};
 ghost use Rattle.numbered.specs.Answers.{IsAnswered};
 ghost use Rattle.partition_table.specs.Faults as table;
-ghost use Rattle.exchange_core.specs.Sides.{new_side, without, shown_table};
+ghost use Rattle.exchange_core.specs.Sides.{new_side, without, shown_table, heard_clashes};
 ghost use Rattle.exchange_core.specs.Lists.{AreNamesOf};
 ghost use Rattle.exchange_core.specs.Rows.{rows_left};
-ghost use Rattle.std.specs.Option.{option_map};
+ghost use Rattle.std.specs.Option.{option_map, option_map_or};
 ghost use Rattle.exchange_core.specs.Sides as sides;
 ghost use Rattle.exchange_core.specs.Worlds.{offer_of, list_of};
 
@@ -68,6 +68,47 @@ impl State {
         ensures { result ≡ self.now.id }
     {
         self.id
+    }
+
+    // Returns the table, withdrawn names included.
+    pub(crate) fn table(&self) -> &Table
+        ensures { result.now ≡ self.now.table }
+    {
+        &self.table
+    }
+
+    // Checks whether an exchange is open.
+    pub(crate) fn is_open(&self) -> bool
+        ensures { result ≡ is_some self.now.exchange }
+    {
+        self.exchange.is_some()
+    }
+
+    // Returns the number of the open exchange, if any.
+    pub(crate) fn open_number(&self) -> Option<u64>
+        ensures { result ≡ option_map (λ exchange. exchange.number) self.now.exchange }
+    {
+        match &self.exchange {
+            Some(exchange) => Some(exchange.number()),
+            None => None,
+        }
+    }
+
+    // Returns the names withdrawn in the open exchange.
+    pub(crate) fn withdrawn(&self) -> &[Name]
+        ensures { result.now ≡ option_map_or (λ exchange. exchange.withdrawn) self.now.exchange [] }
+    {
+        match &self.exchange {
+            Some(exchange) => exchange.withdrawn(),
+            None => &[],
+        }
+    }
+
+    // Returns the clashes of the open exchange, once the other's offer is heard.
+    pub(crate) fn clashes(&self) -> Option<&ClashList>
+        ensures { option_map (λ list. list.now) result ≡ heard_clashes self.now }
+    {
+        self.clashes.as_ref()
     }
 
     // What the name is registered with, unless it was withdrawn.

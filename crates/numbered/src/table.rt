@@ -4,7 +4,7 @@ ghost use Rattle.std.specs.List.{find};
 ghost use Rattle.std.specs.Option.{option_map};
 
 /// Every refusal: its number, and its words.
-pub const REFUSALS: [(u32, &'static str); 57] = [
+pub const REFUSALS: [(u32, &'static str); 73] = [
     (1, "empty: no byte, or a text without an instruction"),
     (2, "more than 1,024 slots"),
     (3, "an incomplete last slot"),
@@ -79,7 +79,26 @@ pub const REFUSALS: [(u32, &'static str); 57] = [
     (61, "an operand is missing or invalid"),
     (62, "a number out of range"),
     (63, "extra text after the last operand"),
+    (70, "a message that ends too early"),
+    (71, "not a message of this kind"),
+    (72, "extra bytes after the message"),
+    (
+        73,
+        "a count above its limit: 4,096 rows or names, 8,192 bytes of code",
+    ),
+    (74, "an unknown side"),
+    (75, "an invalid name in a message"),
+    (76, "an unknown kind of resolver"),
+    (77, "a name that the list already has"),
+    (78, "a name that isn't above the one before it"),
+    (79, "a program without code in this row or an earlier one"),
+    (80, "code that an earlier row already has"),
+    (81, "code in a message that the verifier rejects"),
+    (82, "an unsupported version of messages"),
     (90, "out of memory"),
+    (91, "an empty handle"),
+    (92, "an index out of range"),
+    (93, "a buffer of another length"),
 ];
 
 /// Returns the words of a refusal's number, or "unknown refusal".

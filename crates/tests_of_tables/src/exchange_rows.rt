@@ -277,3 +277,74 @@ pub(crate) const NEXT_WHOLE: &[Row] = &[
     (A, Call::Finish, None),
     (B, Call::Finish, None),
 ];
+
+/// Both hear the other, with seed 1, and side A can't settle before. Both take the ruling of clash 1 in round 1, settle
+/// in round 0, and lack nothing then.
+pub(crate) const SETTLED: &[Row] = &[
+    (A, Call::Settle(0), Some((34, None))),
+    (A, Call::Begin(1, 1), None),
+    (B, Call::Begin(1, 1), None),
+    (
+        A,
+        Call::Settle(0),
+        Some((39, Some(MissingPart::TheirOffer))),
+    ),
+    (A, Call::Settle(4), Some((38, None))),
+    (A, Call::Hear(B, 1), None),
+    (B, Call::Hear(A, 1), None),
+    (A, Call::Settle(4), Some((38, None))),
+    (A, Call::Take(1, 1, 5), None),
+    (B, Call::Take(1, 1, 5), None),
+    (A, Call::Settle(0), None),
+    (B, Call::Settle(0), None),
+    (A, Call::Settle(3), None),
+];
+
+/// Both close and hear lists, and finish.
+pub(crate) const SETTLED_LEFT: &[Row] = &[
+    (A, Call::CloseList, None),
+    (B, Call::CloseList, None),
+    (A, Call::HearList(B, 1), None),
+    (B, Call::HearList(A, 1), None),
+    (A, Call::Finish, None),
+    (B, Call::Finish, None),
+];
+
+/// A name is registered and unregistered.
+pub(crate) const NAME_COMES_AND_GOES: &[Row] = &[
+    (A, Call::Register("web", 1, EXIT), None),
+    (A, Call::Unregister("web"), None),
+];
+
+/// The journal is renewed between exchanges, and not in one.
+pub(crate) const RENEWED: &[Row] = &[
+    (A, Call::Renew, None),
+    (A, Call::Begin(7, 0), None),
+    (A, Call::Renew, Some((33, None))),
+    (A, Call::Abandon, None),
+    (A, Call::Renew, None),
+];
+
+/// The side goes on with greater numbers.
+pub(crate) const RENEWED_LEFT: &[Row] = &[
+    (A, Call::Begin(7, 0), Some((35, None))),
+    (A, Call::Register("web", 1, EXIT), None),
+    (A, Call::Begin(8, 0), None),
+];
+
+/// Both hear the other, of side A with almost no room left.
+pub(crate) const HEARD: &[Row] = &[
+    (A, Call::Begin(1, 0), None),
+    (B, Call::Begin(1, 0), None),
+    (A, Call::Hear(B, 1), None),
+];
+
+/// An offer that changes nothing but the journal.
+pub(crate) const HEARD_AGAIN: &[Row] = &[(A, Call::Hear(B, 1), None)];
+
+/// The side has room for one ruling, and two clashes have none.
+pub(crate) const NO_ROOM: &[Row] = &[
+    (A, Call::Settle(0), Some((40, None))),
+    (A, Call::Take(1, 0, 0), None),
+    (A, Call::Settle(0), Some((40, None))),
+];

@@ -189,3 +189,50 @@ fn abandoned_after_each_step(rt: HostRuntime) -> Result<(), Fail> {
     }
     Ok(())
 }
+
+// A side settles the clashes without a ruling; a ruling that it took stays.
+#[test]
+fn sides_settle(rt: HostRuntime) -> Result<(), Fail> {
+    let parts = [
+        Part::Calls(rows::SETTLED),
+        // Two names, the calls so far, and two rulings.
+        Part::Seen(Seen::Events(SideId::A, 8)),
+        Part::Calls(rows::SETTLED_LEFT),
+        Part::Seen(Seen::Agreed),
+        Part::Seen(Seen::Ruling(0, 1, Verdict3::Second)),
+        Part::Seen(Seen::Ruling(1, 5, Verdict3::Second)),
+        Part::Seen(Seen::Ruling(2, 3, Verdict3::Second)),
+    ];
+    assert_eq!(rt; first_other(rt.alloc(), &["a1", "b1", "c1"], &parts)?, None);
+    Ok(())
+}
+
+#[test]
+fn a_journal_is_renewed(rt: HostRuntime) -> Result<(), Fail> {
+    let parts = [
+        Part::Repeated(100, rows::NAME_COMES_AND_GOES),
+        Part::Seen(Seen::Events(SideId::A, 201)),
+        Part::Calls(rows::RENEWED),
+        // One name, and the number that was begun and abandoned.
+        Part::Seen(Seen::Events(SideId::A, 3)),
+        Part::Seen(Seen::OwnerOn(SideId::A, "db", 1)),
+        Part::Calls(rows::RENEWED_LEFT),
+        Part::Seen(Seen::Shown("web", true, false)),
+    ];
+    assert_eq!(rt; first_other(rt.alloc(), &["db"], &parts)?, None);
+    Ok(())
+}
+
+// A side with less room in its journal than clashes without a ruling settles none of them.
+#[test]
+fn a_full_journal_settles_nothing(rt: HostRuntime) -> Result<(), Fail> {
+    let parts = [
+        Part::Calls(rows::HEARD),
+        Part::Repeated(MAX_EVENTS as u32 - 5, rows::HEARD_AGAIN),
+        Part::Seen(Seen::Events(SideId::A, MAX_EVENTS - 1)),
+        Part::Calls(rows::NO_ROOM),
+        Part::Seen(Seen::Events(SideId::A, MAX_EVENTS)),
+    ];
+    assert_eq!(rt; first_other(rt.alloc(), &["a1", "b1"], &parts)?, None);
+    Ok(())
+}

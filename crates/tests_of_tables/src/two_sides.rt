@@ -35,6 +35,9 @@ pub(crate) enum Call {
     HearList(SideId, u64),
     Finish,
     Abandon,
+    /// Settles at the words of this round.
+    Settle(u32),
+    Renew,
 }
 
 /// The number of a call's refusal, and the part that an exchange lacks; `None` for a call that succeeds.
@@ -301,6 +304,8 @@ impl Sent {
             }
             Call::Finish => self.finish(side),
             Call::Abandon => Ok(side.abandon().err()),
+            Call::Settle(round) => Ok(side.settle(round).err()),
+            Call::Renew => Ok(side.renew(self.alloc).err()),
         }
     }
 

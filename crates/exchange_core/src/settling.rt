@@ -1,0 +1,142 @@
+//! Settles an exchange: judges each clash without a ruling, all at the words of one round.
+ghost use Rattle.std.specs.Prelude.{◌≡◌, ◌≤◌, ◌<◌, ◌+◌, ◌++◌, length, map, Some, IfSome, slice_get, vec_len, vec_capacity};
+ghost use Rattle.exchange_core.specs.Sides as sides;
+ghost use Rattle.exchange_core.specs.Refusals as due;
+ghost use Rattle.exchange_core.specs.Settling.{filled, lacking, lacking_in, lacking_of, number_in, settled, settled_exchange};
+ghost use Rattle.exchange_core.specs.model.Settling.{HasPlaces, SideHasPlaces, judge_by, take_event};
+
+use crate::calls::MAX_EVENTS;
+use crate::exchange::Exchange;
+use crate::fault::{MissingPart, SideFault};
+use crate::journal::Event;
+use crate::judged::Judged;
+use crate::state::State;
+use partition_table::{Clash, ClashList, Verdict, word};
+
+/// The number of rounds: each has a lawful word for each clash.
+const ROUNDS: u32 = 4;
+
+// The numbers of an exchange that rulings are made of.
+#[derive(Clone, Copy)]
+pub(crate) struct Course {
+    number: u64,
+    seed: u64,
+    round: u32,
+}
+
+impl State {
+    // Returns the refusal to settle at this round; the journal has this many events.
+    pub(crate) fn settle_fault(&self, events: usize, round: u32) -> Option<SideFault>
+        ensures { result ≡ due.settle_fault events self.now round }
+    {
+        let Some(exchange) = &self.exchange else {
+            return Some(SideFault::NotHealing);
+        };
+        if round >= ROUNDS {
+            return Some(SideFault::StrangeRuling);
+        }
+        let Some(heard) = &exchange.heard else {
+            return Some(SideFault::Missing(MissingPart::TheirOffer));
+        };
+        if MAX_EVENTS.saturating_sub(events) < count_lacking(heard.rulings()) {
+            return Some(SideFault::JournalFull);
+        }
+        None
+    }
+
+    // Counts the clashes without a ruling.
+    pub(crate) fn count_lacking(&self) -> usize
+        ensures { result ≡ due.count_lacking (sides.rulings_of self.now) }
+    {
+        let Some(exchange) = &self.exchange else {
+            return 0;
+        };
+        match &exchange.heard {
+            Some(heard) => count_lacking(heard.rulings()),
+            None => 0,
+        }
+    }
+
+    // Gives each clash without a ruling that of the round, and writes an event for each.
+    pub(crate) fn settle(&mut self, round: u32, journal: &mut Vec<Event>)
+        requires places { SideHasPlaces self.old }
+        requires room { vec_len journal.old + length (lacking_of round self.old) ≤ vec_capacity journal.old }
+        ensures state { self.new ≡ settled round self.old }
+        ensures written { journal.new.items
+            ≡ journal.old.items ++ map (take_event (number_in self.old)) (lacking_of round self.old) }
+    {
+        let Some(clashes) = &self.clashes else {
+            return;
+        };
+        let Some(exchange) = &mut self.exchange else {
+            return;
+        };
+        exchange.settle(round, clashes, journal);
+    }
+}
+
+impl Exchange {
+    // Gives each of these clashes without a ruling that of the round, and writes an event for each.
+    fn settle(&mut self, round: u32, clashes: &ClashList, journal: &mut Vec<Event>)
+        requires places { HasPlaces clashes.now self.old }
+        requires room { vec_len journal.old + length (lacking_in round clashes.now self.old) ≤ vec_capacity journal.old }
+        ensures state { self.new ≡ settled_exchange round clashes.now self.old }
+        ensures written { journal.new.items
+            ≡ journal.old.items ++ map (take_event self.old.number) (lacking_in round clashes.now self.old) }
+    {
+        let course = Course {
+            number: self.number,
+            seed: self.seed,
+            round,
+        };
+        let Some(heard) = &mut self.heard else {
+            return;
+        };
+        heard.fill(course, clashes, journal);
+    }
+}
+
+// Counts the places without a ruling.
+fn count_lacking(rulings: &[Option<Judged>]) -> usize
+    ensures { result ≡ due.count_lacking rulings.now }
+{
+    rulings.iter().filter(|ruling| ruling.is_none()).count()
+}
+
+// Fills each place without a ruling, and writes an event for each.
+pub(crate) fn fill(
+    course: Course,
+    clashes: &ClashList,
+    rulings: &mut [Option<Judged>],
+    journal: &mut Vec<Event>,
+)
+    requires places { length rulings.old ≡ length clashes.now }
+    requires room { vec_len journal.old + length (lacking (judge_by course (length clashes.now)) 0 clashes.now rulings.old)
+        ≤ vec_capacity journal.old }
+    ensures filled { rulings.new ≡ filled (judge_by course (length clashes.now)) 0 clashes.now rulings.old }
+    ensures written { journal.new.items ≡ journal.old.items
+        ++ map (take_event course.number) (lacking (judge_by course (length clashes.now)) 0 clashes.now rulings.old) }
+{
+    let count = clashes.len() as u32;
+    for k in 0..count {
+        let Some(clash) = clashes.get(k) else {
+            unreachable!()
+        };
+        if rulings[k as usize].is_none() {
+            let judged = judge(course, count, k, clash);
+            rulings[k as usize] = Some(judged);
+            journal.push_reserved(Event::Take(course.number, k, judged));
+        }
+    }
+}
+
+// Judges clash `k` of `count`.
+fn judge(course: Course, count: u32, k: u32, clash: &Clash) -> Judged
+    ensures { result ≡ judge_by course count k clash.now }
+{
+    let verdict = Verdict::judged(clash, word(course.seed, course.round, count, k));
+    Judged {
+        word: verdict.word(),
+        answer: verdict.answer(),
+    }
+}
