@@ -120,7 +120,7 @@ const TOLD: [(&[&str], [&str; 3]); 5] = [
         [
             "Usage: heal <COMMAND>\n",
             "\n  judge  Judges a clash by a program: the first, the second or neither keeps the name\n",
-            "\n  90  out of memory\n",
+            "\n  93  a buffer of another length\n",
         ],
     ),
     (

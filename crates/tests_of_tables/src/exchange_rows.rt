@@ -332,16 +332,6 @@ pub(crate) const RENEWED_LEFT: &[Row] = &[
     (A, Call::Begin(8, 0), None),
 ];
 
-/// Both hear the other, of side A with almost no room left.
-pub(crate) const HEARD: &[Row] = &[
-    (A, Call::Begin(1, 0), None),
-    (B, Call::Begin(1, 0), None),
-    (A, Call::Hear(B, 1), None),
-];
-
-/// An offer that changes nothing but the journal.
-pub(crate) const HEARD_AGAIN: &[Row] = &[(A, Call::Hear(B, 1), None)];
-
 /// The side has room for one ruling, and two clashes have none.
 pub(crate) const NO_ROOM: &[Row] = &[
     (A, Call::Settle(0), Some((40, None))),
