@@ -22,10 +22,16 @@ pub use Rattle.exchange_core.specs.Journal
 pub use Rattle.exchange_core.specs.Lists
 pub use Rattle.exchange_core.specs.Refusals as SideRefusals
 pub use Rattle.exchange_core.specs.Rows
+pub use Rattle.exchange_core.specs.Settling
 pub use Rattle.exchange_core.specs.Shown
 pub use Rattle.exchange_core.specs.Sides
 pub use Rattle.exchange_core.specs.Steps
 pub use Rattle.exchange_core.specs.Worlds
+pub use Rattle.exchange_codec.specs.Faults as MessageFaults
+pub use Rattle.exchange_codec.specs.Offers as OfferMessages
+pub use Rattle.exchange_codec.specs.Reading as MessageFields
+pub use Rattle.exchange_codec.specs.Rows as RowMessages
+pub use Rattle.exchange_codec.specs.Withdrawals as ListMessages
 pub use Rattle.cluster.specs.Clusters
 pub use Rattle.cluster.specs.Faults as HealFaults
 pub use Rattle.cluster.specs.Healing

@@ -6,7 +6,8 @@
 //! | task | items | crate |
 //! |---|---|---|
 //! | heal a split in one process | `Cluster`, `Plan`, `Healing`, `HealFault`, `Gate`, `OpenGate` | `cluster`, `judge_pool` |
-//! | run one half | `Side`, `Offer`, `Withdrawals`, `Finished`, `Judged`, `SideFault`, `history_theorem` | `exchange_core` |
+//! | run one half | `Side`, `Offer`, `Withdrawals`, `Finished`, `Judged`, `SideFault`, `history_theorem`, `one_round_theorem` | `exchange_core` |
+//! | send messages | `encode_offer`, `decode_offer`, `encode_withdrawals`, `decode_withdrawals`, `MessageFault` | `exchange_codec` |
 //! | judge clashes | `clashes`, `Clash`, `ClashList`, `word`, `Verdict`, `Ruling` | `partition_table` |
 //! | merge tables | `Table`, `Rows`, `fit`, `merge`, `TableFault` | `partition_table` |
 //! | keep uploaded programs | `UploadStore`, `Uploaded`, `UploadFault` | `upload_store` |
@@ -18,7 +19,7 @@
 //!
 //! Limits: 4,096 names in a table, 256 programs in a store, 65,536 events in the journal of a side, 1,024 slots in a
 //! program, 16 workers, and two halves in an exchange. The crate has no transport and no storage: the embedder delivers
-//! messages and notices, and messages have no encoding as bytes yet.
+//! messages and notices.
 //!
 //! Each fault implements `Numbered`. `REFUSALS` has the words of each number, and docs/REFUSALS.md an example.
 #![tactic(auto)]
@@ -32,9 +33,13 @@ pub use clash_record::{
     Withdrawal, name,
 };
 pub use cluster::{Cluster, HealFault, Healing, Plan};
+pub use exchange_codec::{
+    FieldFault, ItemFault, MessageFault, decode_offer, decode_withdrawals, encode_offer,
+    encode_withdrawals, one_message_theorem,
+};
 pub use exchange_core::{
     Finished, Judged, MAX_EVENTS, MissingPart, Offer, ShownRows, Side, SideFault, Withdrawals,
-    history_theorem,
+    history_theorem, one_round_theorem,
 };
 pub use judge_pool::{Gate, OpenGate};
 pub use numbered::{

@@ -1,6 +1,8 @@
 //! Counts of rows, and faults.
 ghost use Rattle.std.specs.Prelude.{◌<◌, IfOk};
 
+use clash_record::BadName;
+use exchange_codec::MessageFault;
 use exchange_core::SideFault;
 use fixtures::FixtureFault;
 use hex::FromHexError;
@@ -15,6 +17,8 @@ use upload_store::UploadFault;
 pub(crate) enum Fault {
     #[error("ROWS isn't a number from 1 to 4096")]
     Rows,
+    #[error("PROGRAMS isn't a number from 0 to 256")]
+    Programs,
     #[error("WORKERS isn't a number from 1 to 16")]
     Workers,
     #[error("no hex digits, two a byte: {0}")]
@@ -27,6 +31,10 @@ pub(crate) enum Fault {
     Table(#[from] TableFault),
     #[error(transparent)]
     Side(#[from] SideFault),
+    #[error(transparent)]
+    Name(#[from] BadName),
+    #[error(transparent)]
+    Message(#[from] MessageFault),
     #[error("out of memory")]
     Memory(#[from] AllocError),
     #[error("the clock: {0}")]
@@ -40,5 +48,13 @@ pub(crate) fn row_count(word: &str) -> Result<u16, Fault>
     match word.parse::<u16>() {
         Ok(rows) if rows > 0 => Ok(rows),
         _ => Err(Fault::Rows),
+    }
+}
+
+/// Returns the count of programs in a word.
+pub(crate) fn program_count(word: &str) -> Result<u16, Fault> {
+    match word.parse::<u16>() {
+        Ok(programs) if programs <= 256 => Ok(programs),
+        _ => Err(Fault::Programs),
     }
 }

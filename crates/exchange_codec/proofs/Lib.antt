@@ -1,0 +1,17 @@
+pub mod FieldLaws
+pub mod ManyLaws
+pub mod WrittenLaws
+pub mod NameLaws
+pub mod WithdrawalLaws
+pub mod SideLaws
+pub mod ListMirrorLaws
+pub mod CodeLaws
+pub mod RowLaws
+pub mod OfferLaws
+pub mod IdLaws
+pub mod TableLaws
+pub mod OneOffer
+pub mod OneFault
+pub mod RebuildingLaws
+pub mod OfferAnswers
+pub mod OfferMirrorLaws

@@ -1,0 +1,106 @@
+-- The text of an offer that is read is spelled so, and what is spelled so is read.
+use Rattle.std.proofs.Common.{◌≡◌, ℕ, ◌^◌, ◌<◌, ◌≤◌, List, [], ◌∷◌, ◌++◌, length, Ok, refl, sym, ap, subst, ◌∙◌, append_assoc, arith, lit<}
+use Rattle.std.specs.List.{flat_map}
+use Rattle.std.specs.Int.{w32, w64, to_le_bytes}
+use Rattle.std.proofs.lemmas.List.{append-nil}
+use Rattle.partition_table.specs.Tables.{max_names}
+use Rattle.exchange_codec.specs.declared.offers.OfferHead.{OfferHead}
+use Rattle.exchange_codec.specs.Reading.{◌>>=◌, number_at, header_at, count_at, many_at, ended}
+use Rattle.exchange_codec.specs.Names.{side_byte, side_at}
+use Rattle.exchange_codec.specs.Rows.{row_bytes, row_at, IsRow}
+use Rattle.exchange_codec.specs.Offers.{offers_header, OfferText, head_bytes, offer_bytes, IsText, head_at, offer_at, offer_of}
+use Rattle.exchange_codec.proofs.FieldLaws.{IsBytes, bind_ok, ok_is, Takes, Takes-then, wide64, number_takes, number_again, header_takes, header_again, count_takes, count_again, ended_ok}
+use Rattle.exchange_codec.proofs.NameLaws.{side_takes, side_again}
+use Rattle.exchange_codec.proofs.ManyLaws.{many_take, many_again}
+use Rattle.exchange_codec.proofs.RowLaws.{row_takes, row_again}
+
+head_takes : (bytes : List ℕ) (x : OfferHead × List ℕ) → IsBytes bytes → head_at bytes ≡ Ok x
+    → Takes bytes (head_bytes x.0) x.1 × (x.0.number < 2 ^ 64) × (x.0.seed < 2 ^ 64) × (x.0.uptime < 2 ^ 64)
+unfolding head_at
+head_takes bytes x fits e =
+    let s = bind_ok (side_at bytes) (λ side. number_at w64 side.1 >>= λ number. number_at w64 number.1 >>= λ seed. number_at w64 seed.1 >>= λ uptime. Ok (record { side = side.0; number = number.0; seed = seed.0; uptime = uptime.0 }, uptime.1)) x e in
+    let n = bind_ok (number_at w64 s.0.1) (λ number. number_at w64 number.1 >>= λ seed. number_at w64 seed.1 >>= λ uptime. Ok (record { side = s.0.0; number = number.0; seed = seed.0; uptime = uptime.0 }, uptime.1)) x s.2 in
+    let d = bind_ok (number_at w64 n.0.1) (λ seed. number_at w64 seed.1 >>= λ uptime. Ok (record { side = s.0.0; number = n.0.0; seed = seed.0; uptime = uptime.0 }, uptime.1)) x n.2 in
+    let u = bind_ok (number_at w64 d.0.1) (λ uptime. Ok (record { side = s.0.0; number = n.0.0; seed = d.0.0; uptime = uptime.0 }, uptime.1)) x d.2 in
+    let ts = side_takes bytes s.0 fits s.1 in
+    let tn = number_takes w64 (2 ^ 64) wide64 s.0.1 n.0.0 n.0.1 ts.rest_fits n.1 in
+    let td = number_takes w64 (2 ^ 64) wide64 n.0.1 d.0.0 d.0.1 tn.0.rest_fits d.1 in
+    let tu = number_takes w64 (2 ^ 64) wide64 d.0.1 u.0.0 u.0.1 td.0.rest_fits u.1 in
+    let e2 = Takes-then n.0.1 (to_le_bytes w64 d.0.0) d.0.1 (to_le_bytes w64 u.0.0) u.0.1 td.0 tu.0 in
+    let e1 = Takes-then s.0.1 (to_le_bytes w64 n.0.0) n.0.1 (to_le_bytes w64 d.0.0 ++ to_le_bytes w64 u.0.0) u.0.1 tn.0 e2 in
+    let e0 = Takes-then bytes (side_byte s.0.0 ∷ []) s.0.1 (to_le_bytes w64 n.0.0 ++ (to_le_bytes w64 d.0.0 ++ to_le_bytes w64 u.0.0)) u.0.1 ts e1 in
+    let made : OfferHead × List ℕ = (record { side = s.0.0; number = n.0.0; seed = d.0.0; uptime = u.0.0 }, u.0.1) in
+    subst (λ (y : OfferHead × List ℕ). Takes bytes (head_bytes y.0) y.1 × (y.0.number < 2 ^ 64) × (y.0.seed < 2 ^ 64) × (y.0.uptime < 2 ^ 64)) {x = made} (ok_is made x u.2)
+    (e0, tn.1, td.1, tu.1)
+
+head_again : (h : OfferHead) (rest : List ℕ) → h.number < 2 ^ 64 → h.seed < 2 ^ 64 → h.uptime < 2 ^ 64
+    → head_at (head_bytes h ++ rest) ≡ Ok (h, rest)
+unfolding head_at
+head_again h rest number seed uptime =
+    let regrouped : head_bytes h ++ rest
+    ≡ side_byte h.side ∷ (to_le_bytes w64 h.number ++ (to_le_bytes w64 h.seed ++ (to_le_bytes w64 h.uptime ++ rest))) =
+    ap (λ (x : List ℕ). side_byte h.side ∷ x) (append_assoc (to_le_bytes w64 h.number) (to_le_bytes w64 h.seed ++ to_le_bytes w64 h.uptime) rest
+    ∙ ap (λ (x : List ℕ). to_le_bytes w64 h.number ++ x) (append_assoc (to_le_bytes w64 h.seed) (to_le_bytes w64 h.uptime) rest)) in
+    ap head_at regrouped
+    ∙ rw (
+      side_again h.side (to_le_bytes w64 h.number ++ (to_le_bytes w64 h.seed ++ (to_le_bytes w64 h.uptime ++ rest))),
+      number_again w64 (2 ^ 64) wide64 h.number (to_le_bytes w64 h.seed ++ (to_le_bytes w64 h.uptime ++ rest)) number,
+      number_again w64 (2 ^ 64) wide64 h.seed (to_le_bytes w64 h.uptime ++ rest) seed,
+      number_again w64 (2 ^ 64) wide64 h.uptime rest uptime,
+    ) refl
+
+offer_takes : (bytes : List ℕ) (x : OfferText × List ℕ) → IsBytes bytes → offer_at bytes ≡ Ok x
+    → Takes bytes (offer_bytes x.0) x.1 × IsText x.0
+unfolding offer_at
+offer_takes bytes x fits e =
+    let h = bind_ok (header_at offers_header bytes) (λ rest. head_at rest >>= λ head. count_at max_names head.1 >>= λ count. many_at row_at count.0 count.1 >>= λ rows. Ok (record { head = head.0; rows = rows.0 }, rows.1)) x e in
+    let d = bind_ok (head_at h.0) (λ head. count_at max_names head.1 >>= λ count. many_at row_at count.0 count.1 >>= λ rows. Ok (record { head = head.0; rows = rows.0 }, rows.1)) x h.2 in
+    let c = bind_ok (count_at max_names d.0.1) (λ count. many_at row_at count.0 count.1 >>= λ rows. Ok (record { head = d.0.0; rows = rows.0 }, rows.1)) x d.2 in
+    let m = bind_ok (many_at row_at c.0.0 c.0.1) (λ rows. Ok (record { head = d.0.0; rows = rows.0 }, rows.1)) x c.2 in
+    let th = header_takes offers_header bytes h.0 fits h.1 in
+    let td = head_takes h.0 d.0 th.rest_fits d.1 in
+    let tc = count_takes max_names d.0.1 c.0.0 c.0.1 td.0.rest_fits c.1 in
+    let tm = many_take row_at row_bytes IsRow row_takes c.0.0 c.0.1 m.0 tc.0.rest_fits m.1 in
+    let counted : Takes d.0.1 (to_le_bytes w32 (length m.0.0)) c.0.1 = subst (λ (k : ℕ). Takes d.0.1 (to_le_bytes w32 k) c.0.1) (sym tm.1) tc.0 in
+    let e2 = Takes-then d.0.1 (to_le_bytes w32 (length m.0.0)) c.0.1 (flat_map row_bytes m.0.0) m.0.1 counted tm.0 in
+    let e1 = Takes-then h.0 (head_bytes d.0.0) d.0.1 (to_le_bytes w32 (length m.0.0) ++ flat_map row_bytes m.0.0) m.0.1 td.0 e2 in
+    let e0 = Takes-then bytes (to_le_bytes w64 offers_header) h.0 (head_bytes d.0.0 ++ (to_le_bytes w32 (length m.0.0) ++ flat_map row_bytes m.0.0)) m.0.1 th e1 in
+    let made : OfferText × List ℕ = (record { head = d.0.0; rows = m.0.0 }, m.0.1) in
+    let few : length m.0.0 ≤ max_names = omega (arith, tm.1, tc.1) in
+    subst (λ (y : OfferText × List ℕ). Takes bytes (offer_bytes y.0) y.1 × IsText y.0) {x = made} (ok_is made x m.2)
+    (e0, record { head = record { number = td.1; seed = td.2; uptime = td.3 }; few = few; each = tm.2 })
+
+offer_again : (o : OfferText) (rest : List ℕ) → IsText o → offer_at (offer_bytes o ++ rest) ≡ Ok (o, rest)
+unfolding offer_at
+offer_again o rest fits =
+    let rows = flat_map row_bytes o.rows in
+    let count = to_le_bytes w32 (length o.rows) in
+    let regrouped : offer_bytes o ++ rest
+    ≡ to_le_bytes w64 offers_header ++ (head_bytes o.head ++ (to_le_bytes w32 (length o.rows) ++ (flat_map row_bytes o.rows ++ rest))) =
+    append_assoc (to_le_bytes w64 offers_header) (head_bytes o.head ++ (count ++ rows)) rest
+    ∙ ap (λ (x : List ℕ). to_le_bytes w64 offers_header ++ x) (append_assoc (head_bytes o.head) (count ++ rows) rest
+    ∙ ap (λ (x : List ℕ). head_bytes o.head ++ x) (append_assoc count rows rest)) in
+    ap offer_at regrouped
+    ∙ rw (
+      header_again offers_header (head_bytes o.head ++ (to_le_bytes w32 (length o.rows) ++ (flat_map row_bytes o.rows ++ rest))) (lit< tt),
+      head_again o.head (to_le_bytes w32 (length o.rows) ++ (flat_map row_bytes o.rows ++ rest)) fits.head.number fits.head.seed fits.head.uptime,
+      count_again max_names (length o.rows) (flat_map row_bytes o.rows ++ rest) fits.few (lit< tt),
+      many_again row_at row_bytes IsRow row_again o.rows rest fits.each,
+    ) refl
+
+pub text_spelled : (bytes : List ℕ) (o : OfferText) → IsBytes bytes → offer_of bytes ≡ Ok o → IsText o × (bytes ≡ offer_bytes o)
+unfolding offer_of
+text_spelled bytes o fits e =
+    let a = bind_ok (offer_at bytes) ended o e in
+    let g = ended_ok a.0 o a.2 in
+    let k = offer_takes bytes a.0 fits a.1 in
+    let whole : bytes ≡ offer_bytes a.0.0 = k.0.parts ∙ ap (λ (r : List ℕ). offer_bytes a.0.0 ++ r) g.1
+    ∙ append-nil (offer_bytes a.0.0) in
+    subst (λ (t : OfferText). IsText t × (bytes ≡ offer_bytes t)) g.0 (k.1, whole)
+
+pub text_read : (o : OfferText) → IsText o → offer_of (offer_bytes o) ≡ Ok o
+unfolding offer_of
+text_read o fits =
+    let all : offer_at (offer_bytes o) ≡ Ok (o, []) =
+    ap offer_at (sym (append-nil (offer_bytes o))) ∙ offer_again o [] fits in
+    rw all refl

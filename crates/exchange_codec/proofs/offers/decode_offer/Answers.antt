@@ -1,0 +1,40 @@
+use Rattle.std.proofs.Common.{Err, arith}
+use Rattle.numbered.specs.Answers.{HasCause}
+use Rattle.exchange_codec.specs.Faults.{message_fault_number}
+use Rattle.exchange_codec.specs.Offers.{IsOfferFault}
+use Rattle.exchange_codec.specs.OffersText.{view}
+use Rattle.exchange_codec.proofs.OfferAnswers.{readings, is_spelled, is_refused, is_failed, is_taken, is_told, few_rows}
+use Rattle.exchange_codec.proofs.offers.decode_offer.Goals as goal
+
+pub returns-in-Ok : goal.returns-in-Ok
+returns-in-Ok c =
+    let reading = c.one_reading_theorem.ensures in
+    let verdict = c.one_verdict_theorem.ensures in
+    let known = readings reading.either reading.one_code reading.one_fault verdict.either verdict.one_refusal in
+    let bytes = c.args.bytes.now in
+    let spelled = is_spelled bytes (view c.in-Ok.text) c.rebuilt.result (λ i. omega (arith, c.type_inv.bytes i)) c.in-Ok.ensures c.rebuilt.ensures.rebuilt in
+    let refused = is_refused bytes (view c.in-Ok.text) c.rebuilt.result c.in-Ok.ensures c.rebuilt.ensures.refused in
+    record {
+      spelled = spelled;
+      taken = λ offer s. is_taken known bytes c.rebuilt.result spelled refused offer s;
+      refused = refused;
+      told = λ fault h. is_told known bytes c.rebuilt.result spelled refused fault h;
+    }
+
+pub returns-in-Err : goal.returns-in-Err
+returns-in-Err c =
+    let reading = c.one_reading_theorem.ensures in
+    let verdict = c.one_verdict_theorem.ensures in
+    let known = readings reading.either reading.one_code reading.one_fault verdict.either verdict.one_refusal in
+    let bytes = c.args.bytes.now in
+    let refused : HasCause message_fault_number (IsOfferFault bytes) c.told.result =
+    rw c.told.ensures (is_failed bytes c.in-Err.error c.in-Err.ensures) in
+    record {
+      spelled = tt;
+      taken = λ offer s. is_taken known bytes (Err c.told.result) tt refused offer s;
+      refused = refused;
+      told = λ fault h. is_told known bytes (Err c.told.result) tt refused fault h;
+    }
+
+pub rebuilt-requires : goal.rebuilt-requires
+rebuilt-requires c = few_rows c.args.bytes.now c.in-Ok.text (λ i. omega (arith, c.type_inv.bytes i)) c.in-Ok.ensures

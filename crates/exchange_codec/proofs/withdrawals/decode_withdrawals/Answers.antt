@@ -1,0 +1,22 @@
+use Rattle.std.proofs.Common.{length, arith}
+use Rattle.exchange_codec.specs.Withdrawals.{list_of}
+use Rattle.exchange_codec.specs.WithdrawalsText.{view}
+use Rattle.exchange_codec.proofs.WithdrawalLaws.{list_read, is_spelled, is_read, is_exact, bad_read, bad_exact, few_names}
+use Rattle.exchange_codec.proofs.withdrawals.decode_withdrawals.Goals as goal
+
+pub returns-in-Ok : goal.returns-in-Ok
+returns-in-Ok c = record {
+  spelled = is_spelled c.args.bytes.now (view c.in-Ok.text) c.rebuilt.result (λ i. omega (arith, c.type_inv.bytes i)) c.in-Ok.ensures c.rebuilt.ensures;
+  taken = λ w s. is_read c.args.bytes.now (view c.in-Ok.text) c.rebuilt.result w c.in-Ok.ensures c.rebuilt.ensures s;
+  exact = is_exact c.args.bytes.now (view c.in-Ok.text) c.rebuilt.result c.in-Ok.ensures c.rebuilt.ensures;
+}
+
+pub returns-in-Err : goal.returns-in-Err
+returns-in-Err c = record {
+  spelled = tt;
+  taken = λ w s. rw c.told.ensures (bad_read (length c.args.bytes.now) c.in-Err.error (list_of c.args.bytes.now) w c.in-Err.ensures (list_read c.args.bytes.now w s));
+  exact = rw c.told.ensures (bad_exact (length c.args.bytes.now) c.in-Err.error (list_of c.args.bytes.now) c.in-Err.ensures);
+}
+
+pub rebuilt-requires : goal.rebuilt-requires
+rebuilt-requires c = few_names c.args.bytes.now (view c.in-Ok.text) (λ i. omega (arith, c.type_inv.bytes i)) c.in-Ok.ensures

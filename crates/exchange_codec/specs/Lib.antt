@@ -1,0 +1,11 @@
+pub mod Faults
+pub mod Placing
+pub mod Reading
+pub mod Names
+pub mod Withdrawals
+pub mod Rows
+pub mod Offers
+pub mod WithdrawalsText
+pub mod RowsText
+pub mod OffersText
+pub mod model

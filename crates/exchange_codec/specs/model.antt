@@ -1,0 +1,2 @@
+pub mod ListMirror
+pub mod OfferMirror

@@ -1,0 +1,17 @@
+//! The messages of an exchange as bytes: offers and lists of withdrawn names, encoded, and decoded from untrusted bytes.
+#![tactic(auto)]
+
+mod fault;
+mod fields;
+mod list_mirror;
+mod names;
+mod offer_mirror;
+mod offers;
+mod rows;
+mod theorem;
+mod withdrawals;
+
+pub use fault::{FieldFault, ItemFault, MessageFault};
+pub use offers::{decode_offer, encode_offer};
+pub use theorem::one_message_theorem;
+pub use withdrawals::{decode_withdrawals, encode_withdrawals};

@@ -1,0 +1,159 @@
+//! Offers as bytes.
+ghost use Rattle.std.specs.Prelude.{◌≡◌, ◌++◌, [], Ok, Err, IfOk, IfErr, OnOk};
+ghost use Rattle.std.specs.List.{flat_map, AllByRecursion};
+ghost use Rattle.std.specs.FinMap.{entries};
+ghost use Rattle.numbered.specs.Answers.{HasCause, ReturnsOrRunsOut};
+ghost use Rattle.exchange_core.specs.Sides as sides;
+ghost use Rattle.exchange_codec.specs.Faults.{message_fault_number};
+ghost use Rattle.exchange_codec.specs.Rows.{row_bytes, texts_of, IsRow};
+ghost use Rattle.exchange_codec.specs.declared.fault.MessageFault.{MessageFault};
+ghost use Rattle.exchange_codec.specs.Reading.{Gives};
+ghost use Rattle.exchange_codec.specs.Offers.{SpellsOffer, IsOfferFault, IsHead, head_at, offer_at, offer_of, head_bytes, head_of};
+ghost use Rattle.exchange_codec.specs.OffersText.{view};
+
+use crate::fault::{FieldFault, MessageFault, ReadError};
+use crate::fields::{count_at, header_at, push_u32, push_u64, u64_at};
+use crate::names::{push_side, side_at};
+use crate::offer_mirror::rebuilt;
+use crate::rows::{RowText, all_rows, push_row};
+use clash_record::SideId;
+use exchange_core::Offer;
+use insn_codec::one_reading_theorem;
+use partition_table::{MAX_NAMES, Table};
+use program::Profile;
+use std::alloc::{AllocError, Global};
+use std::collections::BTreeSet;
+use verifier::one_verdict_theorem;
+
+// "HEALXC", version 1, kind 1.
+const HEADER: u64 = 0x0101_4358_4C41_4548;
+
+/// All of an offer but its table.
+#[derive(Clone, Copy)]
+pub(crate) struct OfferHead {
+    pub(crate) side: SideId,
+    pub(crate) number: u64,
+    pub(crate) seed: u64,
+    pub(crate) uptime: u64,
+}
+
+/// An offer as it stands in a message.
+#[derive(Drop)]
+pub(crate) struct OfferText<'a> {
+    pub(crate) head: OfferHead,
+    pub(crate) rows: Vec<RowText<'a>>,
+}
+
+/// Encodes an offer. Fails only when out of memory.
+pub fn encode_offer(alloc: Global, offer: &Offer) -> Result<Vec<u8>, AllocError>
+    ensures { IfOk result (λ bytes. SpellsOffer bytes.items offer.now) }
+{
+    let mut out = Vec::new(alloc);
+    push_u64(&mut out, HEADER)?;
+    push_head(&mut out, offer)?;
+    let table = offer.table();
+    push_u32(&mut out, table.len() as u32)?;
+    push_rows(alloc, &mut out, table)?;
+    Ok(out)
+}
+
+// Writes all of an offer but its table at the end.
+fn push_head(out: &mut Vec<u8>, offer: &Offer) -> Result<(), AllocError>
+    ensures written { OnOk result (out.new.items ≡ out.old.items ++ head_bytes (head_of offer.now)) }
+    ensures fits { OnOk result (IsHead (head_of offer.now)) }
+{
+    push_side(out, offer.side())?;
+    push_u64(out, offer.number())?;
+    push_u64(out, offer.seed())?;
+    push_u64(out, offer.uptime())?;
+    Ok(())
+}
+
+// Writes the rows of a table at the end, in the order of names.
+fn push_rows(alloc: Global, out: &mut Vec<u8>, table: &Table) -> Result<(), AllocError>
+    ensures written { OnOk result (out.new.items ≡ out.old.items ++ flat_map row_bytes (texts_of [] (entries table.now))) }
+    ensures fit { OnOk result (AllByRecursion IsRow (texts_of [] (entries table.now))) }
+{
+    let mut before = BTreeSet::new(alloc);
+    let mut rows = table.rows();
+    while let Some((name, registration)) = rows.next() {
+        let program = table.program_for(registration.resolver);
+        push_row(alloc, out, &mut before, name, registration, program)?;
+    }
+    Ok(())
+}
+
+/// Decodes untrusted bytes as an offer.
+///
+/// It verifies each program again, computes its id, registers the rows on a fresh side, and lets it begin the number.
+/// That the bytes are those that the other half sent in this exchange is the transport's duty.
+///
+/// Rejects the first invalid field, with its byte: 70 if the bytes end within it, 71 for another message, 72 for extra
+/// bytes, 73 for a count above its limit, 74 for neither side, 75 for an invalid name, 76 for an unknown kind of resolver
+/// and 82 for another version. If every field is valid, rejects the first invalid row, with its index: 78 for a name that
+/// isn't above the one before it, 79 for a program whose code no earlier row has, 80 for code that an earlier row has, and
+/// 81 for code that the verifier rejects, with its fault; the least that applies. Returns 90 when out of memory.
+pub fn decode_offer(alloc: Global, bytes: &[u8]) -> Result<Offer, MessageFault>
+    // The bytes spell the offer that is returned.
+    ensures spelled { IfOk result (SpellsOffer bytes.now) }
+    // An offer that the bytes spell is returned, unless memory runs out.
+    ensures taken { (offer : sides.Offer) → SpellsOffer bytes.now offer
+        → ReturnsOrRunsOut message_fault_number result (Ok offer) }
+    // A refusal has its cause.
+    ensures refused { IfErr result (HasCause message_fault_number (IsOfferFault bytes.now)) }
+    // The fault of the bytes is returned, unless memory runs out; bytes have at most one.
+    ensures told { (fault : MessageFault) → IsOfferFault bytes.now fault
+        → ReturnsOrRunsOut message_fault_number result (Err fault) }
+{
+    // For the proof: bytes have one reading, and code has one verdict.
+    one_reading_theorem();
+    one_verdict_theorem::<Profile>();
+    match all(alloc, bytes) {
+        Ok(text) => rebuilt(alloc, &text),
+        Err(error) => Err(error.told(bytes.len())),
+    }
+}
+
+// The text that all of the bytes spell.
+#[tactic(auto, unfolding(crate::specs::Offers::offer_of))]
+fn all(alloc: Global, bytes: &[u8]) -> Result<OfferText<'_>, ReadError>
+    ensures { Gives view result (offer_of bytes.entry.now) }
+{
+    let (text, rest) = text_at(alloc, bytes)?;
+    if !rest.is_empty() {
+        return Err(ReadError::at(FieldFault::Trailing, rest));
+    }
+    Ok(text)
+}
+
+// The text at the front.
+#[tactic(auto, unfolding(crate::specs::Offers::offer_at))]
+fn text_at(alloc: Global, bytes: &[u8]) -> Result<(OfferText<'_>, &[u8]), ReadError>
+    ensures { Gives (λ x. (view x.0, x.1.now)) result (offer_at bytes.entry.now) }
+{
+    let rest = header_at(HEADER, bytes)?;
+    let (head, rest) = read_head(rest)?;
+    let (count, rest) = count_at(MAX_NAMES as u32, rest)?;
+    let (rows, rest) = all_rows(alloc, count, rest)?;
+    Ok((OfferText { head, rows }, rest))
+}
+
+// The head at the front.
+#[tactic(auto, unfolding(crate::specs::Offers::head_at))]
+fn read_head(bytes: &[u8]) -> Result<(OfferHead, &[u8]), ReadError>
+    ensures { Gives (λ x. (x.0, x.1.now)) result (head_at bytes.now) }
+{
+    let (side, rest) = side_at(bytes)?;
+    let (number, rest) = u64_at(rest)?;
+    let (seed, rest) = u64_at(rest)?;
+    let (uptime, rest) = u64_at(rest)?;
+    Ok((
+        OfferHead {
+            side,
+            number,
+            seed,
+            uptime,
+        },
+        rest,
+    ))
+}

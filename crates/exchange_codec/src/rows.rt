@@ -1,0 +1,270 @@
+//! The rows of offers as bytes.
+ghost use Rattle.std.specs.Prelude.{◌≡◌, ◌++◌, List, OnOk};
+ghost use Rattle.std.specs.Option.{option_map};
+ghost use Rattle.std.specs.Arc.{arc_value};
+ghost use Rattle.clash_record.specs.declared.registrations.ResolverId.TheVariants.{Program};
+ghost use Rattle.clash_record.specs.Orders.{builtin_place};
+ghost use Rattle.clash_record.specs.declared.registrations.ProgramId.{ProgramId};
+ghost use Rattle.exchange_codec.specs.Reading.{Gives, many_at, bytes_at};
+ghost use Rattle.exchange_codec.specs.Rows.{owner_at, resolver_at, row_at, row_bytes, owner_bytes, text_of, ids_after, fields_bytes, resolver_bytes, resolver_text, Code, code_bytes, IsRow, IsResolver, HasFields, AreIds};
+ghost use Rattle.exchange_codec.specs.RowsText.{row_view, rows_view, resolver_view};
+
+use crate::fault::{FieldFault, ReadError};
+use crate::fields::{bytes_at, count_at, push_u32, push_u64, u32_at, u64_at};
+use crate::names::{name_at, push_name};
+use clash_record::{Builtin, Name, Owner, ProgramId, Registration, ResolverId};
+use insn_codec::encode;
+use std::alloc::{AllocError, Global};
+use std::collections::BTreeSet;
+use std::sync::Arc;
+use verifier::Verified;
+
+/// The most bytes that the code of a program has.
+pub(crate) const MAX_CODE: u32 = 8192;
+
+/// Who judges, as it stands in a message.
+#[derive(Clone, Copy)]
+pub(crate) enum ResolverText<'a> {
+    Builtin(Builtin),
+    /// A program whose code stands before.
+    Named(ProgramId),
+    /// A program, by its code.
+    Code(&'a [u8]),
+}
+
+/// A row as it stands in a message.
+#[derive(Clone, Copy)]
+pub(crate) struct RowText<'a> {
+    pub(crate) name: Name,
+    pub(crate) owner: Owner,
+    pub(crate) stamp: u64,
+    pub(crate) weight: u64,
+    pub(crate) extra: [u8; 16],
+    pub(crate) resolver: ResolverText<'a>,
+}
+
+/// So many rows.
+pub(crate) fn all_rows(
+    alloc: Global,
+    count: u32,
+    bytes: &[u8],
+) -> Result<(Vec<RowText<'_>>, &[u8]), ReadError>
+    ensures { Gives (λ x. (rows_view x.0.items, x.1.now)) result (many_at row_at count bytes.entry.now) }
+{
+    let mut rows = Vec::new(alloc);
+    let mut rest = bytes;
+    for _ in 0..count {
+        match row_of(rest) {
+            Ok((row, after)) => {
+                let Ok(()) = rows.push(row) else {
+                    return Err(ReadError::Memory);
+                };
+                rest = after;
+            }
+            Err(error) => return Err(error),
+        }
+    }
+    Ok((rows, rest))
+}
+
+// The row at the front, and what follows it.
+#[tactic(auto, unfolding(crate::specs::Rows::row_at))]
+fn row_of(bytes: &[u8]) -> Result<(RowText<'_>, &[u8]), ReadError>
+    ensures { Gives (λ x. (row_view x.0, x.1.now)) result (row_at bytes.entry.now) }
+{
+    let (name, rest) = match name_at(bytes) {
+        Ok(found) => found,
+        Err(error) => return Err(error),
+    };
+    let (owner, rest) = owner_of(rest)?;
+    let (stamp, rest) = u64_at(rest)?;
+    let (weight, rest) = u64_at(rest)?;
+    let (extra, rest) = extra_of(rest)?;
+    let (resolver, rest) = resolver_of(rest)?;
+    Ok((
+        RowText {
+            name,
+            owner,
+            stamp,
+            weight,
+            extra,
+            resolver,
+        },
+        rest,
+    ))
+}
+
+// The owner at the front.
+#[tactic(auto, unfolding(crate::specs::Rows::owner_at))]
+fn owner_of(bytes: &[u8]) -> Result<(Owner, &[u8]), ReadError>
+    ensures { Gives (λ x. (x.0, x.1.now)) result (owner_at bytes.now) }
+{
+    let (node, rest) = u32_at(bytes)?;
+    let (serial, rest) = u32_at(rest)?;
+    Ok((Owner { node, serial }, rest))
+}
+
+// Sixteen bytes.
+fn extra_of(bytes: &[u8]) -> Result<([u8; 16], &[u8]), ReadError>
+    ensures { Gives (λ x. (x.0, x.1.now)) result (bytes_at 16 bytes.now) }
+{
+    let (front, rest) = bytes_at(16, bytes)?;
+    let mut extra = [0; 16];
+    extra.copy_from_slice(front);
+    Ok((extra, rest))
+}
+
+// The id of a program.
+fn id_at(bytes: &[u8]) -> Result<(ProgramId, &[u8]), ReadError>
+    ensures { Gives (λ x. (x.0.0, x.1.now)) result (bytes_at 32 bytes.now) }
+{
+    let (front, rest) = bytes_at(32, bytes)?;
+    let mut id = [0; 32];
+    id.copy_from_slice(front);
+    Ok((ProgramId(id), rest))
+}
+
+// The resolver at the front.
+#[tactic(auto, unfolding(crate::specs::Rows::resolver_at))]
+fn resolver_of(bytes: &[u8]) -> Result<(ResolverText<'_>, &[u8]), ReadError>
+    ensures { Gives (λ x. (resolver_view x.0, x.1.now)) result (resolver_at bytes.entry.now) }
+{
+    match bytes {
+        [] => Err(ReadError::at(FieldFault::Cut, bytes)),
+        [0, rest @ ..] => Ok((ResolverText::Builtin(Builtin::Exit), rest)),
+        [1, rest @ ..] => Ok((ResolverText::Builtin(Builtin::Notify), rest)),
+        [2, rest @ ..] => Ok((ResolverText::Builtin(Builtin::NotifyAll), rest)),
+        [3, rest @ ..] => {
+            let (id, rest) = id_at(rest)?;
+            Ok((ResolverText::Named(id), rest))
+        }
+        [4, rest @ ..] => {
+            let (len, rest) = count_at(MAX_CODE, rest)?;
+            let (code, rest) = bytes_at(len as usize, rest)?;
+            Ok((ResolverText::Code(code), rest))
+        }
+        [_, ..] => Err(ReadError::at(FieldFault::Resolver, bytes)),
+    }
+}
+
+/// Writes a row at the end. The programs with these ids stand before; the row's is added to them.
+pub(crate) fn push_row(
+    alloc: Global,
+    out: &mut Vec<u8>,
+    before: &mut BTreeSet<ProgramId>,
+    name: &Name,
+    registration: &Registration,
+    program: Option<&Arc<Verified>>,
+) -> Result<(), AllocError>
+    ensures written { OnOk result ((ids : List ProgramId) → AreIds before.old ids
+        → out.new.items ≡ out.old.items ++ row_bytes (text_of ids name.now
+        (record { registration = registration.now; code = option_map (λ p. arc_value p.now) program.entry }))) }
+    ensures before { OnOk result ((ids : List ProgramId) → AreIds before.old ids
+        → AreIds before.new (ids_after ids registration.now.resolver)) }
+    ensures fits { OnOk result ((ids : List ProgramId) → AreIds before.old ids → IsRow (text_of ids name.now
+        (record { registration = registration.now; code = option_map (λ p. arc_value p.now) program.entry }))) }
+{
+    push_name(out, name)?;
+    push_fields(out, *registration)?;
+    push_resolver(alloc, out, before, registration.resolver, program)
+}
+
+// Writes all of a registration but its resolver at the end.
+fn push_fields(out: &mut Vec<u8>, registration: Registration) -> Result<(), AllocError>
+    ensures written { OnOk result (out.new.items ≡ out.old.items ++ fields_bytes registration) }
+    ensures fits { OnOk result (HasFields registration) }
+{
+    push_owner(out, registration.owner)?;
+    push_u64(out, registration.stamp)?;
+    push_u64(out, registration.weight)?;
+    out.extend_from_slice(&registration.extra)?;
+    Ok(())
+}
+
+// Writes an owner at the end.
+fn push_owner(out: &mut Vec<u8>, owner: Owner) -> Result<(), AllocError>
+    ensures { OnOk result (out.new.items ≡ out.old.items ++ owner_bytes owner) }
+{
+    push_u32(out, owner.node)?;
+    push_u32(out, owner.serial)?;
+    Ok(())
+}
+
+// Writes a resolver at the end.
+fn push_resolver(
+    alloc: Global,
+    out: &mut Vec<u8>,
+    before: &mut BTreeSet<ProgramId>,
+    resolver: ResolverId,
+    program: Option<&Arc<Verified>>,
+) -> Result<(), AllocError>
+    ensures written { OnOk result ((ids : List ProgramId) → AreIds before.old ids
+        → out.new.items ≡ out.old.items ++ resolver_bytes (resolver_text ids
+        resolver (option_map (λ p. arc_value p.now) program.entry))) }
+    ensures before { OnOk result ((ids : List ProgramId) → AreIds before.old ids
+        → AreIds before.new (ids_after ids resolver)) }
+    ensures fits { OnOk result ((ids : List ProgramId) → AreIds before.old ids → IsResolver (resolver_text ids
+        resolver (option_map (λ p. arc_value p.now) program.entry))) }
+{
+    match resolver {
+        ResolverId::Builtin(builtin) => {
+            out.push(place_of(builtin))?;
+            Ok(())
+        }
+        ResolverId::Program(id) => push_program(alloc, out, before, id, program),
+    }
+}
+
+// The place of a built-in resolver in their order.
+fn place_of(builtin: Builtin) -> u8
+    ensures { result ≡ builtin_place builtin }
+{
+    match builtin {
+        Builtin::Exit => 0,
+        Builtin::Notify => 1,
+        Builtin::NotifyAll => 2,
+    }
+}
+
+// Writes a program: its id where it stands before, and else its code.
+fn push_program(
+    alloc: Global,
+    out: &mut Vec<u8>,
+    before: &mut BTreeSet<ProgramId>,
+    id: ProgramId,
+    program: Option<&Arc<Verified>>,
+) -> Result<(), AllocError>
+    ensures written { OnOk result ((ids : List ProgramId) → AreIds before.old ids
+        → out.new.items ≡ out.old.items ++ resolver_bytes (resolver_text ids
+        (Program id) (option_map (λ p. arc_value p.now) program.entry))) }
+    ensures before { OnOk result ((ids : List ProgramId) → AreIds before.old ids
+        → AreIds before.new (ids_after ids (Program id))) }
+    ensures fits { OnOk result ((ids : List ProgramId) → AreIds before.old ids → IsResolver (resolver_text ids
+        (Program id) (option_map (λ p. arc_value p.now) program.entry))) }
+{
+    if before.contains(&id) {
+        out.push(3)?;
+        return out.extend_from_slice(&id.0);
+    }
+    before.insert(id)?;
+    push_code(alloc, out, program)
+}
+
+// Writes the code of a program.
+fn push_code(
+    alloc: Global,
+    out: &mut Vec<u8>,
+    program: Option<&Arc<Verified>>,
+) -> Result<(), AllocError>
+    ensures written { OnOk result (out.new.items
+        ≡ out.old.items ++ resolver_bytes (Code (code_bytes (option_map (λ p. arc_value p.now) program.entry)))) }
+    ensures fits { OnOk result (IsResolver (Code (code_bytes (option_map (λ p. arc_value p.now) program.entry)))) }
+{
+    out.push(4)?;
+    let Some(program) = program else {
+        return push_u32(out, 0);
+    };
+    let code = encode(alloc, program.code())?;
+    push_u32(out, code.len() as u32)?;
+    out.extend_from_slice(&code)
+}

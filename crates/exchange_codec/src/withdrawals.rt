@@ -1,0 +1,133 @@
+//! Lists of withdrawn names as bytes.
+ghost use Rattle.std.specs.Prelude.{◌≡◌, ◌++◌, [], length, IsTrue, Ok, IfOk, OnOk};
+ghost use Rattle.std.specs.List.{flat_map, AllByRecursion};
+ghost use Rattle.clash_record.specs.Name.{is_name};
+ghost use Rattle.numbered.specs.Answers.{ReturnsOrRunsOut};
+ghost use Rattle.exchange_core.specs.Sides as sides;
+ghost use Rattle.exchange_codec.specs.Faults.{message_fault_number};
+ghost use Rattle.exchange_codec.specs.Reading.{Gives, many_at};
+ghost use Rattle.exchange_codec.specs.Names.{name_at, name_bytes};
+ghost use Rattle.exchange_codec.specs.Withdrawals.{SpellsWithdrawals, list_at, list_of, list_due};
+ghost use Rattle.exchange_codec.specs.WithdrawalsText.{view};
+
+use crate::fault::{FieldFault, MessageFault, ReadError};
+use crate::fields::{count_at, header_at, push_u32, push_u64, u64_at};
+use crate::list_mirror::rebuilt;
+use crate::names::{name_at, push_name, push_side, side_at};
+use clash_record::{Name, SideId};
+use exchange_core::Withdrawals;
+use partition_table::MAX_NAMES;
+use std::alloc::{AllocError, Global};
+
+// "HEALXC", version 1, kind 2.
+const HEADER: u64 = 0x0201_4358_4C41_4548;
+
+/// A list as it stands in a message.
+#[derive(Drop)]
+pub(crate) struct ListText {
+    pub(crate) side: SideId,
+    pub(crate) number: u64,
+    pub(crate) names: Vec<Name>,
+}
+
+/// Encodes a list of withdrawn names. Fails only when out of memory.
+pub fn encode_withdrawals(alloc: Global, list: &Withdrawals) -> Result<Vec<u8>, AllocError>
+    ensures { IfOk result (λ bytes. SpellsWithdrawals bytes.items list.now) }
+{
+    let mut out = Vec::new(alloc);
+    push_u64(&mut out, HEADER)?;
+    push_side(&mut out, list.side())?;
+    push_u64(&mut out, list.number())?;
+    let names = list.names();
+    push_u32(&mut out, names.len() as u32)?;
+    push_names(&mut out, names)?;
+    Ok(out)
+}
+
+// Writes names at the end.
+fn push_names(out: &mut Vec<u8>, names: &[Name]) -> Result<(), AllocError>
+    ensures written { OnOk result (out.new.items ≡ out.old.items ++ flat_map name_bytes names.now) }
+    ensures named { OnOk result (AllByRecursion (λ name. IsTrue (is_name name)) names.now) }
+{
+    for name in names {
+        push_name(out, name)?;
+    }
+    Ok(())
+}
+
+/// Decodes untrusted bytes as a list of withdrawn names.
+///
+/// It registers the names on a fresh side, and withdraws them there. That the bytes are those that the other half sent in
+/// this exchange is the transport's duty.
+///
+/// Rejects the first invalid field, with its byte: 70 if the bytes end within it, 71 for another message, 72 for extra
+/// bytes, 73 for more than 4,096 names, 74 for neither side, 75 for an invalid name and 82 for another version. If every
+/// field is valid, rejects with 77 the first name that the list already has, with its index. Returns 90 when out of
+/// memory.
+pub fn decode_withdrawals(alloc: Global, bytes: &[u8]) -> Result<Withdrawals, MessageFault>
+    // The bytes spell the list that is returned.
+    ensures spelled { IfOk result (SpellsWithdrawals bytes.now) }
+    // A list that the bytes spell is returned, unless memory runs out.
+    ensures taken { (list : sides.Withdrawals) → SpellsWithdrawals bytes.now list
+        → ReturnsOrRunsOut message_fault_number result (Ok list) }
+    // The list or the fault of the bytes is returned, unless memory runs out.
+    ensures exact { ReturnsOrRunsOut message_fault_number result (list_due (length bytes.now) (list_of bytes.now)) }
+{
+    match all(alloc, bytes) {
+        Ok(text) => rebuilt(alloc, &text),
+        Err(error) => Err(error.told(bytes.len())),
+    }
+}
+
+// The text that all of the bytes spell.
+#[tactic(auto, unfolding(crate::specs::Withdrawals::list_of))]
+fn all(alloc: Global, bytes: &[u8]) -> Result<ListText, ReadError>
+    ensures { Gives view result (list_of bytes.now) }
+{
+    let (text, rest) = text_at(alloc, bytes)?;
+    if !rest.is_empty() {
+        return Err(ReadError::at(FieldFault::Trailing, rest));
+    }
+    Ok(text)
+}
+
+// The text at the front.
+#[tactic(auto, unfolding(crate::specs::Withdrawals::list_at))]
+fn text_at(alloc: Global, bytes: &[u8]) -> Result<(ListText, &[u8]), ReadError>
+    ensures { Gives (λ x. (view x.0, x.1.now)) result (list_at bytes.now) }
+{
+    let rest = header_at(HEADER, bytes)?;
+    let (side, rest) = side_at(rest)?;
+    let (number, rest) = u64_at(rest)?;
+    let (count, rest) = count_at(MAX_NAMES as u32, rest)?;
+    let (names, rest) = match all_names(alloc, count, rest) {
+        Ok(found) => found,
+        Err(error) => return Err(error),
+    };
+    Ok((
+        ListText {
+            side,
+            number,
+            names,
+        },
+        rest,
+    ))
+}
+
+// So many names.
+fn all_names(alloc: Global, count: u32, bytes: &[u8]) -> Result<(Vec<Name>, &[u8]), ReadError>
+    ensures { Gives (λ x. (x.0.items, x.1.now)) result (many_at name_at count bytes.now) }
+{
+    let mut names = Vec::new(alloc);
+    let mut rest = bytes;
+    for _ in 0..count {
+        match name_at(rest) {
+            Ok(found) => {
+                names.push(found.0)?;
+                rest = found.1;
+            }
+            Err(error) => return Err(error),
+        }
+    }
+    Ok((names, rest))
+}

@@ -1,0 +1,82 @@
+//! The cost of messages.
+
+use crate::registry::{Fault, program_count, row_count};
+use clash_record::{ResolverId, SideId};
+use exchange_codec::{decode_offer, encode_offer};
+use exchange_core::{Offer, Side};
+use fixtures::{EXIT, answering, numbered_name, registration};
+use std::alloc::{AllocError, Global};
+use std::fmt;
+use std::time::Instant;
+use upload_store::UploadStore;
+
+/// The count of times that each call is made.
+const CALLS: u32 = 5;
+
+/// Times in nanoseconds: of uploading the programs and registering the names, and the least of encoding and of decoding
+/// the offer of these names.
+#[derive(Clone, Copy, Debug)]
+pub(crate) struct MessageTimes {
+    build: u128,
+    encode: u128,
+    decode: u128,
+}
+
+impl fmt::Display for MessageTimes {
+    fn fmt<W: fmt::Write>(&self, f: &mut fmt::Formatter<W>) -> fmt::Result {
+        writeln!(f, "build {} ns", self.build)?;
+        writeln!(f, "encode {} ns", self.encode)?;
+        writeln!(f, "decode {} ns", self.decode)
+    }
+}
+
+/// Measures the offer of a side with `rows` names, judged in turn by `programs` programs, or by `exit` without any.
+pub(crate) fn measure(rt: &HostRuntime, rows: &str, programs: &str) -> Result<MessageTimes, Fault> {
+    let (rows, programs) = (row_count(rows)?, program_count(programs)?);
+    let mut build = u128::MAX;
+    for _ in 0..CALLS {
+        let start = Instant::now(rt)?;
+        side(rt.alloc(), rows, programs)?;
+        build = build.min(start.elapsed(rt)?.as_nanos());
+    }
+    let offer = side(rt.alloc(), rows, programs)?.begin(rt.alloc(), 1, 0, 0)?;
+    message_times(rt, build, &offer)
+}
+
+fn message_times(rt: &HostRuntime, build: u128, offer: &Offer) -> Result<MessageTimes, Fault> {
+    let bytes = encode_offer(rt.alloc(), offer)?;
+    let (mut encode, mut decode) = (u128::MAX, u128::MAX);
+    for _ in 0..CALLS {
+        let start = Instant::now(rt)?;
+        encode_offer(rt.alloc(), offer)?;
+        encode = encode.min(start.elapsed(rt)?.as_nanos());
+        let start = Instant::now(rt)?;
+        decode_offer(rt.alloc(), &bytes)?;
+        decode = decode.min(start.elapsed(rt)?.as_nanos());
+    }
+    Ok(MessageTimes {
+        build,
+        encode,
+        decode,
+    })
+}
+
+// A side with `rows` names and `programs` programs, of which each judges every name of its turn.
+fn side(alloc: Global, rows: u16, programs: u16) -> Result<Side, Fault> {
+    let mut store = UploadStore::new(alloc);
+    let mut resolvers = vec![in alloc]?;
+    for value in 0..programs {
+        let id = store.upload(alloc, &answering(u32::from(value)))?;
+        resolvers
+            .push(ResolverId::Program(id))
+            .map_err(|_| AllocError)?;
+    }
+    let mut side = Side::new(alloc, SideId::A);
+    for row in 0..rows {
+        let turn = usize::from(row) % resolvers.len().max(1);
+        let resolver = resolvers.get(turn).copied().unwrap_or(EXIT);
+        let registration = registration(1, u32::from(row), resolver);
+        side.register(numbered_name(b'n', row)?, registration, &store)?;
+    }
+    Ok(side)
+}
