@@ -34,6 +34,9 @@ PROMISES = [
         "exchange_core::Side::" + name for name in
         ("register", "unregister", "begin", "hear", "take", "withdraw", "close_list", "hear_list", "finish", "abandon",
          "whereis", "rows", "events")]),
+    ("messages have one spelling, and are decoded exactly", [
+        "exchange_codec::" + name for name in
+        ("encode_offer", "decode_offer", "encode_withdrawals", "decode_withdrawals", "one_message_theorem")]),
     ("what a board shows", ["verdict_board::Board::" + name for name in ("draw", "post", "read", "gather")]
      + ["verdict_board::seen_theorem"]),
     ("two sides that meet have one table", ["registry_lock::meet", "registry_lock::tell_round"]),

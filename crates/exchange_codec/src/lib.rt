@@ -12,6 +12,6 @@ mod theorem;
 mod withdrawals;
 
 pub use fault::{FieldFault, ItemFault, MessageFault};
-pub use offers::{decode_offer, encode_offer};
+pub use offers::{decode_offer, encode_offer, spell_offer};
 pub use theorem::one_message_theorem;
-pub use withdrawals::{decode_withdrawals, encode_withdrawals};
+pub use withdrawals::{decode_withdrawals, encode_withdrawals, spell_withdrawals};

@@ -8,7 +8,7 @@ ghost use Rattle.exchange_codec.specs.Faults.{message_fault_number};
 ghost use Rattle.exchange_codec.specs.Rows.{row_bytes, texts_of, IsRow};
 ghost use Rattle.exchange_codec.specs.declared.fault.MessageFault.{MessageFault};
 ghost use Rattle.exchange_codec.specs.Reading.{Gives};
-ghost use Rattle.exchange_codec.specs.Offers.{SpellsOffer, IsOfferFault, IsHead, head_at, offer_at, offer_of, head_bytes, head_of};
+ghost use Rattle.exchange_codec.specs.Offers.{SpellsOffer, IsOfferFault, IsHead, head_at, offer_at, offer_of, head_bytes};
 ghost use Rattle.exchange_codec.specs.OffersText.{view};
 
 use crate::fault::{FieldFault, MessageFault, ReadError};
@@ -48,24 +48,50 @@ pub(crate) struct OfferText<'a> {
 pub fn encode_offer(alloc: Global, offer: &Offer) -> Result<Vec<u8>, AllocError>
     ensures { IfOk result (λ bytes. SpellsOffer bytes.items offer.now) }
 {
+    let (number, seed, uptime) = (offer.number(), offer.seed(), offer.uptime());
+    spell_offer(alloc, offer.side(), number, seed, uptime, offer.table())
+}
+
+/// Encodes the offer that a side with this table makes when it begins an exchange. Fails only when out of memory.
+pub fn spell_offer(
+    alloc: Global,
+    side: SideId,
+    number: u64,
+    seed: u64,
+    uptime: u64,
+    table: &Table,
+) -> Result<Vec<u8>, AllocError>
+    ensures { IfOk result (λ bytes. SpellsOffer bytes.items record {
+      side = side;
+      number = number;
+      seed = seed;
+      uptime = uptime;
+      table = table.now;
+    }) }
+{
+    let head = OfferHead {
+        side,
+        number,
+        seed,
+        uptime,
+    };
     let mut out = Vec::new(alloc);
     push_u64(&mut out, HEADER)?;
-    push_head(&mut out, offer)?;
-    let table = offer.table();
+    push_head(&mut out, head)?;
     push_u32(&mut out, table.len() as u32)?;
     push_rows(alloc, &mut out, table)?;
     Ok(out)
 }
 
 // Writes all of an offer but its table at the end.
-fn push_head(out: &mut Vec<u8>, offer: &Offer) -> Result<(), AllocError>
-    ensures written { OnOk result (out.new.items ≡ out.old.items ++ head_bytes (head_of offer.now)) }
-    ensures fits { OnOk result (IsHead (head_of offer.now)) }
+fn push_head(out: &mut Vec<u8>, head: OfferHead) -> Result<(), AllocError>
+    ensures written { OnOk result (out.new.items ≡ out.old.items ++ head_bytes head) }
+    ensures fits { OnOk result (IsHead head) }
 {
-    push_side(out, offer.side())?;
-    push_u64(out, offer.number())?;
-    push_u64(out, offer.seed())?;
-    push_u64(out, offer.uptime())?;
+    push_side(out, head.side)?;
+    push_u64(out, head.number)?;
+    push_u64(out, head.seed)?;
+    push_u64(out, head.uptime)?;
     Ok(())
 }
 

@@ -3,6 +3,7 @@ ghost use Rattle.std.specs.Prelude.{◌≡◌, ◌++◌, [], length, IsTrue, Ok,
 ghost use Rattle.std.specs.List.{flat_map, AllByRecursion};
 ghost use Rattle.clash_record.specs.Name.{is_name};
 ghost use Rattle.numbered.specs.Answers.{ReturnsOrRunsOut};
+ghost use Rattle.exchange_core.specs.Lists.{IsNameList};
 ghost use Rattle.exchange_core.specs.Sides as sides;
 ghost use Rattle.exchange_codec.specs.Faults.{message_fault_number};
 ghost use Rattle.exchange_codec.specs.Reading.{Gives, many_at};
@@ -34,12 +35,25 @@ pub(crate) struct ListText {
 pub fn encode_withdrawals(alloc: Global, list: &Withdrawals) -> Result<Vec<u8>, AllocError>
     ensures { IfOk result (λ bytes. SpellsWithdrawals bytes.items list.now) }
 {
+    spell_withdrawals(alloc, list.side(), list.number(), list.names())
+}
+
+/// Encodes the list that a side makes when it closes its list with these names. Fails only when out of memory.
+pub fn spell_withdrawals(
+    alloc: Global,
+    side: SideId,
+    number: u64,
+    names: &[Name],
+) -> Result<Vec<u8>, AllocError>
+    // Distinct names, at most 4,096, have a spelling.
+    ensures { IfOk result (λ bytes. IsNameList names.now
+        → SpellsWithdrawals bytes.items record { side = side; number = number; names = names.now }) }
+{
     let mut out = Vec::new(alloc);
     push_u64(&mut out, HEADER)?;
-    push_side(&mut out, list.side())?;
-    push_u64(&mut out, list.number())?;
-    let names = list.names();
-    push_u32(&mut out, names.len() as u32)?;
+    push_side(&mut out, side)?;
+    push_u64(&mut out, number)?;
+    push_u32(&mut out, names.len().min(MAX_NAMES) as u32)?;
     push_names(&mut out, names)?;
     Ok(out)
 }

@@ -1,0 +1,62 @@
+#!/bin/sh
+# Builds libheal.a, libheal.so and heal.pc in bindings/c/out from the proved crate heal_c. Requires rt, cc and ar.
+#
+# With --gate, right after `rt ci`, takes the libraries that `rt ci` has just proved, and proves heal_c alone again.
+# Otherwise rt proves each library that isn't built yet.
+set -e
+cd "$(dirname "$0")"
+root=$(cd ../.. && pwd)
+crate=$root/crates/heal_c
+kit=$(dirname "$(rt doc)")
+
+# Prints the flags that name the libraries of heal_c: those that its line of crates.txt names, and those below them.
+libraries() {
+    awk -F: -v kit="$kit" -v crates="$root/crates" '
+        { split($1, head, " "); uses[head[1]] = $2 }
+        function list(name,    below, count, i) {
+            count = split(uses[name], below, " ")
+            for (i = 1; i <= count; i++) {
+                if (below[i] in seen) continue
+                seen[below[i]]
+                if (!(below[i] in uses)) continue
+                print "-L dependency=" crates "/" below[i] "/out/rlib"
+                list(below[i])
+            }
+        }
+        END {
+            count = split(uses["heal_c"], own, " ")
+            for (i = 1; i <= count; i++)
+                print "--extern " own[i] "=" (own[i] in uses ? crates "/" own[i] "/out" : kit) \
+                    (own[i] in uses ? "/rlib/" : "/rlibs/") own[i] ".rlib"
+            list("heal_c")
+        }' "$root/crates.txt"
+}
+
+if [ "${1-}" = --gate ] && [ ! -e "$root/crates/exchange_codec/out/rlib/stamp" ]; then
+    # shellcheck disable=SC2046
+    (cd "$crate" && "$kit/bin/rattle" build --crate-name heal_c src/lib.rt \
+        --extern std="$kit/rlibs/std.rlib" -L dependency="$kit/rlibs" $(libraries) \
+        --antt-project "$kit/rattle/logic/antt-project.json" --logic-built "$kit/logic_built" --links heal_c= \
+        --crate-type staticlib --toolchain "$kit/toolchain" --backend llvm -o out/libheal_c.a)
+else
+    (cd "$crate" && rt lib)
+fi
+mkdir -p out
+rm -f out/libheal.a
+# The second archive calls malloc, realloc and free.
+ar -M <<END
+create out/libheal.a
+addlib $crate/out/libheal_c.a
+addlib $kit/c/liblibc_c.a
+save
+end
+END
+cc -shared -o out/libheal.so -Wl,--whole-archive out/libheal.a -Wl,--no-whole-archive
+cat > out/heal.pc <<END
+prefix=$(pwd)
+Name: heal
+Description: The name registry that two halves of a cluster use when they meet again after a network split
+Version: 1.0.0
+Cflags: -I\${prefix}
+Libs: -L\${prefix}/out -lheal
+END

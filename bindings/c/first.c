@@ -1,0 +1,47 @@
+/* Two halves that registered one name for different owners heal their split. Prints the owner that each half has then. */
+#include "heal.h"
+
+#include <stdio.h>
+
+/* Delivers a message to a half, as a transport would. */
+static void deliver(heal_bytes *message, heal_side *half, uint32_t (*hear)(heal_side *, const uint8_t *, size_t))
+{
+    uint8_t bytes[1024];
+    size_t len = 0;
+
+    heal_bytes_len(message, &len);
+    if (len <= sizeof bytes && heal_bytes_copy(message, bytes, len) == 0)
+        hear(half, bytes, len);
+    heal_bytes_free(message);
+}
+
+int main(void)
+{
+    heal_side half[2] = {{0}, {0}};
+    heal_bytes message[2] = {{0}, {0}};
+    heal_outcome outcome = {0};
+    heal_registration found, owned[2] = {{.owner = {1, 10}}, {.owner = {2, 20}}};
+
+    for (int i = 0; i < 2; i++) {
+        heal_side_new(i == 1, &half[i]);
+        heal_side_register(&half[i], (const uint8_t *)"db", 2, &owned[i]);
+        heal_side_begin(&half[i], 1, 7, 0, &message[i]);
+    }
+    for (int i = 0; i < 2; i++)
+        deliver(&message[1 - i], &half[i], heal_side_hear);
+    for (int i = 0; i < 2; i++) {
+        heal_side_settle(&half[i], 0);
+        heal_side_close_list(&half[i], &message[i]);
+    }
+    for (int i = 0; i < 2; i++)
+        deliver(&message[1 - i], &half[i], heal_side_hear_list);
+    for (int i = 0; i < 2; i++)
+        heal_side_finish(&half[i], &outcome);
+    for (int i = 0; i < 2; i++) {
+        if (heal_side_whereis(&half[i], (const uint8_t *)"db", 2, &found) == 0)
+            printf("db %u.%u\n", found.owner.node, found.owner.serial);
+        heal_side_free(&half[i]);
+    }
+    heal_outcome_free(&outcome);
+    return 0;
+}

@@ -1,0 +1,674 @@
+/*
+ * The NIF of the module heal, over the C library libheal.
+ *
+ * Programs, sides and outcomes are resources: the garbage collector frees them. Each has a lock, since calls of libheal on one
+ * handle must not overlap. A short call that finds the lock taken runs again on a dirty scheduler, so that no normal scheduler
+ * waits. Calls whose time grows with a table, a message or a program always run on dirty schedulers.
+ */
+#include <erl_nif.h>
+#include <stdbool.h>
+#include <string.h>
+
+#include "heal.h"
+
+typedef ERL_NIF_TERM term;
+typedef term nif(ErlNifEnv *env, int argc, const term argv[]);
+
+enum { ID_LEN = HEAL_ID_LEN, EXTRA_LEN = HEAL_EXTRA_LEN, RECORD_LEN = HEAL_RECORD_LEN };
+enum { NO_SUCH_NAME = 31, OUT_OF_MEMORY = 90 };
+/* The refusals that name a slot. */
+enum { FIRST_WITH_SLOT = 4, LAST_WITH_SLOT = 26 };
+
+/* A resource: a lock and one handle. All handles of libheal are one word. */
+typedef struct {
+    ErlNifMutex *lock;
+    union {
+        heal_program program;
+        heal_side side;
+        heal_outcome outcome;
+    } handle;
+} resource;
+
+static ErlNifResourceType *program_type, *side_type, *outcome_type;
+
+#define ATOMS(X) \
+    X(ok) X(error) X(a) X(b) X(owner) X(stamp) X(weight) X(extra) X(resolver) X(exit) X(notify) X(notify_all) \
+    X(program) X(size) X(uptime) X(name) X(first) X(second) X(neither) X(word) X(verdict) X(notices) X(conflict) \
+    X(conflict_with)
+
+#define DECLARE(NAME) static term atom_##NAME;
+ATOMS(DECLARE)
+
+/* ---- Results ---- */
+
+static term ok(ErlNifEnv *env, term value)
+{
+    return enif_make_tuple2(env, atom_ok, value);
+}
+
+static term copy_of(ErlNifEnv *env, const void *bytes, size_t len)
+{
+    term made;
+    unsigned char *to = enif_make_new_binary(env, len, &made);
+    if (len > 0)
+        memcpy(to, bytes, len);
+    return made;
+}
+
+/* {error, {Number, Words}}. The words of a faulty program end with its slot. */
+static term refused_at(ErlNifEnv *env, uint32_t number, uint32_t slot)
+{
+    uint8_t words[512];
+    size_t len = heal_refusal_words(number, words, sizeof words - 32);
+    if (len > sizeof words - 32)
+        len = 0;
+    if (number >= FIRST_WITH_SLOT && number <= LAST_WITH_SLOT)
+        len += (size_t)enif_snprintf((char *)words + len, 32, " at slot %u", slot);
+    term refusal = enif_make_tuple2(env, enif_make_uint(env, number), copy_of(env, words, len));
+    return enif_make_tuple2(env, atom_error, refusal);
+}
+
+static term refused(ErlNifEnv *env, uint32_t number)
+{
+    return refused_at(env, number, 0);
+}
+
+static term done(ErlNifEnv *env, uint32_t number)
+{
+    return number == 0 ? atom_ok : refused(env, number);
+}
+
+static term message(ErlNifEnv *env, uint32_t number, heal_bytes *bytes)
+{
+    size_t len = 0;
+    if (number == 0)
+        number = heal_bytes_len(bytes, &len);
+    if (number != 0)
+        return refused(env, number);
+    term made;
+    unsigned char *to = enif_make_new_binary(env, len, &made);
+    number = to == NULL ? OUT_OF_MEMORY : heal_bytes_copy(bytes, to, len);
+    heal_bytes_free(bytes);
+    return number == 0 ? ok(env, made) : refused(env, number);
+}
+
+/* ---- Resources ---- */
+
+static resource *new_resource(ErlNifResourceType *type)
+{
+    resource *made = enif_alloc_resource(type, sizeof *made);
+    if (made == NULL)
+        return NULL;
+    memset(&made->handle, 0, sizeof made->handle);
+    made->lock = enif_mutex_create("heal");
+    if (made->lock != NULL)
+        return made;
+    enif_release_resource(made);
+    return NULL;
+}
+
+/* Returns the resource as a term if the number is 0, and gives it up in any case. */
+static term handed(ErlNifEnv *env, uint32_t number, uint32_t slot, resource *made)
+{
+    term result = number == 0 ? ok(env, enif_make_resource(env, made)) : refused_at(env, number, slot);
+    enif_release_resource(made);
+    return result;
+}
+
+static void free_lock(resource *held)
+{
+    if (held->lock != NULL)
+        enif_mutex_destroy(held->lock);
+}
+
+static void free_program(ErlNifEnv *env, void *held)
+{
+    (void)env;
+    heal_program_free(&((resource *)held)->handle.program);
+    free_lock(held);
+}
+
+static void free_side(ErlNifEnv *env, void *held)
+{
+    (void)env;
+    heal_side_free(&((resource *)held)->handle.side);
+    free_lock(held);
+}
+
+static void free_outcome(ErlNifEnv *env, void *held)
+{
+    (void)env;
+    heal_outcome_free(&((resource *)held)->handle.outcome);
+    free_lock(held);
+}
+
+typedef term body(ErlNifEnv *env, resource *held, const term argv[]);
+
+/* Runs a call under the lock of its first argument. */
+static term locked(ErlNifEnv *env, int argc, const term argv[], ErlNifResourceType *type, const char *name, nif *again, body *run)
+{
+    resource *held;
+    if (!enif_get_resource(env, argv[0], type, (void **)&held))
+        return enif_make_badarg(env);
+    if (enif_thread_type() != ERL_NIF_THR_NORMAL_SCHEDULER)
+        enif_mutex_lock(held->lock);
+    else if (enif_mutex_trylock(held->lock) != 0)
+        return enif_schedule_nif(env, name, ERL_NIF_DIRTY_JOB_CPU_BOUND, again, argc, argv);
+    term result = run(env, held, argv);
+    enif_mutex_unlock(held->lock);
+    return result;
+}
+
+/* Defines the NIF `NAME`, whose first argument is a resource, from `NAME_body`. */
+#define LOCKED(NAME, TYPE) \
+    static term NAME(ErlNifEnv *env, int argc, const term argv[]) \
+    { \
+        return locked(env, argc, argv, TYPE, #NAME, NAME, NAME##_body); \
+    }
+
+/* ---- Arguments ---- */
+
+static bool get_bytes(ErlNifEnv *env, term from, ErlNifBinary *to)
+{
+    return enif_inspect_binary(env, from, to) != 0;
+}
+
+static bool get_u64(ErlNifEnv *env, term from, uint64_t *to)
+{
+    ErlNifUInt64 read;
+    if (!enif_get_uint64(env, from, &read))
+        return false;
+    *to = read;
+    return true;
+}
+
+static bool get_u32(ErlNifEnv *env, term from, uint32_t *to)
+{
+    unsigned read;
+    if (!enif_get_uint(env, from, &read))
+        return false;
+    *to = read;
+    return true;
+}
+
+/* Reads a number of a map, which is 0 if the key is missing and not required. */
+static bool get_field(ErlNifEnv *env, term map, term key, bool required, uint64_t *to)
+{
+    term value;
+    *to = 0;
+    return enif_get_map_value(env, map, key, &value) ? get_u64(env, value, to) : !required;
+}
+
+static bool get_owner(ErlNifEnv *env, term map, heal_owner *to)
+{
+    term pair;
+    int arity;
+    const term *words;
+    return enif_get_map_value(env, map, atom_owner, &pair) && enif_get_tuple(env, pair, &arity, &words) && arity == 2
+        && get_u32(env, words[0], &to->node) && get_u32(env, words[1], &to->serial);
+}
+
+static bool get_extra(ErlNifEnv *env, term map, uint8_t to[EXTRA_LEN])
+{
+    term value;
+    ErlNifBinary bytes;
+    if (!enif_get_map_value(env, map, atom_extra, &value))
+        return true;
+    if (!get_bytes(env, value, &bytes) || bytes.size != EXTRA_LEN)
+        return false;
+    memcpy(to, bytes.data, EXTRA_LEN);
+    return true;
+}
+
+/* Reads `exit`, `notify`, `notify_all` or `{program, Id}`; `exit` if the key is missing. */
+static bool get_resolver(ErlNifEnv *env, term map, heal_registration *to)
+{
+    term value;
+    int arity;
+    const term *words;
+    ErlNifBinary id;
+    to->resolver = HEAL_EXIT;
+    if (!enif_get_map_value(env, map, atom_resolver, &value) || enif_is_identical(value, atom_exit))
+        return true;
+    if (enif_is_identical(value, atom_notify)) {
+        to->resolver = HEAL_NOTIFY;
+        return true;
+    }
+    if (enif_is_identical(value, atom_notify_all)) {
+        to->resolver = HEAL_NOTIFY_ALL;
+        return true;
+    }
+    if (!enif_get_tuple(env, value, &arity, &words) || arity != 2 || !enif_is_identical(words[0], atom_program)
+        || !get_bytes(env, words[1], &id) || id.size != ID_LEN)
+        return false;
+    to->resolver = HEAL_PROGRAM;
+    memcpy(to->program, id.data, ID_LEN);
+    return true;
+}
+
+static bool get_registration(ErlNifEnv *env, term map, heal_registration *to)
+{
+    memset(to, 0, sizeof *to);
+    return enif_is_map(env, map) && get_owner(env, map, &to->owner) && get_field(env, map, atom_stamp, true, &to->stamp)
+        && get_field(env, map, atom_weight, false, &to->weight) && get_extra(env, map, to->extra) && get_resolver(env, map, to);
+}
+
+static bool get_facts(ErlNifEnv *env, term map, heal_facts *to)
+{
+    return enif_is_map(env, map) && get_field(env, map, atom_size, true, &to->size)
+        && get_field(env, map, atom_uptime, true, &to->uptime);
+}
+
+/* ---- Terms ---- */
+
+static term owner_term(ErlNifEnv *env, heal_owner owner)
+{
+    return enif_make_tuple2(env, enif_make_uint(env, owner.node), enif_make_uint(env, owner.serial));
+}
+
+static term resolver_term(ErlNifEnv *env, const heal_registration *from)
+{
+    switch (from->resolver) {
+    case HEAL_EXIT:
+        return atom_exit;
+    case HEAL_NOTIFY:
+        return atom_notify;
+    case HEAL_NOTIFY_ALL:
+        return atom_notify_all;
+    default:
+        return enif_make_tuple2(env, atom_program, copy_of(env, from->program, ID_LEN));
+    }
+}
+
+static term map_of(ErlNifEnv *env, term keys[], term values[], size_t count)
+{
+    term made;
+    /* The keys are distinct, so this succeeds. */
+    return enif_make_map_from_arrays(env, keys, values, count, &made) ? made : enif_make_badarg(env);
+}
+
+static term registration_term(ErlNifEnv *env, const heal_registration *from)
+{
+    term keys[] = {atom_owner, atom_stamp, atom_weight, atom_extra, atom_resolver};
+    term values[] = {owner_term(env, from->owner), enif_make_uint64(env, from->stamp), enif_make_uint64(env, from->weight),
+        copy_of(env, from->extra, EXTRA_LEN), resolver_term(env, from)};
+    return map_of(env, keys, values, sizeof keys / sizeof *keys);
+}
+
+static term name_term(ErlNifEnv *env, const heal_name *name)
+{
+    size_t len = name->len <= HEAL_NAME_LEN ? name->len : HEAL_NAME_LEN;
+    return copy_of(env, name->bytes, len);
+}
+
+static term verdict_term(uint32_t verdict)
+{
+    return verdict == HEAL_FIRST ? atom_first : verdict == HEAL_SECOND ? atom_second : atom_neither;
+}
+
+static term notice_term(ErlNifEnv *env, const heal_notice *notice)
+{
+    term to = owner_term(env, notice->to);
+    switch (notice->kind) {
+    case HEAL_NOTICE_EXIT:
+        return enif_make_tuple2(env, atom_exit, to);
+    case HEAL_NOTICE_CONFLICT:
+        return enif_make_tuple2(env, atom_conflict, to);
+    default:
+        return enif_make_tuple3(env, atom_conflict_with, to, owner_term(env, notice->other));
+    }
+}
+
+/* ---- Programs ---- */
+
+static term load(ErlNifEnv *env, int argc, const term argv[])
+{
+    ErlNifBinary code;
+    uint32_t slot = 0;
+    (void)argc;
+    if (!get_bytes(env, argv[0], &code))
+        return enif_make_badarg(env);
+    resource *made = new_resource(program_type);
+    if (made == NULL)
+        return refused(env, OUT_OF_MEMORY);
+    uint32_t number = heal_program_load(code.data, code.size, &made->handle.program, &slot);
+    return handed(env, number, slot, made);
+}
+
+static term judge_body(ErlNifEnv *env, resource *held, const term argv[])
+{
+    ErlNifBinary record;
+    heal_ended ended;
+    if (!get_bytes(env, argv[1], &record) || record.size != RECORD_LEN)
+        return enif_make_badarg(env);
+    uint32_t number = heal_program_judge(&held->handle.program, record.data, &ended);
+    if (number != 0)
+        return refused(env, number);
+    return enif_make_tuple3(env, atom_ok, enif_make_uint64(env, ended.r0), enif_make_uint(env, ended.steps));
+}
+LOCKED(judge, program_type)
+
+static term program_id_body(ErlNifEnv *env, resource *held, const term argv[])
+{
+    uint8_t id[ID_LEN];
+    (void)argv;
+    uint32_t number = heal_program_id(&held->handle.program, id);
+    return number == 0 ? ok(env, copy_of(env, id, ID_LEN)) : refused(env, number);
+}
+LOCKED(program_id, program_type)
+
+static term record(ErlNifEnv *env, int argc, const term argv[])
+{
+    ErlNifBinary name;
+    heal_registration first, second;
+    heal_facts of_first, of_second;
+    uint64_t word;
+    uint8_t made[RECORD_LEN];
+    (void)argc;
+    if (!get_bytes(env, argv[0], &name) || !get_registration(env, argv[1], &first) || !get_registration(env, argv[2], &second)
+        || !get_u64(env, argv[3], &word) || !get_facts(env, argv[4], &of_first) || !get_facts(env, argv[5], &of_second))
+        return enif_make_badarg(env);
+    uint32_t number = heal_record(name.data, name.size, &first, &second, word, &of_first, &of_second, made);
+    return number == 0 ? ok(env, copy_of(env, made, RECORD_LEN)) : refused(env, number);
+}
+
+static term refusal_words(ErlNifEnv *env, int argc, const term argv[])
+{
+    uint32_t number;
+    uint8_t words[512];
+    (void)argc;
+    if (!get_u32(env, argv[0], &number))
+        return enif_make_badarg(env);
+    size_t len = heal_refusal_words(number, words, sizeof words);
+    return copy_of(env, words, len <= sizeof words ? len : 0);
+}
+
+/* ---- Sides ---- */
+
+static term side(ErlNifEnv *env, int argc, const term argv[])
+{
+    (void)argc;
+    bool second = enif_is_identical(argv[0], atom_b);
+    if (!second && !enif_is_identical(argv[0], atom_a))
+        return enif_make_badarg(env);
+    resource *made = new_resource(side_type);
+    if (made == NULL)
+        return refused(env, OUT_OF_MEMORY);
+    return handed(env, heal_side_new(second, &made->handle.side), 0, made);
+}
+
+static term upload_body(ErlNifEnv *env, resource *held, const term argv[])
+{
+    ErlNifBinary code;
+    uint8_t id[ID_LEN];
+    uint32_t slot = 0;
+    if (!get_bytes(env, argv[1], &code))
+        return enif_make_badarg(env);
+    uint32_t number = heal_side_upload(&held->handle.side, code.data, code.size, id, &slot);
+    return number == 0 ? ok(env, copy_of(env, id, ID_LEN)) : refused_at(env, number, slot);
+}
+LOCKED(upload, side_type)
+
+static term register_name_body(ErlNifEnv *env, resource *held, const term argv[])
+{
+    ErlNifBinary name;
+    heal_registration registration;
+    if (!get_bytes(env, argv[1], &name) || !get_registration(env, argv[2], &registration))
+        return enif_make_badarg(env);
+    return done(env, heal_side_register(&held->handle.side, name.data, name.size, &registration));
+}
+LOCKED(register_name, side_type)
+
+static term unregister_name_body(ErlNifEnv *env, resource *held, const term argv[])
+{
+    ErlNifBinary name;
+    if (!get_bytes(env, argv[1], &name))
+        return enif_make_badarg(env);
+    return done(env, heal_side_unregister(&held->handle.side, name.data, name.size));
+}
+LOCKED(unregister_name, side_type)
+
+static term whereis_name_body(ErlNifEnv *env, resource *held, const term argv[])
+{
+    ErlNifBinary name;
+    heal_registration found;
+    if (!get_bytes(env, argv[1], &name))
+        return enif_make_badarg(env);
+    uint32_t number = heal_side_whereis(&held->handle.side, name.data, name.size, &found);
+    return number == 0 ? ok(env, registration_term(env, &found)) : refused(env, number);
+}
+LOCKED(whereis_name, side_type)
+
+static term count_body(ErlNifEnv *env, resource *held, const term argv[])
+{
+    size_t count = 0;
+    (void)argv;
+    uint32_t number = heal_side_count(&held->handle.side, &count);
+    return number == 0 ? ok(env, enif_make_uint64(env, count)) : refused(env, number);
+}
+LOCKED(count, side_type)
+
+static term rows_body(ErlNifEnv *env, resource *held, const term argv[])
+{
+    size_t count = 0;
+    heal_row row;
+    term rows = enif_make_list(env, 0);
+    (void)argv;
+    uint32_t number = heal_side_count(&held->handle.side, &count);
+    while (number == 0 && count > 0) {
+        number = heal_side_row(&held->handle.side, --count, &row);
+        if (number == 0) {
+            term pair = enif_make_tuple2(env, name_term(env, &row.name), registration_term(env, &row.registration));
+            rows = enif_make_list_cell(env, pair, rows);
+        }
+    }
+    return number == 0 ? ok(env, rows) : refused(env, number);
+}
+LOCKED(rows, side_type)
+
+/* Looks many names up: a row of libheal costs time that grows with its index, and a name doesn't. */
+static term owners_body(ErlNifEnv *env, resource *held, const term argv[])
+{
+    term head, rest = argv[1], owners = enif_make_list(env, 0);
+    while (enif_get_list_cell(env, rest, &head, &rest)) {
+        ErlNifBinary name;
+        heal_registration found;
+        if (!get_bytes(env, head, &name))
+            return enif_make_badarg(env);
+        uint32_t number = heal_side_whereis(&held->handle.side, name.data, name.size, &found);
+        if (number == 0)
+            owners = enif_make_list_cell(env, enif_make_tuple2(env, head, owner_term(env, found.owner)), owners);
+        else if (number != NO_SUCH_NAME)
+            return refused(env, number);
+    }
+    return enif_is_empty_list(env, rest) ? ok(env, owners) : enif_make_badarg(env);
+}
+LOCKED(owners, side_type)
+
+static term begin_body(ErlNifEnv *env, resource *held, const term argv[])
+{
+    uint64_t number, seed, uptime;
+    heal_bytes offer = {0};
+    if (!get_u64(env, argv[1], &number) || !get_u64(env, argv[2], &seed) || !get_u64(env, argv[3], &uptime))
+        return enif_make_badarg(env);
+    return message(env, heal_side_begin(&held->handle.side, number, seed, uptime, &offer), &offer);
+}
+LOCKED(begin, side_type)
+
+static term hear_body(ErlNifEnv *env, resource *held, const term argv[])
+{
+    ErlNifBinary offer;
+    if (!get_bytes(env, argv[1], &offer))
+        return enif_make_badarg(env);
+    return done(env, heal_side_hear(&held->handle.side, offer.data, offer.size));
+}
+LOCKED(hear, side_type)
+
+static term settle_body(ErlNifEnv *env, resource *held, const term argv[])
+{
+    uint32_t round;
+    if (!get_u32(env, argv[1], &round))
+        return enif_make_badarg(env);
+    return done(env, heal_side_settle(&held->handle.side, round));
+}
+LOCKED(settle, side_type)
+
+static term withdraw_body(ErlNifEnv *env, resource *held, const term argv[])
+{
+    ErlNifBinary name;
+    if (!get_bytes(env, argv[1], &name))
+        return enif_make_badarg(env);
+    return done(env, heal_side_withdraw(&held->handle.side, name.data, name.size));
+}
+LOCKED(withdraw, side_type)
+
+static term close_list_body(ErlNifEnv *env, resource *held, const term argv[])
+{
+    heal_bytes list = {0};
+    (void)argv;
+    return message(env, heal_side_close_list(&held->handle.side, &list), &list);
+}
+LOCKED(close_list, side_type)
+
+static term hear_list_body(ErlNifEnv *env, resource *held, const term argv[])
+{
+    ErlNifBinary list;
+    if (!get_bytes(env, argv[1], &list))
+        return enif_make_badarg(env);
+    return done(env, heal_side_hear_list(&held->handle.side, list.data, list.size));
+}
+LOCKED(hear_list, side_type)
+
+static term finish_body(ErlNifEnv *env, resource *held, const term argv[])
+{
+    (void)argv;
+    resource *made = new_resource(outcome_type);
+    if (made == NULL)
+        return refused(env, OUT_OF_MEMORY);
+    return handed(env, heal_side_finish(&held->handle.side, &made->handle.outcome), 0, made);
+}
+LOCKED(finish, side_type)
+
+static term abandon_body(ErlNifEnv *env, resource *held, const term argv[])
+{
+    (void)argv;
+    return done(env, heal_side_abandon(&held->handle.side));
+}
+LOCKED(abandon, side_type)
+
+static term events_body(ErlNifEnv *env, resource *held, const term argv[])
+{
+    size_t events = 0;
+    (void)argv;
+    uint32_t number = heal_side_events(&held->handle.side, &events);
+    return number == 0 ? ok(env, enif_make_uint64(env, events)) : refused(env, number);
+}
+LOCKED(events, side_type)
+
+static term renew_body(ErlNifEnv *env, resource *held, const term argv[])
+{
+    (void)argv;
+    return done(env, heal_side_renew(&held->handle.side));
+}
+LOCKED(renew, side_type)
+
+/* ---- Outcomes ---- */
+
+static term merged_body(ErlNifEnv *env, resource *held, const term argv[])
+{
+    size_t names = 0;
+    (void)argv;
+    uint32_t number = heal_outcome_merged(&held->handle.outcome, &names);
+    return number == 0 ? ok(env, enif_make_uint64(env, names)) : refused(env, number);
+}
+LOCKED(merged, outcome_type)
+
+static uint32_t notices_of(ErlNifEnv *env, heal_outcome *outcome, size_t i, uint32_t count, term *notices)
+{
+    uint32_t number = 0;
+    *notices = enif_make_list(env, 0);
+    while (number == 0 && count > 0) {
+        heal_notice notice;
+        number = heal_outcome_notice(outcome, i, --count, &notice);
+        if (number == 0)
+            *notices = enif_make_list_cell(env, notice_term(env, &notice), *notices);
+    }
+    return number;
+}
+
+static uint32_t clash_of(ErlNifEnv *env, heal_outcome *outcome, size_t i, term *clash)
+{
+    heal_clash read;
+    term notices;
+    uint32_t number = heal_outcome_clash(outcome, i, &read);
+    if (number == 0)
+        number = notices_of(env, outcome, i, read.notices, &notices);
+    if (number != 0)
+        return number;
+    term keys[] = {atom_name, atom_first, atom_second, atom_word, atom_verdict, atom_notices};
+    term values[] = {name_term(env, &read.name), registration_term(env, &read.first), registration_term(env, &read.second),
+        enif_make_uint64(env, read.word), verdict_term(read.verdict), notices};
+    *clash = map_of(env, keys, values, sizeof keys / sizeof *keys);
+    return 0;
+}
+
+static term clashes_body(ErlNifEnv *env, resource *held, const term argv[])
+{
+    size_t count = 0;
+    term clash, clashes = enif_make_list(env, 0);
+    (void)argv;
+    uint32_t number = heal_outcome_clashes(&held->handle.outcome, &count);
+    while (number == 0 && count > 0) {
+        number = clash_of(env, &held->handle.outcome, --count, &clash);
+        if (number == 0)
+            clashes = enif_make_list_cell(env, clash, clashes);
+    }
+    return number == 0 ? ok(env, clashes) : refused(env, number);
+}
+LOCKED(clashes, outcome_type)
+
+/* ---- Loading ---- */
+
+static int on_load(ErlNifEnv *env, void **private, term info)
+{
+    (void)private;
+    (void)info;
+#define MAKE(NAME) atom_##NAME = enif_make_atom(env, #NAME);
+    ATOMS(MAKE)
+    program_type = enif_open_resource_type(env, NULL, "heal_program", free_program, ERL_NIF_RT_CREATE, NULL);
+    side_type = enif_open_resource_type(env, NULL, "heal_side", free_side, ERL_NIF_RT_CREATE, NULL);
+    outcome_type = enif_open_resource_type(env, NULL, "heal_outcome", free_outcome, ERL_NIF_RT_CREATE, NULL);
+    return program_type != NULL && side_type != NULL && outcome_type != NULL ? 0 : 1;
+}
+
+#define DIRTY ERL_NIF_DIRTY_JOB_CPU_BOUND
+
+static ErlNifFunc functions[] = {
+    {"load", 1, load, DIRTY},
+    {"judge", 2, judge, 0},
+    {"program_id", 1, program_id, DIRTY},
+    {"record", 6, record, 0},
+    {"refusal_words", 1, refusal_words, 0},
+    {"side", 1, side, 0},
+    {"upload", 2, upload, DIRTY},
+    {"register", 3, register_name, 0},
+    {"unregister", 2, unregister_name, 0},
+    {"whereis", 2, whereis_name, 0},
+    {"count", 1, count, 0},
+    {"rows", 1, rows, DIRTY},
+    {"owners", 2, owners, DIRTY},
+    {"begin_exchange", 4, begin, DIRTY},
+    {"hear", 2, hear, DIRTY},
+    {"settle", 2, settle, DIRTY},
+    {"withdraw", 2, withdraw, 0},
+    {"close_list", 1, close_list, DIRTY},
+    {"hear_list", 2, hear_list, DIRTY},
+    {"finish", 1, finish, DIRTY},
+    {"abandon", 1, abandon, DIRTY},
+    {"events", 1, events, 0},
+    {"renew", 1, renew, DIRTY},
+    {"merged", 1, merged, 0},
+    {"clashes", 1, clashes, DIRTY},
+};
+
+ERL_NIF_INIT(heal, functions, on_load, NULL, NULL, NULL)

@@ -1,0 +1,163 @@
+%% @doc The calls of libheal: programs, sides of exchanges, and their outcomes.
+%%
+%% A program, a side and an outcome are references that the garbage collector frees. Every process may use them; calls on one
+%% of them run one after another. A call returns what its type shows, or `{error, {Number, Words}}' with the number of a
+%% refusal and its words; docs/REFUSALS.md lists them. A refused call changes nothing. A term of another type is a `badarg'.
+%%
+%% Two halves that meet carry out an exchange. One is side `a', the other side `b':
+%%
+%% 1. {@link begin_exchange/4} returns the offer for the other half.
+%% 2. {@link hear/2} takes the other's offer, and {@link settle/2} judges every clash.
+%% 3. {@link withdraw/2} withdraws a name whose owner is gone; {@link close_list/1} returns the list for the other half.
+%% 4. {@link hear_list/2} takes the other's list, and {@link finish/1} replaces the table by the merge.
+%%
+%% {@link abandon/1} ends an exchange without a merge.
+-module(heal).
+
+-export([load/1, judge/2, program_id/1, record/6, refusal_words/1]).
+-export([side/1, upload/2, register/3, unregister/2, whereis/2, count/1, rows/1, owners/2, events/1, renew/1]).
+-export([begin_exchange/4, hear/2, settle/2, withdraw/2, close_list/1, hear_list/2, finish/1, abandon/1]).
+-export([merged/1, clashes/1]).
+-export_type([program/0, side/0, outcome/0, name/0, owner/0, resolver/0, registration/0, facts/0, clash/0, notice/0, refusal/0]).
+
+-on_load(init/0).
+
+-compile({no_auto_import, [register/2, unregister/1, whereis/1]}).
+
+-opaque program() :: reference().
+-opaque side() :: reference().
+-opaque outcome() :: reference().
+-type name() :: binary().
+%% 1 to 32 bytes from 16#21 to 16#7e.
+-type owner() :: {Node :: 0..16#ffffffff, Serial :: 0..16#ffffffff}.
+-type word() :: 0..16#ffffffffffffffff.
+-type id() :: <<_:256>>.
+-type resolver() :: exit | notify | notify_all | {program, id()}.
+-type registration() :: #{owner := owner(), stamp := word(), weight => word(), extra => <<_:128>>, resolver => resolver()}.
+%% Without weight and extra bytes these are zero; without a resolver it is `exit'. Results have all keys.
+-type facts() :: #{size := word(), uptime := word()}.
+-type notice() :: {exit, owner()} | {conflict, owner()} | {conflict_with, owner(), Other :: owner()}.
+-type clash() :: #{
+    name := name(),
+    first := registration(),
+    second := registration(),
+    word := word(),
+    verdict := first | second | neither,
+    notices := [notice()]
+}.
+-type refusal() :: {Number :: pos_integer(), Words :: binary()}.
+-type result() :: ok | {error, refusal()}.
+-type result(Value) :: {ok, Value} | {error, refusal()}.
+
+init() ->
+    erlang:load_nif(filename:join(priv_dir(), "heal_nif"), 0).
+
+priv_dir() ->
+    case code:priv_dir(heal) of
+        {error, bad_name} -> filename:join(filename:dirname(filename:dirname(code:which(?MODULE))), "priv");
+        Dir -> Dir
+    end.
+
+%% @doc Reads untrusted bytes as a program (RFC 9669) and verifies it. The words of a refusal end with the faulty slot.
+-spec load(Code :: binary()) -> result(program()).
+load(_Code) -> missing().
+
+%% @doc Runs the program on the record of a clash. It ends after at most as many steps as it has instructions.
+-spec judge(program(), Record :: <<_:1280>>) -> {ok, R0 :: word(), Steps :: non_neg_integer()} | {error, refusal()}.
+judge(_Program, _Record) -> missing().
+
+%% @doc Returns the program's id: the SHA-256 digest of its bytes.
+-spec program_id(program()) -> result(id()).
+program_id(_Program) -> missing().
+
+%% @doc Builds the record of a clash of two registrations of a name at a word.
+-spec record(name(), First :: registration(), Second :: registration(), word(), OfFirst :: facts(), OfSecond :: facts()) ->
+    result(<<_:1280>>).
+record(_Name, _First, _Second, _Word, _OfFirst, _OfSecond) -> missing().
+
+%% @doc Returns the words of a refusal, or `<<"unknown refusal">>'.
+-spec refusal_words(Number :: 0..16#ffffffff) -> binary().
+refusal_words(_Number) -> missing().
+
+%% @doc Creates an idle side without names.
+-spec side(a | b) -> result(side()).
+side(_Id) -> missing().
+
+%% @doc Verifies a program, keeps it for registrations of this side, and returns its id.
+-spec upload(side(), Code :: binary()) -> result(id()).
+upload(_Side, _Code) -> missing().
+
+%% @doc Registers a name on an idle side.
+-spec register(side(), name(), registration()) -> result().
+register(_Side, _Name, _Registration) -> missing().
+
+%% @doc Unregisters a name on an idle side.
+-spec unregister(side(), name()) -> result().
+unregister(_Side, _Name) -> missing().
+
+%% @doc Looks a name up.
+-spec whereis(side(), name()) -> result(registration()).
+whereis(_Side, _Name) -> missing().
+
+%% @doc Returns the number of names in the side's table.
+-spec count(side()) -> result(non_neg_integer()).
+count(_Side) -> missing().
+
+%% @doc Returns the side's table in the order of names. Its time grows with the square of the number of names, so far.
+-spec rows(side()) -> result([{name(), registration()}]).
+rows(_Side) -> missing().
+
+%% @doc Returns those of the names that are registered, each with its owner, in no order.
+-spec owners(side(), [name()]) -> result([{name(), owner()}]).
+owners(_Side, _Names) -> missing().
+
+%% @doc Opens an exchange and returns the offer for the other half. Both halves use the same number and seed.
+-spec begin_exchange(side(), Number :: word(), Seed :: word(), Uptime :: word()) -> result(Offer :: binary()).
+begin_exchange(_Side, _Number, _Seed, _Uptime) -> missing().
+
+%% @doc Hears the offer of the other half.
+-spec hear(side(), Offer :: binary()) -> result().
+hear(_Side, _Offer) -> missing().
+
+%% @doc Judges every clash that has no ruling at its word of this round. Both halves use the same round.
+-spec settle(side(), Round :: 0..3) -> result().
+settle(_Side, _Round) -> missing().
+
+%% @doc Withdraws a name in the open exchange.
+-spec withdraw(side(), name()) -> result().
+withdraw(_Side, _Name) -> missing().
+
+%% @doc Closes the list of withdrawn names and returns the list for the other half.
+-spec close_list(side()) -> result(List :: binary()).
+close_list(_Side) -> missing().
+
+%% @doc Hears the list of the other half.
+-spec hear_list(side(), List :: binary()) -> result().
+hear_list(_Side, _List) -> missing().
+
+%% @doc Replaces the table by the merge and closes the exchange.
+-spec finish(side()) -> result(outcome()).
+finish(_Side) -> missing().
+
+%% @doc Closes the exchange and keeps the table, without the withdrawn names.
+-spec abandon(side()) -> result().
+abandon(_Side) -> missing().
+
+%% @doc Returns the number of events in the side's journal, at most 65,536.
+-spec events(side()) -> result(non_neg_integer()).
+events(_Side) -> missing().
+
+%% @doc Starts a fresh journal on an idle side.
+-spec renew(side()) -> result().
+renew(_Side) -> missing().
+
+%% @doc Returns the number of names in the merged table.
+-spec merged(outcome()) -> result(non_neg_integer()).
+merged(_Outcome) -> missing().
+
+%% @doc Returns the clashes in the order of names, each with its verdict and its notices.
+-spec clashes(outcome()) -> result([clash()]).
+clashes(_Outcome) -> missing().
+
+missing() ->
+    erlang:nif_error(nif_not_loaded).

@@ -1,0 +1,41 @@
+%% How the registries of tests send: as the plan of their node prescribes for each kind of message.
+-module(heal_faults).
+
+-export([send/2, plan/1, held/0, release/0]).
+
+%% `none'; `twice': every message is sent twice; `{hold, Kind}': messages of this kind wait for release/0;
+%% `{lose, Kind}'; `{halt, Kind, before | later}': the node ends when it sends this kind.
+plan(Plan) ->
+    persistent_term:put(?MODULE, Plan).
+
+send(Node, Message = {heal_registry, _, Body}) ->
+    act(persistent_term:get(?MODULE, none), kind(Body), Node, Message).
+
+kind(Body) when is_tuple(Body) -> element(1, Body);
+kind(Body) -> Body.
+
+act(twice, _Kind, Node, Message) ->
+    [deliver(Node, Message) || _ <- [1, 2]];
+act({hold, Kind}, Kind, Node, Message) ->
+    persistent_term:put({?MODULE, held}, held() ++ [{Node, Message}]);
+act({lose, Kind}, Kind, _Node, _Message) ->
+    lost;
+act({halt, Kind, before}, Kind, _Node, _Message) ->
+    erlang:halt(0, [{flush, false}]);
+act({halt, Kind, later}, Kind, Node, Message) ->
+    %% The reply to a call over the same connection shows that the message arrived.
+    deliver(Node, Message),
+    erpc:call(Node, erlang, node, []),
+    erlang:halt(0, [{flush, false}]);
+act(_Other, _Kind, Node, Message) ->
+    deliver(Node, Message).
+
+deliver(Node, Message) ->
+    erlang:send({heal_registry, Node}, Message, [noconnect]).
+
+held() ->
+    persistent_term:get({?MODULE, held}, []).
+
+release() ->
+    [deliver(Node, Message) || {Node, Message} <- held()],
+    persistent_term:erase({?MODULE, held}).

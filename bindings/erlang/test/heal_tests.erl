@@ -1,0 +1,216 @@
+%% The calls of libheal by themselves.
+-module(heal_tests).
+
+-include_lib("eunit/include/eunit.hrl").
+
+-define(LATER, "79126000000000007911380000000000b700000002000000ad21010000000000b7000000010000009500000000000000").
+
+later() ->
+    binary:decode_hex(<<?LATER>>).
+
+registration(Node, Serial, Stamp, Resolver) ->
+    #{owner => {Node, Serial}, stamp => Stamp, resolver => Resolver}.
+
+full(Registration) ->
+    maps:merge(#{weight => 0, extra => <<0:128>>}, Registration).
+
+side(Id, Rows) ->
+    {ok, Side} = heal:side(Id),
+    [?assertEqual(ok, heal:register(Side, Name, Registration)) || {Name, Registration} <- Rows],
+    Side.
+
+%% Lets both sides finish an exchange. Returns their outcomes.
+healed(A, B, Number, GoneOnA) ->
+    {ok, OfA} = heal:begin_exchange(A, Number, 4, 100),
+    {ok, OfB} = heal:begin_exchange(B, Number, 4, 200),
+    [?assertEqual(ok, Call) || Call <- [heal:hear(A, OfB), heal:hear(B, OfA), heal:settle(A, 0), heal:settle(B, 0)]],
+    [?assertEqual(ok, heal:withdraw(A, Name)) || Name <- GoneOnA],
+    {ok, ListA} = heal:close_list(A),
+    {ok, ListB} = heal:close_list(B),
+    ok = heal:hear_list(A, ListB),
+    ok = heal:hear_list(B, ListA),
+    {ok, OutcomeA} = heal:finish(A),
+    {ok, OutcomeB} = heal:finish(B),
+    {OutcomeA, OutcomeB}.
+
+exchange_of_every_resolver_test() ->
+    A = side(a, [{<<"exit">>, registration(1, 1, 5, exit)}, {<<"notify">>, registration(1, 2, 5, notify)},
+                 {<<"all">>, registration(1, 3, 5, notify_all)}, {<<"dead">>, registration(1, 4, 5, exit)}]),
+    B = side(b, [{<<"exit">>, registration(2, 1, 9, exit)}, {<<"notify">>, registration(2, 2, 9, notify)},
+                 {<<"all">>, registration(2, 3, 9, exit)}, {<<"only">>, registration(2, 5, 9, exit)}]),
+    {ok, Id} = heal:upload(A, later()),
+    ok = heal:register(A, <<"program">>, registration(1, 6, 5, {program, Id})),
+    ok = heal:register(B, <<"program">>, registration(2, 6, 9, exit)),
+    {OfA, OfB} = healed(A, B, 1, [<<"dead">>]),
+    {ok, Clashes} = heal:clashes(OfA),
+    ?assertEqual({ok, Clashes}, heal:clashes(OfB)),
+    ?assertEqual({ok, 4}, heal:merged(OfA)),
+    %% The words are 4 and up in the order of names, and the lowest bit of a word chooses.
+    ?assertEqual([{<<"all">>, neither, [{conflict_with, {1, 3}, {2, 3}}, {conflict_with, {2, 3}, {1, 3}}], 4},
+                  {<<"exit">>, second, [{exit, {1, 1}}], 5},
+                  {<<"notify">>, first, [{conflict, {2, 2}}], 6},
+                  {<<"program">>, second, [], 7}],
+                 [{Name, Verdict, Notices, Word} || #{name := Name, verdict := Verdict, notices := Notices, word := Word} <- Clashes]),
+    {ok, Rows} = heal:rows(A),
+    ?assertEqual({ok, Rows}, heal:rows(B)),
+    ?assertEqual([{<<"exit">>, full(registration(2, 1, 9, exit))}, {<<"notify">>, full(registration(1, 2, 5, notify))},
+                  {<<"only">>, full(registration(2, 5, 9, exit))}, {<<"program">>, full(registration(2, 6, 9, exit))}], Rows),
+    ?assertEqual([{<<"exit">>, {2, 1}}, {<<"only">>, {2, 5}}], owners(B, [<<"only">>, <<"dead">>, <<"exit">>])),
+    ?assertEqual({ok, 4}, heal:count(A)).
+
+owners(Side, Names) ->
+    {ok, Owners} = heal:owners(Side, Names),
+    lists:sort(Owners).
+
+registration_keeps_its_fields_test() ->
+    Registration = #{owner => {4294967295, 7}, stamp => 18446744073709551615, weight => 3, extra => <<"sixteen bytes ok">>,
+                     resolver => notify_all},
+    Side = side(a, [{<<"x">>, Registration}]),
+    ?assertEqual({ok, Registration}, heal:whereis(Side, <<"x">>)),
+    ?assertEqual({ok, [{<<"x">>, Registration}]}, heal:rows(Side)).
+
+refusals_test() ->
+    Row = registration(1, 1, 1, exit),
+    Side = side(a, [{<<"x">>, Row}]),
+    Expected = [{30, heal:register(Side, <<"x">>, Row)}, {31, heal:unregister(Side, <<"y">>)}, {31, heal:whereis(Side, <<"y">>)},
+                {44, heal:register(Side, <<>>, Row)}, {44, heal:register(Side, <<"a b">>, Row)},
+                {41, heal:register(Side, <<"y">>, registration(1, 2, 1, {program, <<0:256>>}))},
+                {34, heal:settle(Side, 0)}, {34, heal:finish(Side)}, {34, heal:abandon(Side)}, {34, heal:close_list(Side)},
+                {34, heal:withdraw(Side, <<"x">>)}, {70, heal:hear(Side, <<>>)}, {70, heal:hear_list(Side, <<>>)},
+                {3, heal:load(<<1, 2, 3>>)}, {1, heal:upload(Side, <<>>)}],
+    [?assertMatch({Number, {error, {Number, _}}}, {Number, Answer}) || {Number, Answer} <- Expected],
+    ?assertEqual({error, {30, <<"the name is already registered">>}}, heal:register(Side, <<"x">>, Row)),
+    ?assertEqual({error, {10, <<"a backward jump at slot 0">>}}, heal:load(<<16#0500ffff00000000:64, 16#9500000000000000:64>>)),
+    ?assertEqual({ok, [{<<"x">>, full(Row)}]}, heal:rows(Side)).
+
+refusals_of_an_exchange_test() ->
+    A = side(a, [{<<"x">>, registration(1, 1, 1, exit)}]),
+    {ok, Offer} = heal:begin_exchange(A, 5, 1, 0),
+    ?assertMatch({error, {33, _}}, heal:begin_exchange(A, 6, 1, 0)),
+    ?assertMatch({error, {33, _}}, heal:register(A, <<"y">>, registration(1, 2, 1, exit))),
+    ?assertMatch({error, {39, _}}, heal:settle(A, 0)),
+    ?assertMatch({error, {39, _}}, heal:finish(A)),
+    ?assertMatch({error, {46, _}}, heal:hear(A, Offer)),
+    ?assertEqual(ok, heal:withdraw(A, <<"x">>)),
+    ?assertMatch({error, {47, _}}, heal:withdraw(A, <<"x">>)),
+    ?assertEqual(ok, heal:abandon(A)),
+    ?assertEqual({ok, []}, heal:rows(A)),
+    ?assertMatch({error, {35, _}}, heal:begin_exchange(A, 5, 1, 0)).
+
+words_test() ->
+    ?assertEqual(<<"the table is full: 4,096 names">>, heal:refusal_words(32)),
+    ?assertEqual(<<"unknown refusal">>, heal:refusal_words(4294967295)).
+
+program_test() ->
+    {ok, Program} = heal:load(later()),
+    {ok, Id} = heal:program_id(Program),
+    ?assertEqual(32, byte_size(Id)),
+    ?assertEqual({ok, Id}, heal:upload(side(a, []), later())),
+    Facts = #{size => 1, uptime => 2},
+    Judged = fun(Stamp) ->
+        {ok, Record} = heal:record(<<"db">>, registration(1, 1, Stamp, exit), registration(2, 2, 9, exit), 77, Facts, Facts),
+        {ok, Answer, Steps} = heal:judge(Program, Record),
+        ?assert(Steps =< 6),
+        Answer
+    end,
+    ?assertEqual([2, 1, 1], [Judged(Stamp) || Stamp <- [8, 9, 10]]).
+
+record_layout_test() ->
+    {ok, Record} = heal:record(<<"db">>, (registration(1, 2, 3, exit))#{weight => 4, extra => <<5:128/little>>},
+                               registration(6, 7, 8, notify), 9, #{size => 10, uptime => 11}, #{size => 12, uptime => 13}),
+    ?assertEqual(<<2:32/little, 0:32, "db", 0:240, 9:64/little, 1:32/little, 2:32/little, 3:64/little, 4:64/little, 5:128/little,
+                   6:32/little, 7:32/little, 8:64/little, 0:64, 0:128, 10:64/little, 11:64/little, 12:64/little, 13:64/little>>, Record).
+
+%% Terms of other types raise badarg and change nothing.
+badarg_test() ->
+    Side = side(a, []),
+    {ok, Program} = heal:load(later()),
+    Row = registration(1, 1, 1, exit),
+    Calls = [{load, [x]}, {judge, [Program, <<0:8>>]}, {judge, [Side, <<0:1280>>]}, {judge, [make_ref(), <<0:1280>>]}, {side, [c]},
+             {count, [Program]}, {register, [Side, x, Row]}, {register, [Side, <<"x">>, []]},
+             {register, [Side, <<"x">>, maps:remove(owner, Row)]}, {register, [Side, <<"x">>, maps:remove(stamp, Row)]},
+             {register, [Side, <<"x">>, Row#{owner := {1}}]}, {register, [Side, <<"x">>, Row#{owner := {-1, 1}}]},
+             {register, [Side, <<"x">>, Row#{stamp := 1 bsl 64}]}, {register, [Side, <<"x">>, Row#{extra => <<1>>}]},
+             {register, [Side, <<"x">>, Row#{resolver := later}]}, {register, [Side, <<"x">>, Row#{resolver := {program, <<1>>}}]},
+             {begin_exchange, [Side, -1, 0, 0]}, {settle, [Side, x]}, {hear, [Side, "x"]},
+             {owners, [Side, x]}, {owners, [Side, [<<"x">> | <<"y">>]]}, {owners, [Side, [x]]}, {refusal_words, [-1]}],
+    [?assertError(badarg, apply(heal, Function, Args)) || {Function, Args} <- Calls],
+    ?assertEqual({ok, 0}, heal:count(Side)).
+
+%% Every byte of an offer that is changed gives a refusal, or an offer that is heard.
+hostile_bytes_test() ->
+    {ok, Id} = heal:upload(A = side(a, []), later()),
+    ok = heal:register(A, <<"x">>, registration(1, 1, 1, {program, Id})),
+    {ok, Offer} = heal:begin_exchange(A, 1, 1, 0),
+    {ok, List} = heal:close_list(A),
+    B = side(b, []),
+    {ok, _} = heal:begin_exchange(B, 1, 1, 0),
+    Known = [ok | lists:seq(30, 48)] ++ lists:seq(70, 82),
+    Number = fun(ok) -> ok; ({error, {N, Words}}) when byte_size(Words) > 0 -> N end,
+    [?assert(lists:member(Number(Hear(B, changed(Bytes, At, Value))), Known))
+     || {Bytes, Hear} <- [{Offer, fun heal:hear/2}, {List, fun heal:hear_list/2}], At <- lists:seq(0, byte_size(Bytes) - 1),
+        Value <- [0, 1, 127, 128, 255]],
+    [?assertMatch({error, {70, _}}, heal:hear(B, binary:part(Offer, 0, Len))) || Len <- lists:seq(0, byte_size(Offer) - 1)],
+    ?assertEqual({ok, 0}, heal:count(B)).
+
+changed(Bytes, At, Value) ->
+    <<Before:At/binary, _, After/binary>> = Bytes,
+    <<Before/binary, Value, After/binary>>.
+
+%% Processes that share a side take turns.
+shared_side_test_() ->
+    {timeout, 30, fun() ->
+        {ok, Side} = heal:side(a),
+        Self = self(),
+        Register = fun(Node) ->
+            [ok = heal:register(Side, integer_to_binary(Node * 1000 + N), registration(Node, N, 1, exit)) || N <- lists:seq(1, 100)],
+            Self ! {done, Node}
+        end,
+        Look = fun() -> [{ok, _} = heal:rows(Side) || _ <- lists:seq(1, 50)], Self ! looked end,
+        [spawn_link(fun() -> Register(Node) end) || Node <- lists:seq(1, 8)],
+        [spawn_link(Look) || _ <- lists:seq(1, 2)],
+        [receive {done, Node} -> ok end || Node <- lists:seq(1, 8)],
+        [receive looked -> ok end || _ <- lists:seq(1, 2)],
+        ?assertEqual({ok, 800}, heal:count(Side))
+    end}.
+
+%% Sides, programs and outcomes that nobody refers to are freed.
+freed_test_() ->
+    {timeout, 60, fun() ->
+        Rows = [{integer_to_binary(N), registration(1, N, 1, exit)} || N <- lists:seq(1, 500)],
+        Round = fun() ->
+            {Pid, Monitor} = spawn_monitor(fun() ->
+                {_, _} = healed(side(a, Rows), side(b, Rows), 1, []),
+                [{ok, _} = heal:load(later()) || _ <- lists:seq(1, 100)]
+            end),
+            receive {'DOWN', Monitor, process, Pid, Reason} -> ?assertEqual(normal, Reason) end
+        end,
+        [Round() || _ <- lists:seq(1, 40)],
+        Before = resident(),
+        [Round() || _ <- lists:seq(1, 200)],
+        ?assert(resident() - Before < 20000)
+    end}.
+
+%% The resident memory of this process in KiB.
+resident() ->
+    {ok, Status} = file:read_file("/proc/self/status"),
+    {match, [Number]} = re:run(Status, "VmRSS:\\s+(\\d+)", [{capture, all_but_first, binary}]),
+    binary_to_integer(Number).
+
+%% A journal is renewed with the same names and the same greatest number.
+renewed_test() ->
+    A = side(a, [{<<"x">>, registration(1, 1, 1, exit)}]),
+    [begin
+         ok = heal:register(A, <<"y">>, registration(1, 2, 1, exit)),
+         ok = heal:unregister(A, <<"y">>)
+     end || _ <- lists:seq(1, 100)],
+    {ok, _} = heal:begin_exchange(A, 9, 1, 1),
+    ?assertMatch({error, {33, _}}, heal:renew(A)),
+    ok = heal:abandon(A),
+    {ok, Events} = heal:events(A),
+    ?assert(Events > 200),
+    ok = heal:renew(A),
+    {ok, Fewer} = heal:events(A),
+    ?assert(Fewer =< 3),
+    ?assertMatch({error, {35, _}}, heal:begin_exchange(A, 9, 1, 1)),
+    ?assertMatch({ok, [{<<"x">>, _}]}, heal:rows(A)).

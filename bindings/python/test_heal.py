@@ -1,0 +1,245 @@
+"""Tests of heal.py: python3 -m unittest, with the library built (../c/build.sh)."""
+
+import gc
+import struct
+import unittest
+
+from heal import (
+    Builtin,
+    Clash,
+    Ended,
+    Facts,
+    Notice,
+    NoticeKind,
+    Owner,
+    Program,
+    Refused,
+    Registration,
+    Side,
+    Verdict,
+    record,
+    refusal_words,
+)
+
+# The registration with the later stamp keeps the name, or the first if the stamps are equal.
+LATER_STAMP = bytes.fromhex(
+    "79123800000000007913600000000000b7000000010000003d32010000000000b7000000020000009500000000000000"
+)
+# Exits without an answer.
+NO_ANSWER = bytes.fromhex("9500000000000000")
+
+
+def bytes_of(name, first, second, word, of_first, of_second):
+    """Returns the record of a clash by the layout of resolvers/record.h, without the library."""
+
+    def of(registration):
+        owner = registration.owner
+        numbers = struct.pack("<IIQQ", owner.node, owner.serial, registration.stamp, registration.weight)
+        return numbers + registration.extra
+
+    facts = [it for half in (of_first, of_second) for it in (half.size, half.uptime)]
+    return struct.pack("<II32sQ", len(name), 0, name, word) + of(first) + of(second) + struct.pack("<QQQQ", *facts)
+
+
+class Programs(unittest.TestCase):
+    FIRST = Registration(Owner(1, 10), stamp=5, weight=6, extra=bytes(range(16)))
+    SECOND = Registration(Owner(2, 20), stamp=9)
+
+    def test_record(self):
+        terms = (b"db", self.FIRST, self.SECOND, 7, Facts(1, 2), Facts(3, 4))
+        self.assertEqual(record(*terms), bytes_of(*terms))
+
+    def test_judge(self):
+        with Program(LATER_STAMP) as program:
+            self.assertEqual(program.judge(record("db", self.FIRST, self.SECOND, 7, Facts(1, 2), Facts(3, 4))), Ended(2, 6))
+            self.assertEqual(program.judge(record("db", self.SECOND, self.FIRST, 7, Facts(1, 2), Facts(3, 4))), Ended(1, 5))
+            self.assertEqual(program.judge(bytes(160)), Ended(1, 5))
+
+    def test_id_is_the_digest(self):
+        import hashlib
+
+        with Program(LATER_STAMP) as program:
+            self.assertEqual(program.id, hashlib.sha256(LATER_STAMP).digest())
+
+    def test_refusals(self):
+        for code, number, slot in [
+            (b"", 1, None),
+            (bytes(1025 * 8), 2, None),
+            (b"\x95", 3, None),
+            (b"\xff" + bytes(7), 4, 0),
+            (NO_ANSWER, 15, 0),
+        ]:
+            with self.subTest(number=number), self.assertRaises(Refused) as caught:
+                Program(code)
+            self.assertEqual((caught.exception.number, caught.exception.slot), (number, slot))
+
+    def test_closed(self):
+        program = Program(LATER_STAMP)
+        program.close()
+        program.close()
+        with self.assertRaises(Refused) as caught:
+            program.judge(bytes(160))
+        self.assertEqual(str(caught.exception), "refused 91: an empty handle")
+
+    def test_lengths(self):
+        with Program(LATER_STAMP) as program, self.assertRaises(ValueError):
+            program.judge(bytes(159))
+        with self.assertRaises(ValueError):
+            record("db", Registration(Owner(1, 1), extra=b"x"), self.SECOND, 0, Facts(0, 0), Facts(0, 0))
+        with self.assertRaises(OverflowError):
+            record("db", Registration(Owner(1 << 32, 1)), self.SECOND, 0, Facts(0, 0), Facts(0, 0))
+
+
+class Words(unittest.TestCase):
+    def test_words(self):
+        self.assertEqual(refusal_words(43), "the store is full: 256 programs")
+        self.assertEqual(refusal_words(1000), "unknown refusal")
+
+
+def split():
+    """Returns two halves that registered `cache` and `db` while the link was down; B also has `web`."""
+    halves = Side("a"), Side("b")
+    for node, half in enumerate(halves, 1):
+        later = half.upload(LATER_STAMP)
+        half.register("cache", Registration(Owner(node, 1), stamp=100 * node))
+        half.register("db", Registration(Owner(node, 2), stamp=100 * node, resolver=later))
+    halves[1].register("web", Registration(Owner(2, 3), stamp=200, resolver=Builtin.NOTIFY))
+    return halves
+
+
+def heal(a, b, number, gone=()):
+    """Heals two halves, of which A withdraws some names. Returns both outcomes."""
+    offers = a.begin(number, seed=0, uptime=10), b.begin(number, seed=0, uptime=20)
+    a.hear(offers[1])
+    b.hear(offers[0])
+    for half in (a, b):
+        half.settle()
+    for name in gone:
+        a.withdraw(name)
+    lists = a.close_list(), b.close_list()
+    a.hear_list(lists[1])
+    b.hear_list(lists[0])
+    return a.finish(), b.finish()
+
+
+class Sides(unittest.TestCase):
+    def refused(self, number, call, *arguments):
+        with self.assertRaises(Refused) as caught:
+            call(*arguments)
+        self.assertEqual(caught.exception.number, number)
+
+    def test_heals(self):
+        a, b = split()
+        with a, b:
+            first, second = heal(a, b, 1)
+            self.assertEqual(first, second)
+            self.assertEqual(first.merged, 3)
+            self.assertEqual(a.rows(), b.rows())
+            self.assertEqual([name for name, _ in a.rows()], [b"cache", b"db", b"web"])
+            self.assertEqual(a.whereis("db").owner, Owner(2, 2))
+            self.check_clashes(first.clashes)
+
+    def check_clashes(self, clashes):
+        cache, db = clashes
+        self.assertIsInstance(cache, Clash)
+        self.assertEqual((cache.name, db.name), (b"cache", b"db"))
+        # A built-in resolver follows the lowest bit of the word, and the loser exits.
+        loser = Owner(1, 1) if cache.word % 2 else Owner(2, 1)
+        self.assertEqual(cache.verdict, Verdict.SECOND if cache.word % 2 else Verdict.FIRST)
+        self.assertEqual(cache.notices, (Notice(NoticeKind.EXIT, loser),))
+        self.assertEqual((db.verdict, db.notices), (Verdict.SECOND, ()))
+        self.assertEqual((db.first.owner, db.second.owner), (Owner(1, 2), Owner(2, 2)))
+
+    def test_withdrawn(self):
+        a, b = split()
+        with a, b:
+            a.register("mail", Registration(Owner(1, 3)))
+            heal(a, b, 1, gone=["mail"])
+            self.assertIsNone(a.whereis("mail"))
+            self.assertEqual(a.rows(), b.rows())
+
+    def test_notify_all(self):
+        a, b = Side("a"), Side("b")
+        with a, b:
+            for node, half in enumerate((a, b), 1):
+                half.register("news", Registration(Owner(node, 1), resolver=Builtin.NOTIFY_ALL))
+            outcome, _ = heal(a, b, 1)
+            (news,) = outcome.clashes
+            self.assertEqual(news.verdict, Verdict.NEITHER)
+            both = Owner(1, 1), Owner(2, 1)
+            self.assertEqual(
+                news.notices,
+                (Notice(NoticeKind.CONFLICT_WITH, *both), Notice(NoticeKind.CONFLICT_WITH, *both[::-1])),
+            )
+            self.assertEqual(outcome.merged, 0)
+
+    def test_refusals_change_nothing(self):
+        a, b = split()
+        with a, b:
+            self.refused(30, a.register, "db", Registration(Owner(1, 9)))
+            self.refused(31, a.unregister, "none")
+            self.refused(41, a.register, "x", Registration(Owner(1, 9), resolver=bytes(32)))
+            self.refused(44, a.register, "", Registration(Owner(1, 9)))
+            self.refused(44, a.register, "a b", Registration(Owner(1, 9)))
+            self.refused(34, a.settle)
+            self.refused(34, a.abandon)
+            self.refused(3, a.upload, b"\x95")
+            self.assertEqual((len(a), a.events), (2, 2))
+            a.unregister("db")
+            self.assertEqual((len(a), a.events), (1, 3))
+
+    def test_messages_are_checked(self):
+        a, b = split()
+        with a, b:
+            offer_a, offer_b = a.begin(1, 0, 10), b.begin(1, 0, 20)
+            self.refused(33, a.begin, 2, 0, 10)
+            self.refused(70, a.hear, b"")
+            self.refused(70, a.hear, offer_b[:-1])
+            self.refused(72, a.hear, offer_b + b"\0")
+            self.refused(71, a.hear, b"x" + offer_b[1:])
+            self.refused(82, a.hear, offer_b[:6] + b"\2" + offer_b[7:])
+            self.refused(46, a.hear, offer_a)
+            self.refused(39, a.settle)
+            a.hear(offer_b)
+            a.hear(offer_b)
+            self.refused(38, a.settle, 4)
+            self.refused(71, a.hear_list, offer_b)
+            self.refused(31, a.withdraw, "none")
+            self.refused(39, a.finish)
+            a.abandon()
+            b.abandon()
+            self.refused(35, a.begin, 1, 0, 10)
+            first, second = heal(a, b, 2)
+            self.assertEqual(first, second)
+
+    def test_renewed(self):
+        with Side("a") as side:
+            for _ in range(50):
+                side.register("db", Registration(Owner(1, 1)))
+                side.unregister("db")
+            side.begin(5, 0, 0)
+            self.refused(33, side.renew)
+            side.abandon()
+            side.register("db", Registration(Owner(1, 1)))
+            self.assertEqual(side.events, 103)
+            side.renew()
+            self.assertLessEqual(side.events, 3)
+            self.assertEqual(side.whereis("db").owner, Owner(1, 1))
+            self.refused(35, side.begin, 5, 0, 0)
+            side.begin(6, 0, 0)
+
+    def test_freed_with_the_object(self):
+        for _ in range(1000):
+            Side("a").register("db", Registration(Owner(1, 1)))
+        gc.collect()
+
+    def test_closed(self):
+        side = Side("b")
+        side.close()
+        self.refused(91, len, side)
+        with self.assertRaises(ValueError):
+            Side("c")
+
+
+if __name__ == "__main__":
+    unittest.main()

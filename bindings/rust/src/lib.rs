@@ -1,0 +1,265 @@
+//! heal for Rust: the name registry of two halves of a cluster, over the C library.
+//!
+//! `bindings/c/heal.h` describes each call, with its refusals. A refused call changes nothing.
+mod ffi;
+mod handle;
+mod types;
+
+use handle::{Held, Kind};
+use std::error::Error;
+use std::fmt;
+pub use types::{
+    Clash, Ended, Facts, Notice, Outcome, Owner, ProgramId, Registration, Resolver, Verdict,
+};
+
+/// The length of a clash record in bytes.
+pub const RECORD_LEN: usize = 160;
+
+/// A refused call: its number, and the slot if the refusal concerns a slot of a program.
+#[derive(Clone, Copy, Debug, PartialEq, Eq)]
+pub struct Refused {
+    pub number: u32,
+    pub slot: Option<u32>,
+}
+
+impl fmt::Display for Refused {
+    fn fmt(&self, f: &mut fmt::Formatter<'_>) -> fmt::Result {
+        write!(f, "refused {}", self.number)?;
+        if let Some(slot) = self.slot {
+            write!(f, " at slot {slot}")?;
+        }
+        write!(f, ": {}", words_of(self.number))
+    }
+}
+
+impl Error for Refused {}
+
+/// Returns the words of a refusal.
+pub fn words_of(number: u32) -> String {
+    let mut words = [0; 256];
+    // SAFETY: `words` has as many writable bytes as the capacity.
+    let len = unsafe { ffi::heal_refusal_words(number, words.as_mut_ptr(), words.len()) };
+    String::from_utf8_lossy(&words[..len.min(words.len())]).into_owned()
+}
+
+/// Returns an error unless the number is 0.
+fn answer(number: u32) -> Result<(), Refused> {
+    match number {
+        0 => Ok(()),
+        _ => Err(Refused { number, slot: None }),
+    }
+}
+
+/// Returns an error unless the number is 0, with the slot if the number is one of a slot's.
+fn answer_at(number: u32, slot: u32) -> Result<(), Refused> {
+    let slot = (4..=26).contains(&number).then_some(slot);
+    match number {
+        0 => Ok(()),
+        _ => Err(Refused { number, slot }),
+    }
+}
+
+/// Returns the record of a clash of two registrations of a name at a word.
+pub fn record(
+    name: &[u8],
+    [first, second]: [Registration; 2],
+    word: u64,
+    [of_first, of_second]: [Facts; 2],
+) -> Result<[u8; RECORD_LEN], Refused> {
+    let mut made = [0; RECORD_LEN];
+    let (first, second) = (first.into(), second.into());
+    let (of_first, of_second) = (of_first.into(), of_second.into());
+    // SAFETY: every pointer is to a live value of its type, and the name has `len` bytes.
+    answer(unsafe {
+        ffi::heal_record(
+            name.as_ptr(),
+            name.len(),
+            &first,
+            &second,
+            word,
+            &of_first,
+            &of_second,
+            &mut made,
+        )
+    })?;
+    Ok(made)
+}
+
+/// A verified program.
+#[derive(Debug)]
+pub struct Program {
+    held: Held,
+}
+
+impl Program {
+    /// Reads bytes as a program (RFC 9669) and verifies it.
+    pub fn load(code: &[u8]) -> Result<Program, Refused> {
+        let mut program = Program {
+            held: Held::empty(Kind::Program),
+        };
+        let mut slot = 0;
+        // SAFETY: the code has `len` bytes; the handle is empty and owned.
+        let number = unsafe {
+            ffi::heal_program_load(code.as_ptr(), code.len(), program.held.at(), &mut slot)
+        };
+        answer_at(number, slot)?;
+        Ok(program)
+    }
+
+    /// Runs the program on the record of a clash.
+    pub fn judge(&mut self, record: &[u8; RECORD_LEN]) -> Result<Ended, Refused> {
+        let mut ended = ffi::Ended::default();
+        // SAFETY: the handle is owned, and `&mut self` makes this the only call on it.
+        answer(unsafe { ffi::heal_program_judge(self.held.at(), record, &mut ended) })?;
+        Ok(Ended {
+            r0: ended.r0,
+            steps: ended.steps,
+        })
+    }
+
+    /// Returns the program's id.
+    pub fn id(&mut self) -> Result<ProgramId, Refused> {
+        let mut id = [0; 32];
+        // SAFETY: as in `judge`.
+        answer(unsafe { ffi::heal_program_id(self.held.at(), &mut id) })?;
+        Ok(ProgramId(id))
+    }
+}
+
+/// One half's side of exchanges, with its table and its uploads.
+#[derive(Debug)]
+pub struct Side {
+    held: Held,
+}
+
+/// Which of the two halves a side is.
+#[derive(Clone, Copy, Debug, PartialEq, Eq)]
+pub enum SideId {
+    A,
+    B,
+}
+
+// SAFETY in each call below: the handle is owned and `&mut self` makes the call the only one on it; slices have `len` bytes;
+// results are live values of their types.
+impl Side {
+    /// Creates an idle side without names.
+    pub fn new(id: SideId) -> Result<Side, Refused> {
+        let mut side = Side {
+            held: Held::empty(Kind::Side),
+        };
+        answer(unsafe { ffi::heal_side_new(id == SideId::B, side.held.at()) })?;
+        Ok(side)
+    }
+
+    /// Verifies and keeps a program, and returns its id.
+    pub fn upload(&mut self, code: &[u8]) -> Result<ProgramId, Refused> {
+        let (mut id, mut slot) = ([0; 32], 0);
+        let number = unsafe {
+            ffi::heal_side_upload(
+                self.held.at(),
+                code.as_ptr(),
+                code.len(),
+                &mut id,
+                &mut slot,
+            )
+        };
+        answer_at(number, slot)?;
+        Ok(ProgramId(id))
+    }
+
+    /// Registers a name on an idle side.
+    pub fn register(&mut self, name: &[u8], registration: Registration) -> Result<(), Refused> {
+        let registration = registration.into();
+        answer(unsafe {
+            ffi::heal_side_register(self.held.at(), name.as_ptr(), name.len(), &registration)
+        })
+    }
+
+    /// Unregisters a name on an idle side.
+    pub fn unregister(&mut self, name: &[u8]) -> Result<(), Refused> {
+        answer(unsafe { ffi::heal_side_unregister(self.held.at(), name.as_ptr(), name.len()) })
+    }
+
+    /// Returns the registration of a name, or `None`.
+    pub fn whereis(&mut self, name: &[u8]) -> Result<Option<Registration>, Refused> {
+        let mut found = ffi::Registration::default();
+        let number = unsafe {
+            ffi::heal_side_whereis(self.held.at(), name.as_ptr(), name.len(), &mut found)
+        };
+        match number {
+            31 => Ok(None),
+            _ => answer(number).map(|()| Some(found.into())),
+        }
+    }
+
+    /// Returns the names and registrations of the table, in the order of names.
+    pub fn rows(&mut self) -> Result<Vec<(Vec<u8>, Registration)>, Refused> {
+        let mut count = 0;
+        answer(unsafe { ffi::heal_side_count(self.held.at(), &mut count) })?;
+        (0..count).map(|i| self.row(i)).collect()
+    }
+
+    fn row(&mut self, i: usize) -> Result<(Vec<u8>, Registration), Refused> {
+        let mut row = ffi::Row::default();
+        answer(unsafe { ffi::heal_side_row(self.held.at(), i, &mut row) })?;
+        Ok((types::bytes_of(&row.name), row.registration.into()))
+    }
+
+    /// Opens an exchange, and returns the offer to be sent.
+    pub fn begin(&mut self, number: u64, seed: u64, uptime: u64) -> Result<Vec<u8>, Refused> {
+        let mut offer = Held::empty(Kind::Bytes);
+        answer(unsafe { ffi::heal_side_begin(self.held.at(), number, seed, uptime, offer.at()) })?;
+        offer.bytes()
+    }
+
+    /// Hears the other side's offer.
+    pub fn hear(&mut self, offer: &[u8]) -> Result<(), Refused> {
+        answer(unsafe { ffi::heal_side_hear(self.held.at(), offer.as_ptr(), offer.len()) })
+    }
+
+    /// Judges every clash that has no ruling at its word of this round.
+    pub fn settle(&mut self, round: u32) -> Result<(), Refused> {
+        answer(unsafe { ffi::heal_side_settle(self.held.at(), round) })
+    }
+
+    /// Withdraws a name in the open exchange.
+    pub fn withdraw(&mut self, name: &[u8]) -> Result<(), Refused> {
+        answer(unsafe { ffi::heal_side_withdraw(self.held.at(), name.as_ptr(), name.len()) })
+    }
+
+    /// Closes the list of withdrawn names, and returns the list to be sent.
+    pub fn close_list(&mut self) -> Result<Vec<u8>, Refused> {
+        let mut list = Held::empty(Kind::Bytes);
+        answer(unsafe { ffi::heal_side_close_list(self.held.at(), list.at()) })?;
+        list.bytes()
+    }
+
+    /// Hears the other side's list of withdrawn names.
+    pub fn hear_list(&mut self, list: &[u8]) -> Result<(), Refused> {
+        answer(unsafe { ffi::heal_side_hear_list(self.held.at(), list.as_ptr(), list.len()) })
+    }
+
+    /// Replaces the table by the merge, and returns the outcome.
+    pub fn finish(&mut self) -> Result<Outcome, Refused> {
+        let mut outcome = Held::empty(Kind::Outcome);
+        answer(unsafe { ffi::heal_side_finish(self.held.at(), outcome.at()) })?;
+        outcome.outcome()
+    }
+
+    /// Closes the exchange and keeps the table, without the withdrawn names.
+    pub fn abandon(&mut self) -> Result<(), Refused> {
+        answer(unsafe { ffi::heal_side_abandon(self.held.at()) })
+    }
+
+    /// Returns the number of events in the journal.
+    pub fn events(&mut self) -> Result<usize, Refused> {
+        let mut events = 0;
+        answer(unsafe { ffi::heal_side_events(self.held.at(), &mut events) })?;
+        Ok(events)
+    }
+
+    /// Starts a fresh journal on an idle side.
+    pub fn renew(&mut self) -> Result<(), Refused> {
+        answer(unsafe { ffi::heal_side_renew(self.held.at()) })
+    }
+}

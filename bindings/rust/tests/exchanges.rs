@@ -1,0 +1,129 @@
+//! Programs, refusals and whole exchanges through the C library.
+use heal::{
+    record, words_of, Facts, Notice, Outcome, Owner, Program, Refused, Registration, Resolver,
+    Side, SideId, Verdict,
+};
+
+/// The registration with the later stamp keeps the name, or the first if the stamps are equal.
+const LATER_STAMP: [u8; 48] = [
+    0x79, 0x12, 0x38, 0, 0, 0, 0, 0, // ldxdw r2, [r1+56], the first stamp
+    0x79, 0x13, 0x60, 0, 0, 0, 0, 0, // ldxdw r3, [r1+96], the second stamp
+    0xb7, 0x00, 0x00, 0, 1, 0, 0, 0, // mov64 r0, 1
+    0x3d, 0x32, 0x01, 0, 0, 0, 0, 0, // jge r2, r3, +1
+    0xb7, 0x00, 0x00, 0, 2, 0, 0, 0, // mov64 r0, 2
+    0x95, 0x00, 0x00, 0, 0, 0, 0, 0, // exit
+];
+
+fn owned(node: u32, serial: u32, stamp: u64) -> Registration {
+    Registration::new(Owner::new(node, serial), stamp)
+}
+
+fn refused<T: std::fmt::Debug>(result: Result<T, Refused>) -> u32 {
+    result.expect_err("a refusal").number
+}
+
+/// Two halves that registered `cache`, `db` and `mail` while the link was down; B also has `web`.
+fn split() -> Result<[Side; 2], Refused> {
+    let mut halves = [Side::new(SideId::A)?, Side::new(SideId::B)?];
+    for (half, node) in halves.iter_mut().zip(1..) {
+        let later = Resolver::Program(half.upload(&LATER_STAMP)?);
+        let stamp = 100 * u64::from(node);
+        half.register(b"cache", owned(node, 1, stamp))?;
+        half.register(
+            b"db",
+            Registration {
+                resolver: later,
+                ..owned(node, 2, stamp)
+            },
+        )?;
+        half.register(b"mail", owned(node, 3, stamp))?;
+    }
+    halves[1].register(b"web", owned(2, 4, 200))?;
+    Ok(halves)
+}
+
+/// Heals two halves, of which A withdraws `mail`.
+fn heal([a, b]: &mut [Side; 2], number: u64) -> Result<[Outcome; 2], Refused> {
+    let (offer_a, offer_b) = (a.begin(number, 0, 10)?, b.begin(number, 0, 20)?);
+    a.hear(&offer_b)?;
+    b.hear(&offer_a)?;
+    a.settle(0)?;
+    b.settle(0)?;
+    a.withdraw(b"mail")?;
+    let (list_a, list_b) = (a.close_list()?, b.close_list()?);
+    a.hear_list(&list_b)?;
+    b.hear_list(&list_a)?;
+    Ok([a.finish()?, b.finish()?])
+}
+
+#[test]
+fn both_halves_have_one_table() -> Result<(), Refused> {
+    let mut halves = split()?;
+    let [outcome, same] = heal(&mut halves, 1)?;
+    assert_eq!(outcome, same);
+    let [a, b] = &mut halves;
+    assert_eq!(a.rows()?, b.rows()?);
+    assert_eq!(outcome.merged, a.rows()?.len());
+    assert_eq!(
+        a.whereis(b"db")?.map(|it| it.owner),
+        Some(Owner { node: 2, serial: 2 })
+    );
+    let [cache, db, _mail] = outcome.clashes.as_slice() else {
+        panic!("three clashes");
+    };
+    // A built-in resolver follows the lowest bit of the word, and the loser exits.
+    let (kept, loser) = match cache.word % 2 {
+        0 => (Verdict::First, Owner { node: 2, serial: 1 }),
+        _ => (Verdict::Second, Owner { node: 1, serial: 1 }),
+    };
+    assert_eq!(
+        (cache.verdict, &cache.notices),
+        (kept, &vec![Notice::Exit(loser)])
+    );
+    assert_eq!((db.verdict, db.notices.len()), (Verdict::Second, 0));
+    Ok(())
+}
+
+#[test]
+fn programs_judge_records() -> Result<(), Refused> {
+    let mut program = Program::load(&LATER_STAMP)?;
+    let facts = [Facts { size: 1, uptime: 2 }; 2];
+    let later = record(b"db", [owned(1, 1, 5), owned(2, 1, 9)], 7, facts)?;
+    assert_eq!(program.judge(&later)?.r0, 2);
+    let earlier = record(b"db", [owned(1, 1, 9), owned(2, 1, 5)], 7, facts)?;
+    assert_eq!(program.judge(&earlier)?.r0, 1);
+    assert_eq!(program.id()?, Side::new(SideId::A)?.upload(&LATER_STAMP)?);
+    Ok(())
+}
+
+#[test]
+fn refusals_have_numbers_and_words() -> Result<(), Refused> {
+    assert_eq!(words_of(1000), "unknown refusal");
+    let unset = Program::load(&LATER_STAMP[40..]).expect_err("R0 is unset");
+    assert_eq!((unset.number, unset.slot), (15, Some(0)));
+    assert!(unset.to_string().starts_with("refused 15 at slot 0: "));
+    let mut side = Side::new(SideId::A)?;
+    assert_eq!(refused(side.register(b"", owned(1, 1, 1))), 44);
+    assert_eq!(refused(side.unregister(b"db")), 31);
+    assert_eq!(refused(side.settle(0)), 34);
+    assert_eq!(refused(side.finish()), 34);
+    assert_eq!(refused(side.upload(&[])), 1);
+    let offer = side.begin(1, 0, 0)?;
+    assert_eq!(refused(side.hear(&offer)), 46);
+    assert_eq!(refused(side.hear(&offer[1..])), 71);
+    assert_eq!(refused(side.renew()), 33);
+    side.abandon()?;
+    side.renew()?;
+    assert_eq!(refused(side.begin(1, 0, 0)), 35);
+    assert!(side.rows()?.is_empty() && side.events()? <= 2);
+    Ok(())
+}
+
+#[test]
+fn sides_move_between_threads() -> Result<(), Refused> {
+    let mut side = Side::new(SideId::B)?;
+    let side = std::thread::spawn(move || side.register(b"db", owned(1, 1, 1)).map(|()| side));
+    let mut side = side.join().expect("no panic")?;
+    assert_eq!(side.rows()?.len(), 1);
+    Ok(())
+}

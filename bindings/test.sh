@@ -1,0 +1,97 @@
+#!/bin/sh
+# Tests the bindings for C, Python, Rust and Erlang. Prints what it skips because a tool is missing.
+#
+# HEAL_OUT is the folder with libheal.a and libheal.so. Unless it is set, this builds them first in bindings/c/out, by
+# c/build.sh with these arguments.
+set -e
+cd "$(dirname "$0")"
+if ! command -v cc > /dev/null; then
+    echo "there is no C compiler, so the bindings were not tested"
+    exit 0
+fi
+if [ -z "${HEAL_OUT-}" ]; then
+    c/build.sh "$@"
+    HEAL_OUT=$PWD/c/out
+fi
+work=$(mktemp -d)
+trap 'rm -rf "$work"' EXIT
+flags="-std=c11 -D_POSIX_C_SOURCE=200809L -Wall -Wextra -Wpedantic -Werror -g -O1"
+
+# Compiles a C program against libheal: compile PROGRAM SOURCE [FLAG..]
+compile() {
+    program=$work/$1
+    source=c/$2
+    shift 2
+    cc $flags "$@" "$source" "$HEAL_OUT/libheal.a" -lpthread -o "$program"
+}
+
+# Runs a program under valgrind if it is installed: no leak, no error.
+checked() {
+    if command -v valgrind > /dev/null; then
+        valgrind -q --leak-check=full --trace-children=yes --error-exitcode=9 "$@"
+    else
+        "$@"
+    fi
+}
+
+# Succeeds if the Erlang of Debian's erlang-base, erlang-dev and erlang-eunit is installed.
+has_erlang() {
+    command -v erl > /dev/null && command -v erlc > /dev/null && command -v make > /dev/null && erl -noshell -eval '
+        Header = filename:join(code:root_dir(), "usr/include/erl_nif.h"),
+        halt(case filelib:is_file(Header) andalso code:which(eunit) =/= non_existing of true -> 0; false -> 1 end).'
+}
+
+command -v valgrind > /dev/null || echo "there is no valgrind, so leaks were left to the sanitizers"
+# The owner that each half has in the first programs of docs/EMBEDDING.md: word 7 is odd, so `exit` keeps the second.
+printf 'db 2.20\ndb 2.20\n' > "$work/first.out"
+compile first first.c
+checked "$work/first" > "$work/printed"
+cmp "$work/printed" "$work/first.out"
+compile example example.c
+checked "$work/example" > "$work/printed"
+cmp "$work/printed" c/example.out
+compile sweep sweep.c -Wl,--wrap=malloc,--wrap=realloc
+checked "$work/sweep"
+compile inputs fuzz.c -DFUZZ_FILES
+checked "$work/inputs" c/corpus/*
+if echo 'int main(void){return 0;}' | cc -fsanitize=address,undefined -x c - -o "$work/sane" 2> /dev/null; then
+    for name in example sweep; do
+        [ $name = sweep ] && wrap=-Wl,--wrap=malloc,--wrap=realloc
+        compile sane_$name $name.c -fsanitize=address,undefined -fno-sanitize-recover=all ${wrap-}
+        "$work/sane_$name" > /dev/null
+    done
+    compile sane_inputs fuzz.c -DFUZZ_FILES -fsanitize=address,undefined -fno-sanitize-recover=all
+    "$work/sane_inputs" c/corpus/* > /dev/null
+else
+    echo "the C compiler has no sanitizers, so none was used"
+fi
+if command -v c++ > /dev/null; then
+    echo '#include "heal.h"
+    int main() { heal_side side = {}; heal_side_free(&side); return 0; }' > "$work/cpp.cc"
+    c++ -std=c++11 -Wall -Wextra -Werror -Ic "$work/cpp.cc" "$HEAL_OUT/libheal.a" -lpthread -o "$work/cpp"
+    "$work/cpp"
+else
+    echo "there is no C++ compiler, so the header was not compiled as C++"
+fi
+if command -v python3 > /dev/null; then
+    export HEAL_LIBRARY="$HEAL_OUT/libheal.so" PYTHONDONTWRITEBYTECODE=1
+    (cd python && python3 -m unittest -q)
+    python3 python/first.py > "$work/printed"
+    cmp "$work/printed" "$work/first.out"
+else
+    echo "there is no Python, so its bindings were not tested"
+fi
+if command -v cargo > /dev/null; then
+    export HEAL_LIB_DIR="$HEAL_OUT" CARGO_TARGET_DIR="$work/target"
+    (cd rust && cargo test -q --offline)
+    (cd rust && cargo run -q --offline --example first) > "$work/printed"
+    cmp "$work/printed" "$work/first.out"
+else
+    echo "there is no cargo, so the bindings for Rust were not tested"
+fi
+if has_erlang; then
+    make -s -C erlang HEAL="$HEAL_OUT" test sanitize
+else
+    echo "there is no Erlang with erl_nif.h and eunit, so the OTP application was not tested"
+fi
+echo "the bindings passed their tests"

@@ -1,0 +1,16 @@
+use Rattle.std.proofs.Common.{List, ℕ, ◌++◌, ap, ◌∙◌, refl}
+use Rattle.std.specs.Int.{w64, to_le_bytes}
+use Rattle.exchange_core.specs.Sides.{Offer}
+use Rattle.exchange_codec.specs.Offers.{offers_header}
+use Rattle.exchange_codec.proofs.TableLaws.{offer_written, offer_spelled}
+use Rattle.exchange_codec.proofs.offers.spell_offer.Goals as goal
+
+pub returns : goal.returns
+returns c =
+    let offer : Offer = record { side = c.args.side; number = c.args.number; seed = c.args.seed; uptime = c.args.uptime; table = c.args.table.now } in
+    let header = c.in_ok-push_u64.ensures ∙ ap (λ (xs : List ℕ). xs ++ to_le_bytes w64 offers_header) c.new-out.ensures.items in
+    let bytes = offer_written offer c.args.table.now c.len.result c.push_u64.new.out.items
+    c.push_head.new.out.items c.push_u32.new.out.items c.push_rows.new.out.items refl c.len.ensures.count
+    header c.in_ok-push_head.ensures.written c.in_ok-push_u32.ensures c.in_ok-push_rows.ensures.written in
+    offer_spelled offer c.args.table.now c.push_rows.new.out.items refl c.len.ensures.kept
+    c.in_ok-push_head.ensures.fits c.in_ok-push_rows.ensures.fit bytes

@@ -1,0 +1,105 @@
+-- The calls of a half in an exchange: what is due to each, and what it leaves.
+use Rattle.std.specs.Prelude.{◌≡◌, ◌⊎◌, ℕ, List, length, Option, Some, None, IsSomeAnd, Result, Ok, Err}
+use Rattle.numbered.specs.Answers.{out_of_memory}
+use Rattle.clash_record.specs.Name.{Name}
+use Rattle.exchange_core.specs.Sides as sides
+use Rattle.exchange_core.specs.Calls.{Call, Begin, Hear, Withdraw, Close_list, Hear_list, Finish, Abandon}
+use Rattle.exchange_core.specs.declared.fault.SideFault.{SideFault}
+use Rattle.exchange_core.specs.Faults.{side_fault_number}
+use Rattle.exchange_core.specs.Finished.{Finished, finished_from}
+use Rattle.exchange_core.specs.Refusals as due
+use Rattle.exchange_core.specs.Settling.{IsSettled}
+use Rattle.exchange_core.specs.Shown.{shown, calls, is_full}
+use Rattle.exchange_core.specs.Worlds.{offer_of, list_of}
+use Rattle.exchange_codec.specs.declared.fault.MessageFault.{MessageFault}
+use Rattle.exchange_codec.specs.Faults.{message_fault_number}
+use Rattle.exchange_codec.specs.Offers.{SpellsOffer, IsOfferFault}
+use Rattle.exchange_codec.specs.Withdrawals.{SpellsWithdrawals, list_due}
+use Rattle.exchange_codec.specs.Withdrawals as lists
+use Rattle.heal_c.specs.declared.half.Half.{Half}
+use Rattle.heal_c.specs.declared.outcome.Outcome.{Outcome}
+use Rattle.heal_c.specs.Answers.{unless, and_then, IsAnswer}
+use Rattle.heal_c.specs.Codes.{name_of}
+use Rattle.heal_c.specs.Outcomes.{IsOutcome}
+use Rattle.heal_c.specs.Sides.{Stays, CarriesOut}
+
+-- nothing, or the refusal that is due to the side's call
+abbrev pub allowed : Option SideFault → Result (Unit {0}) ℕ
+allowed fault = unless side_fault_number fault (tt {0})
+
+-- ---- begin, and the list
+
+abbrev pub Begins : ℕ → ℕ → ℕ → Half → Half → Option (List ℕ) → Option (List ℕ) → ℕ → Type 0
+Begins number seed uptime old new offer offer' = IsAnswer
+    (allowed (due.begin_fault (is_full old.side) (shown old.side) number))
+    (λ _. CarriesOut (Begin number seed uptime) old new
+    × IsSomeAnd offer' (λ bytes. SpellsOffer bytes (offer_of (shown old.side) number seed uptime)))
+    (Stays old new × (offer' ≡ offer))
+
+abbrev pub Closes : Half → Half → Option (List ℕ) → Option (List ℕ) → ℕ → Type 0
+Closes old new list list' = IsAnswer
+    (allowed (due.close_list_fault (is_full old.side) (shown old.side)))
+    (λ _. CarriesOut Close_list old new × IsSomeAnd list' (λ bytes. SpellsWithdrawals bytes (list_of (shown old.side))))
+    (Stays old new × (list' ≡ list))
+
+-- ---- what the other side sent
+
+-- the side's answer to an offer
+abbrev pub HearsOffer : sides.Offer → Half → Half → ℕ → Type 0
+HearsOffer offer old new = IsAnswer (allowed (due.hear_fault (is_full old.side) (shown old.side) offer))
+    (λ _. CarriesOut (Hear offer) old new) (Stays old new)
+
+-- the number is that of the fault of a message, or of running out of memory, and everything stays
+abbrev pub Rejects : MessageFault → Half → Half → ℕ → Type 0
+Rejects fault old new n = ((n ≡ message_fault_number fault) ⊎ (n ≡ out_of_memory)) × Stays old new
+
+-- what hearing bytes returns and leaves
+pub record Hears (bytes : List ℕ) (old new : Half) (n : ℕ) : Type 0 where
+  -- the offer that the bytes spell is heard, or their fault is returned
+  pub answer : ((offer : sides.Offer) × SpellsOffer bytes offer × HearsOffer offer old new n)
+      ⊎ ((fault : MessageFault) × IsOfferFault bytes fault × Rejects fault old new n)
+      ⊎ ((n ≡ out_of_memory) × Stays old new)
+  pub taken : (offer : sides.Offer) → SpellsOffer bytes offer → HearsOffer offer old new n
+  pub told : (fault : MessageFault) → IsOfferFault bytes fault → Rejects fault old new n
+
+-- the side's answer to a list
+abbrev pub HearsNames : sides.Withdrawals → Half → Half → ℕ → Type 0
+HearsNames sent old new = IsAnswer (allowed (due.hear_list_fault (is_full old.side) (shown old.side) sent))
+    (λ _. CarriesOut (Hear_list sent) old new) (Stays old new)
+
+-- the side's answer to bytes of which this is due: a list, or a fault
+abbrev pub HearsDue : Result sides.Withdrawals MessageFault → Half → Half → ℕ → Type 0
+HearsDue (Ok sent) old new n = HearsNames sent old new n
+HearsDue (Err fault) old new n = Rejects fault old new n
+
+pub record HearsList (bytes : List ℕ) (old new : Half) (n : ℕ) : Type 0 where
+  -- the list that the bytes spell is heard
+  pub taken : (sent : sides.Withdrawals) → SpellsWithdrawals bytes sent → HearsNames sent old new n
+  -- the list or the fault of the bytes
+  pub exact : HearsDue (list_due (length bytes) (lists.list_of bytes)) old new n
+
+-- ---- the other calls
+
+abbrev pub Settles : ℕ → Half → Half → ℕ → Type 0
+Settles round old new = IsAnswer (allowed (due.settle_fault (length (calls old.side)) (shown old.side) round))
+    (λ _. IsSettled old.side round new.side × (new.store ≡ old.store)) (Stays old new)
+
+abbrev pub withdrawing : List ℕ → Half → Result Name ℕ
+withdrawing bytes half = and_then (name_of bytes) (λ name. unless side_fault_number
+    (due.withdraw_fault (is_full half.side) (shown half.side) name) name)
+
+abbrev pub Withdraws : List ℕ → Half → Half → ℕ → Type 0
+Withdraws bytes old new = IsAnswer (withdrawing bytes old) (λ name. CarriesOut (Withdraw name) old new) (Stays old new)
+
+-- what a finish leaves in the handle of the outcome
+abbrev pub IsFinishedFrom : sides.Side → Outcome → Type 0
+IsFinishedFrom side outcome = (f : Finished) × (finished_from side ≡ Some f) × IsOutcome f outcome
+
+abbrev pub Finishes : Half → Half → Option Outcome → Option Outcome → ℕ → Type 0
+Finishes old new outcome outcome' = IsAnswer (allowed (due.finish_fault (is_full old.side) (shown old.side)))
+    (λ _. CarriesOut Finish old new × IsSomeAnd outcome' (IsFinishedFrom (shown old.side)))
+    (Stays old new × (outcome' ≡ outcome))
+
+abbrev pub Abandons : Half → Half → ℕ → Type 0
+Abandons old new = IsAnswer (allowed (due.abandon_fault (is_full old.side) (shown old.side)))
+    (λ _. CarriesOut Abandon old new) (Stays old new)

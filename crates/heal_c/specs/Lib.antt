@@ -1,0 +1,10 @@
+pub mod Answers
+pub mod Codes
+pub mod Exchanges
+pub mod Held
+pub mod Messages
+pub mod Outcomes
+pub mod Programs
+pub mod Records
+pub mod Sides
+pub mod Words

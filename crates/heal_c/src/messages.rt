@@ -1,0 +1,63 @@
+//! Messages.
+ghost use Rattle.std.specs.Prelude.{◌≡◌, None, length};
+ghost use Rattle.heal_c.specs.Answers.{Gives, Reads};
+ghost use Rattle.heal_c.specs.Messages.{copy_of};
+
+use crate::answer::{EMPTY_HANDLE, OTHER_LENGTH};
+use crate::message_handle::HealBytes;
+use std::alloc::Global;
+
+/// Returns the number of bytes.
+///
+/// Returns 91 for an empty handle.
+#[unsafe(no_mangle)]
+pub extern "C" fn heal_bytes_len(alloc: Global, bytes: &mut HealBytes, len: &mut usize) -> u32
+    ensures { Reads bytes.old.message bytes.new.message (λ held n. (n ≡ 0) × (len.new ≡ length held))
+        (len.new ≡ len.old) result }
+{
+    match bytes.take(alloc) {
+        Some(held) => {
+            *len = held.bytes().len();
+            bytes.put(held);
+            0
+        }
+        None => EMPTY_HANDLE,
+    }
+}
+
+/// Copies the message.
+///
+/// Returns 91 for an empty handle, and 93 unless `to` has as many bytes as the message.
+#[unsafe(no_mangle)]
+pub extern "C" fn heal_bytes_copy(alloc: Global, bytes: &mut HealBytes, to: &mut [u8]) -> u32
+    ensures { Reads bytes.old.message bytes.new.message
+        (λ held. Gives (copy_of held (length to.old)) (λ copy. to.new ≡ copy) (to.new ≡ to.old)) (to.new ≡ to.old) result }
+{
+    match bytes.take(alloc) {
+        Some(held) => {
+            let number = copy(held.bytes(), to);
+            bytes.put(held);
+            number
+        }
+        None => EMPTY_HANDLE,
+    }
+}
+
+// Copies bytes, or returns 93.
+fn copy(from: &[u8], to: &mut [u8]) -> u32
+    ensures { Gives (copy_of from.now (length to.old)) (λ copy. to.new ≡ copy) (to.new ≡ to.old) result }
+{
+    if from.len() != to.len() {
+        return OTHER_LENGTH;
+    }
+    to.copy_from_slice(from);
+    0
+}
+
+/// Frees the message, if the handle holds one, and leaves the handle empty.
+#[unsafe(no_mangle)]
+pub extern "C" fn heal_bytes_free(alloc: Global, bytes: &mut HealBytes)
+    ensures { bytes.new.message ≡ None }
+{
+    bytes.take(alloc);
+}

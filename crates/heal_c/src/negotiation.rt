@@ -1,0 +1,146 @@
+//! The calls of a half in an exchange.
+ghost use Rattle.std.specs.Prelude.{◌≡◌, IfOk, IsOkAnd};
+ghost use Rattle.std.specs.Option.{option_map_or};
+ghost use Rattle.exchange_core.specs.Shown.{shown};
+ghost use Rattle.exchange_core.specs.Sides.{clashes_of};
+ghost use Rattle.heal_c.specs.Exchanges.{Begins, Hears, HearsOffer, Withdraws, Closes, HearsList, Finishes};
+ghost use Rattle.heal_c.specs.Outcomes.{IsRoomFor};
+
+use crate::answer::number_of;
+use crate::codes::name_of;
+use crate::half::Half;
+use crate::message::Message;
+use crate::message_handle::HealBytes;
+use crate::outcome::{Outcome, pairs_of};
+use crate::outcome_handle::HealOutcome;
+use exchange_codec::{decode_offer, decode_withdrawals, spell_offer, spell_withdrawals};
+use exchange_core::Offer;
+use numbered::{Numbered, OUT_OF_MEMORY};
+use std::alloc::{AllocError, Global};
+
+impl Half {
+    // Opens an exchange, and fills the handle with the offer to be sent.
+    #[tactic(auto, using(crate::proofs::Hearing::offer_spelled))]
+    pub(crate) fn begin(
+        &mut self,
+        alloc: Global,
+        number: u64,
+        seed: u64,
+        uptime: u64,
+        offer: &mut HealBytes,
+    ) -> u32
+        ensures { Begins number seed uptime self.old self.new offer.old.message offer.new.message result }
+    {
+        let side = &self.side;
+        let spelled = spell_offer(alloc, side.id(), number, seed, uptime, side.table());
+        let Ok(message) = boxed(alloc, spelled) else {
+            return OUT_OF_MEMORY;
+        };
+        match self.side.begin(alloc, number, seed, uptime) {
+            Ok(_) => {
+                offer.put(message);
+                0
+            }
+            Err(fault) => fault.number(),
+        }
+    }
+
+    // Hears the other side's offer.
+    #[tactic(auto, using(crate::proofs::Hearing::heard))]
+    pub(crate) fn hear(&mut self, alloc: Global, bytes: &[u8]) -> u32
+        ensures { Hears bytes.now self.old self.new result }
+    {
+        match decode_offer(alloc, bytes) {
+            Ok(offer) => self.hear_offer(alloc, &offer),
+            Err(fault) => fault.number(),
+        }
+    }
+
+    // Hears a decoded offer.
+    fn hear_offer(&mut self, alloc: Global, offer: &Offer) -> u32
+        ensures { HearsOffer offer.now self.old self.new result }
+    {
+        number_of(&self.side.hear(alloc, offer))
+    }
+
+    // Withdraws a name in the open exchange.
+    pub(crate) fn withdraw(&mut self, bytes: &[u8]) -> u32
+        ensures { Withdraws bytes.now self.old self.new result }
+    {
+        match name_of(bytes) {
+            Ok(name) => number_of(&self.side.withdraw(&name)),
+            Err(number) => number,
+        }
+    }
+
+    // Closes the list of withdrawn names, and fills the handle with the list to be sent.
+    #[tactic(auto, using(crate::proofs::Hearing::list_spelled))]
+    pub(crate) fn close_list(&mut self, alloc: Global, list: &mut HealBytes) -> u32
+        ensures { Closes self.old self.new list.old.message list.new.message result }
+    {
+        let side = &self.side;
+        let number = side.open_number().unwrap_or(0);
+        let spelled = spell_withdrawals(alloc, side.id(), number, side.withdrawn());
+        let Ok(message) = boxed(alloc, spelled) else {
+            return OUT_OF_MEMORY;
+        };
+        match self.side.close_list(alloc) {
+            Ok(closed) => {
+                // For the proof: the names are distinct, and at most 4,096.
+                closed.names();
+                list.put(message);
+                0
+            }
+            Err(fault) => fault.number(),
+        }
+    }
+
+    // Hears the other side's list.
+    pub(crate) fn hear_list(&mut self, alloc: Global, bytes: &[u8]) -> u32
+        ensures { HearsList bytes.now self.old self.new result }
+    {
+        match decode_withdrawals(alloc, bytes) {
+            Ok(list) => number_of(&self.side.hear_list(&list)),
+            Err(fault) => fault.number(),
+        }
+    }
+
+    // Replaces the table by the merge, and fills the handle with the outcome.
+    #[tactic(auto, using(crate::proofs::Finishing::room_fits, crate::proofs::Finishing::finishes))]
+    pub(crate) fn finish(&mut self, alloc: Global, outcome: &mut HealOutcome) -> u32
+        ensures { Finishes self.old self.new outcome.old.outcome outcome.new.outcome result }
+    {
+        let Ok(mut room) = room_for(alloc, self) else {
+            return OUT_OF_MEMORY;
+        };
+        match self.side.finish(alloc) {
+            Ok(finished) => {
+                room.fill(&finished);
+                outcome.put(room);
+                0
+            }
+            Err(fault) => fault.number(),
+        }
+    }
+}
+
+// Puts a message on the heap.
+fn boxed(alloc: Global, spelled: Result<Vec<u8>, AllocError>) -> Result<Box<Message>, AllocError>
+    ensures { IfOk result (λ message. IsOkAnd spelled (λ bytes. message.value ≡ bytes.items)) }
+{
+    match Box::new(alloc, Message::new(spelled?)) {
+        Ok(message) => Ok(message),
+        Err(_) => Err(AllocError),
+    }
+}
+
+// Allocates an outcome with the clashes of the open exchange, and a place for each ruling.
+fn room_for(alloc: Global, half: &Half) -> Result<Box<Outcome>, AllocError>
+    ensures { IfOk result (λ room. IsRoomFor (clashes_of (shown half.now.side)) room.value) }
+{
+    let room = Outcome::new(alloc, pairs_of(alloc, half.side.clashes())?)?;
+    match Box::new(alloc, room) {
+        Ok(room) => Ok(room),
+        Err(_) => Err(AllocError),
+    }
+}

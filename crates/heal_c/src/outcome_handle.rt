@@ -1,0 +1,92 @@
+//! The handle of an outcome.
+ghost use Rattle.std.specs.Prelude.{◌≡◌, Option, Some, None, MatchOption};
+ghost use Rattle.heal_c.specs.declared.outcome.Outcome.{Outcome};
+ghost use Rattle.heal_c.specs.Held.{coded_outcome};
+
+use crate::outcome::Outcome;
+use handles::BoxParts;
+use std::alloc::Global;
+use std::marker::Model;
+use std::mem;
+use std::ptr::null_mut;
+
+/// An outcome, or nothing: one word, which is null where there is nothing.
+#[repr(C)]
+pub struct HealOutcome {
+    at: *mut u8,
+    alloc: Global,
+    pub ghost outcome: { Option Outcome } by { coded_outcome },
+}
+
+impl Model for HealOutcome {
+    ghost use Rattle.std.specs.Prelude.{Option};
+    ghost use Rattle.heal_c.specs.declared.outcome.Outcome.{Outcome};
+    ghost use Rattle.heal_c.specs.contracts.outcome.Outcome.{the_row};
+    ghost use Rattle.handles.specs.Handles.{handle_owns};
+
+    ghost also_owns = { λ handle. handle_owns handle.alloc the_row handle.at handle.outcome };
+}
+
+impl HealOutcome {
+    // An empty handle.
+    pub(crate) fn empty(alloc: Global) -> HealOutcome
+        ensures { result.outcome ≡ None }
+    {
+        HealOutcome {
+            at: null_mut(),
+            alloc,
+        }
+    }
+
+    // The handle of the box with these parts.
+    fn from_parts(parts: BoxParts<Outcome, Global>) -> HealOutcome
+        ensures { result.outcome ≡ Some parts.value }
+    {
+        let BoxParts { at, alloc } = parts;
+        HealOutcome {
+            at: at as *mut u8,
+            alloc,
+        }
+    }
+
+    // The parts of the handle's box, if it isn't empty.
+    fn into_parts(self) -> Option<BoxParts<Outcome, Global>>
+        ensures { MatchOption result (self.outcome ≡ None) (λ parts. self.outcome ≡ Some parts.value) }
+    {
+        let HealOutcome { at, alloc } = self;
+        if at.is_null() {
+            None
+        } else {
+            Some(BoxParts {
+                at: at as *mut Outcome,
+                alloc,
+            })
+        }
+    }
+
+    // Takes an outcome out, and leaves the handle empty.
+    pub(crate) fn take(&mut self, alloc: Global) -> Option<Box<Outcome>>
+        ensures taken { MatchOption result (self.old.outcome ≡ None) (λ inner. self.old.outcome ≡ Some inner.value) }
+        ensures left { self.new.outcome ≡ None }
+    {
+        match mem::replace(self, HealOutcome::empty(alloc)).into_parts() {
+            Some(parts) => Some(parts.into_box()),
+            None => None,
+        }
+    }
+
+    // Puts an outcome in, and frees the one that was there.
+    pub(crate) fn put(&mut self, inner: Box<Outcome>)
+        ensures { self.new.outcome ≡ Some inner.value }
+    {
+        *self = HealOutcome::from_parts(BoxParts::from_box(inner));
+    }
+}
+
+impl Drop for HealOutcome {
+    fn drop(self) {
+        if let Some(parts) = self.into_parts() {
+            drop(parts.into_box());
+        }
+    }
+}

@@ -1,0 +1,110 @@
+//! Outcomes.
+ghost use Rattle.std.specs.Prelude.{◌≡◌, None, length};
+ghost use Rattle.heal_c.specs.Answers.{Gives, Reads};
+ghost use Rattle.heal_c.specs.Outcomes.{clash_at, notice_at};
+
+use crate::answer::{EMPTY_HANDLE, give};
+use crate::codes::{HealClash, HealNotice};
+use crate::outcome_handle::HealOutcome;
+use std::alloc::Global;
+
+/// Returns the number of names in the merged table.
+///
+/// Returns 91 for an empty handle.
+#[unsafe(no_mangle)]
+pub extern "C" fn heal_outcome_merged(
+    alloc: Global,
+    outcome: &mut HealOutcome,
+    names: &mut usize,
+) -> u32
+    ensures { Reads outcome.old.outcome outcome.new.outcome (λ held n. (n ≡ 0) × (names.new ≡ held.merged))
+        (names.new ≡ names.old) result }
+{
+    match outcome.take(alloc) {
+        Some(held) => {
+            *names = held.merged;
+            outcome.put(held);
+            0
+        }
+        None => EMPTY_HANDLE,
+    }
+}
+
+/// Returns the number of clashes.
+///
+/// Returns 91 for an empty handle.
+#[unsafe(no_mangle)]
+pub extern "C" fn heal_outcome_clashes(
+    alloc: Global,
+    outcome: &mut HealOutcome,
+    clashes: &mut usize,
+) -> u32
+    ensures { Reads outcome.old.outcome outcome.new.outcome
+        (λ held n. (n ≡ 0) × (clashes.new ≡ length held.pairs.items)) (clashes.new ≡ clashes.old) result }
+{
+    match outcome.take(alloc) {
+        Some(held) => {
+            *clashes = held.len();
+            outcome.put(held);
+            0
+        }
+        None => EMPTY_HANDLE,
+    }
+}
+
+/// Returns clash `i` in the order of names, from 0.
+///
+/// Returns 91 for an empty handle, and 92 for an index out of range.
+#[unsafe(no_mangle)]
+pub extern "C" fn heal_outcome_clash(
+    alloc: Global,
+    outcome: &mut HealOutcome,
+    i: usize,
+    clash: &mut HealClash,
+) -> u32
+    ensures { Reads outcome.old.outcome outcome.new.outcome
+        (λ held. Gives (clash_at held i) (λ found. clash.new ≡ found) (clash.new ≡ clash.old))
+        (clash.new ≡ clash.old) result }
+{
+    match outcome.take(alloc) {
+        Some(held) => {
+            let found = held.clash(i);
+            outcome.put(held);
+            give(found, clash)
+        }
+        None => EMPTY_HANDLE,
+    }
+}
+
+/// Returns notice `n`, from 0, of clash `i`.
+///
+/// Returns 91 for an empty handle, and 92 for an index out of range.
+#[unsafe(no_mangle)]
+pub extern "C" fn heal_outcome_notice(
+    alloc: Global,
+    outcome: &mut HealOutcome,
+    i: usize,
+    n: usize,
+    notice: &mut HealNotice,
+) -> u32
+    ensures { Reads outcome.old.outcome outcome.new.outcome
+        (λ held. Gives (notice_at held i n) (λ found. notice.new ≡ found) (notice.new ≡ notice.old))
+        (notice.new ≡ notice.old) result }
+{
+    match outcome.take(alloc) {
+        Some(held) => {
+            let found = held.notice(i, n);
+            outcome.put(held);
+            give(found, notice)
+        }
+        None => EMPTY_HANDLE,
+    }
+}
+
+/// Frees the outcome, if the handle holds one, and leaves the handle empty.
+#[unsafe(no_mangle)]
+pub extern "C" fn heal_outcome_free(alloc: Global, outcome: &mut HealOutcome)
+    ensures { outcome.new.outcome ≡ None }
+{
+    outcome.take(alloc);
+}

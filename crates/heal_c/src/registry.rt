@@ -1,0 +1,120 @@
+//! The calls of a half on its table and its programs.
+ghost use Rattle.std.specs.Prelude.{◌≡◌, slice_get};
+ghost use Rattle.std.specs.Option.{option_map};
+ghost use Rattle.std.specs.Map.Iter.{deref_pair};
+ghost use Rattle.heal_c.specs.Sides.{IsUpload, id_in, Registers, Unregisters, IsNew, found_at, row_at};
+
+use crate::answer::{INDEX_OUT_OF_RANGE, NOT_REGISTERED, number_of, slot_in};
+use crate::codes::{
+    HealRegistration, HealRow, name_code, name_of, registration_code, registration_of,
+};
+use crate::half::Half;
+use clash_record::{Name, ProgramId, Registration, SideId};
+use exchange_core::Side;
+use partition_table::Rows;
+use std::alloc::Global;
+use upload_store::{UploadFault, UploadStore};
+
+impl Half {
+    // An idle half without names and programs.
+    pub(crate) fn new(alloc: Global, id: SideId) -> Half
+        ensures { IsNew id result }
+    {
+        Half {
+            side: Side::new(alloc, id),
+            store: UploadStore::new(alloc),
+        }
+    }
+
+    // Keeps a program for registrations, and writes its id and the slot of the refusal.
+    #[tactic(auto, using(crate::proofs::Loading::upload_done))]
+    pub(crate) fn upload(
+        &mut self,
+        alloc: Global,
+        code: &[u8],
+        id: &mut [u8; 32],
+        slot: &mut u32,
+    ) -> u32
+        ensures { IsUpload code.now self.old self.new id.old id.new result slot.new }
+    {
+        let uploaded = self.store.upload(alloc, code);
+        *slot = slot_in(&uploaded);
+        let bytes = id_in(&uploaded, *id);
+        *id = bytes;
+        number_of(&uploaded)
+    }
+
+    // Registers a name on an idle side.
+    pub(crate) fn register(&mut self, bytes: &[u8], registration: &HealRegistration) -> u32
+        ensures { Registers bytes.now registration.now self.old self.new result }
+    {
+        let name = match name_of(bytes) {
+            Ok(name) => name,
+            Err(number) => return number,
+        };
+        let registration = match registration_of(registration) {
+            Ok(registration) => registration,
+            Err(number) => return number,
+        };
+        number_of(&self.side.register(name, registration, &self.store))
+    }
+
+    // Unregisters a name on an idle side.
+    pub(crate) fn unregister(&mut self, bytes: &[u8]) -> u32
+        ensures { Unregisters bytes.now self.old self.new result }
+    {
+        match name_of(bytes) {
+            Ok(name) => number_of(&self.side.unregister(&name)),
+            Err(number) => number,
+        }
+    }
+
+    // Looks a name up.
+    pub(crate) fn whereis(&self, bytes: &[u8]) -> Result<HealRegistration, u32>
+        ensures { result ≡ found_at bytes.now self.now }
+    {
+        let name = name_of(bytes)?;
+        match self.side.whereis(&name) {
+            Some(registration) => Ok(registration_code(registration)),
+            None => Err(NOT_REGISTERED),
+        }
+    }
+
+    // Returns row `i` of the table.
+    pub(crate) fn row(&self, i: usize) -> Result<HealRow, u32>
+        ensures { result ≡ row_at i self.now }
+    {
+        match nth_row(self.side.table().rows(), i) {
+            Some((name, registration)) => Ok(HealRow {
+                name: name_code(name),
+                registration: registration_code(registration),
+            }),
+            None => Err(INDEX_OUT_OF_RANGE),
+        }
+    }
+}
+
+// Returns the id of a kept program, or this one.
+fn id_in(uploaded: &Result<ProgramId, UploadFault>, id: [u8; 32]) -> [u8; 32]
+    ensures { result ≡ id_in uploaded.now id }
+{
+    match uploaded {
+        Ok(kept) => kept.0,
+        Err(_) => id,
+    }
+}
+
+// Returns row `i` of these.
+fn nth_row(rows: Rows<'_>, i: usize) -> Option<(&Name, &Registration)>
+    ensures { option_map deref_pair result ≡ slice_get rows.entry i }
+{
+    let mut rest = rows;
+    let mut left = i;
+    while let Some(row) = rest.next() {
+        if left == 0 {
+            return Some(row);
+        }
+        left -= 1;
+    }
+    None
+}

@@ -1,0 +1,212 @@
+//! Sides: they are created, keep programs and names, and are freed.
+ghost use Rattle.std.specs.Prelude.{◌≡◌, ◌⊎◌, None, IsSomeAnd, length};
+ghost use Rattle.std.specs.FinMap.{len};
+ghost use Rattle.numbered.specs.Answers.{out_of_memory};
+ghost use Rattle.exchange_core.specs.Shown.{shown, calls};
+ghost use Rattle.heal_c.specs.Answers.{Gives, OnHandle, Reads};
+ghost use Rattle.heal_c.specs.Sides.{side_id, Registers, Unregisters, Renews, IsNew, IsUpload, found_at, row_at};
+
+use crate::answer::{EMPTY_HANDLE, give, number_of};
+use crate::codes::{HealRegistration, HealRow};
+use crate::half::Half;
+use crate::half_handle::HealSide;
+use exchange_core::SideId;
+use numbered::OUT_OF_MEMORY;
+use std::alloc::Global;
+
+/// Creates an idle side without names: side A, or side B if `second`.
+///
+/// Returns 90 when out of memory.
+#[unsafe(no_mangle)]
+pub extern "C" fn heal_side_new(alloc: Global, second: bool, side: &mut HealSide) -> u32
+    ensures { ((result ≡ 0) × IsSomeAnd side.new.half (IsNew (side_id second)))
+        ⊎ ((result ≡ out_of_memory) × (side.new.half ≡ side.old.half)) }
+{
+    let id = if second { SideId::B } else { SideId::A };
+    match Box::new(alloc, Half::new(alloc, id)) {
+        Ok(made) => {
+            side.put(made);
+            0
+        }
+        Err(_) => OUT_OF_MEMORY,
+    }
+}
+
+/// Frees the side, if the handle holds one, and leaves the handle empty.
+#[unsafe(no_mangle)]
+pub extern "C" fn heal_side_free(alloc: Global, side: &mut HealSide)
+    ensures { side.new.half ≡ None }
+{
+    side.take(alloc);
+}
+
+/// Verifies a program, keeps it for registrations of this side, and returns its id. `slot` receives the slot of the
+/// refusal, or 0.
+///
+/// Returns 91 for an empty handle. Rejects what `heal_program_load` rejects, an id that other code has (42), and a 257th
+/// program (43). Returns 90 when out of memory.
+#[unsafe(no_mangle)]
+pub extern "C" fn heal_side_upload(
+    alloc: Global,
+    side: &mut HealSide,
+    code: &[u8],
+    id: &mut [u8; 32],
+    slot: &mut u32,
+) -> u32
+    ensures { OnHandle side.old.half side.new.half
+        (λ old new n. IsUpload code.now old new id.old id.new n slot.new) ((id.new ≡ id.old) × (slot.new ≡ 0)) result }
+{
+    match side.take(alloc) {
+        Some(mut half) => {
+            let number = half.upload(alloc, code, id, slot);
+            side.put(half);
+            number
+        }
+        None => {
+            *slot = 0;
+            EMPTY_HANDLE
+        }
+    }
+}
+
+/// Registers a name on an idle side.
+///
+/// Returns 91 for an empty handle, 44 for an invalid name, and 76 for an unknown kind of resolver; then 30 for a
+/// registered name, 32 if the table is full, 33 if an exchange is open, 40 if the journal is full, 41 for a program that
+/// isn't uploaded, and 42 if the table has other code under its id. Returns 90 when out of memory.
+#[unsafe(no_mangle)]
+pub extern "C" fn heal_side_register(
+    alloc: Global,
+    side: &mut HealSide,
+    name: &[u8],
+    registration: &HealRegistration,
+) -> u32
+    ensures { OnHandle side.old.half side.new.half (Registers name.now registration.now) (Unit {0}) result }
+{
+    match side.take(alloc) {
+        Some(mut half) => {
+            let number = half.register(name, registration);
+            side.put(half);
+            number
+        }
+        None => EMPTY_HANDLE,
+    }
+}
+
+/// Unregisters a name on an idle side.
+///
+/// Returns 91 for an empty handle, and 44 for an invalid name; then 31 for a name that isn't registered, 33 if an
+/// exchange is open, and 40 if the journal is full. Returns 90 when out of memory.
+#[unsafe(no_mangle)]
+pub extern "C" fn heal_side_unregister(alloc: Global, side: &mut HealSide, name: &[u8]) -> u32
+    ensures { OnHandle side.old.half side.new.half (Unregisters name.now) (Unit {0}) result }
+{
+    match side.take(alloc) {
+        Some(mut half) => {
+            let number = half.unregister(name);
+            side.put(half);
+            number
+        }
+        None => EMPTY_HANDLE,
+    }
+}
+
+/// Looks a name up.
+///
+/// Returns 91 for an empty handle, 44 for an invalid name, and 31 for a name that isn't registered, or that the side
+/// withdrew in the open exchange.
+#[unsafe(no_mangle)]
+pub extern "C" fn heal_side_whereis(
+    alloc: Global,
+    side: &mut HealSide,
+    name: &[u8],
+    registration: &mut HealRegistration,
+) -> u32
+    ensures { Reads side.old.half side.new.half (λ held. Gives (found_at name.now held) (λ found. registration.new ≡ found)
+        (registration.new ≡ registration.old)) (registration.new ≡ registration.old) result }
+{
+    match side.take(alloc) {
+        Some(half) => {
+            let found = half.whereis(name);
+            side.put(half);
+            give(found, registration)
+        }
+        None => EMPTY_HANDLE,
+    }
+}
+
+/// Returns the number of names in the side's table; in an open exchange, with the withdrawn ones.
+///
+/// Returns 91 for an empty handle.
+#[unsafe(no_mangle)]
+pub extern "C" fn heal_side_count(alloc: Global, side: &mut HealSide, count: &mut usize) -> u32
+    ensures { Reads side.old.half side.new.half (λ held n. (n ≡ 0) × (count.new ≡ len (shown held.side).table))
+        (count.new ≡ count.old) result }
+{
+    match side.take(alloc) {
+        Some(half) => {
+            *count = half.side.table().len();
+            side.put(half);
+            0
+        }
+        None => EMPTY_HANDLE,
+    }
+}
+
+/// Returns row `i` of the side's table in the order of names, from 0; in an open exchange, with the withdrawn ones.
+///
+/// Returns 91 for an empty handle, and 92 for an index out of range.
+#[unsafe(no_mangle)]
+pub extern "C" fn heal_side_row(
+    alloc: Global,
+    side: &mut HealSide,
+    i: usize,
+    row: &mut HealRow,
+) -> u32
+    ensures { Reads side.old.half side.new.half (λ held. Gives (row_at i held) (λ found. row.new ≡ found)
+        (row.new ≡ row.old)) (row.new ≡ row.old) result }
+{
+    match side.take(alloc) {
+        Some(half) => {
+            let found = half.row(i);
+            side.put(half);
+            give(found, row)
+        }
+        None => EMPTY_HANDLE,
+    }
+}
+
+/// Returns the number of events in the side's journal.
+///
+/// Returns 91 for an empty handle.
+#[unsafe(no_mangle)]
+pub extern "C" fn heal_side_events(alloc: Global, side: &mut HealSide, events: &mut usize) -> u32
+    ensures { Reads side.old.half side.new.half (λ held n. (n ≡ 0) × (events.new ≡ length (calls held.side)))
+        (events.new ≡ events.old) result }
+{
+    match side.take(alloc) {
+        Some(half) => {
+            *events = half.side.events();
+            side.put(half);
+            0
+        }
+        None => EMPTY_HANDLE,
+    }
+}
+
+/// Starts a fresh journal on an idle side.
+///
+/// Returns 91 for an empty handle, and 33 if an exchange is open. Returns 90 when out of memory.
+#[unsafe(no_mangle)]
+pub extern "C" fn heal_side_renew(alloc: Global, side: &mut HealSide) -> u32
+    ensures { OnHandle side.old.half side.new.half Renews (Unit {0}) result }
+{
+    match side.take(alloc) {
+        Some(mut half) => {
+            let number = number_of(&half.side.renew(alloc));
+            side.put(half);
+            number
+        }
+        None => EMPTY_HANDLE,
+    }
+}
