@@ -33,6 +33,7 @@ libraries() {
 }
 
 if [ "${1-}" = --gate ] && [ ! -e "$root/crates/exchange_codec/out/rlib/stamp" ]; then
+    mkdir -p "$crate/out"
     # shellcheck disable=SC2046
     (cd "$crate" && "$kit/bin/rattle" build --crate-name heal_c src/lib.rt \
         --extern std="$kit/rlibs/std.rlib" -L dependency="$kit/rlibs" $(libraries) \

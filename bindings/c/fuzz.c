@@ -29,7 +29,7 @@ static bool is_of_message(uint32_t number)
     return (number >= 70 && number <= 82) || number == 90;
 }
 
-/* What is accepted ends within as many steps as it has instructions, whatever the record. */
+/* An accepted program ends within as many steps as it has instructions, on any record. */
 static void load(const uint8_t *data, size_t len)
 {
     heal_program program = {0};

@@ -3,12 +3,12 @@
  *
  * RESULTS   Every call that can fail returns 0, or the number of its refusal; heal_refusal_words gives the words. Several
  *           refusals may apply: 91 comes first, then 44 and 76 for arguments, then the least number of the call itself.
- *           90, out of memory, may replace any other. A refused call leaves every handle as it was, also the one that it
+ *           90, out of memory, may replace any other. A refused call leaves every handle unchanged, also the one that it
  *           would fill, and writes no result; the exception is `slot`.
  * HANDLES   A handle is one word. Start it with `{0}`, which is empty; pass it by its address; never copy it while both
  *           copies are used. A call that fills a handle frees what the handle held. The function ending in `_free` frees
  *           what it holds and leaves it empty; freeing an empty handle does nothing. Calls on an empty handle return 91.
- * THREADS   One call per handle at a time, also for calls that only read. Calls on different handles may run in parallel.
+ * THREADS   No two concurrent calls on one handle, also of calls that only read. Calls on different handles may run in parallel.
  *           No call starts a thread, waits, or does input or output.
  * YOU OWE   Valid pointers: each argument points to as many readable bytes (results: writable) as its comment states, and
  *           results don't overlap other arguments. A pointer with length 0 may be NULL. Every other pointer isn't NULL.

@@ -87,7 +87,7 @@ static uint64_t hash_of_side(heal_side *side)
     return mix(rows_of(side), &events, sizeof events);
 }
 
-/* A hash of all that a refused call must leave as it was. */
+/* A hash of all that a refused call must leave unchanged. */
 static uint64_t hash_of(struct state *state)
 {
     uint64_t hash = hash_of_side(&state->sides[0]) ^ 3 * hash_of_side(&state->sides[1]);

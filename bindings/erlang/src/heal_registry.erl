@@ -100,7 +100,7 @@ send(Name, Message) ->
 upload(Code) when is_binary(Code) ->
     gen_server:call(?MODULE, {upload, Code}, infinity).
 
-%% @doc Returns all names, as they were written when they were registered.
+%% @doc Returns all names, in the form in which they were registered.
 -spec names() -> [term()].
 names() ->
     heal_table:names().

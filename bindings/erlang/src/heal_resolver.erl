@@ -5,7 +5,7 @@
 %% yes = heal_resolver:register_name(db, self(), #{weight => 7, resolver => {program, Id}}).
 %% '''
 %% The server of each node keeps its uploaded programs and what was registered there. When `global' finds a name with two
-%% owners, it calls {@link resolve/3} on one node, which asks the nodes of both owners for their registrations. The
+%% owners, it calls {@link resolve/3} on one node, which queries the nodes of both owners for their registrations. The
 %% registration with the smaller owner, by node number and then by serial number, is the first one, and its resolver decides.
 -module(heal_resolver).
 

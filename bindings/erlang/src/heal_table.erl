@@ -21,7 +21,7 @@
     owner :: heal:owner() | atom(),
     pid :: pid() | atom(),
     term :: term(),
-    %% Of a process that this node registered: each node reports the end of its own.
+    %% Of a process that this node registered: each node reports the end of the processes that it registered.
     monitor = none :: reference() | atom()
 }).
 
