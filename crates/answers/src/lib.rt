@@ -7,11 +7,9 @@ mod files;
 mod printing;
 mod replying;
 mod ruling;
-#[cfg(test)]
-mod tests;
 
 pub use failures::{Failure, InputFault};
 pub use files::MAX_FILE_LEN;
 pub use printing::Answer;
-pub use replying::reply_to;
+pub use replying::{asm_from, refuse_memory, reply_to, status_and_text};
 pub use ruling::{Answered, judge_one};

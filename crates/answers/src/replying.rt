@@ -151,7 +151,7 @@ pub fn status_and_text(
 }
 
 /// Prints that memory ran out, and returns the exit status for that.
-pub(crate) fn refuse_memory<W: Write>(writer: &mut W) -> u8
+pub fn refuse_memory<W: Write>(writer: &mut W) -> u8
     ensures status { result ≡ 3 }
     ensures text { AppendsFront (W.contents writer.old) (W.contents writer.new) (codes "refused 90\n") }
 {

@@ -71,12 +71,20 @@ impl From<io::Error> for CommandFault {
     }
 }
 
-// Prints the table of refusals, one per line.
-fn print_refusals<W: fmt::Write>(f: &mut fmt::Formatter<W>) -> fmt::Result {
-    for (number, words) in REFUSALS {
+// Prints the rows of a table of refusals, one per line.
+fn print_rows<W: fmt::Write>(
+    f: &mut fmt::Formatter<W>,
+    refusals: &[(u32, &'static str)],
+) -> fmt::Result {
+    for (number, words) in refusals {
         writeln!(f, "{number:>4}  {words}")?;
     }
     Ok(())
+}
+
+// Prints the table of refusals.
+fn print_refusals<W: fmt::Write>(f: &mut fmt::Formatter<W>) -> fmt::Result {
+    print_rows(f, &REFUSALS)
 }
 
 impl fmt::Display for CommandFault {

@@ -118,14 +118,15 @@ fn one_command<'a>(
         .arg(needed_arg(alloc, id, help))
 }
 
-// Adds a subcommand. It takes a result, so that nothing is held when the subcommand is out of memory.
+// Adds a subcommand. It takes results, so that a chain of calls has no early return.
 fn with_command<'a>(
-    command: Command<'a>,
+    command: Result<Command<'a>, AllocError>,
     subcommand: Result<Command<'a>, AllocError>,
 ) -> Result<Command<'a>, AllocError>
-    ensures { (app : App) → IfOk subcommand.entry (λ s. IsApp s app)
-        → IfOk result (λ c. app_of c ≡ with_subcommand (app_of command.entry) app.top) }
+    ensures { (whole part : App) → IfOk command.entry (λ c. app_of c ≡ whole) → IfOk subcommand.entry (λ s. IsApp s part)
+        → IfOk result (λ c. app_of c ≡ with_subcommand whole part.top) }
 {
+    let command = command?;
     command.subcommand(subcommand?)
 }
 
@@ -133,11 +134,11 @@ fn with_command<'a>(
 pub(crate) fn heal<'a>(alloc: Global) -> Result<Command<'a>, AllocError>
     ensures { IfOk result (λ c. app_of c ≡ heal_app) }
 {
-    let named = Command::new(alloc, "heal").bin_name("heal")?;
-    let checking = with_command(named, check_command(alloc))?;
-    let judging = with_command(checking, judge_command(alloc))?;
-    let assembling = with_command(judging, asm_command(alloc))?;
-    let disassembling = with_command(assembling, dis_command(alloc))?;
-    let running = with_command(disassembling, run_command(alloc))?;
-    Ok(running.subcommand_required(true))
+    let named = Command::new(alloc, "heal").bin_name("heal");
+    let checking = with_command(named, check_command(alloc));
+    let judging = with_command(checking, judge_command(alloc));
+    let assembling = with_command(judging, asm_command(alloc));
+    let disassembling = with_command(assembling, dis_command(alloc));
+    let running = with_command(disassembling, run_command(alloc));
+    Ok(running?.subcommand_required(true))
 }

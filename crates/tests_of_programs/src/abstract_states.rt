@@ -1,4 +1,7 @@
 //! Tests of written stack bytes, joined states and pending states.
+ghost use Rattle.std.specs.Prelude.{◌≡◌, ◌<◌};
+ghost use Rattle.abstract_value.specs.Pending.{room};
+
 use abstract_value::{
     Domain, Interval, Pending, RegState, Span, StackState, State, state_order_theorem,
 };
@@ -41,16 +44,37 @@ fn states_join(rt: HostRuntime) {
     assert_eq!(rt; state.stack().is_written(504), false);
 }
 
+// Puts the state at the entry of a program at a slot.
+fn put_entry<D: Domain>(
+    alloc: Global,
+    pending: &mut Pending<D>,
+    at: usize,
+) -> Result<(), AllocError>
+    requires { at < room pending.old }
+    ensures { room pending.new ≡ room pending.old }
+{
+    pending.put(at, Box::new(alloc, State::entry())?);
+    Ok(())
+}
+
+// Takes the state of a slot, and returns whether it had one.
+fn takes<D: Domain>(pending: &mut Pending<D>, at: usize) -> bool
+    requires { at < room pending.old }
+    ensures { room pending.new ≡ room pending.old }
+{
+    pending.take(at).is_some()
+}
+
 // Returns whether states are held only for the slots that got one and weren't visited, and the peak after two slots got
 // one and both were visited.
 fn peak_of_two<D: Domain>(alloc: Global) -> Result<(bool, u32), AllocError> {
     let mut pending = Pending::<D>::new(alloc, 3)?;
-    pending.put(1, Box::new(alloc, State::entry())?);
-    pending.put(2, Box::new(alloc, State::entry())?);
-    pending.put(2, Box::new(alloc, State::entry())?);
-    let passed = pending.take(1).is_some() && pending.take(2).is_some();
-    pending.put(0, Box::new(alloc, State::entry())?);
-    Ok((passed && pending.take(1).is_none(), pending.peak()))
+    put_entry(alloc, &mut pending, 1)?;
+    put_entry(alloc, &mut pending, 2)?;
+    put_entry(alloc, &mut pending, 2)?;
+    let passed = takes(&mut pending, 1) && takes(&mut pending, 2);
+    put_entry(alloc, &mut pending, 0)?;
+    Ok((passed && !takes(&mut pending, 1), pending.peak()))
 }
 
 #[test]

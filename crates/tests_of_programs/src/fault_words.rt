@@ -13,65 +13,90 @@ fn is_displayed_as<F: Display>(alloc: Global, fault: &F, words: &str) -> Result<
     Ok(format!(in alloc; "{fault}")?.as_str() == words)
 }
 
-#[test]
-fn of_bytes(rt: HostRuntime) -> Result<(), Fail> {
-    let fault = CodecFault::Slot {
-        fault: SlotFault::BadRegister,
-        slot: 3,
-    };
-    assert_eq!(rt; (fault.number(), fault.place()), (5, Some(Place::Slot(3))));
-    for (fault, words) in [
-        (
-            CodecFault::Length(LengthFault::Empty),
-            "empty: no byte, or a text without an instruction",
-        ),
-        (fault, "slot 3: a register above R10"),
-        (CodecFault::OutOfMemory, "out of memory"),
-    ] {
-        assert!(rt; is_displayed_as(rt.alloc(), &fault, words)?, "{words}");
+// Returns the first words that aren't those of their fault.
+fn first_misworded<F: Display>(
+    alloc: Global,
+    rows: &[(F, &'static str)],
+) -> Result<Option<&'static str>, Fail> {
+    for (fault, words) in rows {
+        if !is_displayed_as(alloc, fault, words)? {
+            return Ok(Some(words));
+        }
     }
-    Ok(())
+    Ok(None)
 }
 
-// Returns a fault of line 7.
-fn in_line_7(fault: Fault) -> LineFault {
-    LineFault::Line { fault, line: 7 }
-}
+// A fault of bytes with a slot.
+const BAD_REGISTER: CodecFault = CodecFault::Slot {
+    fault: SlotFault::BadRegister,
+    slot: 3,
+};
 
-#[test]
-fn of_listings(rt: HostRuntime) -> Result<(), Fail> {
-    for (fault, words) in [
-        (in_line_7(Fault::Mnemonic), "line 7: an unknown mnemonic"),
-        (
-            in_line_7(Fault::Operand),
-            "line 7: an operand is missing or invalid",
-        ),
-        (
-            in_line_7(Fault::NumberRange),
-            "line 7: a number out of range",
-        ),
-        (
-            in_line_7(Fault::LineEnd),
-            "line 7: extra text after the last operand",
-        ),
-        (
-            LineFault::TooLong { line: 1025 },
-            "line 1025: more than 1,024 slots",
-        ),
-        (
-            LineFault::Empty,
-            "line 1: empty: no byte, or a text without an instruction",
-        ),
-        (LineFault::OutOfMemory, "out of memory"),
-    ] {
-        assert!(rt; is_displayed_as(rt.alloc(), &fault, words)?, "{words}");
-    }
-    Ok(())
-}
+// Faults of bytes, each with its words.
+const OF_BYTES: [(CodecFault, &'static str); 3] = [
+    (
+        CodecFault::Length(LengthFault::Empty),
+        "empty: no byte, or a text without an instruction",
+    ),
+    (BAD_REGISTER, "slot 3: a register above R10"),
+    (CodecFault::OutOfMemory, "out of memory"),
+];
+
+// Faults of listings, each with its words.
+const OF_LISTINGS: [(LineFault, &'static str); 7] = [
+    (
+        LineFault::Line {
+            fault: Fault::Mnemonic,
+            line: 7,
+        },
+        "line 7: an unknown mnemonic",
+    ),
+    (
+        LineFault::Line {
+            fault: Fault::Operand,
+            line: 7,
+        },
+        "line 7: an operand is missing or invalid",
+    ),
+    (
+        LineFault::Line {
+            fault: Fault::NumberRange,
+            line: 7,
+        },
+        "line 7: a number out of range",
+    ),
+    (
+        LineFault::Line {
+            fault: Fault::LineEnd,
+            line: 7,
+        },
+        "line 7: extra text after the last operand",
+    ),
+    (
+        LineFault::TooLong { line: 1025 },
+        "line 1025: more than 1,024 slots",
+    ),
+    (
+        LineFault::Empty,
+        "line 1: empty: no byte, or a text without an instruction",
+    ),
+    (LineFault::OutOfMemory, "out of memory"),
+];
 
 // Returns the fault of the bytes of a program.
 fn program_fault(alloc: Global, bytes: &[u8]) -> Result<ProgramFault, Fail> {
     Ok(read_program(alloc, bytes).err().ok_or("accepted")?)
+}
+
+// Returns whether the bytes are refused with this number, this place and these words.
+fn is_refused_with(
+    alloc: Global,
+    bytes: &[u8],
+    numbered: (u32, Option<Place>),
+    words: &str,
+) -> Result<bool, Fail> {
+    let fault = program_fault(alloc, bytes)?;
+    Ok((fault.number(), fault.place()) == numbered && is_displayed_as(alloc, &fault, words)?)
 }
 
 #[test]
@@ -103,9 +128,10 @@ fn of_programs(rt: HostRuntime) -> Result<(), Fail> {
         ),
     ];
     for (bytes, number, place, words) in rows {
-        let fault = program_fault(rt.alloc(), bytes)?;
-        assert_eq!(rt; (fault.number(), fault.place()), (number, place));
-        assert!(rt; is_displayed_as(rt.alloc(), &fault, words)?, "{words}");
+        assert!(rt;
+            is_refused_with(rt.alloc(), bytes, (number, place), words)?,
+            "{words}"
+        );
     }
     Ok(())
 }
@@ -147,9 +173,11 @@ const RULES: [(Rule, &'static str); 17] = [
 ];
 
 #[test]
-fn of_rules(rt: HostRuntime) -> Result<(), Fail> {
-    for (rule, words) in RULES {
-        assert!(rt; is_displayed_as(rt.alloc(), &rule, words)?, "{words}");
-    }
+fn of_bytes_listings_and_rules(rt: HostRuntime) -> Result<(), Fail> {
+    let numbered = (BAD_REGISTER.number(), BAD_REGISTER.place());
+    assert_eq!(rt; numbered, (5, Some(Place::Slot(3))));
+    assert_eq!(rt; first_misworded(rt.alloc(), &OF_BYTES)?, None);
+    assert_eq!(rt; first_misworded(rt.alloc(), &OF_LISTINGS)?, None);
+    assert_eq!(rt; first_misworded(rt.alloc(), &RULES)?, None);
     Ok(())
 }

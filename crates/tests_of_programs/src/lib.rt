@@ -18,6 +18,8 @@ mod ranges;
 #[cfg(test)]
 mod sample_codes;
 #[cfg(test)]
+mod scratch_runs;
+#[cfg(test)]
 mod signed_ranges;
 #[cfg(test)]
 mod verified_codes;

@@ -57,126 +57,168 @@ fn is_as_wanted(a: Option<Both>, want: Option<(Words, Numbers)>) -> bool {
     }
 }
 
-#[test]
-fn normal_forms(rt: HostRuntime) {
-    for (words, numbers, want) in [
-        // One range, below 2^63 and from there.
-        ((0, 10), (5, MOST), Some(((5, 10), (5, 10)))),
-        ((9, TOP - 3), (-9, -1), Some(((TOP - 8, TOP - 3), (-9, -4)))),
-        // Two ranges.
-        ((3, TOP - 2), (-5, 7), Some(((3, TOP - 2), (-5, 7)))),
-        ((3, TOP - 2), (-5, 2), Some(((TOP - 4, TOP - 2), (-5, -3)))),
-        // One word, and none.
-        ((7, SIGN - 1), (-3, 7), Some(((7, 7), (7, 7)))),
-        ((8, TOP - 3), (-3, 7), None),
-        // About 2^63.
-        (
-            (SIGN - 1, SIGN),
-            (LEAST, MOST),
-            Some(((SIGN - 1, SIGN), (LEAST, MOST))),
-        ),
-        (
-            (SIGN - 1, SIGN),
-            (0, MOST),
-            Some(((SIGN - 1, SIGN - 1), (MOST, MOST))),
-        ),
-        (
-            (SIGN - 1, SIGN),
-            (LEAST, 0),
-            Some(((SIGN, SIGN), (LEAST, LEAST))),
-        ),
-    ] {
-        let form = words_of(words, numbers);
-        assert!(rt; is_as_wanted(form, want), "{words:?} {numbers:?}");
+// Ends of both kinds, and the ends of the words between them, if any.
+type Form = (Words, Numbers, Option<(Words, Numbers)>);
+
+const FORMS: [Form; 9] = [
+    // One range, below 2^63 and from there.
+    ((0, 10), (5, MOST), Some(((5, 10), (5, 10)))),
+    ((9, TOP - 3), (-9, -1), Some(((TOP - 8, TOP - 3), (-9, -4)))),
+    // Two ranges.
+    ((3, TOP - 2), (-5, 7), Some(((3, TOP - 2), (-5, 7)))),
+    ((3, TOP - 2), (-5, 2), Some(((TOP - 4, TOP - 2), (-5, -3)))),
+    // One word, and none.
+    ((7, SIGN - 1), (-3, 7), Some(((7, 7), (7, 7)))),
+    ((8, TOP - 3), (-3, 7), None),
+    // About 2^63.
+    (
+        (SIGN - 1, SIGN),
+        (LEAST, MOST),
+        Some(((SIGN - 1, SIGN), (LEAST, MOST))),
+    ),
+    (
+        (SIGN - 1, SIGN),
+        (0, MOST),
+        Some(((SIGN - 1, SIGN - 1), (MOST, MOST))),
+    ),
+    (
+        (SIGN - 1, SIGN),
+        (LEAST, 0),
+        Some(((SIGN, SIGN), (LEAST, LEAST))),
+    ),
+];
+
+// Returns the first row with other words.
+fn first_wrong_form(rows: &[Form]) -> Option<Form> {
+    for row in rows {
+        let (words, numbers, want) = *row;
+        if !is_as_wanted(words_of(words, numbers), want) {
+            return Some(*row);
+        }
     }
+    None
 }
 
 #[test]
-fn rows_of_two_operands(rt: HostRuntime) -> Result<(), Fail> {
-    let few = numbers(-5, 7)?;
-    for (width, op, b, want) in [
-        (Width::W64, AluOp::Mov, (-2, 1), ((0, TOP), (-2, 1))),
-        (Width::W64, AluOp::Add, (1, 2), ((0, TOP), (-4, 9))),
-        (
-            Width::W64,
-            AluOp::Add,
-            (1, MOST - 7),
-            ((0, TOP), (-4, MOST)),
-        ),
-        (
-            Width::W64,
-            AluOp::Add,
-            (1, MOST - 6),
-            ((0, TOP), (LEAST, MOST)),
-        ),
-        (Width::W64, AluOp::Sub, (1, 2), ((0, TOP), (-7, 6))),
-        (
-            Width::W64,
-            AluOp::Sub,
-            (LEAST, 2),
-            ((0, TOP), (LEAST, MOST)),
-        ),
-        (Width::W64, AluOp::Arsh, (65, 65), ((0, TOP), (-3, 3))),
-        (
-            Width::W32,
-            AluOp::Mov,
-            (-2, 1),
-            ((0, 0xffff_ffff), (0, 0xffff_ffff)),
-        ),
-    ] {
-        let computed = of_alu(width, op, &few, &numbers(b.0, b.1)?);
-        assert!(rt; has_ends(&computed, want), "{want:?}");
+fn normal_forms(rt: HostRuntime) {
+    assert_eq!(rt; first_wrong_form(&FORMS), None);
+}
+
+// An operation of the numbers from -5 to 7 and those of a range, and the ends of its result.
+type OfTwo = (Width, AluOp, Numbers, (Words, Numbers));
+
+const OF_TWO: [OfTwo; 8] = [
+    (Width::W64, AluOp::Mov, (-2, 1), ((0, TOP), (-2, 1))),
+    (Width::W64, AluOp::Add, (1, 2), ((0, TOP), (-4, 9))),
+    (
+        Width::W64,
+        AluOp::Add,
+        (1, MOST - 7),
+        ((0, TOP), (-4, MOST)),
+    ),
+    (
+        Width::W64,
+        AluOp::Add,
+        (1, MOST - 6),
+        ((0, TOP), (LEAST, MOST)),
+    ),
+    (Width::W64, AluOp::Sub, (1, 2), ((0, TOP), (-7, 6))),
+    (
+        Width::W64,
+        AluOp::Sub,
+        (LEAST, 2),
+        ((0, TOP), (LEAST, MOST)),
+    ),
+    (Width::W64, AluOp::Arsh, (65, 65), ((0, TOP), (-3, 3))),
+    (
+        Width::W32,
+        AluOp::Mov,
+        (-2, 1),
+        ((0, 0xffff_ffff), (0, 0xffff_ffff)),
+    ),
+];
+
+// Returns the first row whose operation has another result.
+fn first_wrong_of_two(few: &Both, rows: &[OfTwo]) -> Result<Option<OfTwo>, Fail> {
+    for row in rows {
+        let (width, op, b, want) = *row;
+        let computed = of_alu(width, op, few, &numbers(b.0, b.1)?);
+        if !has_ends(&computed, want) {
+            return Ok(Some(*row));
+        }
     }
-    Ok(())
+    Ok(None)
+}
+
+fn extends_to(a: &Both, want: (Words, Numbers)) -> bool {
+    has_ends(&of_byte_extended(a), want)
+}
+
+fn loads(size: Size, signed: bool, want: (Words, Numbers)) -> bool {
+    has_ends(&of_load(size, signed), want)
 }
 
 #[test]
 fn rows_of_one_operand(rt: HostRuntime) -> Result<(), Fail> {
     let few = numbers(-5, 7)?;
-    for (computed, want) in [
-        (of_neg(Width::W64, &Both::single(1)), ((TOP, TOP), (-1, -1))),
-        (of_byte_extended(&few), ((0, TOP), (-5, 7))),
-        (
-            of_byte_extended(&numbers(-129, 7)?),
-            ((0, TOP), (-128, 127)),
-        ),
-        (
-            of_half_ordered(EndKind::Big, &few),
-            ((0, 0xffff), (0, 0xffff)),
-        ),
-        (of_load(Size::Byte, true), ((0, TOP), (-128, 127))),
-        (of_load(Size::Byte, false), ((0, 255), (0, 255))),
-    ] {
-        assert!(rt; has_ends(&computed, want), "{want:?}");
-    }
+    let negated = of_neg(Width::W64, &Both::single(1));
+    assert!(rt; has_ends(&negated, ((TOP, TOP), (-1, -1))));
+    assert!(rt; extends_to(&few, ((0, TOP), (-5, 7))));
+    assert!(rt; extends_to(&numbers(-129, 7)?, ((0, TOP), (-128, 127))));
+    let ordered = of_half_ordered(EndKind::Big, &few);
+    assert!(rt; has_ends(&ordered, ((0, 0xffff), (0, 0xffff))));
+    assert!(rt; loads(Size::Byte, true, ((0, TOP), (-128, 127))));
+    assert!(rt; loads(Size::Byte, false, ((0, 255), (0, 255))));
     Ok(())
 }
 
-#[test]
-fn rows_of_refinement(rt: HostRuntime) -> Result<(), Fail> {
-    let few = numbers(-5, 7)?;
-    for (test, taken, b, want) in [
-        (Test::Jslt, true, 3, Some(((0, TOP), (-5, 2)))),
-        (Test::Jslt, false, 3, Some(((3, 7), (3, 7)))),
-        (Test::Jsgt, true, 6, Some(((7, 7), (7, 7)))),
-        (Test::Jsge, true, 8, None),
-        (Test::Jlt, true, 8, Some(((0, 7), (0, 7)))),
-        (Test::Jeq, true, TOP, Some(((TOP, TOP), (-1, -1)))),
-        (Test::Jne, false, TOP - 5, None),
-        (Test::Jset, true, 1, Some(((0, TOP), (-5, 7)))),
-    ] {
-        let refined = of_refine(Width::W64, test, taken, &few, &Both::single(b));
-        let left = refined.map(|(left, _)| left);
-        assert!(rt; is_as_wanted(left, want), "{want:?}");
+// A test of the numbers from -5 to 7 against a word, whether it holds, and the ends of the numbers then, if any.
+type Refined = (Test, bool, u64, Option<(Words, Numbers)>);
+
+const REFINED: [Refined; 8] = [
+    (Test::Jslt, true, 3, Some(((0, TOP), (-5, 2)))),
+    (Test::Jslt, false, 3, Some(((3, 7), (3, 7)))),
+    (Test::Jsgt, true, 6, Some(((7, 7), (7, 7)))),
+    (Test::Jsge, true, 8, None),
+    (Test::Jlt, true, 8, Some(((0, 7), (0, 7)))),
+    (Test::Jeq, true, TOP, Some(((TOP, TOP), (-1, -1)))),
+    (Test::Jne, false, TOP - 5, None),
+    (Test::Jset, true, 1, Some(((0, TOP), (-5, 7)))),
+];
+
+// Returns the numbers for which the test holds or not, if any.
+fn refined(few: &Both, test: Test, taken: bool, b: u64) -> Option<Both> {
+    Some(of_refine(Width::W64, test, taken, few, &Both::single(b))?.0)
+}
+
+// Returns the first row that is refined otherwise.
+fn first_wrong_refined(few: &Both, rows: &[Refined]) -> Option<Refined> {
+    for row in rows {
+        let (test, taken, b, want) = *row;
+        if !is_as_wanted(refined(few, test, taken, b), want) {
+            return Some(*row);
+        }
     }
+    None
+}
+
+#[test]
+fn rows_of_two_operands(rt: HostRuntime) -> Result<(), Fail> {
+    let few = numbers(-5, 7)?;
+    assert_eq!(rt; first_wrong_of_two(&few, &OF_TWO)?, None);
+    assert_eq!(rt; first_wrong_refined(&few, &REFINED), None);
     Ok(())
+}
+
+fn joins_to(a: u64, b: u64, want: (Words, Numbers)) -> bool {
+    has_ends(&joined(a, b), want)
 }
 
 #[test]
 fn joins_are_hulls(rt: HostRuntime) {
     both_is_exact_theorem();
     let about: Both = joined(SIGN - 1, SIGN);
-    assert!(rt; has_ends(&about, ((SIGN - 1, SIGN), (LEAST, MOST))));
     assert_eq!(rt; compares_to_full(&about), (true, false));
-    assert!(rt; has_ends(&joined(1, TOP), ((1, TOP), (-1, 1))));
+    assert!(rt; joins_to(SIGN - 1, SIGN, ((SIGN - 1, SIGN), (LEAST, MOST))));
+    assert!(rt; joins_to(1, TOP, ((1, TOP), (-1, 1))));
 }

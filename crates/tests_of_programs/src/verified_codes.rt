@@ -25,10 +25,15 @@ fn states_are_held_where_code_jumps(rt: HostRuntime) -> Result<(), Fail> {
     Ok(())
 }
 
+// Returns the number of instructions of a program.
+fn len_of(alloc: Global, bytes: &[u8]) -> Result<usize, Fail> {
+    Ok(read_program(alloc, bytes)?.code().len())
+}
+
 #[test]
 fn reads_a_program(rt: HostRuntime) -> Result<(), Fail> {
     let bytes = [0xb7, 0, 0, 0, 1, 0, 0, 0, 0x95, 0, 0, 0, 0, 0, 0, 0];
-    assert_eq!(rt; read_program(rt.alloc(), &bytes)?.code().len(), 2);
+    assert_eq!(rt; len_of(rt.alloc(), &bytes)?, 2);
     Ok(())
 }
 
@@ -41,27 +46,38 @@ fn judged<D: Domain>(alloc: Global, bytes: &[u8]) -> Result<Result<usize, Refusa
     }
 }
 
+// A number between two signed tests is added to an address.
+const TESTED: [u8; 56] = [
+    0x79, 0x12, 0x40, 0, 0, 0, 0, 0, 0xb7, 0, 0, 0, 0, 0, 0, 0, 0xc5, 0x02, 0x03, 0, 0, 0, 0, 0,
+    0x65, 0x02, 0x02, 0, 0x3f, 0, 0, 0, 0x0f, 0x21, 0, 0, 0, 0, 0, 0, 0x71, 0x10, 0x08, 0, 0, 0, 0,
+    0, 0x95, 0, 0, 0, 0, 0, 0, 0,
+];
+
+// A byte is added to an address with its sign.
+const LOADED: [u8; 56] = [
+    0x91, 0x12, 0x08, 0, 0, 0, 0, 0, 0xb7, 0, 0, 0, 0, 0, 0, 0, 0x75, 0x02, 0x03, 0, 0, 0, 0, 0,
+    0xbf, 0xa3, 0, 0, 0, 0, 0, 0, 0x0f, 0x23, 0, 0, 0, 0, 0, 0, 0x72, 0x03, 0, 0, 0x01, 0, 0, 0,
+    0x95, 0, 0, 0, 0, 0, 0, 0,
+];
+
+type Judged = Result<usize, Refusal>;
+
+// Returns the answers over ranges without signs, and over both kinds.
+fn judged_by_both(alloc: Global, bytes: &[u8]) -> Result<(Judged, Judged), Fail> {
+    Ok((
+        judged::<Interval>(alloc, bytes)?,
+        judged::<Both>(alloc, bytes)?,
+    ))
+}
+
 #[test]
 fn signed_bounds_are_enough_in_both_orders(rt: HostRuntime) -> Result<(), Fail> {
     wider_theorem();
-    // A number between two signed tests, and a byte with its sign: each is added to an address.
-    let tested = [
-        0x79, 0x12, 0x40, 0, 0, 0, 0, 0, 0xb7, 0, 0, 0, 0, 0, 0, 0, 0xc5, 0x02, 0x03, 0, 0, 0, 0,
-        0, 0x65, 0x02, 0x02, 0, 0x3f, 0, 0, 0, 0x0f, 0x21, 0, 0, 0, 0, 0, 0, 0x71, 0x10, 0x08, 0,
-        0, 0, 0, 0, 0x95, 0, 0, 0, 0, 0, 0, 0,
-    ];
-    let loaded = [
-        0x91, 0x12, 0x08, 0, 0, 0, 0, 0, 0xb7, 0, 0, 0, 0, 0, 0, 0, 0x75, 0x02, 0x03, 0, 0, 0, 0,
-        0, 0xbf, 0xa3, 0, 0, 0, 0, 0, 0, 0x0f, 0x23, 0, 0, 0, 0, 0, 0, 0x72, 0x03, 0, 0, 0x01, 0,
-        0, 0, 0x95, 0, 0, 0, 0, 0, 0, 0,
-    ];
     let refusal = Refusal {
         slot: 4,
         rule: Rule::PointerRange,
     };
-    for bytes in [tested, loaded] {
-        assert_eq!(rt; judged::<Interval>(rt.alloc(), &bytes)?, Err(refusal));
-        assert_eq!(rt; judged::<Both>(rt.alloc(), &bytes)?, Ok(7));
-    }
+    assert_eq!(rt; judged_by_both(rt.alloc(), &TESTED)?, (Err(refusal), Ok(7)));
+    assert_eq!(rt; judged_by_both(rt.alloc(), &LOADED)?, (Err(refusal), Ok(7)));
     Ok(())
 }

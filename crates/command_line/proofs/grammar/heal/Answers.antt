@@ -1,4 +1,5 @@
-use Rattle.std.proofs.Common.{◌≡◌, ◌∙◌, ap, true}
+use Rattle.std.proofs.Common.{◌≡◌, ◌∙◌, ap, true, IfOk}
+use Rattle.std.proofs.lemmas.Result.{IfOk-weaker}
 use Rattle.clap.specs.Words.{App, app_of, new_app, with_subcommand}
 use Rattle.clap.specs.Simple.{app_of_fields}
 use Rattle.std.specs.Prelude.{codes}
@@ -11,14 +12,18 @@ with sub app = with_subcommand app sub.top
 
 pub returns : goal.returns
 returns c =
-    let none : app_of c.in_ok-named.named ≡ new_app (codes "heal") =
-    ap app_of_fields c.in_ok-named.ensures.0 ∙ c.new.ensures.app in
-    let one : app_of c.in_ok-checking.checking ≡ with check_app (new_app (codes "heal")) =
-    c.in_ok-checking.ensures check_app c.check_command.ensures ∙ ap (with check_app) none in
-    let two = c.in_ok-judging.ensures judge_app c.judge_command.ensures ∙ ap (with judge_app) one in
-    let three = c.in_ok-assembling.ensures asm_app c.asm_command.ensures ∙ ap (with asm_app) two in
-    let four = c.in_ok-disassembling.ensures dis_app c.dis_command.ensures ∙ ap (with dis_app) three in
-    let five : app_of c.in_ok-running.running ≡ subcommands_app =
-    c.in_ok-running.ensures run_app c.run_command.ensures ∙ ap (with run_app) four in
+    let zero = new_app (codes "heal") in
+    let one = with check_app zero in
+    let two = with judge_app one in
+    let three = with asm_app two in
+    let four = with dis_app three in
+    let named : IfOk c.bin_name-named.result (λ k. app_of k ≡ zero) =
+    IfOk-weaker c.bin_name-named.result _ _ (λ k h. ap app_of_fields h.0 ∙ c.new.ensures.app) c.bin_name-named.ensures in
+    let checking = c.with_command-checking.ensures zero check_app named c.check_command.ensures in
+    let judging = c.with_command-judging.ensures one judge_app checking c.judge_command.ensures in
+    let assembling = c.with_command-assembling.ensures two asm_app judging c.asm_command.ensures in
+    let disassembling = c.with_command-disassembling.ensures three dis_app assembling c.dis_command.ensures in
+    let running : app_of c.in_ok-running.field-0 ≡ subcommands_app =
+    c.in_ok-running.ensures four run_app disassembling c.run_command.ensures in
     ap app_of_fields c.subcommand_required.ensures
-    ∙ ap (λ (a : App). record a { top = record a.top { subcommand_required = true } }) five
+    ∙ ap (λ (a : App). record a { top = record a.top { subcommand_required = true } }) running

@@ -1,0 +1,121 @@
+//! Tests of the records of clashes.
+use crate::asking::{Ask, Clash, DB, EXIT, Group, ON_DB, X, first_wrong, is_answered};
+use crate::codes::STAMPS;
+use std::alloc::Global;
+use std::io;
+use std::test::Fail;
+use task::Question;
+
+/// The name `db`, whose first has the later stamp.
+const LATER_FIRST: Clash = Clash {
+    name: DB,
+    stamps: ("09", "05"),
+    weight: "00",
+    facts: "",
+};
+
+/// The name `db`, with equal stamps.
+const EQUAL_STAMPS: Clash = Clash {
+    name: DB,
+    stamps: ("05", "05"),
+    weight: "00",
+    facts: "",
+};
+
+/// The name `x`, with stamps 5 and 9.
+const ON_X: Clash = Clash {
+    name: X,
+    stamps: ("05", "09"),
+    weight: "00",
+    facts: "",
+};
+
+/// The name `db`, with stamps 5 and 9, and a first whose table has two rows.
+const SIZED: Clash = Clash {
+    name: DB,
+    stamps: ("05", "09"),
+    weight: "00",
+    facts: "0200000000000000000000000000000000000000000000000000000000000000",
+};
+
+/// Reads the byte of the name that its eighth byte counts, if there is one.
+const BRANCH: &'static str =
+    "7112080000000000 b700000000000000 2502020077000000 0f21000000000000 7110080000000000 X";
+
+/// Reads the size of the first's table.
+const SIZE_OF_FIRST: &'static str = "7910800000000000 X";
+
+/// Clashes, each with code and what is printed of its verdict. A record of 128 bytes has zeros in place of the facts of the
+/// longer one.
+const GROUPS: [Group; 4] = [
+    (
+        &[Ask::Judge(LATER_FIRST), Ask::Judge(EQUAL_STAMPS)],
+        0,
+        &[(STAMPS, "first in 5 steps\n")],
+    ),
+    (&[Ask::Judge(ON_X)], 0, &[(BRANCH, "none in 4 steps\n")]),
+    (
+        &[Ask::Judge(ON_DB)],
+        0,
+        &[(SIZE_OF_FIRST, "none in 2 steps\n")],
+    ),
+    (
+        &[Ask::Judge(SIZED)],
+        0,
+        &[(SIZE_OF_FIRST, "second in 2 steps\n")],
+    ),
+];
+
+#[test]
+fn other_records(rt: HostRuntime) -> Result<(), Fail> {
+    assert_eq!(rt; first_wrong(&rt, &GROUPS)?, None);
+    Ok(())
+}
+
+/// Code that returns 1.
+const ONE: &'static str = "b7000000010000009500000000000000";
+
+/// Code, the digits with which a record begins, the count of zero bytes after them, and the status and the text of the
+/// answer.
+type Row = (&'static str, &'static str, usize, u8, &'static str);
+
+const ROWS: [Row; 10] = [
+    (ONE, "", 127, 2, "refused 55\n"),
+    (ONE, "", 128, 0, "first in 2 steps\n"),
+    (ONE, "", 129, 2, "refused 55\n"),
+    (ONE, "", 159, 2, "refused 55\n"),
+    (ONE, "", 160, 0, "first in 2 steps\n"),
+    (ONE, "", 161, 2, "refused 55\n"),
+    (ONE, "000", 0, 2, "refused 50\n"),
+    (EXIT, "", 127, 2, "refused 15 at slot 0\n"),
+    ("", "0g", 0, 2, "refused 1\n"),
+    ("0", "00", 0, 2, "refused 50\n"),
+];
+
+// Returns these digits and those of `count` zero bytes.
+fn with_zeros(alloc: Global, digits: &str, count: usize) -> io::Result<String> {
+    let mut text = String::from_str(alloc, digits)?;
+    for _ in 0..count {
+        text.push_str("00")?;
+    }
+    Ok(text)
+}
+
+// Returns the first row that is answered otherwise.
+fn first_wrong_row(rt: &HostRuntime, rows: &[Row]) -> Result<Option<Row>, Fail> {
+    for row in rows {
+        let (code, digits, zeros, status, line) = *row;
+        let text = with_zeros(rt.alloc(), digits, zeros)?;
+        let clash = text.as_str();
+        if !is_answered(rt, &Question::Judge { code, clash }, status, line) {
+            return Ok(Some(*row));
+        }
+    }
+    Ok(None)
+}
+
+#[test]
+fn records_of_other_lengths(rt: HostRuntime) -> Result<(), Fail> {
+    assert_eq!(rt; first_wrong_row(&rt, &ROWS)?, None);
+    Ok(())
+}
