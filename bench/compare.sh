@@ -1,7 +1,8 @@
 #!/bin/bash
 # compare.sh [RUNS]: runs the resolvers in C here and on the peer, DPDK's rte_bpf, on one record, in turn, and prints the times
-# in nanoseconds with their ratios (ours by the peer's). Then how the times here grow with the length of code. Each time is the
-# least of 25: what else a machine does makes a time longer, never shorter.
+# in nanoseconds with their ratios (ours by the peer's). Both run on a record that stays where it is, and write its word before
+# each run; "copied" is the time here of a run on a copy of the record. Then how the times here grow with the length of code.
+# Each time is the least of 25: what else a machine does makes a time longer, never shorter.
 set -e
 here=$(cd "$(dirname "$0")" && pwd)
 runs=${1:-200000}
@@ -21,8 +22,8 @@ measure() { "$ours" program "$1" "$record" "$2" >> "$out/ours"; }
 
 ratio() { awk -v ours="$1" -v peers="$2" 'BEGIN { printf "%.2f", ours / peers }'; }
 
-printf '%-12s %6s %8s %8s %6s %8s %8s %8s %6s\n' \
-    resolver run peer ratio steps decode verify load ratio
+printf '%-12s %6s %8s %8s %8s %8s %6s %8s %8s %8s %6s\n' \
+    resolver run peer ratio copied ratio steps decode verify load ratio
 for program in "$out"/*.hex; do
     name=$(basename "$program" .hex)
     : > "$out/ours"
@@ -32,10 +33,11 @@ for program in "$out"/*.hex; do
         "$out/peer" "$(cat "$program")" "$record" "$runs" >> "$out/peers" 2> "$out/log"
     done
     [ "$(number sum "$out/ours")" = "$(number sum "$out/peers")" ] || { echo "$name: the answers differ"; exit 1; }
-    run=$(number run "$out/ours") peer=$(number run "$out/peers")
+    run=$(number run "$out/ours") copied=$(number run-copied "$out/ours") peer=$(number run "$out/peers")
     decode=$(number decode "$out/ours") verify=$(number verify "$out/ours") load=$(number load "$out/peers")
-    printf '%-12s %6s %8s %8s %6s %8s %8s %8s %6s\n' "$name" "$run" "$peer" "$(ratio "$run" "$peer")" \
-        "$(number steps "$out/ours")" "$decode" "$verify" "$load" "$(ratio $((decode + verify)) "$load")"
+    printf '%-12s %6s %8s %8s %8s %8s %6s %8s %8s %8s %6s\n' "$name" "$run" "$peer" "$(ratio "$run" "$peer")" \
+        "$copied" "$(ratio "$copied" "$peer")" "$(number steps "$out/ours")" \
+        "$decode" "$verify" "$load" "$(ratio $((decode + verify)) "$load")"
 done
 
 # So many times a slot in hex, and `exit`.

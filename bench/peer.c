@@ -64,6 +64,6 @@ int main(int argc, char **argv)
 
         rte_bpf_destroy(again);
     }
-    printf("load %.0f ns\nrun %.0f ns\nsum %llu\n", (now_ns() - start) / LOADS, run, (unsigned long long)sum);
+    printf("load %.0f ns\nrun %.1f ns\nsum %llu\n", (now_ns() - start) / LOADS, run, (unsigned long long)sum);
     return 0;
 }

@@ -17,7 +17,7 @@ const NUMBER: u64 = 1;
 const SEED: u64 = 0;
 
 /// Times in nanoseconds of the parts of one exchange in which every name clashes, on both sides together.
-#[derive(Clone, Copy, Debug)]
+#[derive(Clone, Copy)]
 pub(crate) struct ExchangeTimes {
     begin: u128,
     hear: u128,
@@ -27,10 +27,11 @@ pub(crate) struct ExchangeTimes {
 
 impl fmt::Display for ExchangeTimes {
     fn fmt<W: fmt::Write>(&self, f: &mut fmt::Formatter<W>) -> fmt::Result {
-        writeln!(f, "begin {} ns", self.begin)?;
-        writeln!(f, "hear {} ns", self.hear)?;
-        writeln!(f, "take {} ns", self.take)?;
-        writeln!(f, "finish {} ns", self.finish)
+        writeln!(
+            f,
+            "begin {} ns\nhear {} ns\ntake {} ns\nfinish {} ns",
+            self.begin, self.hear, self.take, self.finish
+        )
     }
 }
 

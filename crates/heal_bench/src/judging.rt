@@ -26,7 +26,7 @@ const SEED: u64 = 0;
 const ROUNDS: u32 = 20;
 
 /// The mean time in nanoseconds of a round, and how many verdicts were kept in all.
-#[derive(Clone, Copy, Debug)]
+#[derive(Clone, Copy)]
 pub(crate) struct RoundTime {
     judge: u128,
     kept: u32,
@@ -34,8 +34,7 @@ pub(crate) struct RoundTime {
 
 impl fmt::Display for RoundTime {
     fn fmt<W: fmt::Write>(&self, f: &mut fmt::Formatter<W>) -> fmt::Result {
-        writeln!(f, "judge {} ns", self.judge)?;
-        writeln!(f, "kept {}", self.kept)
+        writeln!(f, "judge {} ns\nkept {}", self.judge, self.kept)
     }
 }
 

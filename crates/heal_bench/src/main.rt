@@ -17,8 +17,9 @@ const USAGE: &'static str = "usage: heal_bench program HEX RECORDHEX RUNS
        heal_bench messages ROWS PROGRAMS
        heal_bench judge HEX WORKERS
 
-program: decodes and verifies the program 2,000 times, runs it RUNS times on the record, whose word changes from run to
-run, and prints the mean times in nanoseconds, the steps of one run and the sum of all answers.
+program: decodes and verifies the program 2,000 times, and prints the mean times in nanoseconds. Then runs it RUNS times on
+the record in a scratch memory, where only the word changes from run to run, and RUNS times on a copy of such a record, and
+prints the mean times of both, the steps of one run and the sum of all answers in the scratch memory.
 tables: makes tables of ROWS rows, 1 to 4096, and prints the mean times in nanoseconds: of registering one row; of the
 clashes and the merge of two that clash in every name; and of these for two that are equal.
 exchange: two sides with ROWS names begin, hear each other, take a ruling for each name and finish; prints the times in

@@ -15,7 +15,7 @@ const CALLS: u32 = 5;
 
 /// Times in nanoseconds: of uploading the programs and registering the names, and the least of encoding and of decoding
 /// the offer of these names.
-#[derive(Clone, Copy, Debug)]
+#[derive(Clone, Copy)]
 pub(crate) struct MessageTimes {
     build: u128,
     encode: u128,
@@ -24,9 +24,11 @@ pub(crate) struct MessageTimes {
 
 impl fmt::Display for MessageTimes {
     fn fmt<W: fmt::Write>(&self, f: &mut fmt::Formatter<W>) -> fmt::Result {
-        writeln!(f, "build {} ns", self.build)?;
-        writeln!(f, "encode {} ns", self.encode)?;
-        writeln!(f, "decode {} ns", self.decode)
+        writeln!(
+            f,
+            "build {} ns\nencode {} ns\ndecode {} ns",
+            self.build, self.encode, self.decode
+        )
     }
 }
 
@@ -64,6 +66,18 @@ fn message_times(rt: &HostRuntime, build: u128, offer: &Offer) -> Result<Message
 // A side with `rows` names and `programs` programs, of which each judges every name of its turn.
 fn side(alloc: Global, rows: u16, programs: u16) -> Result<Side, Fault> {
     let mut store = UploadStore::new(alloc);
+    let resolvers = upload_all(alloc, &mut store, programs)?;
+    let mut side = Side::new(alloc, SideId::A);
+    register_all(&mut side, rows, &resolvers, &store)?;
+    Ok(side)
+}
+
+// Uploads `programs` programs, and returns their resolvers.
+fn upload_all(
+    alloc: Global,
+    store: &mut UploadStore,
+    programs: u16,
+) -> Result<Vec<ResolverId>, Fault> {
     let mut resolvers = vec![in alloc]?;
     for value in 0..programs {
         let id = store.upload(alloc, &answering(u32::from(value)))?;
@@ -71,12 +85,21 @@ fn side(alloc: Global, rows: u16, programs: u16) -> Result<Side, Fault> {
             .push(ResolverId::Program(id))
             .map_err(|_| AllocError)?;
     }
-    let mut side = Side::new(alloc, SideId::A);
+    Ok(resolvers)
+}
+
+// Registers `rows` names, of which each resolver judges every name of its turn.
+fn register_all(
+    side: &mut Side,
+    rows: u16,
+    resolvers: &[ResolverId],
+    store: &UploadStore,
+) -> Result<(), Fault> {
     for row in 0..rows {
         let turn = usize::from(row) % resolvers.len().max(1);
         let resolver = resolvers.get(turn).copied().unwrap_or(EXIT);
         let registration = registration(1, u32::from(row), resolver);
-        side.register(numbered_name(b'n', row)?, registration, &store)?;
+        side.register(numbered_name(b'n', row)?, registration, store)?;
     }
-    Ok(side)
+    Ok(())
 }

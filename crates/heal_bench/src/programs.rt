@@ -1,59 +1,70 @@
 //! What decoding, verifying and running a program costs.
-ghost use Rattle.std.specs.Prelude.{◌<◌};
+ghost use Rattle.std.specs.Prelude.{◌<◌, IfOk};
 
-use clash_record::{RECORD_LEN, record_of};
-use hex::FromHexError;
-use insn_codec::{CodecFault, decode};
-use program::{Profile, ProgramFault, read_program};
+use crate::registry::Fault;
+use clash_record::{RECORD_LEN, record_of, set_word};
+use insn_codec::decode;
+use interpreter::{Scratch, run, run_written};
+use program::{Profile, read_program};
 use std::alloc::Global;
+use std::fmt;
 use std::time::Instant;
-use std::{fmt, io};
-use thiserror::Error;
-use verifier::{Verified, VerifyFault, verify};
+use verifier::{Verified, verify};
 
 /// The count of times that a program is decoded and verified.
 const LOADS: u32 = 2000;
 
-/// Where the word of a clash record stands: eight bytes, the least first.
-const WORD_AT: usize = 40;
+/// A mean time in tenths of a nanosecond.
+#[derive(Clone, Copy)]
+struct Tenths(u128);
 
-/// Mean times in nanoseconds, the steps of one run, and the sum of the answers of all runs.
-#[derive(Clone, Copy, Debug)]
+impl Tenths {
+    // The mean of so many runs that took this time in nanoseconds together.
+    fn mean(nanos: u128, runs: u32) -> Tenths
+        requires { 0 < runs }
+    {
+        Tenths(nanos.saturating_mul(10) / u128::from(runs))
+    }
+}
+
+impl fmt::Display for Tenths {
+    fn fmt<W: fmt::Write>(&self, f: &mut fmt::Formatter<W>) -> fmt::Result {
+        write!(f, "{}.{} ns", self.0 / 10, self.0 % 10)
+    }
+}
+
+/// The mean time of a run, and the sum of the answers of all runs.
+#[derive(Clone, Copy)]
+struct Runs {
+    time: Tenths,
+    sum: u64,
+}
+
+/// Mean times in nanoseconds of decoding and verifying, the runs on the record in a scratch memory and on copies of it, and
+/// the steps of one run.
+#[derive(Clone, Copy)]
 pub(crate) struct Measured {
     decode: u128,
     verify: u128,
-    run: u128,
+    run: Runs,
+    copied: Runs,
     steps: u32,
-    sum: u64,
 }
 
 impl fmt::Display for Measured {
     fn fmt<W: fmt::Write>(&self, f: &mut fmt::Formatter<W>) -> fmt::Result {
-        writeln!(f, "decode {} ns", self.decode)?;
-        writeln!(f, "verify {} ns", self.verify)?;
-        writeln!(f, "run {} ns", self.run)?;
-        writeln!(f, "steps {}", self.steps)?;
-        writeln!(f, "sum {}", self.sum)
+        writeln!(
+            f,
+            "decode {} ns\nverify {} ns\nrun {}\nrun-copied {}\nsteps {}\nsum {}\nsum-copied {}",
+            self.decode,
+            self.verify,
+            self.run.time,
+            self.copied.time,
+            self.steps,
+            self.run.sum,
+            self.copied.sum
+        )
     }
-}
-
-/// The reason why nothing was measured.
-#[derive(Debug, Drop, Error)]
-pub(crate) enum Fault {
-    #[error("no hex digits, two a byte: {0}")]
-    Digits(#[from] FromHexError),
-    #[error("the record isn't 160 bytes")]
-    RecordLength,
-    #[error("RUNS isn't a number from 1 on")]
-    Runs,
-    #[error("the bytes are no code: {0}")]
-    Code(#[from] CodecFault),
-    #[error(transparent)]
-    Refused(#[from] VerifyFault),
-    #[error(transparent)]
-    Program(#[from] ProgramFault),
-    #[error("the clock: {0}")]
-    Clock(#[from] io::Error),
 }
 
 /// Decodes and verifies the program, runs it on the record, and takes the times.
@@ -66,19 +77,38 @@ pub(crate) fn measure(
     let alloc = rt.alloc();
     let bytes = hex::decode(alloc, code)?;
     let record = record_bytes(alloc, clash)?;
-    let runs = match runs.parse::<u32>() {
-        Ok(runs) if runs > 0 => runs,
-        _ => return Err(Fault::Runs),
-    };
+    let runs = run_count(runs)?;
     let program = read_program(alloc, &bytes)?;
-    let (run, sum) = mean_run(rt, &program, record, runs)?;
+    measure_program(rt, &bytes, &program, record, runs)
+}
+
+// Measures these bytes, which are the program.
+fn measure_program(
+    rt: &HostRuntime,
+    bytes: &[u8],
+    program: &Verified,
+    record: [u8; RECORD_LEN],
+    runs: u32,
+) -> Result<Measured, Fault>
+    requires { 0 < runs }
+{
     Ok(Measured {
-        decode: mean_decode(rt, &bytes)?,
-        verify: mean_verify(rt, &bytes)?,
-        run,
-        steps: interpreter::run(&program, &record_of(record)).steps,
-        sum,
+        run: runs_in_scratch(rt, program, record, runs)?,
+        copied: runs_on_copies(rt, program, record, runs)?,
+        decode: mean_decode(rt, bytes)?,
+        verify: mean_verify(rt, bytes)?,
+        steps: run(program, &record_of(record)).steps,
     })
+}
+
+// Returns the count of runs in a word.
+fn run_count(word: &str) -> Result<u32, Fault>
+    ensures { IfOk result (λ runs. 0 < runs) }
+{
+    match word.parse::<u32>() {
+        Ok(runs) if runs > 0 => Ok(runs),
+        _ => Err(Fault::Runs),
+    }
 }
 
 fn record_bytes(alloc: Global, text: &str) -> Result<[u8; RECORD_LEN], Fault> {
@@ -110,21 +140,43 @@ fn mean_verify(rt: &HostRuntime, bytes: &[u8]) -> Result<u128, Fault> {
     Ok(total / u128::from(LOADS))
 }
 
-// The mean time of a run, and the sum of the answers.
-fn mean_run(
+// Runs on the record in one scratch memory, where the word is set for each run.
+fn runs_in_scratch(
     rt: &HostRuntime,
     program: &Verified,
     record: [u8; RECORD_LEN],
     runs: u32,
-) -> Result<(u128, u64), Fault>
+) -> Result<Runs, Fault>
+    requires { 0 < runs }
+{
+    let mut scratch = Scratch::new();
+    scratch.copy_record(&record_of(record));
+    let mut sum: u64 = 0;
+    let start = Instant::now(rt)?;
+    for word in 0..runs {
+        scratch.set_word(u64::from(word));
+        sum = sum.wrapping_add(run_written(&mut scratch, program).r0);
+    }
+    let time = Tenths::mean(start.elapsed(rt)?.as_nanos(), runs);
+    Ok(Runs { time, sum })
+}
+
+// Runs on a copy of the record each, whose word is set before.
+fn runs_on_copies(
+    rt: &HostRuntime,
+    program: &Verified,
+    record: [u8; RECORD_LEN],
+    runs: u32,
+) -> Result<Runs, Fault>
     requires { 0 < runs }
 {
     let mut record = record;
     let mut sum: u64 = 0;
     let start = Instant::now(rt)?;
     for word in 0..runs {
-        record[WORD_AT..WORD_AT + 8].copy_from_slice(&u64::from(word).to_le_bytes());
-        sum = sum.wrapping_add(interpreter::run(program, &record_of(record)).r0);
+        set_word(&mut record, u64::from(word));
+        sum = sum.wrapping_add(run(program, &record_of(record)).r0);
     }
-    Ok((start.elapsed(rt)?.as_nanos() / u128::from(runs), sum))
+    let time = Tenths::mean(start.elapsed(rt)?.as_nanos(), runs);
+    Ok(Runs { time, sum })
 }

@@ -6,11 +6,14 @@ use exchange_codec::MessageFault;
 use exchange_core::SideFault;
 use fixtures::FixtureFault;
 use hex::FromHexError;
+use insn_codec::CodecFault;
 use partition_table::TableFault;
+use program::ProgramFault;
 use std::alloc::AllocError;
 use std::io;
 use thiserror::Error;
 use upload_store::UploadFault;
+use verifier::VerifyFault;
 
 /// The reason why nothing was measured.
 #[derive(Debug, Drop, Error)]
@@ -21,8 +24,18 @@ pub(crate) enum Fault {
     Programs,
     #[error("WORKERS isn't a number from 1 to 16")]
     Workers,
+    #[error("RUNS isn't a number from 1 on")]
+    Runs,
+    #[error("the record isn't 160 bytes")]
+    RecordLength,
     #[error("no hex digits, two a byte: {0}")]
     Digits(#[from] FromHexError),
+    #[error("the bytes are no code: {0}")]
+    Code(#[from] CodecFault),
+    #[error(transparent)]
+    Refused(#[from] VerifyFault),
+    #[error(transparent)]
+    Program(#[from] ProgramFault),
     #[error(transparent)]
     Upload(#[from] UploadFault),
     #[error(transparent)]

@@ -13,7 +13,7 @@ use upload_store::UploadStore;
 const CALLS: u32 = 100;
 
 /// Mean times of the calls in nanoseconds, on two tables of `rows` rows.
-#[derive(Clone, Copy, Debug)]
+#[derive(Clone, Copy)]
 pub(crate) struct TableTimes {
     register: u128,
     clashing: PairTimes,
@@ -21,7 +21,7 @@ pub(crate) struct TableTimes {
 }
 
 /// Mean times of the calls that take two tables.
-#[derive(Clone, Copy, Debug)]
+#[derive(Clone, Copy)]
 struct PairTimes {
     clashes: u128,
     merge: u128,
@@ -29,11 +29,15 @@ struct PairTimes {
 
 impl fmt::Display for TableTimes {
     fn fmt<W: fmt::Write>(&self, f: &mut fmt::Formatter<W>) -> fmt::Result {
-        writeln!(f, "register {} ns", self.register)?;
-        writeln!(f, "clashes {} ns", self.clashing.clashes)?;
-        writeln!(f, "merge {} ns", self.clashing.merge)?;
-        writeln!(f, "no-clashes {} ns", self.equal.clashes)?;
-        writeln!(f, "merge-equal {} ns", self.equal.merge)
+        writeln!(
+            f,
+            "register {} ns\nclashes {} ns\nmerge {} ns\nno-clashes {} ns\nmerge-equal {} ns",
+            self.register,
+            self.clashing.clashes,
+            self.clashing.merge,
+            self.equal.clashes,
+            self.equal.merge
+        )
     }
 }
 
@@ -43,13 +47,17 @@ pub(crate) fn measure(rt: &HostRuntime, rows: &str) -> Result<TableTimes, Fault>
     let start = Instant::now(rt)?;
     let a = table(rt.alloc(), rows, 1)?;
     let register = start.elapsed(rt)?.as_nanos() / u128::from(rows);
-    let other = table(rt.alloc(), rows, 2)?;
-    let equal = table(rt.alloc(), rows, 1)?;
     Ok(TableTimes {
         register,
-        clashing: pair_times(rt, &a, &other)?,
-        equal: pair_times(rt, &a, &equal)?,
+        clashing: times_with(rt, &a, rows, 2)?,
+        equal: times_with(rt, &a, rows, 1)?,
     })
+}
+
+// Measures calls on this table and on one with `rows` rows of this node.
+fn times_with(rt: &HostRuntime, a: &Table, rows: u16, node: u32) -> Result<PairTimes, Fault> {
+    let b = table(rt.alloc(), rows, node)?;
+    pair_times(rt, a, &b)
 }
 
 fn table(alloc: Global, rows: u16, node: u32) -> Result<Table, Fault> {
