@@ -1,8 +1,10 @@
 -- Parts of a record, written one after another.
-use Rattle.std.proofs.Common.{◌≡◌, ℕ, ◌-◌, ◌≤◌, List, ◌++◌, length, drop, arith, ap, ◌∙◌, sym, append_assoc}
-use Rattle.std.proofs.lemmas.List.{take_at, drop_at, append-nil, length-append}
+use Rattle.std.proofs.Common.{◌≡◌, ℕ, ◌-◌, ◌≤◌, List, ◌++◌, length, take, drop, replicate, arith, ap, ◌∙◌, sym, append_assoc}
+use Rattle.std.proofs.lemmas.List.{take_at, drop_at, drop-drop, append-nil, length-append, length-replicate}
 use Rattle.std.proofs.Math.ListN.{drop_of_length-le}
 use borrow.Rule.Slice.PartMut.{put_mid}
+use Rattle.clash_record.specs.Name.{name_limit}
+use Rattle.clash_record.specs.Record.{name_field}
 
 -- a part written after what stands already
 after : (front rest part : List ℕ) (a k : ℕ) → length front ≡ a
@@ -43,3 +45,27 @@ three_parts old front a b lf la =
     ∙ after (front ++ a) rest b 144 (length ((front ++ a) ++ rest) - 144) two
     ∙ ap (λ (x : List ℕ). ((front ++ a) ++ b) ++ x) (drop_of_length-le rest short)
     ∙ simp (append-nil, append_assoc)
+
+-- the word put into a record
+pub word_put : (old word : List ℕ) → put_mid 40 8 old word ≡ take 40 old ++ (word ++ drop 48 old)
+word_put old word = ap (λ (rest : List ℕ). take 40 old ++ (word ++ rest)) (drop-drop 8 40 old)
+
+-- the word in the place of another between two parts, before what follows them
+pub another_word : (front earlier word behind rest : List ℕ) → length front ≡ 40 → length earlier ≡ 8
+    → take 40 ((front ++ (earlier ++ behind)) ++ rest) ++ (word ++ drop 48 ((front ++ (earlier ++ behind)) ++ rest))
+    ≡ (front ++ (word ++ behind)) ++ rest
+another_word front earlier word behind rest lf le =
+    let nested : (front ++ (earlier ++ behind)) ++ rest ≡ front ++ (earlier ++ (behind ++ rest)) = simp append_assoc in
+    let split : (front ++ (earlier ++ behind)) ++ rest ≡ (front ++ earlier) ++ (behind ++ rest) = simp append_assoc in
+    let two : length (front ++ earlier) ≡ 48 = omega (arith, length-append front earlier) in
+    let start : take 40 ((front ++ (earlier ++ behind)) ++ rest) ≡ front =
+    ap (take 40) nested ∙ take_at front (earlier ++ (behind ++ rest)) 40 lf in
+    let end : drop 48 ((front ++ (earlier ++ behind)) ++ rest) ≡ behind ++ rest =
+    ap (drop 48) split ∙ drop_at (front ++ earlier) (behind ++ rest) 48 two in
+    rw (start, end) (simp append_assoc)
+
+-- the field of a name within the limit
+pub length-name_field : (name : List ℕ) → length name ≤ name_limit → length (name_field name) ≡ 40
+length-name_field name short =
+    let zeros : List ℕ = replicate (name_limit - length name) 0 in
+    omega (arith, length-append name zeros, length-replicate {A = ℕ} (name_limit - length name) 0)

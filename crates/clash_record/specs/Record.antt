@@ -1,5 +1,5 @@
 -- The record of a clash, as bytes. Numbers are little-endian.
-use Rattle.std.specs.Prelude.{ℕ, List, ◌++◌, length}
+use Rattle.std.specs.Prelude.{ℕ, List, ◌++◌, length, take, drop}
 use Rattle.std.specs.Int.{w32, w64, to_le_bytes}
 use Rattle.clash_record.specs.declared.registrations.Registration.{Registration}
 use Rattle.clash_record.specs.declared.records.Facts.{Facts}
@@ -28,3 +28,7 @@ facts_bytes f = to_le_bytes w64 f.size ++ to_le_bytes w64 f.uptime
 abbrev pub clash_bytes : List ℕ → Registration → Registration → ℕ → Facts → Facts → List ℕ
 clash_bytes name first second word of_first of_second =
     registrations_bytes name first second word ++ (facts_bytes of_first ++ facts_bytes of_second)
+
+-- a record with another word
+abbrev pub with_word : List ℕ → ℕ → List ℕ
+with_word bytes word = take 40 bytes ++ (to_le_bytes w64 word ++ drop 48 bytes)

@@ -1,13 +1,15 @@
 //! Names: storage, reading and comparison.
-ghost use Rattle.std.specs.Prelude.{◌≡◌, length, nat_eq, IsTrue, Some, None, refl};
+ghost use Rattle.std.specs.Prelude.{◌≡◌, length, drop, nat_eq, IsTrue, Some, None, refl};
 ghost use Rattle.std.specs.Ordering.{nat_cmp};
 ghost use Rattle.std.specs.Cmp.Lexicographic.{pointwise, slice_cmp, nat_list_eq_equiv, nat_list_cmp_total, texts_ties, texts_po};
 ghost use Rattle.std.specs.Cmp.{partial_equiv_from_equiv};
+ghost use Rattle.byteorder.specs.Endian.{big_from};
 ghost use Rattle.clash_record.specs.Name.{bad_name_number, is_name, name_limit, padded};
 ghost use Rattle.clash_record.specs.Orders.{name_cmp};
 
 pub(crate) mod naming;
 
+use byteorder::{BigEndian, ByteOrder};
 use numbered::{Numbered, Place, words_of};
 use std::cmp::Ordering;
 use std::fmt;
@@ -89,6 +91,7 @@ impl Name {
     pub(crate) fn padded(&self) -> &[u8; NAME_LEN]
         ensures value { result.now ≡ padded self.now }
         ensures length { length result.now ≡ name_limit }
+        ensures named { IsTrue (is_name self.now) }
     {
         &self.bytes
     }
@@ -128,6 +131,17 @@ impl Ord for Name {
     ghost matches_eq = { texts_ties };
 
     fn cmp(&self, other: &Name) -> Ordering {
-        self.bytes().cmp(other.bytes())
+        half_numbers(self.padded()).cmp(&half_numbers(other.padded()))
     }
+}
+
+// Returns the numbers that the two halves of a padded name spell, the highest byte first. They are in the order of names.
+fn half_numbers(padded: &[u8]) -> (u128, u128)
+    requires { length padded.now ≡ name_limit }
+    ensures { result ≡ (big_from 0 16 padded.now, big_from 0 16 (drop 16 padded.now)) }
+{
+    (
+        BigEndian::read_u128(padded),
+        BigEndian::read_u128(&padded[16..]),
+    )
 }

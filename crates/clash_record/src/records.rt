@@ -1,7 +1,10 @@
 //! The record of a clash.
-ghost use Rattle.std.specs.Prelude.{◌≡◌, ◌<◌, length, All};
+ghost use Rattle.std.specs.Prelude.{◌≡◌, ℕ, ◌<◌, ◌≤◌, List, length, All};
 ghost use Rattle.std.specs.Int.{w64, to_le_bytes};
-ghost use Rattle.clash_record.specs.Record.{name_field, registration_bytes, registrations_bytes, facts_bytes, clash_bytes};
+ghost use Rattle.clash_record.specs.declared.registrations.Registration.{Registration};
+ghost use Rattle.clash_record.specs.declared.records.Facts.{Facts};
+ghost use Rattle.clash_record.specs.Name.{name_limit};
+ghost use Rattle.clash_record.specs.Record.{name_field, registration_bytes, registrations_bytes, facts_bytes, clash_bytes, with_word};
 ghost use Rattle.instruction_set.specs.Machine.{record_len};
 
 use crate::names::Name;
@@ -9,6 +12,9 @@ use crate::registrations::Registration;
 use byteorder::{ByteOrder, LittleEndian};
 use instruction_set::RECORD_LEN;
 use std::marker::Model;
+
+// The place of the word in a record.
+const WORD_AT: usize = 40;
 
 /// The record of a clash, as a program reads it. Contracts see it as the list of its bytes.
 #[derive(Clone, Copy, Debug, PartialEq, Eq)]
@@ -64,9 +70,9 @@ pub fn record(
 ) -> ClashRecord
     ensures { result ≡ clash_bytes name.now first.now second.now word of_first of_second }
 {
-    let mut filled = [0; RECORD_LEN];
-    write_record(&mut filled, name, first, second, word, of_first, of_second);
-    ClashRecord { bytes: filled }
+    let mut bytes = [0; RECORD_LEN];
+    write_record(&mut bytes, name, first, second, word, of_first, of_second);
+    ClashRecord { bytes }
 }
 
 impl From<[u8; RECORD_LEN]> for ClashRecord {
@@ -84,8 +90,10 @@ pub fn record_of(bytes: [u8; RECORD_LEN]) -> ClashRecord
     ClashRecord { bytes }
 }
 
-// Writes the name, the word, the two registrations and the facts of each, one after another.
-fn write_record(
+/// Writes the record of a clash of two registrations of a name at a word, with the facts of each registration's half.
+///
+/// Requires 160 bytes, and sets all of them.
+pub fn write_record(
     out: &mut [u8],
     name: &Name,
     first: &Registration,
@@ -100,6 +108,20 @@ fn write_record(
     write_registrations(&mut out[..128], name, first, second, word);
     write_facts(&mut out[128..144], of_first);
     write_facts(&mut out[144..], of_second);
+}
+
+/// Sets the word of a record: eight bytes from 40 on, the least first. Keeps the other bytes.
+///
+/// Requires 160 bytes.
+pub fn set_word(out: &mut [u8], word: u64)
+    requires { length out.old ≡ record_len }
+    ensures bytes { out.new ≡ with_word out.old word }
+    // The record of a clash becomes the record of that clash at this word.
+    ensures clash { (name : List ℕ) (first second : Registration) (earlier : ℕ) (of_first of_second : Facts)
+        → length name ≤ name_limit → out.old ≡ clash_bytes name first second earlier of_first of_second
+        → out.new ≡ clash_bytes name first second word of_first of_second }
+{
+    write_word(&mut out[WORD_AT..WORD_AT + 8], word);
 }
 
 // Writes the name, the word and the two registrations, one after another.

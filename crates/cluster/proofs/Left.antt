@@ -1,12 +1,10 @@
 -- The state of a half after a failure.
-use Rattle.std.proofs.Common.{◌≡◌, ℕ, List, [], ◌∷◌, ◌++◌, length, Option, None, refl, sym, ap, ◌∙◌, subst, take, drop, inl, inr, arith}
+use Rattle.std.proofs.Common.{◌≡◌, ℕ, length, Option, None, sym, ap, ◌∙◌, subst, take, inl, inr, arith}
 use Rattle.std.specs.Option.{option_map_or}
-use Rattle.std.proofs.lemmas.List.{take-append-drop, take_all}
-use Rattle.std.proofs.lemmas.List.Elements.{filter_map-append}
+use Rattle.std.proofs.lemmas.List.{take_all}
 use Rattle.clash_record.specs.declared.side_id.SideId.{SideId}
 use Rattle.exchange_core.specs.Sides.{Exchange, Side, shown_table, without}
 use Rattle.exchange_core.specs.Finished.{Finished, IsFinished}
-use Rattle.clash_record.specs.declared.halves.Withdrawal.{Withdrawal}
 use Rattle.cluster.specs.Clusters.{Cluster, at}
 use Rattle.cluster.specs.Healing.{Plan, gone_of_side, idle_side, IsLeft, as_before, merged, left_open, untouched}
 use Rattle.cluster.specs.model.Stages.{IsRested, IsTrying, IsMerged, rested}

@@ -1,28 +1,39 @@
 -- Two halves that finished and met.
-use Rattle.std.proofs.Common.{◌≡◌, ℕ, List, Some, refl, sym, ap, ◌∙◌, subst}
+use Rattle.std.proofs.Common.{◌≡◌, ℕ, List, Option, Some, None, refl, sym, ap, ◌∙◌, subst, option_and_then}
+use Rattle.std.specs.Option.{option_map}
 use Rattle.std.specs.FinMap.{len}
 use Rattle.exchange_core.specs.declared.judged.Judged.{Judged}
-use Rattle.exchange_core.specs.Sides.{Offer, shown_table}
+use Rattle.clash_record.specs.Name.{Name}
+use Rattle.exchange_core.specs.Sides.{Exchange, Heard, Side, clashes_for, clashes_heard, heard_clashes, shown_table}
+use Rattle.exchange_core.specs.laws.Carried.{some_inj}
 use Rattle.exchange_core.specs.Finished.{Finished, IsFinished}
 use Rattle.partition_table.specs.Tables.{Table, Clash, clashes}
 use Rattle.verdict_board.specs.Boards.{Place}
 use Rattle.cluster.specs.Clusters.{Cluster}
 use Rattle.cluster.specs.Healing.{Plan, finished_as, idle_side, IsHealed}
-use Rattle.clash_record.specs.declared.side_id.SideId.TheVariants.{B}
-use Rattle.cluster.specs.model.Stages.{AreInRounds, AreOffers, HaveMet}
+use Rattle.clash_record.specs.declared.side_id.SideId.TheVariants.{A, B}
+use Rattle.cluster.specs.model.Stages.{IsTrying, AreInRounds, HaveMet}
 
--- the clashes of the tables that both offered
+-- the clashes of the tables that both showed
 abbrev pub clashes_shown : Plan → Cluster → List Clash
 clashes_shown plan was =
     clashes (shown_table was.a.side) plan.uptimes.a (shown_table was.b.side) plan.uptimes.b
 
-pub offered_clashes : (plan : Plan) (was : Cluster) (of_a of_b : Offer) (a b : Table) (all : List Clash) →
-    AreOffers plan was of_a of_b → a ≡ of_a.table → b ≡ of_b.table →
-    all ≡ clashes a plan.uptimes.a b plan.uptimes.b → all ≡ clashes_shown plan was
-offered_clashes plan was of_a of_b a b all offers is_a is_b is =
-    let same_a = is_a ∙ ap (λ (o : Offer). o.table) offers.a in
-    let same_b = is_b ∙ ap (λ (o : Offer). o.table) offers.b in
-    is ∙ (λ i. clashes (same_a i) plan.uptimes.a (same_b i) plan.uptimes.b)
+-- half A heard what half B showed
+pub heard_shown : (plan : Plan) (was : Cluster) (names : List Name) (now : Side) (all : List Clash) →
+    IsTrying plan was A names now → heard_clashes now ≡ Some all → all ≡ clashes_shown plan was
+heard_shown plan was names now all t e =
+    by_heard t.exchange.heard refl
+    (sym (ap (λ (o : Option Exchange). option_and_then (λ x. option_map (clashes_heard now x) x.heard) o) t.opened)
+    ∙ e)
+  where
+    by_heard : (o : Option Heard) → t.exchange.heard ≡ o → option_map (clashes_heard now t.exchange) o ≡ Some all →
+        all ≡ clashes_shown plan was
+    by_heard None is f = cc
+    by_heard (Some heard) is f =
+        let u = t.under_way in
+        let h = u.heard heard is in
+        sym (some_inj f) ∙ (λ i. clashes_for (t.same_id i) (t.table i) (u.uptime i) (h.table i) (h.uptime i))
 
 pub settled : (plan : Plan) (was now : Cluster) (first second : Finished) (rulings : List Judged) (all : List Clash)
     (count : ℕ) (place : Place) → AreInRounds plan was (Some first) (Some second) now → all ≡ clashes_shown plan was →

@@ -1,5 +1,6 @@
 -- A healed split, as contracts see it.
 use Rattle.std.specs.Prelude.{ℕ, List}
+use Rattle.std.specs.Arc.{arc_value}
 use Rattle.clash_record.specs.declared.halves.Withdrawal.{Withdrawal}
 use Rattle.partition_table.specs.Tables.{Clash}
 use Rattle.exchange_core.specs.declared.judged.Judged.{Judged}
@@ -14,7 +15,7 @@ pub record Healing : Type 0 where
 
 abbrev pub healing_of : code.Healing → Healing
 healing_of healing = record {
-  clashes = healing.clashes;
+  clashes = arc_value healing.clashes;
   rulings = healing.rulings.items;
   withdrawn = healing.withdrawn.items;
   names = healing.names;

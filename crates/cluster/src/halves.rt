@@ -33,21 +33,17 @@ impl Halves {
         Ok(())
     }
 
-    // Runs the exchange up to the rulings. Returns the offers, A's first.
-    pub fn open(&mut self, alloc: Global, plan: &Plan<'_>) -> Result<(Offer, Offer), HealFault>
-        ensures offers { IfOk result (λ offers. (was : shown_as.Cluster) → AreSides was
-            → AreRested was (halves_of self.old)
-            → AreOffers (plan_of plan.entry.now) was offers.0 offers.1) }
+    // Runs the exchange up to the rulings.
+    pub fn open(&mut self, alloc: Global, plan: &Plan<'_>) -> Result<(), HealFault>
         ensures tried { OnOk result ((was : shown_as.Cluster) → AreSides was → AreRested was (halves_of self.old)
             → AreTrying (plan_of plan.entry.now) was plan.entry.now.gone.now (halves_of self.new)) }
         ensures failed { OnErr result ((was : shown_as.Cluster) → AreSides was → AreRested was (halves_of self.old)
             → IsFailed (plan_of plan.entry.now) was (halves_of self.new)) }
     {
-        let offers = self.begin(alloc, plan)?;
-        self.hear(alloc, &offers.0, &offers.1)?;
+        let (of_a, of_b) = self.begin(alloc, plan)?;
+        self.hear(alloc, &of_a, &of_b)?;
         self.withdraw(plan)?;
-        self.exchange_lists(alloc)?;
-        Ok(offers)
+        self.exchange_lists(alloc)
     }
 
     // Begins the exchange on both halves. Returns the offers, A's first.

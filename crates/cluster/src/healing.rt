@@ -5,11 +5,12 @@ ghost use Rattle.cluster.specs.Healings.{healing_of};
 use clash_record::Withdrawal;
 use exchange_core::Judged;
 use partition_table::ClashList;
+use std::sync::Arc;
 
 /// The outcome of a healed split.
 #[derive(Debug, Drop)]
 pub struct Healing {
-    pub(crate) clashes: ClashList,
+    pub(crate) clashes: Arc<ClashList>,
     pub(crate) rulings: Vec<Judged>,
     pub(crate) withdrawn: Vec<Withdrawal>,
     pub(crate) names: usize,

@@ -21,7 +21,7 @@ use crate::plan::Plan;
 use clash_record::SideId;
 use exchange_core::{Finished, Judged, Side};
 use judge_pool::Gate;
-use partition_table::{ClashList, clashes};
+use partition_table::ClashList;
 use registry_lock::{Healed, meet, tell_round};
 use std::alloc::{AllocError, Global};
 use std::mem;
@@ -110,9 +110,8 @@ impl Halves {
             → IsFailed (plan_of plan.entry.now) was (halves_of self.new)) }
     {
         let withdrawn = copy(alloc, plan.gone)?;
-        let (of_a, of_b) = self.open(alloc, plan)?;
-        let uptimes = plan.uptimes;
-        let clashes = clashes(alloc, of_a.table(), uptimes.a, of_b.table(), uptimes.b)?;
+        self.open(alloc, plan)?;
+        let clashes = self.a.share_clashes()?;
         let (rulings, names) = self.settle(rt, alloc, plan, &clashes, workers, gate)?;
         Ok(Healing {
             clashes,

@@ -6,6 +6,7 @@ pub mod Filling
 pub mod Journaled
 pub mod Kept
 pub mod Listed
+pub mod Listing
 pub mod Merges
 pub mod Once
 pub mod OneRound

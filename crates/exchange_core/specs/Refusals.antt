@@ -165,5 +165,11 @@ settle_fault_in events round exchange =
 abbrev pub settle_fault : ℕ → Side → ℕ → Option SideFault
 settle_fault events side round = option_map_or (settle_fault_in events round) side.exchange (Some NotHealing)
 
+abbrev pub clashes_fault_in : Exchange → Option SideFault
+clashes_fault_in exchange = if is_some exchange.heard then None else Some (Missing TheirOffer)
+
+abbrev pub clashes_fault : Side → Option SideFault
+clashes_fault side = option_map_or clashes_fault_in side.exchange (Some NotHealing)
+
 abbrev pub renew_fault : Side → Option SideFault
 renew_fault side = if is_some side.exchange then Some Healing else None

@@ -5,3 +5,4 @@ pub mod Early
 pub mod Finishing
 pub mod Settling
 pub mod Renewing
+pub mod Listing

@@ -108,6 +108,17 @@ impl Side {
         self.state.clashes()
     }
 
+    /// Shares the list of clashes of the open exchange: adds an owner, and copies nothing.
+    ///
+    /// Returns 34 if no exchange is open, and 39 with the other's offer if that isn't heard yet. Returns 90 when the list
+    /// can't have one more owner.
+    pub fn share_clashes(&self) -> Result<Arc<ClashList>, SideFault>
+        ensures answer { IsAnswered side_fault_number (due.clashes_fault (shown self.now)) result }
+        ensures clashes { IfOk result (λ list. heard_clashes (shown self.now) ≡ Some (arc_value list)) }
+    {
+        self.state.share_clashes()
+    }
+
     // Checks whether the journal has as many events as it holds.
     fn is_full(&self) -> bool
         ensures { result ≡ is_full self.now }

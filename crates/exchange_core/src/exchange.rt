@@ -2,7 +2,7 @@
 ghost use Rattle.std.specs.Prelude.{◌≡◌, ◌≤◌, ◌+◌, ◌∷◌, ◌++◌, [], Some, None, IfOk, OnOk, OnErr, replicate, is_some, true, length, map, vec_len, vec_capacity};
 ghost use Rattle.std.specs.Option.{option_map};
 ghost use Rattle.std.specs.Arc.{arc_value};
-ghost use Rattle.partition_table.specs.Tables.{is_in, is_name};
+ghost use Rattle.partition_table.specs.Tables.{is_in};
 ghost use Rattle.exchange_core.specs.Sides.{put_ruling, new_exchange};
 ghost use Rattle.exchange_core.specs.Refusals.{first_without, missing_of};
 ghost use Rattle.exchange_core.specs.model.Changing.{with_ruling};
@@ -13,6 +13,7 @@ ghost use Rattle.exchange_core.specs.Codings.{names_of};
 use crate::fault::MissingPart;
 use crate::journal::Event;
 use crate::judged::Judged;
+use crate::name_list::NameList;
 use crate::settling::{Course, fill};
 use clash_record::Name;
 use partition_table::{ClashList, Table};
@@ -114,7 +115,7 @@ pub(crate) struct Exchange {
     pub(crate) seed: u64,
     pub(crate) uptime: u64,
     pub(crate) heard: Option<Heard>,
-    pub(crate) withdrawn: Vec<Name>,
+    pub(crate) withdrawn: NameList,
     pub(crate) closed: bool,
     pub(crate) their_list: Option<Arc<Vec<Name>>>,
 }
@@ -133,7 +134,7 @@ impl Model for Exchange {
       seed = x.seed;
       uptime = x.uptime;
       heard = x.heard;
-      withdrawn = x.withdrawn.items;
+      withdrawn = x.withdrawn;
       closed = x.closed;
       their_list = option_map names_of x.their_list;
     } };
@@ -149,7 +150,7 @@ impl Exchange {
             seed,
             uptime,
             heard: None,
-            withdrawn: Vec::new(alloc),
+            withdrawn: NameList::new(alloc),
             closed: false,
             their_list: None,
         }
@@ -217,11 +218,11 @@ impl Exchange {
     pub(crate) fn has_withdrawn(&self, name: &Name) -> bool
         ensures { result ≡ is_in name.now self.now.withdrawn }
     {
-        has_name(&self.withdrawn, name)
+        self.withdrawn.contains(name)
     }
 
     // The names that were withdrawn.
-    pub(crate) fn withdrawn(&self) -> &[Name]
+    pub(crate) fn withdrawn(&self) -> &NameList
         ensures { result.now ≡ self.now.withdrawn }
     {
         &self.withdrawn
@@ -232,8 +233,7 @@ impl Exchange {
         ensures done { OnOk result (self.new ≡ record self.old { withdrawn = self.old.withdrawn ++ name ∷ [] }) }
         ensures unchanged { OnErr result (self.new ≡ self.old) }
     {
-        self.withdrawn.push(name)?;
-        Ok(())
+        self.withdrawn.push(name)
     }
 
     // Closes the list of withdrawn names.
@@ -254,7 +254,7 @@ impl Exchange {
     pub(crate) fn copy_names(&self, alloc: Global) -> Result<Arc<Vec<Name>>, AllocError>
         ensures { IfOk result (λ names. names_of names ≡ self.now.withdrawn) }
     {
-        match Arc::new(alloc, self.withdrawn.clone()?) {
+        match Arc::new(alloc, self.withdrawn.copy()?) {
             Ok(names) => Ok(names),
             Err(_) => Err(AllocError),
         }
@@ -278,20 +278,6 @@ impl Exchange {
         }
         None
     }
-}
-
-// Checks whether the name is one of these.
-pub(crate) fn has_name(names: &[Name], name: &Name) -> bool
-    ensures { result ≡ is_in name.now names.now }
-{
-    names.iter().any(|other| is_same(name, other))
-}
-
-// Checks whether the two names are one.
-fn is_same(a: &Name, b: &Name) -> bool
-    ensures { result ≡ is_name a.now b.now }
-{
-    a.cmp(b).is_eq()
 }
 
 // The first place without a ruling.

@@ -9,11 +9,11 @@ ghost use Rattle.clash_record.specs.Name.{Name};
 use crate::exchange::Exchange;
 use crate::finished::Finished;
 use crate::judged::Judged;
-use crate::pairing::merge_for;
+use crate::pairing::merge_own;
 use crate::state::State;
 use builtin_resolvers::Verdict3;
 use clash_record::SideId;
-use partition_table::Table;
+use partition_table::{Table, clashes_theorem, fit_theorem};
 use std::alloc::{AllocError, Global};
 use std::mem;
 
@@ -62,13 +62,15 @@ fn merge_exchange(
     };
     let rulings = held_rulings(alloc, heard.rulings())?;
     let answers = answers_of(alloc, &rulings)?;
-    let table = merge_for(
+    // For the proof: the order of the two tables doesn't matter.
+    fit_theorem();
+    clashes_theorem();
+    let table = merge_own(
         alloc,
-        id,
         own,
         heard.table(),
         &answers,
-        exchange.withdrawn(),
+        exchange.withdrawn().names(),
         theirs,
     )?;
     Ok(Merged { rulings, table })
@@ -92,7 +94,7 @@ fn finished_with(id: SideId, own: Table, exchange: Exchange, merged: Merged) -> 
         seed: exchange.seed,
         own,
         own_uptime: exchange.uptime,
-        own_gone: exchange.withdrawn,
+        own_gone: exchange.withdrawn.into_names(),
         other,
         other_uptime,
         other_gone,

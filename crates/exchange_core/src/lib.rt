@@ -10,6 +10,7 @@ mod history;
 mod journal;
 mod judged;
 mod messages;
+mod name_list;
 mod pairing;
 mod refusing;
 mod renewing;

@@ -3,20 +3,22 @@ ghost use Rattle.std.specs.Prelude.{◌≡◌, ◌&&◌, ◌==◌, ◌<◌, ◌�
 ghost use Rattle.std.specs.FinMap.{len, contains_key};
 ghost use Rattle.clash_record.specs.declared.registrations.Registration.{Registration};
 ghost use Rattle.upload_store.specs.Programs.{Programs};
+ghost use Rattle.partition_table.specs.Faults.{IsRefused};
 ghost use Rattle.partition_table.specs.Judged.{clash_of_verdict, word_of_verdict};
 ghost use Rattle.partition_table.specs.Tables.{max_names, same_clash};
 ghost use Rattle.exchange_core.specs.Sides.{is_above, is_side, is_one_of_four};
 ghost use Rattle.exchange_core.specs.Sides as sides;
 ghost use Rattle.exchange_core.specs.Refusals as due;
 ghost use Rattle.exchange_core.specs.model.Early.{early_register_fault};
+ghost use Rattle.exchange_core.specs.model.Pairing.{fit_fault_for};
 
 use crate::exchange::Exchange;
 use crate::fault::SideFault;
 use crate::messages::{Offer, Withdrawals};
-use crate::pairing::fit_for;
+use crate::pairing::fit_own;
 use crate::state::State;
 use clash_record::{Name, SideId};
-use partition_table::{Clash, MAX_NAMES, Ruling, TableFault, word};
+use partition_table::{Clash, MAX_NAMES, Ruling, Table, TableFault, word};
 
 impl State {
     // Returns the refusal to register the name before its program is looked up.
@@ -84,6 +86,13 @@ impl State {
         sent_fault(full, self.id, exchange, offer.side(), offer.number())
     }
 
+    // Checks whether this side's table and the other's have a merge.
+    fn fit(&self, other: &Table) -> Result<(), TableFault>
+        ensures { IsRefused (fit_fault_for self.now.id self.now.table other.now) result }
+    {
+        fit_own(&self.table, other)
+    }
+
     // Returns the refusal of the other side's first offer of the open number.
     fn first_offer_fault(&self, full: bool, exchange: &Exchange, offer: &Offer) -> Option<SideFault>
         ensures { result ≡ due.first_offer_fault full self.now exchange.now offer.now }
@@ -91,7 +100,7 @@ impl State {
         if exchange.seed() != offer.seed() {
             return Some(SideFault::SeedDiffers);
         }
-        let fit = fit_for(self.id, &self.table, offer.table());
+        let fit = self.fit(offer.table());
         if let Err(TableFault::TooManyNames) = fit {
             return Some(SideFault::Table(TableFault::TooManyNames));
         }

@@ -1,5 +1,9 @@
 //! The rows that a side shows.
-use crate::exchange::has_name;
+ghost use Rattle.std.specs.Prelude.{◌≡◌};
+ghost use Rattle.partition_table.specs.Tables.{is_in};
+ghost use Rattle.exchange_core.specs.Rows.{hidden_names};
+
+use crate::name_list::NameList;
 use clash_record::{Name, Registration};
 use partition_table::Rows;
 
@@ -8,7 +12,7 @@ use partition_table::Rows;
 #[derive(Debug, Drop)]
 pub struct ShownRows<'a> {
     pub(crate) rows: Rows<'a>,
-    pub(crate) withdrawn: &'a [Name],
+    pub(crate) withdrawn: Option<&'a NameList>,
 }
 
 impl<'a> Iterator for ShownRows<'a> {
@@ -24,10 +28,20 @@ impl<'a> Iterator for ShownRows<'a> {
 
     fn next(&mut self) -> Option<(&'a Name, &'a Registration)> {
         while let Some((name, registration)) = self.rows.next() {
-            if !has_name(self.withdrawn, name) {
+            if !is_hidden(self.withdrawn, name) {
                 return Some((name, registration));
             }
         }
         None
+    }
+}
+
+// Checks whether the name is withdrawn.
+fn is_hidden(withdrawn: Option<&NameList>, name: &Name) -> bool
+    ensures { result ≡ is_in name.now (hidden_names withdrawn.entry) }
+{
+    match withdrawn {
+        Some(names) => names.contains(name),
+        None => false,
     }
 }

@@ -8,13 +8,17 @@ ghost use Rattle.exchange_core.specs.Sides.{new_side, without, shown_table, hear
 ghost use Rattle.exchange_core.specs.Lists.{AreNamesOf};
 ghost use Rattle.exchange_core.specs.Rows.{rows_left};
 ghost use Rattle.std.specs.Option.{option_map, option_map_or};
+ghost use Rattle.std.specs.Arc.{arc_value};
+ghost use Rattle.exchange_core.specs.Faults.{side_fault_number};
+ghost use Rattle.exchange_core.specs.Refusals as due;
 ghost use Rattle.exchange_core.specs.Sides as sides;
 ghost use Rattle.exchange_core.specs.Worlds.{offer_of, list_of};
 
 use crate::exchange::{Exchange, Heard};
+use crate::fault::{MissingPart, SideFault};
 use crate::judged::Judged;
 use crate::messages::{Offer, Withdrawals};
-use crate::pairing::clashes_for;
+use crate::pairing::clashes_own;
 use crate::shown_rows::ShownRows;
 use clash_record::{Name, Registration, SideId};
 use partition_table::{ClashList, Table, TableFault};
@@ -29,7 +33,7 @@ pub(crate) struct State {
     pub(crate) id: SideId,
     pub(crate) table: Table,
     pub(crate) exchange: Option<Exchange>,
-    pub(crate) clashes: Option<ClashList>,
+    pub(crate) clashes: Option<Arc<ClashList>>,
     pub(crate) latest: Option<u64>,
 }
 
@@ -99,7 +103,7 @@ impl State {
         ensures { result.now ≡ option_map_or (λ exchange. exchange.withdrawn) self.now.exchange [] }
     {
         match &self.exchange {
-            Some(exchange) => exchange.withdrawn(),
+            Some(exchange) => exchange.withdrawn().names(),
             None => &[],
         }
     }
@@ -108,7 +112,24 @@ impl State {
     pub(crate) fn clashes(&self) -> Option<&ClashList>
         ensures { option_map (λ list. list.now) result ≡ heard_clashes self.now }
     {
-        self.clashes.as_ref()
+        match &self.clashes {
+            Some(clashes) => Some(clashes),
+            None => None,
+        }
+    }
+
+    // Adds an owner of the clashes of the open exchange.
+    pub(crate) fn share_clashes(&self) -> Result<Arc<ClashList>, SideFault>
+        ensures answer { IsAnswered side_fault_number (due.clashes_fault self.now) result }
+        ensures clashes { IfOk result (λ list. heard_clashes self.now ≡ Some (arc_value list)) }
+    {
+        let Some(clashes) = &self.clashes else {
+            return Err(match &self.exchange {
+                Some(_) => SideFault::Missing(MissingPart::TheirOffer),
+                None => SideFault::NotHealing,
+            });
+        };
+        Ok(clashes.clone()?)
     }
 
     // What the name is registered with, unless it was withdrawn.
@@ -132,12 +153,12 @@ impl State {
         let Some(exchange) = &self.exchange else {
             return ShownRows {
                 rows: self.table.rows(),
-                withdrawn: &[],
+                withdrawn: None,
             };
         };
         ShownRows {
             rows: self.table.rows(),
-            withdrawn: exchange.withdrawn(),
+            withdrawn: Some(exchange.withdrawn()),
         }
     }
 
@@ -197,15 +218,15 @@ impl State {
         if exchange.has_heard() {
             return Ok(());
         }
-        let clashes = clashes_for(
+        let clashes = clashes_own(
             alloc,
-            self.id,
             &self.table,
             exchange.uptime(),
             offer.table(),
             offer.uptime(),
         )?;
         let heard = Heard::new(alloc, offer.share_table()?, offer.uptime(), clashes.len())?;
+        let clashes = Arc::new(alloc, clashes)?;
         exchange.keep_heard(heard);
         self.clashes = Some(clashes);
         Ok(())
@@ -277,7 +298,7 @@ impl State {
         let Some(exchange) = self.exchange.take() else {
             unreachable!()
         };
-        take_out(&mut self.table, exchange.withdrawn());
+        take_out(&mut self.table, exchange.withdrawn().names());
         self.clashes = None;
     }
 }

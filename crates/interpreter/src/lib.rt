@@ -7,5 +7,5 @@ mod running;
 mod scratch;
 mod table;
 
-pub use running::{Ended, one_meaning_theorem, run, run_in};
+pub use running::{Ended, one_meaning_theorem, run, run_in, run_written};
 pub use scratch::Scratch;

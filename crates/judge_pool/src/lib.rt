@@ -12,6 +12,6 @@ mod serving;
 pub use done::Done;
 pub use healing::{RoundDone, heal_round};
 pub use hooks::{Ear, Gate, OpenGate};
-pub use judging::judge;
+pub use judging::{judge, judge_in};
 pub use partition_table::word;
 pub use serving::work;

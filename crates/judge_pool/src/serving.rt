@@ -6,8 +6,9 @@ ghost use Rattle.judge_pool.specs.Work.{posts, clashes_drawn, DrewIn, IsSpent};
 
 use crate::done::Done;
 use crate::hooks::{Ear, Gate};
-use crate::judging::judge;
+use crate::judging::judge_in;
 use crate::round::Round;
+use interpreter::Scratch;
 use partition_table::{Verdict, word};
 use std::sync::Wait;
 use verdict_board::{Board, Draw, Pass, Posted, Seat};
@@ -18,7 +19,8 @@ const MOST_DRAWN: u32 = 4097;
 /// Draws clashes of a round until none is left: judges each, calls the gate, posts the verdict, and passes the ruling
 /// that it then reads, if any, to both listeners.
 ///
-/// Requires a seat and a pass of this board, and a round from 0 to 3. Each post allocates one word.
+/// Requires a seat and a pass of this board, and a round from 0 to 3. Runs all resolvers in one scratch memory. Each post
+/// allocates one word.
 pub fn work<'p, G: Gate, E: Ear, R: Wait>(
     rt: &R,
     board: &Board<'p>,
@@ -73,10 +75,11 @@ impl<'a, 'p, G: Gate, E: Ear> Round<'a, 'p, G, E> {
             ≡ clashes_drawn n self.entry.now.number result.seat.drawn }
     {
         let mut pass = pass;
+        let mut scratch = Scratch::new();
         let mut done = Done::new(seat);
         for _turn in 0..MOST_DRAWN {
             match self.board.draw(&mut done.seat, self.number) {
-                Draw::Clash(k) => done.count(self.serve(rt, &mut pass, k)),
+                Draw::Clash(k) => done.count(self.serve(rt, &mut pass, &mut scratch, k)),
                 Draw::Spent => return done,
             }
         }
@@ -84,12 +87,18 @@ impl<'a, 'p, G: Gate, E: Ear> Round<'a, 'p, G, E> {
     }
 
     // Judges clash k, posts the verdict, and passes on the ruling on the board.
-    fn serve<R: Wait>(&self, rt: &R, pass: &mut Pass<'p>, k: u32) -> Posted<'p>
+    fn serve<R: Wait>(
+        &self,
+        rt: &R,
+        pass: &mut Pass<'p>,
+        scratch: &mut Scratch,
+        k: u32,
+    ) -> Posted<'p>
         requires pass { pass.old.place ≡ self.now.board.now.place }
         requires clash { k < length self.now.board.now.place.clashes }
         ensures { pass.new.place ≡ pass.old.place }
     {
-        let verdict = self.verdict(k);
+        let verdict = self.verdict(scratch, k);
         self.gate.before_post(rt, self.number, k);
         let posted = self.board.post(k, verdict, pass);
         if let Some(ruling) = self.board.read(k, pass) {
@@ -100,7 +109,7 @@ impl<'a, 'p, G: Gate, E: Ear> Round<'a, 'p, G, E> {
     }
 
     // Returns the verdict of clash k at its word in this round.
-    fn verdict(&self, k: u32) -> Verdict<'p>
+    fn verdict(&self, scratch: &mut Scratch, k: u32) -> Verdict<'p>
         requires { k < length self.now.board.now.place.clashes }
         ensures clash { slice_get self.entry.now.board.now.place.clashes k ≡ Some (clash_of_verdict result) }
         ensures word { word_of_verdict result ≡ word_of self.entry.now.board.now.place.seed self.entry.now.number
@@ -108,6 +117,7 @@ impl<'a, 'p, G: Gate, E: Ear> Round<'a, 'p, G, E> {
     {
         let clashes = self.board.clashes();
         let count = clashes.len() as u32;
-        judge(clashes, k, word(self.board.seed(), self.number, count, k))
+        let word = word(self.board.seed(), self.number, count, k);
+        judge_in(scratch, clashes, k, word)
     }
 }

@@ -1,5 +1,5 @@
 -- A table that gets a row, and one that loses a row.
-use Rattle.std.proofs.Common.{◌≡◌, ◌+◌, ◌-◌, ◌<◌, ◌≤◌, ◌⊎◌, Bool, true, false, cond, if◌then◌else◌, Option, Some, None, is_some, IfSome, List, [], ◌∷◌, ◌++◌, reverse, refl, ap, sym, subst, ◌∙◌, inl, inr, arith}
+use Rattle.std.proofs.Common.{◌≡◌, ◌+◌, ◌-◌, ◌<◌, ◌≤◌, ◌⊎◌, Bool, true, false, cond, if◌then◌else◌, Option, Some, None, is_some, List, [], ◌∷◌, ◌++◌, reverse, refl, ap, sym, subst, ◌∙◌, inl, inr, arith}
 use Rattle.std.proofs.lemmas.List.{reverse-append}
 use Rattle.std.specs.Option.{option_map}
 use Rattle.std.specs.Ordering.{eq_by_cmp}
@@ -13,12 +13,14 @@ use Rattle.clash_record.specs.declared.registrations.ResolverId.TheVariants.{Bui
 use Rattle.clash_record.specs.declared.registrations.Registration.{Registration}
 use Rattle.clash_record.specs.Orders.{name_cmp, id_cmp}
 use Rattle.clash_record.specs.laws.Orders.{names_total, names_exact, ids_total, ids_exact}
-use Rattle.upload_store.specs.Programs.{Programs}
+use Rattle.upload_store.specs.Programs.{Programs, programs_by}
 use Rattle.clash_record.specs.Name.{Name}
+use Rattle.partition_table.specs.declared.programs.Kept.{Kept}
 use Rattle.partition_table.specs.Tables.{Row, Table, IsCodeOf, max_names, program_of, code_for, row_for, same_id}
-use Rattle.partition_table.specs.model.Keeping.{IsNamed, IsHeld, with_code, without_code, has_room_for}
+use Rattle.partition_table.specs.model.Keeping.{IsNamed, IsHeld, IsKept, kept_code, rows_kept, rows_naming, is_of, with_code, has_room_for}
 use Rattle.partition_table.specs.Views.{table_by}
-use Rattle.partition_table.proofs.Maps.{made_inserted, made_alike, get-insert_same, remove_insert}
+use Rattle.partition_table.proofs.Maps.{made_inserted, made_removed, made_alike, get-insert_same, remove_insert}
+use Rattle.partition_table.proofs.Counts.{naming_more, few_naming}
 use Rattle.partition_table.proofs.Held.{IsLookedUp, get_row, same_id_is, same_id_from, named_program}
 
 -- what programs have under an id, once they have this code under the resolver's
@@ -29,24 +31,6 @@ get-with_code programs (Program p) None id coded = absurd coded
 get-with_code programs (Program p) (Some c) id coded =
     get-insert ids_total programs p c id
     ∙ ap (λ b. cond b (Some c) (get programs id)) ((eq_by_cmp_equiv ids_total).symm id p)
-
--- the program that was put in newly is taken out again
-pub undone : (programs : Programs) (r : ResolverId) (c : Option (List Insn)) (id : ProgramId) → IsCodeOf r c
-    → program_of r ≡ Some id → get programs id ≡ None → remove (with_code r c programs) id ≡ programs
-undone programs (Builtin b) c id coded named none = absurd (cc)
-undone programs (Program p) None id coded named none = absurd coded
-undone programs (Program p) (Some c) id coded named none =
-    let is : p ≡ id = cc in
-    ap (λ i. remove (insert programs i c) id) is ∙ remove_insert ids_total ids_exact programs id c none
-
--- programs after one was held, and released where it was new
-pub released : (before after : Programs) (r : ResolverId) (c : Option (List Insn)) (added : Option ProgramId)
-    → IsCodeOf r c
-    → after ≡ with_code r c before → (added ≡ None → after ≡ before)
-    → IfSome added (λ id. (program_of r ≡ Some id) × (get before id ≡ None)) → without_code added after ≡ before
-released before after r c None coded held kept new = kept refl
-released before after r c (Some id) coded held kept new =
-    ap (λ p. remove p id) held ∙ undone before r c id coded new.0 new.1
 
 -- one more row
 module _ (programs : Programs) (table : Table) (held : IsHeld programs table) (looked : IsLookedUp programs table)
@@ -161,6 +145,38 @@ module _ (programs : Programs) (table : Table) (held : IsHeld programs table) (l
       ap (λ es. table_by after (reverse es)) is
       ∙ ap (table_by after) (reverse-append rows ((name, row.registration) ∷ []))
       ∙ made_before (reverse rows) made
+
+-- the counts go along
+module _ (kept : List (ProgramId × Kept)) (table : Table) (held : IsHeld (programs_by kept_code kept) table)
+    (looked : IsLookedUp (programs_by kept_code kept) table)
+    (counted : (id : ProgramId) → rows_kept kept id ≡ rows_naming table id)
+    (name : Name) (row : Row) (new : get table name ≡ None) (room : len table < max_names) where
+  pub few_kept : (id : ProgramId) → rows_kept kept id < max_names
+  few_kept id = omega (arith, counted id, few_naming table id, room)
+
+  pub kept_more : (coded : IsCodeOf row.registration.resolver row.code)
+      → has_room_for (programs_by kept_code kept) row.registration.resolver row.code → (after : List (ProgramId × Kept))
+      → programs_by kept_code after ≡ with_code row.registration.resolver row.code (programs_by kept_code kept)
+      → ((id : ProgramId) → rows_kept after id ≡ rows_kept kept id + is_of row.registration.resolver id)
+      → (made : Table) → made ≡ insert table name row → IsKept after made
+  kept_more coded fits after is more made same =
+      subst (IsKept after) (sym same) (record {
+        held =
+            subst (λ p. IsHeld p (insert table name row)) (sym is)
+            (held_more (programs_by kept_code kept) table held looked name row new room coded fits);
+        counted = λ id. omega (arith, more id, counted id, naming_more table name row id new);
+      })
+
+  -- a row that is taken out again leaves the table
+  pub made_back : (m lent n : BTreeMap Name Registration) → table_by (programs_by kept_code kept) m.entries ≡ table
+      → Updates name_cmp m lent name (Some row.registration) → Updates name_cmp lent n name None
+      → table_by (programs_by kept_code kept) n.entries ≡ table
+  made_back m lent n made insertion removal =
+      let read = row_for (programs_by kept_code kept) in
+      made_removed names_total read names_exact lent n name removal
+      ∙ ap (λ t. remove t name) (made_inserted names_total read names_exact m lent name row.registration insertion
+      ∙ ap (λ t. insert t name (read row.registration)) made)
+      ∙ remove_insert names_total names_exact table name (read row.registration) new
 
 -- one row less
 module _ (programs : Programs) (table : Table) (held : IsHeld programs table) (looked : IsLookedUp programs table)

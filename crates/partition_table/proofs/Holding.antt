@@ -1,11 +1,14 @@
 -- Programs under their ids.
-use Rattle.std.proofs.Common.{◌≡◌, ◌⊎◌, ◌↔◌, Bool, true, false, Option, Some, None, is_some, Bor, List, [], ◌∷◌, refl, ap, sym, ◌∙◌, inl, inr}
-use Rattle.std.specs.Option.{option_map, option_copied}
+use Rattle.std.proofs.Common.{◌≡◌, ◌⊎◌, ◌↔◌, ℕ, ◌+◌, ◌-◌, ◌<◌, ◌≤◌, Bool, true, false, nat_le, cond, if◌then◌else◌, Option, Some, None, is_some, Bor, List, [], ◌∷◌, refl, ap, sym, subst, ◌∙◌, inl, inr, arith}
+use Rattle.std.proofs.lemmas.Bool.{leb-true, leb-false}
+use Rattle.std.specs.Option.{option_map, option_map_or, option_copied, IsSome}
+use Rattle.std.specs.Ordering.{is_eq}
+use Rattle.std.specs.Cmp.{Equal-is}
 use Rattle.std.specs.Bool.{IsTrue}
 use Rattle.std.specs.List.{AllZip}
 use Rattle.std.specs.Map.{lookup}
-use Rattle.std.specs.BTreeMap.{BTreeMap, is_at, Updates}
-use Rattle.std.specs.FinMap.{get, insert}
+use Rattle.std.specs.BTreeMap.{BTreeMap, is_at, Updates, WritesThrough}
+use Rattle.std.specs.FinMap.{get, insert, remove}
 use Rattle.std.specs.Cmp.Lexicographic.{pointwise}
 use Rattle.instruction_set.specs.declared.insn.Insn.{Insn}
 use Rattle.instruction_set.specs.contracts.insn.InsnPartialEq.TheImpl as insn_eq
@@ -15,9 +18,10 @@ use Rattle.clash_record.specs.declared.registrations.ResolverId.TheVariants.{Pro
 use Rattle.clash_record.specs.Orders.{id_cmp}
 use Rattle.clash_record.specs.laws.Orders.{ids_total, ids_exact}
 use Rattle.upload_store.specs.Programs.{Programs, programs_by}
-use Rattle.partition_table.specs.model.Keeping.{has_room_for}
+use Rattle.partition_table.specs.declared.programs.Kept.{Kept}
+use Rattle.partition_table.specs.model.Keeping.{kept_code, rows_kept, is_of, last_of, without_code, has_room_for}
 use Rattle.partition_table.specs.Views.{mapped}
-use Rattle.partition_table.proofs.Maps.{get-mapped, made_inserted, insert_again}
+use Rattle.partition_table.proofs.Maps.{get-mapped, made_inserted, made_removed, insert_again, remove_absent}
 
 pub is_none_by : {X : Type 0} (o : Option X) → is_some o ≡ false → o ≡ None
 is_none_by None h = refl
@@ -43,12 +47,6 @@ module _ {P : Type 0} (code_of : P → List Insn) where
       → is_some (lookup (is_at (id_cmp id)) es) ≡ b
       → is_some (get (programs_by code_of es) id) ≡ b
   is_some_code es id b h = ap is_some (get_code es id) ∙ some_code (lookup (is_at (id_cmp id)) es) ∙ h
-
-  -- entries with a program more, or with another in its place
-  pub held_newly : (m n : BTreeMap ProgramId P) (id : ProgramId) (p : P) (c : List Insn) → code_of p ≡ c
-      → Updates id_cmp m n id (Some p) → programs_by code_of n.entries ≡ insert (programs_by code_of m.entries) id c
-  held_newly m n id p c is updates =
-      made_inserted ids_total code_of ids_exact m n id p updates ∙ ap (insert (programs_by code_of m.entries) id) is
 
   -- a look-up that lends the program
   pub code_lent : (es : List (ProgramId × P)) (id : ProgramId) (lent : Option (Bor P))
@@ -95,3 +93,142 @@ shared_clone f (e ∷ es) [] h = absurd h
 shared_clone f (e ∷ es) (g ∷ fs) h =
     ap (λ k. (k, f g.1) ∷ mapped f fs) h.0.0 ∙ ap (λ x. (e.0, x) ∷ mapped f fs) h.0.1
     ∙ ap (λ xs. (e.0, f e.1) ∷ xs) (shared_clone f es fs h.1)
+
+-- ---- counts
+
+-- the map n is m with another program under an id, or with none
+module _ (m n : BTreeMap ProgramId Kept) (id : ProgramId) (w : Option Kept) (updates : Updates id_cmp m n id w) where
+  -- the count changes there alone
+  pub rows_changed : (f : ℕ → ℕ → ℕ) → ((x : ℕ) → f x 0 ≡ x)
+      → option_map_or (λ kept. kept.rows) w 0 ≡ f (rows_kept m.entries id) 1
+      → (q : ProgramId) → rows_kept n.entries q ≡ f (rows_kept m.entries q) (is_of (Program id) q)
+  rows_changed f none h q =
+      ap (λ o. option_map_or (λ (kept : Kept). kept.rows) o 0) (updates.0 q) ∙ by (is_eq (id_cmp id q)) refl
+    where
+      by : (b : Bool) → is_eq (id_cmp id q) ≡ b
+          → option_map_or (λ (kept : Kept). kept.rows) (cond b w (lookup (is_at (id_cmp q)) m.entries)) 0
+          ≡ f (rows_kept m.entries q) (if b then 1 else 0)
+      by true e = h ∙ ap (λ i. f (rows_kept m.entries i) 1) (ids_exact id q ((Equal-is (id_cmp id q)).0 e))
+      by false e = sym (none (rows_kept m.entries q))
+
+-- the map n is m with another count of a program
+module _ (m n : BTreeMap ProgramId Kept) (id : ProgramId) (kept w : Kept)
+    (found : lookup (is_at (id_cmp id)) m.entries ≡ Some kept) (writes : WritesThrough id_cmp (id_cmp id) m w n) where
+  abbrev updates : Updates id_cmp m n id (Some w)
+  updates = writes.3 (subst IsSome (sym found) refl)
+
+  pub rows_found : rows_kept m.entries id ≡ kept.rows
+  rows_found = ap (λ o. option_map_or (λ (kept : Kept). kept.rows) o 0) found
+
+  pub same_programs : kept_code w ≡ kept_code kept
+      → programs_by kept_code n.entries ≡ programs_by kept_code m.entries
+  same_programs same =
+      made_inserted ids_total kept_code ids_exact m n id w updates
+      ∙ insert_again ids_total ids_exact (programs_by kept_code m.entries) id (kept_code w)
+      (get_code kept_code m.entries id ∙ ap (option_map kept_code) found ∙ ap Some (sym same))
+
+  pub rows_written : (f : ℕ → ℕ → ℕ) → ((x : ℕ) → f x 0 ≡ x) → w.rows ≡ f kept.rows 1
+      → (q : ProgramId) → rows_kept n.entries q ≡ f (rows_kept m.entries q) (is_of (Program id) q)
+  rows_written f none h = rows_changed m n id (Some w) updates f none (h ∙ ap (λ x. f x 1) (sym rows_found))
+
+-- where there is none, there is none to take out
+pub none_kept : (m : BTreeMap ProgramId Kept) (id : ProgramId) → lookup (is_at (id_cmp id)) m.entries ≡ None
+    → remove (programs_by kept_code m.entries) id ≡ programs_by kept_code m.entries
+none_kept m id none =
+    remove_absent ids_total ids_exact (programs_by kept_code m.entries) id
+    (get_code kept_code m.entries id ∙ ap (option_map kept_code) none)
+
+-- nor a count to lower
+pub none_less : (m : BTreeMap ProgramId Kept) (id : ProgramId) → lookup (is_at (id_cmp id)) m.entries ≡ None
+    → (q : ProgramId) → rows_kept m.entries q ≡ rows_kept m.entries q - is_of (Program id) q
+none_less m id none q = by (is_eq (id_cmp id q)) refl
+  where
+    by : (b : Bool) → is_eq (id_cmp id q) ≡ b → rows_kept m.entries q ≡ rows_kept m.entries q - (if b then 1 else 0)
+    by true e =
+        let here : rows_kept m.entries q ≡ 0 =
+        ap (rows_kept m.entries) (sym (ids_exact id q ((Equal-is (id_cmp id q)).0 e)))
+        ∙ ap (λ o. option_map_or (λ (kept : Kept). kept.rows) o 0) none in
+        omega (arith, here)
+    by false e = omega arith
+
+-- a program comes with its first row
+module _ (m lent n : BTreeMap ProgramId Kept) (id : ProgramId) (w : Kept) (same : lent ≡ m)
+    (none : lookup (is_at (id_cmp id)) m.entries ≡ None) (updates : Updates id_cmp lent n id (Some w)) where
+  pub held_newly : (c : List Insn) → kept_code w ≡ c
+      → programs_by kept_code n.entries ≡ insert (programs_by kept_code m.entries) id c
+  held_newly c is =
+      made_inserted ids_total kept_code ids_exact lent n id w updates
+      ∙ ap (λ m. insert (programs_by kept_code m.entries) id (kept_code w)) same
+      ∙ ap (insert (programs_by kept_code m.entries) id) is
+
+  pub first_counted : w.rows ≡ 1 → (q : ProgramId)
+      → rows_kept n.entries q ≡ rows_kept m.entries q + is_of (Program id) q
+  first_counted one q =
+      rows_changed lent n id (Some w) updates (λ x y. x + y) (λ x. omega arith)
+      (one ∙ ap (λ x. x + 1) (sym (ap (λ m. rows_kept m.entries id) same
+      ∙ ap (λ o. option_map_or (λ (kept : Kept). kept.rows) o 0) none))) q
+      ∙ ap (λ m. rows_kept m.entries q + is_of (Program id) q) same
+
+-- one of several rows goes
+pub not_last : (entries : List (ProgramId × Kept)) (id : ProgramId) (programs : Programs) → 1 < rows_kept entries id
+    → programs ≡ without_code (last_of entries (Program id)) programs
+not_last entries id programs more = by (nat_le (rows_kept entries id) 1) refl
+  where
+    by : (b : Bool) → nat_le (rows_kept entries id) 1 ≡ b
+        → programs ≡ without_code (if b then Some id else None) programs
+    by true e = absurd (omega (arith, leb-true (rows_kept entries id) 1 e, more))
+    by false e = refl
+
+-- or the last
+pub last : (entries : List (ProgramId × Kept)) (id : ProgramId) (programs : Programs) → rows_kept entries id ≤ 1
+    → remove programs id ≡ without_code (last_of entries (Program id)) programs
+last entries id programs one = by (nat_le (rows_kept entries id) 1) refl
+  where
+    by : (b : Bool) → nat_le (rows_kept entries id) 1 ≡ b
+        → remove programs id ≡ without_code (if b then Some id else None) programs
+    by true e = refl
+    by false e = absurd (omega (arith, leb-false (rows_kept entries id) 1 e, one))
+
+-- the program goes with its last row: the map is first as it was, by the loan of the program, and then without it
+module _ (m lent n : BTreeMap ProgramId Kept) (id : ProgramId) (kept : Kept)
+    (found : lookup (is_at (id_cmp id)) m.entries ≡ Some kept) (one : kept.rows ≤ 1)
+    (writes : WritesThrough id_cmp (id_cmp id) m kept lent) (updates : Updates id_cmp lent n id None) where
+  pub last_left : programs_by kept_code n.entries
+      ≡ without_code (last_of m.entries (Program id)) (programs_by kept_code m.entries)
+  last_left =
+      made_removed ids_total kept_code ids_exact lent n id updates
+      ∙ ap (λ programs. remove programs id) (same_programs m lent id kept kept found writes refl)
+      ∙ last m.entries id (programs_by kept_code m.entries)
+      (omega (arith, one, rows_found m lent id kept kept found writes))
+
+  pub last_counted : (q : ProgramId) → rows_kept n.entries q ≡ rows_kept m.entries q - is_of (Program id) q
+  last_counted q =
+      let same = rows_written m lent id kept kept found writes (λ x y. x) (λ x. refl) refl in
+      rows_changed lent n id None updates (λ x y. x - y) (λ x. omega arith)
+      (omega (arith, one, rows_found m lent id kept kept found writes, same id)) q
+      ∙ ap (λ x. x - is_of (Program id) q) (same q)
+
+-- a clone of programs has their code and their counts
+abbrev IsKeptClone : List (ProgramId × Kept) → List (ProgramId × Kept) → Type 0
+IsKeptClone = AllZip (λ p q. (q.0 ≡ p.0) × ((kept_code q.1 ≡ kept_code p.1) × (q.1.rows ≡ p.1.rows)))
+
+pub codes_cloned : (es fs : List (ProgramId × Kept)) → IsKeptClone es fs
+    → AllZip (λ p q. (q.0 ≡ p.0) × (kept_code q.1 ≡ kept_code p.1)) es fs
+codes_cloned [] [] h = h
+codes_cloned [] (f ∷ fs) h = absurd h
+codes_cloned (e ∷ es) [] h = absurd h
+codes_cloned (e ∷ es) (f ∷ fs) h = ((h.0.0, h.0.1.0), codes_cloned es fs h.1)
+
+pub rows_cloned : (es fs : List (ProgramId × Kept)) → IsKeptClone es fs → (id : ProgramId)
+    → rows_kept fs id ≡ rows_kept es id
+rows_cloned [] [] h id = refl
+rows_cloned [] (f ∷ fs) h id = absurd h
+rows_cloned (e ∷ es) [] h id = absurd h
+rows_cloned (e ∷ es) (f ∷ fs) h id =
+    ap (λ k. rows_kept ((k, f.1) ∷ fs) id) h.0.0 ∙ by (is_at (id_cmp id) e.0) (rows_cloned es fs h.1 id)
+  where
+    by : (b : Bool) → rows_kept fs id ≡ rows_kept es id
+        → option_map_or (λ (kept : Kept). kept.rows) (cond b (Some f.1) (lookup (is_at (id_cmp id)) fs)) 0
+        ≡ option_map_or (λ (kept : Kept). kept.rows) (cond b (Some e.1) (lookup (is_at (id_cmp id)) es)) 0
+    by true rest = h.0.1.1
+    by false rest = rest

@@ -1,6 +1,8 @@
 pub mod Agreeing
 pub mod Building
 pub mod Changes
+pub mod Counts
+pub mod EitherWay
 pub mod Equal
 pub mod Held
 pub mod Holding

@@ -80,7 +80,7 @@ count_of_clashes a b uptime_a uptime_b =
 
 -- ---- names in order with the same members are the same
 
-any_kept : (p : Name → Bool) (q : Name) (ns : List Name) → list_any (is_name q) (filter p ns)
+pub any_kept : (p : Name → Bool) (q : Name) (ns : List Name) → list_any (is_name q) (filter p ns)
     ≡ (p q && list_any (is_name q) ns)
 any_kept p q [] = by (p q)
   where
@@ -101,7 +101,7 @@ any_kept p q (n ∷ ns) = by (p n) refl (is_name q n) refl (any_kept p q ns)
         ih ∙ ap (λ x. x && list_any (is_name q) ns) no ∙ sym (ap (λ x. x && true) no)
     by false e false t ih = ih
 
-same_names : (ns ms : List Name) → IsStrictlySortedBy name_cmp ns → IsStrictlySortedBy name_cmp ms
+pub same_names : (ns ms : List Name) → IsStrictlySortedBy name_cmp ns → IsStrictlySortedBy name_cmp ms
     → ((q : Name) → list_any (is_name q) ns ≡ list_any (is_name q) ms) → ns ≡ ms
 same_names ns ms sorted_ns sorted_ms same =
     btree_set_from_contains names_total (record { keys = ns }) (record {

@@ -5,7 +5,7 @@ ghost use Rattle.std.specs.Arc.{arc_value};
 ghost use Rattle.std.specs.FinMap as map;
 ghost use Rattle.partition_table.specs.model.Keeping.{IsNewRow};
 
-use crate::programs::hold_program;
+use crate::programs::{Kept, hold_program};
 use crate::table::Table;
 use clash_record::{Name, ProgramId, Registration};
 use std::alloc::{AllocError, Global};
@@ -20,14 +20,13 @@ use verifier::Verified;
 #[derive(Drop)]
 pub(crate) struct TableBuilder {
     rows: Vec<(Name, Registration)>,
-    programs: BTreeMap<ProgramId, Arc<Verified>>,
+    programs: BTreeMap<ProgramId, Kept>,
 }
 
 impl Model for TableBuilder {
     ghost use Rattle.std.specs.Prelude.{reverse};
-    ghost use Rattle.std.specs.Arc.{arc_value};
     ghost use Rattle.partition_table.specs.Tables.{Table};
-    ghost use Rattle.partition_table.specs.model.Keeping.{IsHeld};
+    ghost use Rattle.partition_table.specs.model.Keeping.{kept_code, IsKept};
     ghost use Rattle.partition_table.specs.Views.{coded_table, table_by};
     ghost use Rattle.upload_store.specs.Programs.{programs_by};
 
@@ -35,10 +34,10 @@ impl Model for TableBuilder {
 
     ghost coded = { coded_table };
 
-    ghost view = { λ t. table_by (programs_by arc_value t.programs.entries) (reverse t.rows.items) };
+    ghost view = { λ t. table_by (programs_by kept_code t.programs.entries) (reverse t.rows.items) };
 
-    ghost invariant = { λ t. IsHeld (programs_by arc_value t.programs.entries)
-        (table_by (programs_by arc_value t.programs.entries) (reverse t.rows.items)) };
+    ghost invariant = { λ t. IsKept t.programs.entries
+        (table_by (programs_by kept_code t.programs.entries) (reverse t.rows.items)) };
 }
 
 impl TableBuilder {

@@ -8,6 +8,7 @@ ghost use Rattle.partition_table.specs.Tables.{max_names};
 ghost use Rattle.partition_table.specs.Tables as tables;
 
 use clash_record::{ClashRecord, Facts, Name, Registration, ResolverId, record};
+use interpreter::Scratch;
 use std::alloc::AllocError;
 use std::marker::Model;
 use std::slice;
@@ -139,6 +140,21 @@ impl Clash {
             self.of_first,
             self.of_second,
         )
+    }
+
+    // Writes the record of the clash at this word to the place where runs read it.
+    pub(crate) fn write_record(&self, scratch: &mut Scratch, word: u64)
+        ensures { scratch.new ≡ clash_bytes self.now.name self.now.first self.now.second word self.now.of_first
+            self.now.of_second }
+    {
+        scratch.write_record(
+            &self.name,
+            &self.first,
+            &self.second,
+            word,
+            self.of_first,
+            self.of_second,
+        );
     }
 }
 

@@ -8,18 +8,47 @@ use crate::clash::Clash;
 use crate::verdict::Verdict;
 use builtin_resolvers::{Verdict3, decide};
 use clash_record::ResolverId;
-use interpreter::run;
+use interpreter::{Scratch, run_written};
 
 impl<'a> Verdict<'a> {
     /// Runs the clash's resolver on its record at this word. Allocates nothing.
+    ///
+    /// `judged_in` saves clearing a memory for each program that runs.
     pub fn judged(clash: &'a Clash, word: u64) -> Verdict<'a>
+        ensures clash { clash_of_verdict result ≡ clash.entry.now }
+        ensures word { word_of_verdict result ≡ word }
+    {
+        match clash.resolver() {
+            ResolverId::Builtin(builtin) => Verdict::known(clash, word, decide(builtin, word)),
+            ResolverId::Program(_) => Verdict::judged_in(&mut Scratch::new(), clash, word),
+        }
+    }
+
+    /// Runs the clash's resolver on its record at this word, as `judged` does, in a scratch memory, which may hold the
+    /// bytes of earlier runs. Writes the record once, to the place where the run reads it.
+    pub fn judged_in(scratch: &mut Scratch, clash: &'a Clash, word: u64) -> Verdict<'a>
         ensures clash { clash_of_verdict result ≡ clash.entry.now }
         ensures word { word_of_verdict result ≡ word }
     {
         Verdict {
             clash,
             word,
-            answer: answer(clash, word),
+            answer: answer(scratch, clash, word),
+        }
+    }
+
+    /// Returns the verdict of a clash at a word whose answer is known. Runs nothing.
+    ///
+    /// Requires the answer of the clash's resolver at this word.
+    pub fn known(clash: &'a Clash, word: u64, answer: Verdict3) -> Verdict<'a>
+        requires { answer ≡ tables.answer clash.now word }
+        ensures clash { clash_of_verdict result ≡ clash.entry.now }
+        ensures word { word_of_verdict result ≡ word }
+    {
+        Verdict {
+            clash,
+            word,
+            answer,
         }
     }
 
@@ -54,14 +83,17 @@ pub fn word(seed: u64, round: u32, n: u32, k: u32) -> u64
         .wrapping_add(u64::from(k))
 }
 
-// Returns the answer of the first registration's resolver at the word.
-fn answer(clash: &Clash, word: u64) -> Verdict3
+// Returns the answer of the first registration's resolver at the word. A program runs in the scratch memory.
+fn answer(scratch: &mut Scratch, clash: &Clash, word: u64) -> Verdict3
     ensures { result ≡ tables.answer clash.now word }
 {
     match clash.resolver() {
         ResolverId::Builtin(builtin) => decide(builtin, word),
         ResolverId::Program(_) => match clash.program() {
-            Some(program) => Verdict3::of_answer(run(program, &clash.record(word)).r0),
+            Some(program) => {
+                clash.write_record(scratch, word);
+                Verdict3::of_answer(run_written(scratch, program).r0)
+            }
             None => Verdict3::Neither,
         },
     }

@@ -1,8 +1,17 @@
-//! Laws of clashes and merges: neither side is preferred, and a merge is defined name by name.
+//! Laws of two tables: neither side is preferred, and a merge is defined name by name.
 ghost use Rattle.std.specs.Prelude.{◌≡◌, ℕ, List, map, IsTrue};
 ghost use Rattle.builtin_resolvers.specs.declared.verdicts.Verdict3.{Verdict3};
 ghost use Rattle.clash_record.specs.Name.{Name};
-ghost use Rattle.partition_table.specs.Tables.{Table, IsTable, tables_agree, clashes, clash_names, Gone, IsMerge, merge};
+ghost use Rattle.partition_table.specs.Faults.{fit_fault};
+ghost use Rattle.partition_table.specs.Tables.{Table, IsTable, tables_agree, fit_together, clashes, clash_names, Gone, IsMerge, merge};
+
+/// States that whether two tables fit together, and why they don't, doesn't depend on their order.
+///
+/// Does nothing at run time: its contract is the law.
+pub fn fit_theorem()
+    ensures together { (a b : Table) → fit_together a b ≡ fit_together b a }
+    ensures fault { (a b : Table) → fit_fault a b ≡ fit_fault b a }
+{}
 
 /// States that the clashes of two tables don't depend on their order, nor the clashing names on the uptimes.
 ///

@@ -21,7 +21,7 @@ pub use clashing::clashes;
 pub use fault::TableFault;
 pub use fitting::fit;
 pub use judging::word;
-pub use laws::{clashes_theorem, merge_theorem};
+pub use laws::{clashes_theorem, fit_theorem, merge_theorem};
 pub use merging::merge;
 pub use table::{MAX_NAMES, Rows, Table};
 pub use verdict::{Ruling, Verdict};

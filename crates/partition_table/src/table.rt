@@ -7,7 +7,7 @@ ghost use Rattle.std.specs.BTreeMap.{IsFromIterResult};
 ghost use Rattle.clash_record.specs.Orders.{name_cmp};
 ghost use Rattle.clash_record.specs.Name.{Name};
 ghost use Rattle.partition_table.specs.Tables.{IsTable, tables_agree, row_for, rows_of, Row};
-ghost use Rattle.partition_table.specs.model.Keeping.{IsHeld, IsKeptFor, IsNewRow};
+ghost use Rattle.partition_table.specs.model.Keeping.{kept_code, IsKept, IsKeptFor, IsNewRow};
 ghost use Rattle.partition_table.specs.Views.{table_by};
 ghost use Rattle.upload_store.specs.Programs.{programs_by};
 ghost use Rattle.numbered.specs.Answers.{IsAnswered};
@@ -15,7 +15,7 @@ ghost use Rattle.partition_table.specs.Faults.{register_fault, table_fault_numbe
 
 use crate::fault::TableFault;
 use crate::programs::{
-    find_program, has_room, hold_program, programs_agree, release_program, unnamed_program,
+    Kept, find_program, has_room, hold_program, programs_agree, release_program,
 };
 use clash_record::{Name, ProgramId, Registration, ResolverId};
 use std::alloc::{AllocError, Global};
@@ -37,13 +37,12 @@ pub type Rows<'a> = btree_map::Iter<'a, Name, Registration>;
 #[derive(Debug, Drop)]
 pub struct Table {
     rows: BTreeMap<Name, Registration>,
-    programs: BTreeMap<ProgramId, Arc<Verified>>,
+    programs: BTreeMap<ProgramId, Kept>,
 }
 
 impl Model for Table {
-    ghost use Rattle.std.specs.Arc.{arc_value};
     ghost use Rattle.partition_table.specs.Tables.{Table};
-    ghost use Rattle.partition_table.specs.model.Keeping.{IsHeld};
+    ghost use Rattle.partition_table.specs.model.Keeping.{kept_code, IsKept};
     ghost use Rattle.partition_table.specs.Views.{coded_table, table_by};
     ghost use Rattle.upload_store.specs.Programs.{programs_by};
 
@@ -51,10 +50,10 @@ impl Model for Table {
 
     ghost coded = { coded_table };
 
-    ghost view = { λ t. table_by (programs_by arc_value t.programs.entries) t.rows.entries };
+    ghost view = { λ t. table_by (programs_by kept_code t.programs.entries) t.rows.entries };
 
-    ghost invariant = { λ t. IsHeld (programs_by arc_value t.programs.entries)
-        (table_by (programs_by arc_value t.programs.entries) t.rows.entries) };
+    ghost invariant = { λ t. IsKept t.programs.entries
+        (table_by (programs_by kept_code t.programs.entries) t.rows.entries) };
 }
 
 impl Table {
@@ -137,8 +136,7 @@ impl Table {
         let Some(registration) = self.rows.remove(name) else {
             return Err(TableFault::NoSuchName);
         };
-        let unnamed = unnamed_program(&self.rows, registration.resolver);
-        release_program(&mut self.programs, unnamed);
+        release_program(&mut self.programs, registration.resolver);
         Ok(registration)
     }
 
@@ -168,7 +166,10 @@ impl Table {
     {
         match resolver {
             ResolverId::Builtin(_) => None,
-            ResolverId::Program(id) => self.programs.get(&id),
+            ResolverId::Program(id) => match self.programs.get(&id) {
+                Some(kept) => Some(&kept.program),
+                None => None,
+            },
         }
     }
 
@@ -176,18 +177,17 @@ impl Table {
     pub(crate) fn of_rows(
         alloc: Global,
         rows: Vec<(Name, Registration)>,
-        programs: BTreeMap<ProgramId, Arc<Verified>>,
+        programs: BTreeMap<ProgramId, Kept>,
     ) -> Result<Table, AllocError>
-        requires { IsHeld (programs_by arc_value programs.entries)
-            (table_by (programs_by arc_value programs.entries) (reverse rows.items)) }
+        requires { IsKept programs.entries (table_by (programs_by kept_code programs.entries) (reverse rows.items)) }
         ensures { IfOk result (λ table. table
-            ≡ table_by (programs_by arc_value programs.entries) (reverse rows.items)) }
+            ≡ table_by (programs_by kept_code programs.entries) (reverse rows.items)) }
     {
         let rows = map_of(alloc, rows)?;
         Ok(Table { rows, programs })
     }
 
-    // Adds a row under a new name. When an allocation fails, undoes the earlier ones.
+    // Adds a row under a new name. If the program can't be kept, takes the row out again.
     pub(crate) fn keep(
         &mut self,
         name: Name,
@@ -200,10 +200,10 @@ impl Table {
             record { registration = registration; code = option_map (λ p. arc_value p.now) program.entry }) }
         ensures unchanged { OnErr result (self.new ≡ self.old) }
     {
-        let added = hold_program(&mut self.programs, registration.resolver, program)?;
-        if let Err(refused) = self.rows.insert(name, registration) {
-            release_program(&mut self.programs, added);
-            return Err(AllocError::from(refused));
+        self.rows.insert(name, registration)?;
+        if let Err(refused) = hold_program(&mut self.programs, registration.resolver, program) {
+            self.rows.remove(&name);
+            return Err(refused);
         }
         Ok(())
     }

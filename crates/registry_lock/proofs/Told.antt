@@ -1,19 +1,40 @@
 -- One telling after another.
-use Rattle.std.proofs.Common.{◌≡◌, List, [], ◌∷◌, ◌++◌, Some, sym, ap, ◌∙◌}
+use Rattle.std.proofs.Common.{◌≡◌, ℕ, Bool, true, false, if◌then◌else◌, List, [], ◌∷◌, ◌++◌, Option, None, Some, refl, sym, ap, ◌∙◌, subst}
 use Rattle.std.proofs.lemmas.List.{append_assoc, map-append}
 use Rattle.std.proofs.lemmas.List.Elements.{All-nil, All-cons, All-append}
-use Rattle.std.specs.Prelude.{OnOk, OnErr}
-use Rattle.std.specs.Option.{option_and_then}
+use Rattle.std.specs.Prelude.{OnOk, OnErr, slice_get}
+use Rattle.std.specs.Option.{option_and_then, unwrap_or}
 use Rattle.std.specs.declared.result.Result.{Result}
 use Rattle.std.specs.declared.result.Result.TheVariants.{Ok, Err}
 use Rattle.exchange_core.specs.declared.fault.SideFault.{SideFault}
 use Rattle.exchange_core.specs.declared.side.Side.{Side}
 use Rattle.exchange_core.specs.Sides as sides
 use Rattle.exchange_core.specs.Calls.{Call, Take, carried_out}
-use Rattle.exchange_core.specs.Worlds.{Ruling}
+use Rattle.exchange_core.specs.Worlds.{Ruling, ruling_of}
 use Rattle.exchange_core.specs.Shown.{shown, calls, IsDone, IsUntouched}
-use Rattle.verdict_board.specs.Boards.{Place}
+use Rattle.partition_table.specs.Tables.{Clash}
+use Rattle.verdict_board.specs.Boards.{Place, ruling_if, ruling_at}
 use Rattle.registry_lock.specs.Telling.{all_carried_out, takes_of, IsOfBoard, IsTold}
+
+of_clash : (place : Place) (k word : ℕ) (clash : Clash) (b : Bool)
+    (ruling : Ruling) → slice_get place.clashes k ≡ Some clash →
+    (if b then Some (ruling_of place.number k word clash) else None) ≡ Some ruling → IsOfBoard place ruling
+of_clash place k word clash true ruling at e =
+    subst (λ (r : Ruling). IsOfBoard place r) (ap (λ (o : Option Ruling). unwrap_or o ruling) e)
+    (record { number = refl; clash = at; judged = refl })
+of_clash place k word clash false ruling at e = absurd (cc)
+
+of_place : (place : Place) (k word : ℕ) (clash : Option Clash)
+    (ruling : Ruling) → slice_get place.clashes k ≡ clash →
+    option_and_then (ruling_if place.number place.seed place.clashes k word) clash ≡ Some ruling →
+    IsOfBoard place ruling
+of_place place k word None ruling at e = absurd (cc)
+of_place place k word (Some clash) ruling at e = of_clash place k word clash _ ruling at e
+
+-- the ruling at a word of a clash is the board's
+pub of_board_at : (place : Place) (k word : ℕ)
+    (ruling : Ruling) → Some ruling ≡ ruling_at place.number place.seed place.clashes k word → IsOfBoard place ruling
+of_board_at place k word ruling e = of_place place k word _ ruling refl (sym e)
 
 pub not_told : (place : Place) (old new : Side) → IsUntouched old new → IsTold place old new
 not_told place old new same = record {

@@ -4,7 +4,7 @@ ghost use Rattle.registry_lock.specs.Telling.{IsTold};
 use crossbeam_queue::SegQueue;
 use exchange_core::Side;
 use judge_pool::Ear;
-use partition_table::{Ruling, Verdict};
+use partition_table::Ruling;
 use std::alloc::Global;
 use std::sync::Wait;
 use verdict_board::{Board, Pass};
@@ -63,16 +63,11 @@ impl Inbox {
     }
 }
 
-// Lets the side take the ruling, which a run of the resolver makes again. Drops a refusal.
+// Lets the side take the board's ruling at the word, if any. Drops a refusal.
 fn take_told(board: &Board<'_>, side: &mut Side, told: Told)
     ensures { IsTold board.entry.now.place side.old side.new }
 {
-    if let Some(clash) = board.clashes().get(told.k) {
-        let ruling = Ruling {
-            number: board.number(),
-            k: told.k,
-            verdict: Verdict::judged(clash, told.word),
-        };
+    if let Some(ruling) = board.ruling(told.k, told.word) {
         let _ = side.take(ruling);
     }
 }

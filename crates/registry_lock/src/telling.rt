@@ -14,7 +14,7 @@ use verdict_board::{Board, Seat};
 /// Runs a round as `heal_round` does, and then lets two sides take its rulings. Drops rulings that a side refuses or
 /// that can't be queued.
 ///
-/// Requires seats of this board and a round from 0 to 3. Runs the resolver of each clash once more for each side.
+/// Requires seats of this board and a round from 0 to 3. The sides take the answers that the board keeps.
 pub fn tell_round<'p, G: Gate + Sync, R: Threads + Wait + Sync>(
     rt: &R,
     alloc: Global,

@@ -1,3 +1,4 @@
+mod Answering
 mod Totals
 mod Steps
 mod Looking

@@ -4,10 +4,11 @@ ghost use Rattle.std.specs.Option.{option_map};
 ghost use Rattle.partition_table.specs.Tables.{IsOneOfFour};
 ghost use Rattle.partition_table.specs.Judged.{clash_of_verdict, word_of_verdict};
 ghost use Rattle.exchange_core.specs.Worlds.{ruling_of};
-ghost use Rattle.verdict_board.specs.Boards.{as_ruling, seen, LooksAt, IsAnswer};
+ghost use Rattle.verdict_board.specs.Boards.{as_ruling, ruling_at, seen, LooksAt, IsAnswer};
 ghost use Rattle.verdict_board.specs.Draws.{Draws, EachOnce};
 ghost use Rattle.verdict_board.specs.model.Given.{hand};
 
+use crate::answers::{AnswerTable, keep_answer, kept_answer, no_answers};
 use crate::draw::Draw;
 use crate::draw_words::{deal, drawn_in, join_all};
 use crate::given::{GivenOnce, Hand, Took};
@@ -27,11 +28,13 @@ const MOST_DRAWN: u32 = 4097;
 
 /// The draws and the verdicts of one exchange.
 ///
-/// The cell of a clash holds the word of its first verdict. `read` runs the resolver at that word to return the ruling.
+/// The cell of a clash holds the word of its first verdict. `post` then keeps that verdict's answer too, and `read` runs
+/// the resolver only until it has.
 #[derive(Drop)]
 pub struct Board<'p> {
     site: Site<'p>,
     cells: Vec<OnceBox<u64>>,
+    answers: AnswerTable,
     words: Table<(), Hand, u64, GivenOnce, Global>,
     seats: u32,
     alloc: Global,
@@ -55,13 +58,16 @@ impl<'p> Model for Board<'p> {
     ghost invariant = { λ b. (length b.cells.items ≡ length b.site.clashes.now)
         × (length b.site.clashes.now ≤ max_names)
         × (0 < b.seats) × (b.seats ≤ 16) × (b.words.shared.key ≡ b.seats)
-        × (b.words.shared.table_id.words ≡ 4) × (b.words.shared.table_id.slots ≡ 0) };
+        × (b.words.shared.table_id.words ≡ 4) × (b.words.shared.table_id.slots ≡ 0)
+        × (b.answers.shared.table_id.words ≡ length b.site.clashes.now)
+        × (b.answers.shared.key.seed ≡ b.site.seed)
+        × (b.answers.shared.key.clashes.value ≡ b.site.clashes.now) };
 }
 
 /// Opens the board of an exchange with this number, seed and clashes. Returns it with its seats, which have drawn
 /// nothing.
 ///
-/// Requires 1 to 16 seats. Allocates one cell for each clash.
+/// Requires 1 to 16 seats. Allocates one cell and one word for each clash.
 pub fn open<'p>(
     alloc: Global,
     number: u64,
@@ -86,11 +92,13 @@ pub fn open<'p>(
     while cells.len() < clashes.len() {
         cells.push(OnceBox::new(alloc))?;
     }
+    let answers = no_answers(alloc, seed, clashes)?;
     let (words, token) = Table::of_words(alloc, &[0, 0, 0, 0], &u64::from(seats))?;
     let all = deal(alloc, &words.shared, token, seats)?;
     let board = Board {
         site,
         cells,
+        answers,
         words,
         seats,
         alloc,
@@ -169,8 +177,8 @@ impl<'p> Board<'p> {
 
     /// Posts a verdict of clash `k` and returns what the pass has then seen of that clash.
     ///
-    /// Requires a pass of this board, and a verdict of clash `k` at one of its four words. Keeps the verdict if it is
-    /// the first; keeps nothing if an allocation fails. Never waits.
+    /// Requires a pass of this board, and a verdict of clash `k` at one of its four words. Keeps the verdict, word and
+    /// answer, if it is the first; keeps nothing if an allocation fails. Never waits.
     pub fn post(&self, k: u32, verdict: Verdict<'p>, pass: &mut Pass<'p>) -> Posted<'p>
         requires board { pass.old.place ≡ self.now.place }
         requires clash { slice_get self.now.place.clashes k ≡ Some (clash_of_verdict verdict) }
@@ -181,7 +189,10 @@ impl<'p> Board<'p> {
         let place = k as usize;
         let word = verdict.word();
         match pass.offer(self.alloc, &self.cells[place], place, word) {
-            Some(first) if first == word => Posted::Kept,
+            Some(first) if first == word => {
+                self.keep(k, verdict);
+                Posted::Kept
+            }
             Some(first) if self.site.is_word(k, first) => Posted::Earlier,
             _ => Posted::Refused(verdict),
         }
@@ -189,7 +200,8 @@ impl<'p> Board<'p> {
 
     /// Returns the ruling of clash `k`, if any. A pass that has seen a ruling sees it again. Returns none past the count.
     ///
-    /// Requires a pass of this board. Runs the clash's resolver, allocates nothing and never waits.
+    /// Requires a pass of this board. Runs the clash's resolver only while the answer of the first verdict isn't kept yet.
+    /// Allocates nothing and never waits.
     pub fn read(&self, k: u32, pass: &mut Pass<'p>) -> Option<Ruling<'p>>
         requires board { pass.old.place ≡ self.now.place }
         ensures answer { option_map as_ruling result ≡ seen pass.new k }
@@ -197,7 +209,37 @@ impl<'p> Board<'p> {
     {
         let cell = self.cells.get(k as usize)?;
         let word = pass.look(cell, k as usize)?;
-        self.site.ruling(k, word)
+        self.ruling(k, word)
+    }
+
+    /// Returns the ruling of clash `k` at a word, or none if the word isn't one of its four or `k` is past the count.
+    ///
+    /// Runs the clash's resolver only if the board doesn't keep its answer at this word. Allocates nothing and never
+    /// waits.
+    pub fn ruling(&self, k: u32, word: u64) -> Option<Ruling<'p>>
+        ensures { option_map as_ruling result ≡ ruling_at self.entry.now.place.number self.entry.now.place.seed
+            self.entry.now.place.clashes k word }
+    {
+        let clash = self.site.clashes.get(k)?;
+        let round = self.site.round_of(k, word)?;
+        let verdict = match kept_answer(&self.answers.shared, k, round) {
+            Some(answer) => Verdict::known(clash, word, answer),
+            None => Verdict::judged(clash, word),
+        };
+        Some(Ruling {
+            number: self.site.number,
+            k,
+            verdict,
+        })
+    }
+
+    // Keeps the answer of a verdict of clash k.
+    fn keep(&self, k: u32, verdict: Verdict<'p>)
+        requires { slice_get self.now.place.clashes k ≡ Some (clash_of_verdict verdict) }
+    {
+        if let Some(round) = self.site.round_of(k, verdict.word()) {
+            keep_answer(&self.answers.shared, k, round, verdict.answer());
+        }
     }
 
     /// Takes all seats and returns the number of draws in each round. The numbers drawn in a round are those below its

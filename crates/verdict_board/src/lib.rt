@@ -3,6 +3,7 @@
 //! Drawing, posting and reading never wait.
 #![tactic(auto)]
 
+mod answers;
 mod board;
 mod draw;
 mod draw_words;

@@ -1,10 +1,9 @@
-//! The exchange of a board, and the rulings of its clashes.
-ghost use Rattle.std.specs.Prelude.{◌≡◌, length};
-ghost use Rattle.std.specs.Option.{option_map};
+//! The exchange of a board, and the words of its clashes.
+ghost use Rattle.std.specs.Prelude.{◌≡◌, length, is_some, IfSome};
+ghost use Rattle.partition_table.specs.Tables.{word_of};
 ghost use Rattle.exchange_core.specs.Sides.{is_one_of_four};
-ghost use Rattle.verdict_board.specs.Boards.{as_ruling, ruling_at};
 
-use partition_table::{ClashList, Ruling, Verdict, word};
+use partition_table::{ClashList, word};
 
 // The exchange whose clashes are judged.
 #[derive(Clone, Copy)]
@@ -15,30 +14,30 @@ pub(crate) struct Site<'p> {
 }
 
 impl<'p> Site<'p> {
+    // Returns the round of a word of clash k, if the word is one of its four.
+    pub(crate) fn round_of(self, k: u32, found: u64) -> Option<u32>
+        ensures any { is_some result ≡ is_one_of_four found self.entry.seed (length self.entry.clashes.now) k }
+        ensures word { IfSome result (λ round.
+            found ≡ word_of self.entry.seed round (length self.entry.clashes.now) k) }
+    {
+        let count = self.clashes.len() as u32;
+        if found == word(self.seed, 0, count, k) {
+            Some(0)
+        } else if found == word(self.seed, 1, count, k) {
+            Some(1)
+        } else if found == word(self.seed, 2, count, k) {
+            Some(2)
+        } else if found == word(self.seed, 3, count, k) {
+            Some(3)
+        } else {
+            None
+        }
+    }
+
     // Checks whether the word is one of the four of clash k.
     pub(crate) fn is_word(self, k: u32, found: u64) -> bool
         ensures { result ≡ is_one_of_four found self.entry.seed (length self.entry.clashes.now) k }
     {
-        let count = self.clashes.len() as u32;
-        found == word(self.seed, 0, count, k)
-            || found == word(self.seed, 1, count, k)
-            || found == word(self.seed, 2, count, k)
-            || found == word(self.seed, 3, count, k)
-    }
-
-    // Returns the ruling of clash k at the word, if the word is one of its four. Runs the resolver.
-    pub(crate) fn ruling(self, k: u32, word: u64) -> Option<Ruling<'p>>
-        ensures { option_map as_ruling result
-            ≡ ruling_at self.entry.number self.entry.seed self.entry.clashes.now k word }
-    {
-        let clash = self.clashes.get(k)?;
-        if !self.is_word(k, word) {
-            return None;
-        }
-        Some(Ruling {
-            number: self.number,
-            k,
-            verdict: Verdict::judged(clash, word),
-        })
+        self.round_of(k, found).is_some()
     }
 }

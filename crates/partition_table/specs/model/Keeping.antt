@@ -1,14 +1,18 @@
 -- How a table keeps its rows: registrations by name, and the programs that they name by id.
-use Rattle.std.specs.Prelude.{◌≡◌, Bool, if◌then◌else◌, ◌⊎◌, ◌≤◌, ◌<◌, IsTrue, Option, Some, None, List}
-use Rattle.std.specs.List.{list_any}
-use Rattle.std.specs.FinMap.{get, insert, remove, len}
+use Rattle.std.specs.Prelude.{◌≡◌, ℕ, Bool, nat_le, if◌then◌else◌, ◌⊎◌, ◌≤◌, ◌<◌, IsTrue, Option, Some, None, List, length, filter}
+use Rattle.std.specs.Option.{option_map_or}
+use Rattle.std.specs.Arc.{arc_value}
+use Rattle.std.specs.Map.{lookup}
+use Rattle.std.specs.BTreeMap.{is_at}
+use Rattle.std.specs.FinMap.{get, insert, remove, len, values}
 use Rattle.instruction_set.specs.declared.insn.Insn.{Insn}
 use Rattle.clash_record.specs.declared.registrations.ProgramId.{ProgramId}
 use Rattle.clash_record.specs.declared.registrations.ResolverId.{ResolverId}
 use Rattle.clash_record.specs.declared.registrations.ResolverId.TheVariants.{Builtin, Program}
-use Rattle.clash_record.specs.declared.registrations.Registration.{Registration}
-use Rattle.upload_store.specs.Programs.{Programs}
+use Rattle.clash_record.specs.Orders.{id_cmp}
+use Rattle.upload_store.specs.Programs.{Programs, programs_by}
 use Rattle.clash_record.specs.Name.{Name}
+use Rattle.partition_table.specs.declared.programs.Kept.{Kept}
 use Rattle.partition_table.specs.Tables.{Row, Table, IsCodeOf, max_names, program_of, same_id, agrees_with}
 
 -- some row names the program
@@ -21,6 +25,35 @@ pub record IsHeld (programs : Programs) (table : Table) : Type 0 where
   pub few : len table ≤ max_names
   pub coded : (name : Name) (row : Row) → get table name ≡ Some row → IsCodeOf row.registration.resolver row.code
   pub named : (id : ProgramId) (c : List Insn) → get programs id ≡ Some c → IsNamed table id
+
+abbrev pub kept_code : Kept → List Insn
+kept_code kept = arc_value kept.program
+
+-- how many rows the table counts for a program
+abbrev pub rows_kept : List (ProgramId × Kept) → ProgramId → ℕ
+rows_kept programs id = option_map_or (λ kept. kept.rows) (lookup (is_at (id_cmp id)) programs) 0
+
+-- the row names this program
+abbrev pub names : ProgramId → Row → Bool
+names id row = same_id (program_of row.registration.resolver) (Some id)
+
+-- how many rows name a program
+abbrev pub rows_naming : Table → ProgramId → ℕ
+rows_naming table id = length (filter (names id) (values table))
+
+-- the parts that are kept of a table, with the count of each program's rows
+pub record IsKept (programs : List (ProgramId × Kept)) (table : Table) : Type 0 where
+  pub held : IsHeld (programs_by kept_code programs) table
+  pub counted : (id : ProgramId) → rows_kept programs id ≡ rows_naming table id
+
+-- 1 for the program that the resolver names
+abbrev pub is_of : ResolverId → ProgramId → ℕ
+is_of r id = if same_id (program_of r) (Some id) then 1 else 0
+
+-- the program that the resolver names, if it has at most one row
+abbrev pub last_of : List (ProgramId × Kept) → ResolverId → Option ProgramId
+last_of programs (Builtin b) = None
+last_of programs (Program id) = if nat_le (rows_kept programs id) 1 then Some id else None
 
 -- the programs, with this code under the id that the resolver names
 abbrev pub with_code : ResolverId → Option (List Insn) → Programs → Programs
@@ -37,15 +70,6 @@ has_room_for programs (Builtin b) c = Unit {0}
 abbrev pub without_code : Option ProgramId → Programs → Programs
 without_code None programs = programs
 without_code (Some id) programs = remove programs id
-
--- the registration names this program
-abbrev pub names : ProgramId → Registration → Bool
-names id r = same_id (program_of r.resolver) (Some id)
-
--- the program that the resolver names, unless one of these registrations names it
-abbrev pub unnamed_in : List Registration → ResolverId → Option ProgramId
-unnamed_in registrations (Builtin b) = None
-unnamed_in registrations (Program id) = if list_any (names id) registrations then None else Some id
 
 -- under each id where both have code it is the same
 abbrev pub programs_agree : Programs → Programs → Type 0

@@ -1,5 +1,6 @@
-use Rattle.std.proofs.Common.{ℕ, ap, sym, subst}
+use Rattle.std.proofs.Common.{ℕ, List, ap, sym, subst}
 use Rattle.std.specs.Option.{option_map}
+use Rattle.clash_record.specs.Name.{Name}
 use Rattle.partition_table.specs.Tables.{Table}
 use Rattle.exchange_core.specs.Sides.{Exchange}
 use Rattle.exchange_core.specs.Finished.{IsFinished, finished_by}
@@ -16,10 +17,13 @@ invariant_of-result c =
     let merged =
     subst (λ (x : Exchange). IsMergeOf c.args.id c.args.own x rulings c.args.merged.table) (sym c.exchange.view_is)
     c.requires.merged in
-    subst (λ (p : Table × ℕ). IsFinished
+    subst (λ (p : Table × (ℕ × List Name)). IsFinished
     (finished_by c.args.id c.exchange.inside.number c.exchange.inside.seed
-    (record { table = c.args.own; uptime = c.exchange.inside.uptime; gone = c.exchange.inside.withdrawn.items })
-    (record { table = p.0; uptime = p.1; gone = names_of c.in-Some-Some.other_gone }) rulings c.args.merged.table))
-    (λ i. (sym c.into_table-other.ensures.table i, sym c.into_table-other.ensures.uptime i))
+    (record { table = c.args.own; uptime = c.exchange.inside.uptime; gone = p.1.1 })
+    (record { table = p.0; uptime = p.1.0; gone = names_of c.in-Some-Some.other_gone }) rulings c.args.merged.table))
+    (λ i. (
+      sym c.into_table-other.ensures.table i,
+      (sym c.into_table-other.ensures.uptime i, sym c.into_names.ensures i),
+    ))
     (finished_so ready rulings c.args.merged.table merged c.in-Some-Some.heard (names_of c.in-Some-Some.other_gone)
     c.in-Some-Some.is-0 (ap (option_map names_of) c.in-Some-Some.is-1))

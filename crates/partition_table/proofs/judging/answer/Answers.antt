@@ -11,10 +11,11 @@ returns-in-Builtin c =
 pub returns-in-Some : goal.returns-in-Some
 returns-in-Some c =
     c.of_answer.ensures
-    ∙ program_answer c.args.clash.now c.args.word c.in-Program.field-0 (arc_value c.in-Some.program.now) c.run.result.r0
+    ∙ program_answer c.args.clash.now c.args.word c.in-Program.field-0 (arc_value c.in-Some.program.now)
+    c.run_written.result.r0
     (sym c.in-Program.ensures) (sym c.in-Some.ensures)
-    (c.run.ensures.meaning ∙ ap (λ code. meaning code c.record.result) c.deref.ensures
-    ∙ ap (meaning (arc_value c.in-Some.program.now)) c.record.ensures)
+    (c.run_written.ensures.meaning ∙ ap (λ code. meaning code c.write_record.new.scratch) c.deref.ensures
+    ∙ ap (meaning (arc_value c.in-Some.program.now)) c.write_record.ensures)
 
 pub returns-in-None : goal.returns-in-None
 returns-in-None c =

@@ -1,34 +1,34 @@
 use Rattle.cluster.specs.Healing.{plan_of}
 use Rattle.cluster.specs.model.Stages.{halves_of}
-use Rattle.cluster.proofs.Answered.{on_err}
+use Rattle.cluster.proofs.Answered.{on_ok, on_err}
 use Rattle.cluster.proofs.Trying.{trying_failed, all_failed}
 use Rattle.cluster.proofs.halves.Halves.open.Goals as goal
 
 pub returns-in_err-hear-clause-failed : goal.returns-in_err-hear-clause-failed
 returns-in_err-hear-clause-failed c = on_err c.from_residual-in_err-hear.result (λ was sides rest.
     let plan = plan_of c.args.plan.now in
-    let heard = c.hear.ensures plan was (c.in_ok-offers.ensures.offers was sides rest)
-    (c.in_ok-offers.ensures.tried was sides rest) in
+    let heard = c.hear.ensures plan was (c.in_ok-of_a.ensures.offers was sides rest)
+    (c.in_ok-of_a.ensures.tried was sides rest) in
     trying_failed plan was 0 (halves_of c.hear.new.self) sides heard)
 
 pub returns-in_err-withdraw-clause-failed : goal.returns-in_err-withdraw-clause-failed
 returns-in_err-withdraw-clause-failed c = on_err c.from_residual-in_err-withdraw.result (λ was sides rest.
     let plan = plan_of c.args.plan.now in
-    let heard = c.hear.ensures plan was (c.in_ok-offers.ensures.offers was sides rest)
-    (c.in_ok-offers.ensures.tried was sides rest) in
+    let heard = c.hear.ensures plan was (c.in_ok-of_a.ensures.offers was sides rest)
+    (c.in_ok-of_a.ensures.tried was sides rest) in
     c.in_err-withdraw.ensures.failed was sides heard)
 
-pub returns-in_err-exchange_lists-clause-failed : goal.returns-in_err-exchange_lists-clause-failed
-returns-in_err-exchange_lists-clause-failed c = on_err c.from_residual-in_err-exchange_lists.result (λ was sides rest.
+pub returns-clause-failed : goal.returns-clause-failed
+returns-clause-failed c = on_err c.exchange_lists.result (λ was sides rest.
     let plan = plan_of c.args.plan.now in
-    let heard = c.hear.ensures plan was (c.in_ok-offers.ensures.offers was sides rest)
-    (c.in_ok-offers.ensures.tried was sides rest) in
+    let heard = c.hear.ensures plan was (c.in_ok-of_a.ensures.offers was sides rest)
+    (c.in_ok-of_a.ensures.tried was sides rest) in
     all_failed plan was (halves_of c.exchange_lists.new.self) sides
     (c.exchange_lists.ensures plan was (c.in_ok-withdraw.ensures.withdrawn was heard)))
 
 pub returns-clause-tried : goal.returns-clause-tried
-returns-clause-tried c = λ was sides rest.
+returns-clause-tried c = on_ok c.exchange_lists.result (λ was sides rest.
     let plan = plan_of c.args.plan.now in
-    let heard = c.hear.ensures plan was (c.in_ok-offers.ensures.offers was sides rest)
-    (c.in_ok-offers.ensures.tried was sides rest) in
-    c.exchange_lists.ensures plan was (c.in_ok-withdraw.ensures.withdrawn was heard)
+    let heard = c.hear.ensures plan was (c.in_ok-of_a.ensures.offers was sides rest)
+    (c.in_ok-of_a.ensures.tried was sides rest) in
+    c.exchange_lists.ensures plan was (c.in_ok-withdraw.ensures.withdrawn was heard))

@@ -3,6 +3,7 @@ use Rattle.std.specs.Option.{option_map}
 use Rattle.std.specs.Arc.{arc_value}
 use Rattle.std.specs.FinMap.{len}
 use Rattle.partition_table.specs.Tables.{agrees_with}
+use Rattle.partition_table.specs.model.Keeping.{kept_code}
 use Rattle.upload_store.specs.Programs.{programs_by}
 use Rattle.partition_table.proofs.Holding.{is_none_by}
 use Rattle.partition_table.proofs.Held.{has_name, held_now, count_of}
@@ -11,14 +12,14 @@ use Rattle.partition_table.proofs.table.Table.register.Goals as goal
 
 pub returns-then-contains_key-clause-answer : goal.returns-then-contains_key-clause-answer
 returns-then-contains_key-clause-answer c =
-    let programs = programs_by arc_value c.self.inside.programs.entries in
+    let programs = programs_by kept_code c.self.inside.programs.entries in
     let named = sym (has_name programs c.self.inside.rows.entries c.args.self.now c.self.view_is c.args.name)
     ∙ sym c.contains_key.ensures in
     inl (taken_due c.args.self.now c.args.name c.args.registration c.args.store.now (named ∙ c.if-contains_key.true))
 
 pub returns-then-len-eq-MAX_NAMES-clause-answer : goal.returns-then-len-eq-MAX_NAMES-clause-answer
 returns-then-len-eq-MAX_NAMES-clause-answer c =
-    let programs = programs_by arc_value c.self.inside.programs.entries in
+    let programs = programs_by kept_code c.self.inside.programs.entries in
     let named = sym (has_name programs c.self.inside.rows.entries c.args.self.now c.self.view_is c.args.name)
     ∙ sym c.contains_key.ensures in
     let count = c.len.ensures.len ∙ sym (count_of programs c.self.inside.rows.entries c.len.ensures.ordered)
@@ -28,8 +29,8 @@ returns-then-len-eq-MAX_NAMES-clause-answer c =
 
 pub returns-in_err-program-clause-answer : goal.returns-in_err-program-clause-answer
 returns-in_err-program-clause-answer c =
-    let programs = programs_by arc_value c.self.inside.programs.entries in
-    let held = held_now programs c.self.inside.rows.entries c.args.self.now c.self.view_is c.self.invariant in
+    let programs = programs_by kept_code c.self.inside.programs.entries in
+    let held = held_now programs c.self.inside.rows.entries c.args.self.now c.self.view_is c.self.invariant.held in
     let named = sym (has_name programs c.self.inside.rows.entries c.args.self.now c.self.view_is c.args.name)
     ∙ sym c.contains_key.ensures in
     let count = c.len.ensures.len ∙ sym (count_of programs c.self.inside.rows.entries c.len.ensures.ordered)
@@ -42,8 +43,8 @@ returns-in_err-program-clause-answer c =
 
 pub returns-then-not-has_room-clause-answer : goal.returns-then-not-has_room-clause-answer
 returns-then-not-has_room-clause-answer c =
-    let programs = programs_by arc_value c.self.inside.programs.entries in
-    let held = held_now programs c.self.inside.rows.entries c.args.self.now c.self.view_is c.self.invariant in
+    let programs = programs_by kept_code c.self.inside.programs.entries in
+    let held = held_now programs c.self.inside.rows.entries c.args.self.now c.self.view_is c.self.invariant.held in
     let named = sym (has_name programs c.self.inside.rows.entries c.args.self.now c.self.view_is c.args.name)
     ∙ sym c.contains_key.ensures in
     let count = c.len.ensures.len ∙ sym (count_of programs c.self.inside.rows.entries c.len.ensures.ordered)
@@ -62,8 +63,8 @@ returns-then-not-has_room-clause-answer c =
 
 pub keep-requires : goal.keep-requires
 keep-requires c =
-    let programs = programs_by arc_value c.self.inside.programs.entries in
-    let held = held_now programs c.self.inside.rows.entries c.args.self.now c.self.view_is c.self.invariant in
+    let programs = programs_by kept_code c.self.inside.programs.entries in
+    let held = held_now programs c.self.inside.rows.entries c.args.self.now c.self.view_is c.self.invariant.held in
     let named = sym (has_name programs c.self.inside.rows.entries c.args.self.now c.self.view_is c.args.name)
     ∙ sym c.contains_key.ensures in
     let count = c.len.ensures.len ∙ sym (count_of programs c.self.inside.rows.entries c.len.ensures.ordered)
@@ -80,8 +81,8 @@ keep-requires c =
 
 pub returns-clause-answer : goal.returns-clause-answer
 returns-clause-answer c =
-    let programs = programs_by arc_value c.self.inside.programs.entries in
-    let held = held_now programs c.self.inside.rows.entries c.args.self.now c.self.view_is c.self.invariant in
+    let programs = programs_by kept_code c.self.inside.programs.entries in
+    let held = held_now programs c.self.inside.rows.entries c.args.self.now c.self.view_is c.self.invariant.held in
     let named = sym (has_name programs c.self.inside.rows.entries c.args.self.now c.self.view_is c.args.name)
     ∙ sym c.contains_key.ensures in
     let count = c.len.ensures.len ∙ sym (count_of programs c.self.inside.rows.entries c.len.ensures.ordered)

@@ -1,9 +1,9 @@
-use Rattle.std.specs.Arc.{arc_value}
+use Rattle.partition_table.specs.model.Keeping.{kept_code}
 use Rattle.upload_store.specs.Programs.{programs_by}
 use Rattle.partition_table.proofs.Held.{registration_lent}
 use Rattle.partition_table.proofs.table.Table.whereis.Goals as goal
 
 pub returns : goal.returns
 returns c =
-    registration_lent (programs_by arc_value c.self.inside.programs.entries) c.self.inside.rows.entries c.args.self.now
+    registration_lent (programs_by kept_code c.self.inside.programs.entries) c.self.inside.rows.entries c.args.self.now
     c.self.view_is c.args.name.now c.get.result c.get.ensures.value
