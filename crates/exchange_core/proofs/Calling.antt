@@ -43,7 +43,7 @@ called_if_leaves : (w : World) (by : SideId) (o : Option Call) (id : SideId) →
 called_if_leaves w by None id = refl
 called_if_leaves w by (Some call) id = called_leaves w by call id
 
--- a message that was handed over
+-- a message that was passed
 handed : {X : Type 0} (by : SideId) (f : X → Call) (o : Option X) →
     option_map (by_side by) (option_map f o) ≡ option_map (λ x. by_side by (f x)) o
 handed by f None = refl

@@ -11,7 +11,6 @@ use Rattle.partition_table.specs.declared.fault.TableFault.TheVariants.{NameTake
 use Rattle.exchange_core.specs.declared.fault.MissingPart.{MissingPart}
 use Rattle.exchange_core.specs.Sides.{Offer, Withdrawals, Exchange, Side, is_above}
 use Rattle.exchange_core.specs.Refusals.{unregister_fault, begin_fault, union_for, first_offer_fault, is_first_offer, hear_fault_in, hear_fault, is_strange, take_fault_in, take_fault, withdraw_fault_in, withdraw_fault, close_list_fault_in, close_list_fault, sent_fault, hear_list_fault, missing_of, missing_or_full, finish_fault, abandon_fault}
-use Rattle.exchange_core.specs.model.Early.{early_register_fault}
 
 -- one of three refusals
 third : (a b : Bool) (f g h : SideFault) → (if a then Some f else (if b then Some g else Some h)) ≡ None → true ≡ false
@@ -19,21 +18,9 @@ third true b f g h e = cc
 third false true f g h e = cc
 third false false f g h e = cc
 
-fourth : (a b c : Bool) (f g h i : SideFault) →
-    (if a then Some f else (if b then Some g else (if c then Some h else Some i))) ≡ None → true ≡ false
-fourth true b c f g h i e = cc
-fourth false b c f g h i e = third b c g h i e
-
 second : (a : Bool) (f g : SideFault) → (if a then Some f else Some g) ≡ None → true ≡ false
 second true f g e = cc
 second false f g e = cc
-
-pub room_register : (full : Bool) (side : Side) (name : Name) → early_register_fault full side name ≡ None →
-    full ≡ false
-room_register false side name e = refl
-room_register true side name e =
-    fourth (contains_key side.table name) (not (nat_lt (len side.table) max_names)) (is_some side.exchange) (of.Table NameTaken)
-    (of.Table Full) Healing JournalFull e
 
 pub room_unregister : (full : Bool) (side : Side) (name : Name) → unregister_fault full side name ≡ None →
     full ≡ false

@@ -1,4 +1,4 @@
--- How what a side keeps and sends is compared.
+-- Equality of what a side keeps and sends.
 use Rattle.std.specs.Prelude.{◌≡◌, ℕ, Bool, ◌==◌, if◌then◌else◌, List, Option, refl}
 use Rattle.std.specs.Arc.{arc_value}
 use Rattle.std.specs.declared.sync.Arc.{Arc}

@@ -107,7 +107,7 @@ clashes_heard side exchange heard = clashes_for side.id side.table exchange.upti
 abbrev pub heard_clashes : Side → Option (List Clash)
 heard_clashes side = option_and_then (λ exchange. option_map (clashes_heard side exchange) exchange.heard) side.exchange
 
--- the same; there are none before an offer was heard
+-- the same, or an empty list before an offer was heard
 abbrev pub clashes_of : Side → List Clash
 clashes_of side =
     option_map_or (λ exchange. option_map_or (clashes_heard side exchange) exchange.heard []) side.exchange []

@@ -1,4 +1,4 @@
--- What contracts see of a side's state and of a finished exchange.
+-- The views of a side's state and of a finished exchange in contracts.
 use Rattle.std.specs.Arc.{arc_value}
 use Rattle.exchange_core.specs.declared.finished.Finished.TheInside as finished
 use Rattle.exchange_core.specs.declared.state.State.TheInside as state

@@ -142,8 +142,8 @@ impl Side {
         ensures done { OnOk result (IsDone self.old (call.Register name (row_for store.now registration)) self.new) }
         ensures untouched { OnErr result (IsUntouched self.old self.new) }
     {
-        if let Some(fault) = self.state.early_register_fault(self.is_full(), &name) {
-            return Err(fault);
+        if self.is_full() || self.state.is_open() {
+            return Err(self.state.closed_register_fault(&name));
         }
         let program = named_program(store, registration.resolver)?;
         self.journal.reserve(1)?;
@@ -291,8 +291,7 @@ impl Side {
         Ok(())
     }
 
-    /// Closes the list of withdrawn names, and returns it to be sent. Afterwards the side withdraws no name in this
-    /// exchange.
+    /// Closes the list of withdrawn names, and returns it to be sent. Afterwards `withdraw` is refused in this exchange.
     ///
     /// Returns 34 if no exchange is open, 40 if the journal is full, and 48 if the list is already closed: the least that
     /// applies. Returns 90 when out of memory.

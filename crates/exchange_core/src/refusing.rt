@@ -9,7 +9,7 @@ ghost use Rattle.partition_table.specs.Tables.{max_names, same_clash};
 ghost use Rattle.exchange_core.specs.Sides.{is_above, is_side, is_one_of_four};
 ghost use Rattle.exchange_core.specs.Sides as sides;
 ghost use Rattle.exchange_core.specs.Refusals as due;
-ghost use Rattle.exchange_core.specs.model.Early.{early_register_fault};
+ghost use Rattle.exchange_core.specs.model.Early.{closed_register_fault};
 ghost use Rattle.exchange_core.specs.model.Pairing.{fit_fault_for};
 
 use crate::exchange::Exchange;
@@ -21,23 +21,20 @@ use clash_record::{Name, SideId};
 use partition_table::{Clash, MAX_NAMES, Ruling, Table, TableFault, word};
 
 impl State {
-    // Returns the refusal to register the name before its program is looked up.
-    pub(crate) fn early_register_fault(&self, full: bool, name: &Name) -> Option<SideFault>
-        ensures { result ≡ early_register_fault full self.now name.now }
+    // Returns the refusal to register the name on a side with an open exchange or a full journal.
+    pub(crate) fn closed_register_fault(&self, name: &Name) -> SideFault
+        ensures { result ≡ closed_register_fault self.now name.now }
     {
         if self.table.whereis(name).is_some() {
-            return Some(SideFault::Table(TableFault::NameTaken));
+            return SideFault::Table(TableFault::NameTaken);
         }
         if self.table.len() == MAX_NAMES {
-            return Some(SideFault::Table(TableFault::Full));
+            return SideFault::Table(TableFault::Full);
         }
         if self.exchange.is_some() {
-            return Some(SideFault::Healing);
+            return SideFault::Healing;
         }
-        if full {
-            return Some(SideFault::JournalFull);
-        }
-        None
+        SideFault::JournalFull
     }
 
     // Returns the refusal to unregister the name.

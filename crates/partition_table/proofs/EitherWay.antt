@@ -1,4 +1,4 @@
--- Whether two tables fit together doesn't depend on which is named first.
+-- Two tables fit together in either order, or in none.
 use Rattle.std.proofs.Common.{◌≡◌, ℕ, ◌+◌, Bool, true, ◌&&◌, if◌then◌else◌, not, filter, Option, Some, None, List, length, refl, ap, sym, ◌∙◌}
 use Rattle.std.proofs.Math.Bool.{and_comm}
 use Rattle.std.proofs.Math.Nat.{add_right_comm}

@@ -131,7 +131,7 @@ module _ (m n : BTreeMap ProgramId Kept) (id : ProgramId) (kept w : Kept)
       → (q : ProgramId) → rows_kept n.entries q ≡ f (rows_kept m.entries q) (is_of (Program id) q)
   rows_written f none h = rows_changed m n id (Some w) updates f none (h ∙ ap (λ x. f x 1) (sym rows_found))
 
--- where there is none, there is none to take out
+-- where none is kept, taking it out changes nothing
 pub none_kept : (m : BTreeMap ProgramId Kept) (id : ProgramId) → lookup (is_at (id_cmp id)) m.entries ≡ None
     → remove (programs_by kept_code m.entries) id ≡ programs_by kept_code m.entries
 none_kept m id none =
@@ -189,7 +189,7 @@ last entries id programs one = by (nat_le (rows_kept entries id) 1) refl
     by true e = refl
     by false e = absurd (omega (arith, leb-false (rows_kept entries id) 1 e, one))
 
--- the program goes with its last row: the map is first as it was, by the loan of the program, and then without it
+-- the program goes with its last row: the loan of the program leaves the map unchanged, and then the program is taken out
 module _ (m lent n : BTreeMap ProgramId Kept) (id : ProgramId) (kept : Kept)
     (found : lookup (is_at (id_cmp id)) m.entries ≡ Some kept) (one : kept.rows ≤ 1)
     (writes : WritesThrough id_cmp (id_cmp id) m kept lent) (updates : Updates id_cmp lent n id None) where

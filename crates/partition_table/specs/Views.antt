@@ -17,7 +17,7 @@ coded_row =
     code_by (Registration × Option (List Insn)) (coded× coded_registration (coded_option (coded_list the_row.coded)))
     (λ r. (r.registration, r.code)) (λ p. record { registration = p.0; code = p.1 }) (λ _. refl)
 
--- how two tables are told apart
+-- equality of tables
 abbrev pub coded_table : Coded Table
 coded_table = code coded_name coded_row
 

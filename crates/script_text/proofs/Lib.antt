@@ -1,3 +1,4 @@
+mod Feeds
 pub mod Parts
 pub mod Pieces
 pub mod Silences

@@ -1,3 +1,4 @@
 pub mod Buffers
+pub mod Feeds
 pub mod Parts
 pub mod Triples

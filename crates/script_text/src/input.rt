@@ -1,9 +1,10 @@
 //! The lines of an input that is read in pieces of any size.
-ghost use Rattle.std.specs.Prelude.{◌≡◌, ◌↔◌, ◌<◌, ◌≤◌, Contains, IsTrue, ℕ, List, [], ◌∷◌, ◌++◌, length, OnErr, OnOk, IfOk, IfSome, IfNone};
+ghost use Rattle.std.specs.Prelude.{◌≡◌, ◌↔◌, ◌<◌, ◌≤◌, ◌+◌, Contains, IsTrue, false, ℕ, List, [], ◌∷◌, ◌++◌, length, OnErr, OnOk, IfOk, IfSome, IfNone};
 ghost use Rattle.std.specs.Io.KnownBytes.{Keeps, Consumes, IsAtEnd, ReadConsumes};
 ghost use Rattle.std.specs.Io.{ReadsAtMost};
 ghost use Rattle.script_text.specs.Lines.{line_limit, line_of};
 ghost use Rattle.script_text.specs.Reading.{left, IsSpent, FailsInLine, FindsLine, seen_line};
+ghost use Rattle.script_text.specs.model.Feeds.{before_feed, from_feed};
 
 use std::alloc::{AllocError, Global};
 use std::io;
@@ -67,6 +68,27 @@ impl ReadBuffer {
         Ok(())
     }
 
+    // Checks whether it has no bytes.
+    fn is_empty(&self) -> bool
+        ensures { IsTrue result ↔ (self.now ≡ []) }
+    {
+        self.start == self.end
+    }
+
+    // Moves the bytes before the first line feed, or all bytes if there is none, to the line so far. Returns whether the
+    // line is too long.
+    fn move_text(&mut self, line: &mut LineBuffer, is_long: bool) -> bool
+        ensures rest { self.new ≡ from_feed self.old }
+        ensures line { (text : List ℕ) → line_of text ≡ seen_line is_long line.old
+            → line_of (text ++ before_feed self.old) ≡ seen_line result line.new }
+    {
+        let unused = &self.bytes[self.start..self.end];
+        let len = text_len(unused);
+        let result = take_part(line, is_long, &unused[..len]);
+        self.start += len;
+        result
+    }
+
     // Takes the first byte.
     fn pop(&mut self) -> Option<u8>
         ensures some { IfSome result (λ byte. self.old ≡ byte ∷ self.new) }
@@ -95,20 +117,21 @@ fn read_once<R: Read>(reader: &mut R, into: &mut [u8]) -> io::Result<usize>
     Err(io::Error::from(ErrorKind::Interrupted))
 }
 
-// Returns the next byte, or none at the end.
-fn next_byte<R: Read>(buffer: &mut ReadBuffer, reader: &mut R) -> io::Result<Option<u8>>
-    ensures some { IfOk result (λ found. IfSome found (λ byte.
-        Consumes (left buffer.old (R.remaining reader.old)) (left buffer.new (R.remaining reader.new)) (byte ∷ []))) }
-    ensures none { IfOk result (λ found. IfNone found
-        (IsSpent (left buffer.old (R.remaining reader.old)) buffer.new (R.remaining reader.new))) }
+// Reads into the buffer if it is empty. Returns whether a byte is there; there is none at the end.
+fn has_byte<R: Read>(buffer: &mut ReadBuffer, reader: &mut R) -> io::Result<bool>
+    ensures some { IfOk result (λ found. IsTrue found
+        → Consumes (left buffer.old (R.remaining reader.old)) (left buffer.new (R.remaining reader.new)) []
+        × (0 < length buffer.new)) }
+    ensures none { IfOk result (λ found. found ≡ false
+        → IsSpent (left buffer.old (R.remaining reader.old)) buffer.new (R.remaining reader.new)) }
     ensures err { OnErr result
         (Keeps (left buffer.old (R.remaining reader.old)) (R.remaining reader.new) × (buffer.new ≡ [])) }
 {
-    if let Some(byte) = buffer.pop() {
-        return Ok(Some(byte));
+    if !buffer.is_empty() {
+        return Ok(true);
     }
     buffer.fill(reader)?;
-    Ok(buffer.pop())
+    Ok(!buffer.is_empty())
 }
 
 /// A line of at most 20,000 bytes. Contracts see it as the list of its bytes.
@@ -153,19 +176,21 @@ impl LineBuffer {
         self.len = 0;
     }
 
-    fn is_full(&self) -> bool
-        ensures full { IsTrue result ↔ (length self.now ≡ line_limit) }
-        ensures most { length self.now ≤ line_limit }
+    // Returns how many bytes it still has room for.
+    fn room(&self) -> usize
+        ensures room { result + length self.now ≡ line_limit }
     {
-        self.len == LINE_LIMIT
+        LINE_LIMIT - self.len
     }
 
-    fn push(&mut self, byte: u8)
-        requires { length self.old < line_limit }
-        ensures { self.new ≡ self.old ++ byte ∷ [] }
+    // Adds these bytes at the end.
+    fn append(&mut self, text: &[u8])
+        requires { length self.old + length text.now ≤ line_limit }
+        ensures { self.new ≡ self.old ++ text.now }
     {
-        self.bytes[self.len] = byte;
-        self.len += 1;
+        let end = self.len + text.len();
+        self.bytes[self.len..end].copy_from_slice(text);
+        self.len = end;
     }
 }
 
@@ -193,16 +218,28 @@ pub struct Found {
 #[derive(Debug, Drop)]
 pub struct ReadFailed;
 
-// Adds a byte to the line so far, and returns whether the line is too long.
-fn take_byte(line: &mut LineBuffer, is_long: bool, byte: u8) -> bool
+// Adds a part to the line so far, and returns whether the line is too long.
+fn take_part(line: &mut LineBuffer, is_long: bool, part: &[u8]) -> bool
     ensures { (text : List ℕ) → line_of text ≡ seen_line is_long line.old
-        → line_of (text ++ byte ∷ []) ≡ seen_line result line.new }
+        → line_of (text ++ part.now) ≡ seen_line result line.new }
 {
-    if is_long || line.is_full() {
+    if is_long || part.len() > line.room() {
         return true;
     }
-    line.push(byte);
+    line.append(part);
     false
+}
+
+// Returns the number of bytes before the first line feed, or of all bytes if there is none.
+fn text_len(bytes: &[u8]) -> usize
+    ensures { result ≡ length (before_feed bytes.now) }
+{
+    for (at, byte) in bytes.iter().enumerate() {
+        if *byte == b'\n' {
+            return at;
+        }
+    }
+    bytes.len()
 }
 
 /// Finds the next line, and leaves its bytes in `line` unless it is too long. Allocates nothing.
@@ -221,17 +258,18 @@ pub fn next_line<R: Read>(
     line.clear();
     let mut is_long = false;
     for seen in 0..u64::MAX {
-        let stop = match next_byte(buffer, reader) {
+        match has_byte(buffer, reader) {
             Err(_) => return Err(ReadFailed),
-            Ok(None) if seen == 0 => Stop::Nothing,
-            Ok(None) => Stop::End,
-            Ok(Some(b'\n')) => Stop::LineFeed,
-            Ok(Some(byte)) => {
-                is_long = take_byte(line, is_long, byte);
-                continue;
+            Ok(true) => is_long = buffer.move_text(line, is_long),
+            Ok(false) => {
+                let stop = if seen == 0 { Stop::Nothing } else { Stop::End };
+                return Ok(Found { stop, is_long });
             }
-        };
-        return Ok(Found { stop, is_long });
+        }
+        if let Some(_) = buffer.pop() {
+            let stop = Stop::LineFeed;
+            return Ok(Found { stop, is_long });
+        }
     }
     Err(ReadFailed)
 }

@@ -6,11 +6,14 @@ ghost use Rattle.script_text.specs.model.Parts.{joined, StartsNoSpace};
 
 use std::alloc::{AllocError, Global};
 
+// As many words as follow `register`.
+const USUAL_WORDS: usize = 7;
+
 // The words of a text. Allocates the list of them.
 pub(crate) fn words(alloc: Global, text: &[u8]) -> Result<Vec<&[u8]>, AllocError>
     ensures { IfOk result (λ words. map (λ word. word.now) words.items ≡ words_of text.now) }
 {
-    let mut words = Vec::new(alloc);
+    let mut words = Vec::with_capacity(alloc, USUAL_WORDS)?;
     let mut rest = text;
     while let Some((word, more)) = split_word(rest) {
         words.push(word)?;

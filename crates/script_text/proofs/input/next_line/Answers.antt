@@ -1,14 +1,39 @@
-use Rattle.std.proofs.Common.{◌≢◌, [], ◌∷◌, ◌++◌, rules, arith, length-append}
-use Rattle.std.proofs.lemmas.List.Elements.{All-push}
-use Rattle.std.proofs.KnownBytes.{Consumes-trans}
+use Rattle.std.proofs.Common.{ℕ, List, ◌≢◌, ◌++◌, sym, ◌∙◌, subst, arith, length-append}
+use Rattle.std.proofs.lemmas.List.Elements.{All-append}
+use Rattle.std.specs.Io.KnownBytes.{Consumes}
+use Rattle.script_text.specs.Reading.{left}
+use Rattle.script_text.specs.model.Feeds.{before_feed}
+use Rattle.script_text.proofs.Feeds.{all_text, before_has_no_end, line_gone, text_gone}
 use Rattle.script_text.proofs.input.next_line.Goals as goal
+
+pub returns-in-Some-clause-found : goal.returns-in-Some-clause-found
+returns-in-Some-clause-found g c =
+    let (text, no_end, none, more, seen, gone) = c.loop-seen.invariant in
+    let here = c.has_byte.new.buffer in
+    let more = before_feed here in
+    let taken = text_gone _ _ text here _ gone (c.in-Ok-true.ensures.some c.in-Ok-true.field-0-test).0 in (
+      text ++ more,
+      All-append (λ b. b ≢ 10) text more no_end (before_has_no_end here),
+      c.move_text-is_long.ensures.line text seen,
+      line_gone _ (text ++ more) here c.pop.new.self c.in-Some.field-0 _ taken
+          (sym c.move_text-is_long.ensures.rest ∙ c.in-Some.ensures.some),
+    )
 
 pub loop-seen-preserved : goal.loop-seen-preserved
 loop-seen-preserved g c =
-    let (text, no_end, count, seen, gone) = c.loop-seen.invariant in (
-      text ++ c.in-Ok-Some.byte ∷ [],
-      All-push (λ b. b ≢ 10) text c.in-Ok-Some.byte no_end (search rules),
-      omega (arith, length-append text (c.in-Ok-Some.byte ∷ [])),
-      c.take_byte-is_long.ensures text seen,
-      Consumes-trans _ _ _ _ _ gone (search rules),
+    let (text, no_end, none, before, seen, gone) = c.loop-seen.invariant in
+    let here = c.has_byte.new.buffer in
+    let more = before_feed here in
+    let found = c.in-Ok-true.ensures.some c.in-Ok-true.field-0-test in
+    let rest = sym c.move_text-is_long.ensures.rest in
+    let spent = c.in_default.ensures.none in
+    let longer = all_text here (rest ∙ spent.0) in
+    let taken = text_gone _ _ text here _ gone found.0 in (
+      text ++ more,
+      All-append (λ b. b ≢ 10) text more no_end (before_has_no_end here),
+      λ e. absurd (omega (arith, e)),
+      λ e. (omega (arith, found.1, longer, length-append text more), spent.1),
+      c.move_text-is_long.ensures.line text seen,
+      subst (λ (l : List ℕ). Consumes (left c.args.buffer.now (g.R.Read.remaining c.args.reader.now))
+          (left l (g.R.Read.remaining c.has_byte.new.reader)) (text ++ more)) (rest ∙ spent.0 ∙ sym spent.1) taken,
     )

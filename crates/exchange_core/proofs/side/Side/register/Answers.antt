@@ -1,8 +1,7 @@
 use Rattle.instruction_set.specs.declared.insn.Insn.{Insn}
-use Rattle.std.proofs.Common.{List, Option, ◌++◌, ◌∷◌, [], ap, sym, ◌∙◌}
+use Rattle.std.proofs.Common.{List, Option, ◌++◌, ◌∷◌, [], ap, ◌∙◌, rules}
 use Rattle.exchange_core.specs.declared.journal.Event.TheVariants as event
 use Rattle.exchange_core.specs.Sides.{register}
-use Rattle.exchange_core.proofs.Due.{room_register}
 use Rattle.exchange_core.proofs.Journaled.{kept_on, few_on}
 use Rattle.exchange_core.proofs.side.Side.register.Goals as goal
 
@@ -22,5 +21,4 @@ invariant_of-self-2-clause-few c =
     let event = event.Register c.args.name c.args.registration c.in_ok-program.program in
     few_on c.args.self.now.journal.items c.push_reserved.new.self.items event c.is_full.result
     (c.push_reserved.ensures.items ∙ ap (λ l. l ++ event ∷ []) c.in_ok-reserve.ensures.items) c.is_full.ensures
-    (room_register c.is_full.result c.args.self.now.state c.args.name (sym c.early_register_fault.ensures
-    ∙ c.in_default.is))
+    (search rules)
