@@ -1,4 +1,4 @@
--- How many bytes code has.
+-- The length of code in bytes.
 use Rattle.std.proofs.Common.{◌≡◌, ◌*◌, List, [], ◌∷◌, length, refl, ap, ◌∙◌, arith, length-append}
 use Rattle.std.specs.Prelude.{sum_by, OnOk, Result, Ok, Err}
 use Rattle.std.specs.List.{flat_map}

@@ -1,4 +1,4 @@
--- What is answered about the bytes of an offer.
+-- The answers of `decode_offer`.
 use Rattle.std.proofs.Common.{◌≡◌, ℕ, ◌-◌, List, [], length, Result, Ok, Err, refl, sym, ap, subst, ◌∙◌, ◌≤◌, arith, inl, inr}
 use Rattle.std.specs.Prelude.{IfOk, IfErr}
 use Rattle.std.specs.FinMap.{entries}

@@ -112,7 +112,7 @@ named_known ids (by.Program p) c id e = by_known (has_id p ids) refl e
     by_known true is h = let one : p ≡ id = cc in subst (λ (q : ProgramId). has_id q ids ≡ true) one is
     by_known false is h = absurd cc
 
--- code that stands in a row
+-- a row that contains code
 record IsNewCode (ids : List ProgramId) (bytes : List ℕ) : Type 0 where
   code : List Insn
   accepted : IsAccepted bytes code

@@ -23,7 +23,7 @@ side_at (zero ∷ rest) = Ok (A, rest)
 side_at (suc zero ∷ rest) = Ok (B, rest)
 side_at (suc (suc n) ∷ rest) = wrong wrongs.Side (suc (suc n) ∷ rest)
 
--- the name of these bytes, the first so many of which are it
+-- the name in these bytes, of which the first `len` are the name
 abbrev pub name_in : List ℕ → ℕ → List ℕ → Result (Name × List ℕ) Fault
 name_in whole len rest =
     if nat_lt (length rest) len then wrong wrongs.Cut whole

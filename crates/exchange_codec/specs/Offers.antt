@@ -26,7 +26,7 @@ use Rattle.exchange_codec.specs.Rows.{RowText, Named, Code, row_bytes, row_at, I
 abbrev pub offers_header : ℕ
 offers_header = 0x0101_4358_4C41_4548
 
--- an offer as it stands in a message
+-- the fields of an offer in a message
 pub record OfferText : Type 0 where
   pub head : OfferHead
   pub rows : List RowText

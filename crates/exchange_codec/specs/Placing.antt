@@ -1,4 +1,4 @@
--- Where in a message a fault is.
+-- The place of a fault in a message.
 use Rattle.std.specs.Prelude.{ℕ, ◌-◌}
 use Rattle.exchange_codec.specs.declared.fault.Fault.{Fault}
 use Rattle.exchange_codec.specs.declared.fault.ReadError.{ReadError}
@@ -6,7 +6,7 @@ use Rattle.exchange_codec.specs.declared.fault.ReadError.TheVariants as errors
 use Rattle.exchange_codec.specs.declared.fault.MessageFault.{MessageFault}
 use Rattle.exchange_codec.specs.declared.fault.MessageFault.TheVariants as message
 
--- a fault of a message of so many bytes
+-- a fault of a message of `len` bytes
 abbrev pub placed : ℕ → Fault → MessageFault
 placed len f = message.Field f.what (len - f.left)
 

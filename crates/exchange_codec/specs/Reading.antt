@@ -28,7 +28,7 @@ abbrev pub Gives : {X Y : Type 0} → (X → Y) → Result X ReadError → Resul
 Gives view (Ok x) read = read ≡ Ok (view x)
 Gives view (Err e) read = Fails e read
 
--- the same of a whole message of so many bytes: a fault has its place in it
+-- the same for a whole message of `len` bytes, in which a fault has its place
 abbrev pub due : {Y : Type 0} → ℕ → Result Y Fault → Result Y MessageFault
 due len (Ok y) = Ok y
 due len (Err f) = Err (placed len f)
@@ -40,7 +40,7 @@ number_at w bytes =
     if nat_lt (length bytes) (byte_len w) then wrong Cut bytes
     else Ok (from_le_bytes w (take (byte_len w) bytes), drop (byte_len w) bytes)
 
--- so many bytes as they stand
+-- `n` bytes, unchanged
 abbrev pub bytes_at : ℕ → List ℕ → Result (List ℕ × List ℕ) Fault
 bytes_at n bytes = if nat_lt (length bytes) n then wrong Cut bytes else Ok (take n bytes, drop n bytes)
 
@@ -69,7 +69,7 @@ count_at limit bytes = do
   n ← number_at w32 bytes
   if nat_lt limit n.0 then wrong Count bytes else Ok n
 
--- so many of one kind
+-- a number of items of one kind
 unfoldable pub many_at : {A : Type 0} → (List ℕ → Result (A × List ℕ) Fault) → ℕ → List ℕ → Result (List A × List ℕ) Fault
 many_at one zero bytes = Ok ([], bytes)
 many_at one (suc n) bytes = do

@@ -24,7 +24,7 @@ use Rattle.exchange_codec.specs.Names.{name_bytes, name_at}
 abbrev pub max_code : ℕ
 max_code = 8192
 
--- ---- rows as they stand in a message
+-- ---- the fields of rows in a message
 
 pub data ResolverText : Type 0 where
   ByBuiltin : (b : Builtin) → ResolverText

@@ -55,7 +55,7 @@ list_at bytes = do
 unfoldable pub list_of : List ℕ → Result Withdrawals Fault
 list_of bytes = list_at bytes >>= ended
 
--- a name that stands twice is told once all of the bytes are read
+-- a repeated name is reported after all bytes are read
 abbrev pub unless_again : Option ℕ → Withdrawals → Result Withdrawals MessageFault
 unless_again None w = Ok w
 unless_again (Some k) w = Err (message.Item item.NameAgain k)

@@ -48,7 +48,7 @@ pub(crate) fn bytes_at(len: usize, bytes: &[u8]) -> Result<(&[u8], &[u8]), ReadE
     Ok(bytes.split_at(len))
 }
 
-/// What follows the header.
+/// Returns the bytes after the header.
 #[tactic(auto, unfolding(crate::specs::Reading::header_at))]
 pub(crate) fn header_at(header: u64, bytes: &[u8]) -> Result<&[u8], ReadError>
     ensures { Gives (λ x. x.now) result (header_at header bytes.now) }

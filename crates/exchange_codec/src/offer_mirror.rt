@@ -28,7 +28,7 @@ use std::alloc::Global;
 use std::collections::BTreeMap;
 use upload_store::{UploadFault, UploadStore};
 
-// The programs of earlier rows, each in a store of its own: a table may name more programs than a store holds.
+// The programs of earlier rows, each in a separate store: a table may name more programs than a store holds.
 type Stores = BTreeMap<ProgramId, UploadStore>;
 
 /// Returns the offer of the text: a fresh side registers each row, and begins the number.

@@ -37,7 +37,7 @@ pub(crate) struct OfferHead {
     pub(crate) uptime: u64,
 }
 
-/// An offer as it stands in a message.
+/// The fields of an offer in a message.
 #[derive(Drop)]
 pub(crate) struct OfferText<'a> {
     pub(crate) head: OfferHead,

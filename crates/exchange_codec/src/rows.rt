@@ -22,7 +22,7 @@ use verifier::Verified;
 /// The most bytes that the code of a program has.
 pub(crate) const MAX_CODE: u32 = 8192;
 
-/// Who judges, as it stands in a message.
+/// The field of a row that names the resolver.
 #[derive(Clone, Copy)]
 pub(crate) enum ResolverText<'a> {
     Builtin(Builtin),
@@ -32,7 +32,7 @@ pub(crate) enum ResolverText<'a> {
     Code(&'a [u8]),
 }
 
-/// A row as it stands in a message.
+/// The fields of a row in a message.
 #[derive(Clone, Copy)]
 pub(crate) struct RowText<'a> {
     pub(crate) name: Name,

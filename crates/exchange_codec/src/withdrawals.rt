@@ -23,7 +23,7 @@ use std::alloc::{AllocError, Global};
 // "HEALXC", version 1, kind 2.
 const HEADER: u64 = 0x0201_4358_4C41_4548;
 
-/// A list as it stands in a message.
+/// The fields of a list in a message.
 #[derive(Drop)]
 pub(crate) struct ListText {
     pub(crate) side: SideId,

@@ -11,9 +11,9 @@ use std::marker::Model;
 ///
 /// Its drop frees nothing: make a box of it again.
 pub struct BoxParts<T, A: Allocator> {
-    /// Where the value lies.
+    /// The pointer to the value.
     pub at: *mut T,
-    /// What frees the block.
+    /// The allocator that frees the block.
     pub alloc: A,
     pub ghost value: { T },
 }

@@ -19,7 +19,7 @@ const LOADS: u32 = 2000;
 struct Tenths(u128);
 
 impl Tenths {
-    // The mean of so many runs that took this time in nanoseconds together.
+    // Returns the mean time of `runs` runs that took `nanos` nanoseconds in total.
     fn mean(nanos: u128, runs: u32) -> Tenths
         requires { 0 < runs }
     {

@@ -1,4 +1,4 @@
--- What the walks of the handles share.
+-- Proofs that the handles share.
 pub mod Answering
 pub mod Finishing
 pub mod HalfWords

@@ -1,4 +1,4 @@
--- How the values of handles are compared.
+-- Equality of the values of handles.
 use Rattle.std.specs.Prelude.{Option}
 use Rattle.std.specs.Coded.{Coded, coded_option}
 use Rattle.heal_c.specs.declared.loaded.Loaded.{Loaded}

@@ -1,4 +1,4 @@
-//! One half of a cluster in a process of its own: carries out the lines of standard input, and prints an answer to each.
+//! One half of a cluster, alone in its process: carries out the lines of standard input, and prints an answer to each.
 //!
 //! Start one process with the argument `a` and one with `b`. What one prints after `offer` or `list` is a message: pass it
 //! to the other as `hear HEX` or `hear-list HEX`. `scripts/two_processes.py` does so.

@@ -131,7 +131,7 @@ pub(crate) fn is_judged(
     Ok(is_answered(rt, &Question::Judge { code, clash }, status, text))
 }
 
-/// Questions, and codes that each of them is asked about: the answer has this status, and for each code this text.
+/// Questions, and codes for each of them. The answer has this status, and for each code this text.
 pub(crate) type Group = (&'static [Ask], u8, &'static [(&'static str, &'static str)]);
 
 // Returns the slots of the first code for which the question is answered otherwise.

@@ -12,7 +12,7 @@ use upload_store::UploadStore;
 /// The programs of each half.
 const PROGRAMS: u16 = 200;
 
-// A side whose names begin with this letter, each with a program of its own.
+// Returns a side whose names begin with this letter, each with another program.
 fn side_of(alloc: Global, id: SideId, letter: u8) -> Result<Side, Fail> {
     let mut store = UploadStore::new(alloc);
     let mut side = Side::new(alloc, id);

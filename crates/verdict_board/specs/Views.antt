@@ -1,4 +1,4 @@
--- What contracts see of a board and of a pass.
+-- The views of a board and of a pass in contracts.
 use Rattle.std.specs.Prelude.{ℕ, List, map, Option}
 use Rattle.partition_table.specs.Tables.{Clash}
 use Rattle.once_cell.specs.declared.race.note.Note.{Note}

@@ -13,7 +13,7 @@ use Rattle.exchange_codec.specs.declared.fault.MessageFault.TheVariants as messa
 use Rattle.exchange_codec.specs.declared.fault.ItemFault.TheVariants.{NameAgain}
 use Rattle.exchange_codec.specs.Withdrawals.{first_again}
 
--- an idle side that began nothing, after at most so many calls, with at most as many names
+-- an idle side that began nothing, after at most `n` calls, with at most `n` names
 pub record IsFresh (side : Side) (n : ℕ) : Type 0 where
   pub idle : (shown side).exchange ≡ None
   pub none_begun : (shown side).latest ≡ None
