@@ -1,8 +1,8 @@
 /*
- * The time of libheal beside DPDK's rte_bpf in one program: library RECORDHEX RUNS HEX.. loads each program by both, and
- * runs it RUNS times by both on the record, whose word changes from run to run. Prints a line for each program: the least of
- * 25 rounds in nanoseconds of heal_program_load, rte_bpf_load, heal_program_judge and rte_bpf_exec. Ends with status 1 if the
- * answers differ.
+ * Times libheal and DPDK's rte_bpf in one program: library RECORDHEX RUNS HEX.. loads each program by both, and runs it RUNS
+ * times by both on the record, whose word changes from run to run. Prints a line for each program: the mean times in
+ * nanoseconds of heal_program_load, rte_bpf_load, heal_program_judge and rte_bpf_exec. Ends with status 1 if the answers
+ * differ.
  */
 #include "heal.h"
 
@@ -12,7 +12,7 @@
 #include <string.h>
 #include <time.h>
 
-enum { ROUNDS = 25, LOADS = 200, WORD_AT = 40, MOST_BYTES = 8192 };
+enum { LOADS = 200, WORD_AT = 40, MOST_BYTES = 8192 };
 
 struct times {
     double load;
@@ -46,11 +46,6 @@ static void must(bool succeeded, const char *call)
     exit(1);
 }
 
-static double lesser(double a, double b)
-{
-    return a < b ? a : b;
-}
-
 static void time_heal(const uint8_t *code, size_t len, uint8_t *record, long runs, struct times *times)
 {
     heal_program program = {0};
@@ -60,7 +55,7 @@ static void time_heal(const uint8_t *code, size_t len, uint8_t *record, long run
 
     for (int i = 0; i < LOADS; i++)
         must(heal_program_load(code, len, &program, &slot) == 0, "heal_program_load");
-    times->load = lesser(times->load, (now_ns() - start) / LOADS);
+    times->load = (now_ns() - start) / LOADS;
     times->sum = 0;
     start = now_ns();
     for (uint64_t word = 0; word < (uint64_t)runs; word++) {
@@ -68,7 +63,7 @@ static void time_heal(const uint8_t *code, size_t len, uint8_t *record, long run
         heal_program_judge(&program, record, &ended);
         times->sum += ended.r0;
     }
-    times->run = lesser(times->run, (now_ns() - start) / (double)runs);
+    times->run = (now_ns() - start) / (double)runs;
     heal_program_free(&program);
 }
 
@@ -90,14 +85,14 @@ static void time_peer(const uint8_t *code, size_t len, uint8_t *record, long run
         program = rte_bpf_load(&prm);
         must(program != NULL, "rte_bpf_load");
     }
-    times->load = lesser(times->load, (now_ns() - start) / LOADS);
+    times->load = (now_ns() - start) / LOADS;
     times->sum = 0;
     start = now_ns();
     for (uint64_t word = 0; word < (uint64_t)runs; word++) {
         memcpy(record + WORD_AT, &word, sizeof word);
         times->sum += rte_bpf_exec(program, record);
     }
-    times->run = lesser(times->run, (now_ns() - start) / (double)runs);
+    times->run = (now_ns() - start) / (double)runs;
     rte_bpf_destroy(program);
 }
 
@@ -105,14 +100,12 @@ static void measure(const char *hex, uint8_t *record, long runs)
 {
     static uint8_t code[MOST_BYTES];
     size_t len = read_hex(hex, code, sizeof code);
-    struct times heal = {1e18, 1e18, 0};
-    struct times peer = {1e18, 1e18, 0};
+    struct times heal;
+    struct times peer;
 
-    for (int round = 0; round < ROUNDS; round++) {
-        time_heal(code, len, record, runs, &heal);
-        time_peer(code, len, record, runs, &peer);
-        must(heal.sum == peer.sum, "the comparison of answers");
-    }
+    time_heal(code, len, record, runs, &heal);
+    time_peer(code, len, record, runs, &peer);
+    must(heal.sum == peer.sum, "the comparison of answers");
     printf("%.0f %.0f %.1f %.1f\n", heal.load, peer.load, heal.run, peer.run);
 }
 

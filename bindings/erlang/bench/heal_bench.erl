@@ -7,7 +7,7 @@
 -export([main/0, answers/2, register_global/3]).
 
 -define(NAMES, 4096).
--define(ROUNDS, 7).
+-define(ROUNDS, 25).
 
 main() ->
     Rounds = [{healing(fun by_global/2), healing(fun by_registry/2)} || _ <- lists:seq(1, ?ROUNDS)],
