@@ -17,7 +17,7 @@ use verdict_board::{Board, Seat};
 pub struct RoundDone {
     /// The returned seats. The seat of a worker that couldn't be started may be lost.
     pub seats: Vec<Seat>,
-    /// The number of workers that were started.
+    /// The number of workers that were started, the calling thread among them.
     pub started: u32,
     /// The number of posts that were kept.
     pub kept: u32,
@@ -35,11 +35,12 @@ impl<'a, 'p, G: Gate, E: Ear> Worker for Round<'a, 'p, G, E> {
     }
 }
 
-/// Starts one worker for each seat, and returns once all have ended.
+/// Runs one worker for each seat, one of them in the calling thread and each other in a new thread, and returns once all
+/// have ended.
 ///
-/// Requires seats of this board and a round from 0 to 3. A worker that can't be started, or gets no pass, leaves its
-/// share to the others, and its seat is lost. If the list of workers can't be allocated, no worker is started and all
-/// seats are returned.
+/// Requires seats of this board and a round from 0 to 3. A worker that gets no pass leaves its share to the others. So
+/// does a worker whose thread can't be started, and its seat is lost. If the list of threads can't be allocated, the
+/// calling thread works alone and all seats are returned.
 pub fn heal_round<'p, G: Gate + Sync, E: Ear + Sync, R: Threads + Wait + Sync>(
     rt: &R,
     alloc: Global,
@@ -55,6 +56,8 @@ pub fn heal_round<'p, G: Gate + Sync, E: Ear + Sync, R: Threads + Wait + Sync>(
     ensures seats { All (λ s. s.draws ≡ board.entry.now.draws) result.seats.items }
     // The seat of each worker that was started is returned.
     ensures back { result.started ≤ vec_len result.seats }
+    // Given a seat, the calling thread is a worker.
+    ensures some { 0 < vec_len seats → 0 < result.started }
     // Without workers nothing is judged.
     ensures none { result.started ≡ 0 → round_posts result ≡ 0 }
 {

@@ -33,6 +33,8 @@ pub fn tell_round<'p, G: Gate + Sync, R: Threads + Wait + Sync>(
     ensures seats { All (λ s. s.draws ≡ board.entry.now.draws) result.2.seats.items }
     // The seat of each worker that was started is returned.
     ensures back { result.2.started ≤ vec_len result.2.seats }
+    // The calling thread is a worker if there is a seat.
+    ensures some { 0 < vec_len seats → 0 < result.2.started }
     // Without workers nothing is judged.
     ensures none { result.2.started ≡ 0 → round_posts result.2 ≡ 0 }
 {

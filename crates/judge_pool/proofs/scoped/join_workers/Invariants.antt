@@ -1,5 +1,4 @@
-use Rattle.std.proofs.Common.{◌≡◌, ◌≤◌, ◌+◌, All, vec_len, vec_capacity}
-use Rattle.judge_pool.specs.Work.{round_posts}
+use Rattle.std.proofs.Common.{◌≡◌, ◌≤◌, ◌<◌, ◌+◌, All, vec_len, vec_capacity}
 use Rattle.judge_pool.proofs.scoped.join_workers.Given as goal
 
 abbrev pub invariant-loop-child : goal.invariant-loop-child
@@ -8,7 +7,7 @@ invariant-loop-child g l =
     × All (λ s. s.draws ≡ g.W.Worker.draws l.fn.worker) l.all.seats.items
     × (vec_len l.rest + vec_len l.all.seats ≤ vec_capacity l.all.seats)
     × (l.all.started ≤ vec_len l.all.seats)
-    × (l.all.started ≡ 0 → round_posts l.all ≡ 0)
+    × (0 < l.all.started)
 
 abbrev pub decreases-loop-child : goal.decreases-loop-child
 decreases-loop-child g l = vec_len l.rest

@@ -1,26 +1,39 @@
-use Rattle.std.proofs.Common.{ap, ◌∙◌}
+use Rattle.std.proofs.Common.{◌≡◌, ◌+◌, ap, ◌∙◌, arith}
+use Rattle.std.proofs.lemmas.Grind.{common_steps}
 use Rattle.verdict_board.specs.Draws.{Seat}
-use Rattle.judge_pool.proofs.Drawing.{goes_on, ends}
+use Rattle.judge_pool.specs.Work.{posts}
+use Rattle.judge_pool.proofs.Drawing.{draws_none, draws_row, most_are_spent}
 use Rattle.judge_pool.proofs.round.Round.work.Goals as goal
+
+pub loop-turn-init : goal.loop-turn-init
+loop-turn-init g c =
+    let seat = c.new-done.ensures.seat in record {
+      board = ap (λ (s : Seat). s.draws) seat ∙ c.requires.seat;
+      pass = c.requires.pass;
+      drew = draws_none _ _ _ _ _ c.new-done.ensures.none (ap (λ (s : Seat). s.drawn) seat);
+      row = grind (arith, common_steps);
+      some = omega arith;
+      few = omega arith;
+    }
 
 pub loop-turn-preserved : goal.loop-turn-preserved
 loop-turn-preserved g c =
-    let i = c.loop-turn.invariant in
-    let seat = c.count.ensures.seat in (
-      ap (λ (s : Seat). s.draws) seat ∙ c.in-Clash.ensures.board ∙ i.0,
-      c.serve.ensures ∙ i.1,
-      goes_on _ _ _ c.in-Clash.k _ _ c.loop-turn.done _ i.2 c.in-Clash.ensures.draws
-          (ap (λ (s : Seat). s.drawn) seat) c.count.ensures.one_more,
-    )
+    let h = c.loop-turn.invariant in
+    let seat = c.serve_row.ensures.seat in
+    let sum : posts c.serve_row.new.done ≡ posts c.loop-turn.done + c.draw_row-drawn.result = grind (arith, common_steps) in record {
+      board = ap (λ (s : Seat). s.draws) seat ∙ c.draw_row-drawn.ensures.board ∙ h.board;
+      pass = c.serve_row.ensures.pass ∙ h.pass;
+      drew = draws_row _ _ _ _ _ _ _ _ _ h.drew c.draw_row-drawn.ensures.drew sum (ap (λ (s : Seat). s.drawn) seat);
+      row = (omega arith, omega arith);
+      some = omega arith;
+      few = omega arith;
+    }
 
-pub returns-in-Spent-clause-round : goal.returns-in-Spent-clause-round
-returns-in-Spent-clause-round g c =
-    (ends _ _ _ _ _ c.loop-turn.done c.loop-turn.invariant.2 c.in-Spent.ensures.draws).others
-
-pub returns-in-Spent-clause-spent : goal.returns-in-Spent-clause-spent
-returns-in-Spent-clause-spent g c =
-    (ends _ _ _ _ _ c.loop-turn.done c.loop-turn.invariant.2 c.in-Spent.ensures.draws).spent
-
-pub returns-in-Spent-clause-posts : goal.returns-in-Spent-clause-posts
-returns-in-Spent-clause-posts g c =
-    (ends _ _ _ _ _ c.loop-turn.done c.loop-turn.invariant.2 c.in-Spent.ensures.draws).posted
+pub returns : goal.returns
+returns g c =
+    let h = c.loop-turn.invariant in record {
+      board = h.board;
+      round = h.drew.others;
+      spent = most_are_spent _ _ _ _ _ h.drew (omega arith);
+      posts = omega (arith, h.drew.clashes);
+    }
