@@ -1,5 +1,5 @@
 -- Finite maps, and the entries that they are made of.
-use Rattle.std.proofs.Common.{◌≡◌, suc, Bool, true, false, cond, ◌||◌, Option, Some, None, List, [], ◌∷◌, length, map, refl, ap, sym, subst, ◌∙◌}
+use Rattle.std.proofs.Common.{◌≡◌, suc, Bool, true, false, cond, ◌||◌, Option, Some, None, Result, Ok, Err, OnOk, OnErr, List, [], ◌∷◌, length, map, refl, ap, sym, subst, ◌∙◌}
 use Rattle.std.proofs.lemmas.Bool.{and_parts, and_from, or_parts}
 use Rattle.std.proofs.lemmas.Map.Keys.{sorted_head, sorted_tail}
 use lib.Dec.{T}
@@ -79,6 +79,13 @@ module _ {K X Y : Type 0} {R : K → K → Ordering} (o : IsTotalOrder R) (f : X
         ((eq_by_cmp_equiv o).symm k q)
         ∙ sym (get-insert o (from_entries (mapped f m.entries)) k (f x) q))
 
+    -- entries that have the same at each key make one map
+    pub made_same : (m n : BTreeMap K X)
+        → ((q : K) → lookup (is_at (R q)) n.entries ≡ lookup (is_at (R q)) m.entries)
+        → from_entries {R = R} (mapped f n.entries) ≡ from_entries (mapped f m.entries)
+    made_same m n same = same_map o exact _ _ (λ q.
+        get-mapped n.entries q ∙ ap (option_map f) (same q) ∙ sym (get-mapped m.entries q))
+
     none_map : (b : Bool) (p : Option X) → option_map f (cond b None p) ≡ cond b None (option_map f p)
     none_map true p = refl
     none_map false p = refl
@@ -91,6 +98,25 @@ module _ {K X Y : Type 0} {R : K → K → Ordering} (o : IsTotalOrder R) (f : X
         ∙ ap (cond (is_at (R k) q) None) (sym (get-mapped m.entries q))
         ∙ ap (λ b. cond b None (get (from_entries {R = R} (mapped f m.entries)) q)) ((eq_by_cmp_equiv o).symm k q)
         ∙ sym (get-remove o (from_entries (mapped f m.entries)) k q))
+
+-- a value that is written over and then written back leaves the map unchanged
+pub put_back : {K X : Type 0} {R : K → K → Ordering} → IsAntisymmetric R
+    → (m lent n : BTreeMap K X) (k : K) (x before : X)
+    → lookup (is_at (R k)) m.entries ≡ Some before → Updates R m lent k (Some x) → Updates R lent n k (Some before)
+    → (q : K) → lookup (is_at (R q)) n.entries ≡ lookup (is_at (R q)) m.entries
+put_back {R = R} exact m lent n k x before there over back q =
+    back.0 q ∙ ap (cond (is_at (R k) q) (Some before)) (over.0 q) ∙ by (is_at (R k) q) refl
+  where
+    by : (b : Bool) → is_at (R k) q ≡ b
+        → cond b (Some before) (cond b (Some x) (lookup (is_at (R q)) m.entries)) ≡ lookup (is_at (R q)) m.entries
+    by true e = sym there ∙ ap (λ i. lookup (is_at (R i)) m.entries) (exact k q ((Equal-is (R k q)).0 e))
+    by false e = refl
+
+-- a call that fails only where nothing is there succeeds where something is
+pub succeeds_there : {A F X P : Type 0} (r : Result A F) (o : Option X) (x : X) → o ≡ Some x
+    → OnErr r (o ≡ None) → OnOk r P → P
+succeeds_there (Ok a) o x there refused done = done
+succeeds_there (Err f) o x there refused done = let both : None ≡ Some x = sym refused ∙ there in absurd (cc)
 
 -- two ways of reading that agree on what is held make one map
 pub made_alike : {K X Y : Type 0} {R : K → K → Ordering} (o : IsTotalOrder R) → IsAntisymmetric R → (f g : X → Y)

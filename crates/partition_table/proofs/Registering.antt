@@ -1,31 +1,55 @@
 -- Which refusal is due where a name is registered.
-use Rattle.std.proofs.Common.{◌≡◌, ℕ, ◌<◌, ◌≤◌, ◌≢◌, ◌↔◌, ◌⊎◌, Bool, true, false, nat_lt, Option, Some, None, Result, Ok, Err, List, refl, ap, sym, ◌∙◌, inl, inr, arith}
+use Rattle.std.proofs.Common.{◌≡◌, ℕ, ◌<◌, ◌≤◌, ◌≢◌, ◌↔◌, ◌⊎◌, Bool, true, false, if◌then◌else◌, is_some, nat_lt, Option, Some, None, Result, Ok, Err, OnErr, List, refl, ap, sym, subst, ◌∙◌, arith}
 use Rattle.std.proofs.lemmas.Bool.{lt-ltb, le-ltb}
 use Rattle.std.specs.Bool.{IsTrue}
 use Rattle.std.specs.Result.{IsErrAnd}
-use Rattle.std.specs.FinMap.{len, contains_key}
+use Rattle.std.specs.FinMap.{get, len, contains_key}
+use Rattle.std.specs.Map.{lookup}
+use Rattle.std.specs.BTreeMap.{is_at}
 use Rattle.instruction_set.specs.declared.insn.Insn.{Insn}
 use Rattle.clash_record.specs.declared.registrations.Registration.{Registration}
 use Rattle.upload_store.specs.Programs.{Programs}
 use Rattle.partition_table.specs.declared.fault.TableFault.{TableFault}
-use Rattle.partition_table.specs.declared.fault.TableFault.TheVariants.{NameTaken, Full, UnknownProgram, OtherCode, OutOfMemory}
+use Rattle.partition_table.specs.declared.fault.TableFault.TheVariants.{NameTaken, Full, UnknownProgram, OtherCode}
 use Rattle.clash_record.specs.Name.{Name}
+use Rattle.clash_record.specs.Orders.{name_cmp}
 use Rattle.partition_table.specs.Tables.{Row, Table, max_names, agrees_with, row_for}
-use Rattle.numbered.specs.Answers.{IsAnswered}
+use Rattle.numbered.specs.Answers.{IsAnswered, out_of_memory}
 use Rattle.partition_table.specs.Faults.{is_known, register_fault, table_fault_number}
 use Rattle.partition_table.specs.model.Keeping.{IsHeld, has_room_for}
-use Rattle.partition_table.proofs.Held.{IsLookedUp, agrees_from_room, room_from_agrees}
+use Rattle.partition_table.specs.Views.{table_by}
+use Rattle.partition_table.proofs.Holding.{is_none_by}
+use Rattle.partition_table.proofs.Held.{has_name, IsLookedUp, agrees_from_room, room_from_agrees}
 
 -- a refusal that is passed on
 pub handed_on : {A : Type 0} (due : Option TableFault) (r : Result A TableFault) (f : TableFault)
     → IsErrAnd r (λ e. e ≡ f)
-    → (due ≡ Some f) ⊎ (f ≡ OutOfMemory) → IsAnswered table_fault_number due r
+    → (due ≡ Some f) ⊎ (table_fault_number f ≡ out_of_memory) → IsAnswered table_fault_number due r
 handed_on due (Ok x) f h is = absurd h
-handed_on due (Err e) f h (inl is) = inl (is ∙ ap Some (sym h))
-handed_on due (Err e) f h (inr is) = inr (ap table_fault_number (h ∙ is))
+handed_on due (Err e) f h is = subst (λ x. (due ≡ Some x) ⊎ (table_fault_number x ≡ out_of_memory)) (sym h) is
+
+-- what always holds holds if there is an error
+pub if_err : {A F P : Type 0} (r : Result A F) → P → OnErr r P
+if_err (Ok x) h = tt
+if_err (Err e) h = h
+
+-- the refusal that is due if the name is registered
+abbrev pub taken_if : Bool → Option TableFault
+taken_if b = if b then Some NameTaken else None
+
+not_taken : (b : Bool) → taken_if b ≡ None → b ≡ false
+not_taken true h = absurd (cc)
+not_taken false h = refl
+
+-- a name that isn't refused is new
+pub new_name : (programs : Programs) (rows : List (Name × Registration)) (table : Table)
+    → table_by programs rows ≡ table → (name : Name)
+    → taken_if (is_some (lookup (is_at (name_cmp name)) rows)) ≡ None → get table name ≡ None
+new_name programs rows table made name free =
+    is_none_by (get table name) (sym (has_name programs rows table made name) ∙ not_taken _ free)
 
 module _ (table : Table) (name : Name) (r : Registration) (store : Programs) where
-  pub taken_due : contains_key table name ≡ true → register_fault table name r store ≡ Some NameTaken
+  taken_due : contains_key table name ≡ true → register_fault table name r store ≡ Some NameTaken
   taken_due a = rw a refl
 
   pub full_due : contains_key table name ≡ false → len table ≡ max_names → register_fault table name r store ≡ Some Full
@@ -41,10 +65,33 @@ module _ (table : Table) (name : Name) (r : Registration) (store : Programs) whe
     other_due k g = let b : nat_lt (len table) max_names ≡ true = lt-ltb (len table) max_names room in
         rw (a, b, k, g) refl
 
-    pub none_due : is_known store r.resolver ≡ true → agrees_with table (row_for store r) ≡ true
+    none_due : is_known store r.resolver ≡ true → agrees_with table (row_for store r) ≡ true
         → register_fault table name r store ≡ None
     none_due k g = let b : nat_lt (len table) max_names ≡ true = lt-ltb (len table) max_names room in
         rw (a, b, k, g) refl
+
+  -- the name comes first, and then what else is due
+  pub refused_first : (rest fault : TableFault) → fault ≡ (if contains_key table name then NameTaken else rest)
+      → (contains_key table name ≡ false → register_fault table name r store ≡ Some rest)
+      → register_fault table name r store ≡ Some fault
+  refused_first rest fault is due = by (contains_key table name) refl ∙ ap Some (sym is)
+    where
+      by : (b : Bool) → contains_key table name ≡ b
+          → register_fault table name r store ≡ Some (if b then NameTaken else rest)
+      by true a = taken_due a
+      by false a = due a
+
+  -- where nothing else is due, only the name can be refused
+  pub answered : len table < max_names → is_known store r.resolver ≡ true
+      → agrees_with table (row_for store r) ≡ true → {A : Type 0} (result : Result A TableFault)
+      → IsAnswered table_fault_number (taken_if (contains_key table name)) result
+      → IsAnswered table_fault_number (register_fault table name r store) result
+  answered room k g result =
+      subst (λ due. IsAnswered table_fault_number due result) (sym (by (contains_key table name) refl))
+    where
+      by : (b : Bool) → contains_key table name ≡ b → register_fault table name r store ≡ taken_if b
+      by true a = taken_due a
+      by false a = none_due a room k g
 
 -- a table that isn't full has room
 pub has_place : (n m : ℕ) → n ≡ m → m ≤ max_names → n ≢ max_names → m < max_names

@@ -1,14 +1,15 @@
 //! Tables.
-ghost use Rattle.std.specs.Prelude.{◌≡◌, Some, None, Ok, Err, IfOk, OnOk, OnErr, IfSome, IsTrue, ◌↔◌, reverse};
+ghost use Rattle.std.specs.Prelude.{◌≡◌, ◌<◌, if◌then◌else◌, is_some, Some, None, Ok, Err, IfOk, OnOk, OnErr, IfSome, IsTrue, ◌↔◌, reverse};
 ghost use Rattle.std.specs.Option.{option_map};
 ghost use Rattle.std.specs.Arc.{arc_value};
 ghost use Rattle.std.specs.FinMap as map;
-ghost use Rattle.std.specs.BTreeMap.{IsFromIterResult};
+ghost use Rattle.std.specs.BTreeMap.{IsFromIterResult, Updates, get};
 ghost use Rattle.clash_record.specs.Orders.{name_cmp};
 ghost use Rattle.clash_record.specs.Name.{Name};
-ghost use Rattle.partition_table.specs.Tables.{IsTable, tables_agree, row_for, rows_of, Row};
-ghost use Rattle.partition_table.specs.model.Keeping.{kept_code, IsKept, IsKeptFor, IsNewRow};
+ghost use Rattle.partition_table.specs.Tables.{IsTable, IsCodeOf, agrees_with, max_names, tables_agree, row_for, rows_of, Row};
+ghost use Rattle.partition_table.specs.model.Keeping.{kept_code, IsKept, IsKeptFor};
 ghost use Rattle.partition_table.specs.Views.{table_by};
+ghost use Rattle.partition_table.specs.declared.fault.TableFault.TheVariants.{NameTaken};
 ghost use Rattle.upload_store.specs.Programs.{programs_by};
 ghost use Rattle.numbered.specs.Answers.{IsAnswered};
 ghost use Rattle.partition_table.specs.Faults.{register_fault, table_fault_number, unregister_answer};
@@ -113,18 +114,18 @@ impl Table {
         ensures registered { OnOk result (self.new ≡ map.insert self.old name (row_for store.now registration)) }
         ensures unchanged { OnErr result (self.new ≡ self.old) }
     {
-        if self.rows.contains_key(&name) {
-            return Err(TableFault::NameTaken);
-        }
+        // Looks the name up only where something else refuses it: `keep` finds a registered name by itself.
         if self.rows.len() == MAX_NAMES {
-            return Err(TableFault::Full);
+            return Err(self.refusal(&name, TableFault::Full));
         }
-        let program = find_program(store, registration.resolver)?;
+        let program = match find_program(store, registration.resolver) {
+            Ok(program) => program,
+            Err(fault) => return Err(self.refusal(&name, fault)),
+        };
         if !has_room(&self.programs, registration.resolver, program) {
-            return Err(TableFault::OtherCode);
+            return Err(self.refusal(&name, TableFault::OtherCode));
         }
-        self.keep(name, registration, program)?;
-        Ok(())
+        self.keep(name, registration, program)
     }
 
     /// Unregisters the name and returns its registration, or 31 if it isn't registered. Allocates nothing.
@@ -187,25 +188,62 @@ impl Table {
         Ok(Table { rows, programs })
     }
 
-    // Adds a row under a new name. If the program can't be kept, takes the row out again.
-    pub(crate) fn keep(
+    // Returns 30 if the name is registered, and otherwise the fault.
+    fn refusal(&self, name: &Name, fault: TableFault) -> TableFault
+        ensures { result ≡ (if map.contains_key self.now name.now then NameTaken else fault) }
+    {
+        if self.rows.contains_key(name) {
+            TableFault::NameTaken
+        } else {
+            fault
+        }
+    }
+
+    // Adds the row, or returns 30 if the name is registered. If the program can't be kept, takes the row out again.
+    fn keep(
         &mut self,
         name: Name,
         registration: Registration,
         program: Option<&Arc<Verified>>,
-    ) -> Result<(), AllocError>
-        requires { IsNewRow self.old name
-            record { registration = registration; code = option_map (λ p. arc_value p.now) program } }
+    ) -> Result<(), TableFault>
+        requires room { map.len self.old < max_names }
+        requires coded { IsCodeOf registration.resolver (option_map (λ p. arc_value p.now) program) }
+        requires agrees { IsTrue (agrees_with self.old
+            record { registration = registration; code = option_map (λ p. arc_value p.now) program }) }
+        ensures answer { IsAnswered table_fault_number
+            (if map.contains_key self.old name then Some NameTaken else None) result }
         ensures kept { OnOk result (self.new ≡ map.insert self.old name
             record { registration = registration; code = option_map (λ p. arc_value p.now) program.entry }) }
         ensures unchanged { OnErr result (self.new ≡ self.old) }
     {
-        self.rows.insert(name, registration)?;
+        insert_new(&mut self.rows, name, registration)?;
         if let Err(refused) = hold_program(&mut self.programs, registration.resolver, program) {
             self.rows.remove(&name);
-            return Err(refused);
+            return Err(refused.into());
         }
         Ok(())
+    }
+}
+
+// Inserts the row, or returns 30 if the name is registered. Walks the tree once for a new name.
+fn insert_new(
+    rows: &mut BTreeMap<Name, Registration>,
+    name: Name,
+    registration: Registration,
+) -> Result<(), TableFault>
+    ensures answer { IsAnswered table_fault_number
+        (if is_some (get name_cmp rows.old name) then Some NameTaken else None) result }
+    ensures inserted { OnOk result (Updates name_cmp rows.old rows.new name (Some registration)) }
+    ensures unchanged { OnErr result ((q : Name) → get name_cmp rows.new q ≡ get name_cmp rows.old q) }
+{
+    match rows.insert(name, registration) {
+        Ok(None) => Ok(()),
+        Ok(Some(before)) => {
+            // Restores the old row. Needs no memory: the name is in the tree.
+            let _ = rows.insert(name, before);
+            Err(TableFault::NameTaken)
+        }
+        Err(_) => Err(TableFault::OutOfMemory),
     }
 }
 

@@ -1,14 +1,19 @@
-use Rattle.std.proofs.Common.{◌≡◌, ap, sym, subst, ◌∙◌}
+use Rattle.std.proofs.Common.{◌≡◌, Err, ap, sym, subst, ◌∙◌}
 use Rattle.std.specs.Option.{option_map}
 use Rattle.std.specs.Arc.{arc_value}
 use Rattle.std.specs.FinMap.{insert}
-use Rattle.partition_table.specs.Tables.{Row}
+use Rattle.partition_table.specs.Tables.{Row, row_for}
 use Rattle.partition_table.specs.model.Keeping.{IsKept, kept_code, rows_naming}
 use Rattle.partition_table.specs.Views.{table_by}
 use Rattle.upload_store.specs.Programs.{programs_by}
-use Rattle.partition_table.proofs.Held.{held_now, room_from_agrees}
+use Rattle.partition_table.proofs.Held.{held_now, has_name, room_from_agrees}
+use Rattle.clash_record.specs.laws.Orders.{names_total, names_exact}
+use Rattle.numbered.specs.Answers.{IsAnswered}
+use Rattle.partition_table.specs.Faults.{table_fault_number}
+use Rattle.partition_table.proofs.Maps.{made_same}
+use Rattle.partition_table.proofs.Registering.{handed_on, if_err, taken_if, new_name}
 use Rattle.partition_table.proofs.Changes.{few_kept, kept_more, made_more, made_back}
-use Rattle.partition_table.proofs.table.Table.keep.Goals.{After-remove, In_default}
+use Rattle.partition_table.proofs.table.Table.keep.Goals.{After-into, In_default, After-from_residual}
 use Rattle.partition_table.proofs.table.Table.keep.Goals as goal
 
 pub hold_program-requires-clause-room : goal.hold_program-requires-clause-room
@@ -21,18 +26,46 @@ hold_program-requires-clause-room c =
 
 pub hold_program-requires-clause-few : goal.hold_program-requires-clause-few
 hold_program-requires-clause-few c =
+    let new = new_name (programs_by kept_code c.self.inside.programs.entries) c.self.inside.rows.entries c.args.self.now
+    c.self.view_is c.args.name c.in_ok-insert_new.ensures.answer in
     let programs = programs_by kept_code c.self.inside.programs.entries in
     let held = held_now programs c.self.inside.rows.entries c.args.self.now c.self.view_is c.self.invariant.held in
     few_kept c.self.inside.programs.entries c.args.self.now held.0 held.1
     (λ id. c.self.invariant.counted id ∙ ap (λ t. rows_naming t id) c.self.view_is)
     c.args.name record { registration = c.args.registration; code = option_map (λ p. arc_value p.now) c.args.program }
-    c.requires.new c.requires.room
+    new c.requires.room
+
+-- if the row isn't inserted, the table is unchanged
+table_same : (c : After-from_residual) → table_by (programs_by kept_code c.self.inside.programs.entries)
+    c.insert_new.new.rows.entries
+    ≡ c.args.self.now
+table_same c =
+    made_same names_total (row_for (programs_by kept_code c.self.inside.programs.entries)) names_exact
+    c.self.inside.rows c.insert_new.new.rows c.in_err-insert_new.ensures.unchanged
+    ∙ c.self.view_is
+
+pub invariant_of-self : goal.invariant_of-self
+invariant_of-self c =
+    subst (IsKept c.self.inside.programs.entries) (c.self.view_is ∙ sym (table_same c)) c.self.invariant
+
+pub returns-in_err-insert_new-clause-answer : goal.returns-in_err-insert_new-clause-answer
+returns-in_err-insert_new-clause-answer c =
+    let named = has_name (programs_by kept_code c.self.inside.programs.entries) c.self.inside.rows.entries
+    c.args.self.now c.self.view_is c.args.name in
+    handed_on _ c.from_residual.result c.in_err-insert_new.field-0.0 c.from_residual.ensures.1
+    (subst (λ b. IsAnswered {A = Unit {0}} table_fault_number (taken_if b) (Err c.in_err-insert_new.field-0.0)) named
+    c.in_err-insert_new.ensures.answer)
+
+pub returns-in_err-insert_new-clause-unchanged : goal.returns-in_err-insert_new-clause-unchanged
+returns-in_err-insert_new-clause-unchanged c = if_err c.from_residual.result (table_same c)
 
 -- if the program can't be kept, the table is unchanged
-table_back : (c : After-remove) → table_by (programs_by kept_code c.hold_program.new.programs.entries)
+table_back : (c : After-into) → table_by (programs_by kept_code c.hold_program.new.programs.entries)
     c.remove.new.self.entries
     ≡ c.args.self.now
 table_back c =
+    let new = new_name (programs_by kept_code c.self.inside.programs.entries) c.self.inside.rows.entries c.args.self.now
+    c.self.view_is c.args.name c.in_ok-insert_new.ensures.answer in
     let entries = c.self.inside.programs.entries in
     let held = held_now (programs_by kept_code entries) c.self.inside.rows.entries c.args.self.now c.self.view_is
     c.self.invariant.held in
@@ -40,8 +73,8 @@ table_back c =
     ∙ made_back entries c.args.self.now held.0 held.1
     (λ id. c.self.invariant.counted id ∙ ap (λ t. rows_naming t id) c.self.view_is)
     c.args.name record { registration = c.args.registration; code = option_map (λ p. arc_value p.now) c.args.program }
-    c.requires.new c.requires.room c.self.inside.rows c.insert.new.self c.remove.new.self c.self.view_is
-    c.in_ok-insert.ensures.updates c.remove.ensures.updates
+    new c.requires.room c.self.inside.rows c.insert_new.new.rows c.remove.new.self c.self.view_is
+    c.in_ok-insert_new.ensures.inserted c.remove.ensures.updates
 
 pub invariant_of-self-in-Err : goal.invariant_of-self-in-Err
 invariant_of-self-in-Err c =
@@ -56,29 +89,39 @@ returns-in-Err-clause-unchanged c = table_back c
 row : In_default → Row
 row c = record { registration = c.args.registration; code = option_map (λ p. arc_value p.now) c.args.program }
 
-made : (c : In_default) → table_by (programs_by kept_code c.hold_program.new.programs.entries) c.insert.new.self.entries
+made : (c : In_default) → table_by (programs_by kept_code c.hold_program.new.programs.entries) c.insert_new.new.rows.entries
     ≡ insert c.args.self.now c.args.name (row c)
 unfolding row
 made c =
+    let new = new_name (programs_by kept_code c.self.inside.programs.entries) c.self.inside.rows.entries c.args.self.now
+    c.self.view_is c.args.name c.in_ok-insert_new.ensures.answer in
     let programs = programs_by kept_code c.self.inside.programs.entries in
     let held = held_now programs c.self.inside.rows.entries c.args.self.now c.self.view_is c.self.invariant.held in
     let room = room_from_agrees programs c.args.self.now held.0 held.1 (row c) c.requires.agrees in
-    ap (λ p. table_by p c.insert.new.self.entries) c.in_default.ensures.held
-    ∙ made_more programs c.args.self.now held.0 held.1 c.args.name (row c) c.requires.new c.requires.room
+    ap (λ p. table_by p c.insert_new.new.rows.entries) c.in_default.ensures.held
+    ∙ made_more programs c.args.self.now held.0 held.1 c.args.name (row c) new c.requires.room
     c.requires.coded room
-    c.self.inside.rows c.insert.new.self c.self.view_is c.in_ok-insert.ensures.updates
+    c.self.inside.rows c.insert_new.new.rows c.self.view_is c.in_ok-insert_new.ensures.inserted
 
 pub invariant_of-self-in_default : goal.invariant_of-self-in_default
 unfolding row
 invariant_of-self-in_default c =
+    let new = new_name (programs_by kept_code c.self.inside.programs.entries) c.self.inside.rows.entries c.args.self.now
+    c.self.view_is c.args.name c.in_ok-insert_new.ensures.answer in
     let programs = programs_by kept_code c.self.inside.programs.entries in
     let held = held_now programs c.self.inside.rows.entries c.args.self.now c.self.view_is c.self.invariant.held in
     let room = room_from_agrees programs c.args.self.now held.0 held.1 (row c) c.requires.agrees in
     kept_more c.self.inside.programs.entries c.args.self.now held.0 held.1
     (λ id. c.self.invariant.counted id ∙ ap (λ t. rows_naming t id) c.self.view_is)
-    c.args.name (row c) c.requires.new c.requires.room c.requires.coded room c.hold_program.new.programs.entries
+    c.args.name (row c) new c.requires.room c.requires.coded room c.hold_program.new.programs.entries
     c.in_default.ensures.held c.in_default.ensures.counted _ (made c)
 
 pub returns-clause-kept : goal.returns-clause-kept
 unfolding row
 returns-clause-kept c = made c
+
+pub returns-clause-answer : goal.returns-clause-answer
+returns-clause-answer c =
+    let named = has_name (programs_by kept_code c.self.inside.programs.entries) c.self.inside.rows.entries
+    c.args.self.now c.self.view_is c.args.name in
+    ap taken_if (sym named) ∙ c.in_ok-insert_new.ensures.answer
