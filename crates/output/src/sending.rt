@@ -3,33 +3,41 @@ ghost use Rattle.std.specs.Prelude.{OnOk};
 ghost use Rattle.std.specs.Io.KnownBytes.{Appends};
 ghost use Rattle.output.specs.Sending.{AppendsFront, SendsOn};
 
-use std::io::{ErrorKind, Write};
+use std::io::{Error, ErrorKind, Write};
 
 /// The device took no more.
 #[derive(Clone, Copy, Debug, PartialEq, Eq)]
 pub struct DeviceFault;
 
-/// Writes the bytes. At a fault a beginning of them went out.
+/// Writes the bytes, and calls the writer only if there are any. At a fault a beginning of them went out.
 pub fn send<W: Write>(writer: &mut W, bytes: &[u8]) -> Result<(), DeviceFault>
     ensures all { OnOk result (Appends (W.contents writer.old) (W.contents writer.new) bytes.now) }
     ensures front { AppendsFront (W.contents writer.old) (W.contents writer.new) bytes.now }
 {
-    let mut sent = 0;
+    if bytes.is_empty() {
+        return Ok(());
+    }
+    let mut rest = bytes;
     'writes: for _ in 0..u64::MAX {
-        if sent >= bytes.len() {
-            return Ok(());
-        }
-        match writer.write(&bytes[sent..]) {
+        match writer.write(rest) {
+            Ok(n) if n == rest.len() => return Ok(()),
             Ok(0) => return Err(DeviceFault),
-            Ok(n) => sent += n,
+            Ok(n) => rest = &rest[n..],
             Err(e) => {
-                if e.kind() != ErrorKind::Interrupted {
+                if !is_interruption(&e) {
                     return Err(DeviceFault);
                 }
             }
         }
     }
     Err(DeviceFault)
+}
+
+// Checks whether a signal interrupted the write. Is kept out of line, so that `send` is short.
+#[cold]
+#[inline(never)]
+fn is_interruption(e: &Error) -> bool {
+    e.kind() == ErrorKind::Interrupted
 }
 
 /// Goes on with further bytes, unless the device failed before. So a text is sent piece by piece, and at a fault a

@@ -1,8 +1,8 @@
 -- Facts about bytes up to a line feed, and from it on.
-use Rattle.std.proofs.Common.{◌≡◌, ◌≢◌, ◌≤◌, ◌+◌, ◌-◌, ◌==◌, ℕ, Bool, true, false, if◌then◌else◌, List, [], ◌∷◌, ◌++◌, length, take, drop, get_or, Option, Some, None, refl, sym, ap, ◌∙◌, subst, arith, length-append, append_assoc, append-nil}
+use Rattle.std.proofs.Common.{◌≡◌, ◌≢◌, ◌≤◌, ◌<◌, ◌+◌, ◌-◌, ◌==◌, ◌||◌, ℕ, Bool, true, false, if◌then◌else◌, List, [], ◌∷◌, ◌++◌, length, take, drop, get_or, Option, Some, None, refl, sym, ap, ◌∙◌, subst, arith, length-append, length-drop, take-append-drop, append_assoc, append-nil}
 use Rattle.std.proofs.lemmas.Bool.{eqb-false, eqb-true}
 use Rattle.std.proofs.lemmas.List.Elements.{All-nil, All-cons}
-use Rattle.std.proofs.lemmas.List.{drop-take, drop-drop, length-take}
+use Rattle.std.proofs.lemmas.List.{drop-take, drop-drop, length-take, take_more}
 use Rattle.std.proofs.Math.Seq.{take-append_seam, drop-append_seam}
 use Rattle.std.specs.Io.KnownBytes.{Consumes}
 use Rattle.std.proofs.KnownBytes.{Consumes-trans}
@@ -113,3 +113,37 @@ line_gone a text bs rest byte remaining gone e =
     subst (λ (b : ℕ). Consumes a (left rest remaining) (text ++ b ∷ [])) (feed_first bs rest byte e)
     (Consumes-trans a (left (from_feed bs) remaining) (left rest remaining) text (byte ∷ []) gone
     (byte_taken (from_feed bs) rest byte remaining e))
+
+-- ---- texts without a line feed
+
+no_feed_if : (t : Bool) (b : ℕ) (bs : List ℕ) → before_if t b (before_feed bs) ≡ b ∷ bs → (t ≡ false) × (before_feed bs ≡ bs)
+no_feed_if true b bs e = absurd (cc)
+no_feed_if false b bs e = (refl, cc)
+
+-- what follows a text without a line feed
+pub before_more : (text more : List ℕ) → before_feed text ≡ text → before_feed (text ++ more) ≡ text ++ before_feed more
+before_more [] more e = refl
+before_more (b ∷ bs) more e =
+    let h = no_feed_if (b == 10) b bs e in
+    ap (λ t. before_if t b (before_feed (bs ++ more))) h.0 ∙ ap (λ (l : List ℕ). b ∷ l) (before_more bs more h.1)
+
+-- a block without a line feed, from a place on
+pub block_gone : (n at : ℕ) (bs : List ℕ) → at + n ≤ length bs → before_feed (take n (drop at bs)) ≡ take n (drop at bs)
+    → length (before_feed (drop at bs)) ≡ n + length (before_feed (drop (at + n) bs))
+block_gone n at bs fits h =
+    let block = take n (drop at bs) in
+    let more = drop n (drop at bs) in
+    let whole = ap (λ (l : List ℕ). length (before_feed l)) (sym (take-append-drop n (drop at bs))) in
+    let parts = ap (λ (l : List ℕ). length l) (before_more block more h) in
+    let later = ap (λ (l : List ℕ). length (before_feed l)) (drop-drop n at bs) in
+    omega (arith, whole, parts, later, length-append block (before_feed more), length-take n (drop at bs), length-drop at bs)
+
+-- one more byte, which is no line feed
+pub no_feed_more : (i : ℕ) (bs : List ℕ) (found : Bool) → i < length bs
+    → (found ≡ false → before_feed (take i bs) ≡ take i bs) → found || (get_or bs i 0 == 10) ≡ false
+    → before_feed (take (i + 1) bs) ≡ take (i + 1) bs
+no_feed_more i bs true lt h e = absurd (cc)
+no_feed_more i bs false lt h e =
+    let b = get_or bs i 0 in
+    let one : before_feed (b ∷ []) ≡ b ∷ [] = ap (λ t. before_if t b []) e in
+    rw (take_more bs i 0 lt) (before_more (take i bs) (b ∷ []) (h refl) ∙ ap (λ (l : List ℕ). take i bs ++ l) one)

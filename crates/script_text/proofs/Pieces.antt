@@ -1,10 +1,12 @@
 -- Pieces that were sent one after another.
-use Rattle.std.proofs.Common.{◌≡◌, ℕ, List, ◌++◌, ap, ◌∙◌, append_assoc}
+use Rattle.std.proofs.Common.{◌≡◌, ◌≤◌, ◌<◌, ◌^◌, ℕ, List, ◌++◌, length, append_assoc, arith}
+use Rattle.std.specs.Fmt.{decimal}
+use Rattle.std.proofs.lemmas.Fmt.{length-decimal-le}
 
-pub five_pieces : (before a b c d e : List ℕ)
-    → ((((before ++ a) ++ b) ++ c) ++ d) ++ e ≡ before ++ ((((a ++ b) ++ c) ++ d) ++ e)
-five_pieces before a b c d e =
-    ap (λ front. ((front ++ c) ++ d) ++ e) (append_assoc before a b)
-    ∙ ap (λ front. (front ++ d) ++ e) (append_assoc before (a ++ b) c)
-    ∙ ap (λ front. front ++ e) (append_assoc before ((a ++ b) ++ c) d)
-    ∙ append_assoc before (((a ++ b) ++ c) ++ d) e
+pub row_pieces : (before name space owner numbers resolver end : List ℕ)
+    → ((before ++ name) ++ (space ++ (owner ++ (numbers ++ space)))) ++ resolver ++ end
+    ≡ before ++ ((((((name ++ space) ++ owner) ++ numbers) ++ space) ++ resolver) ++ end)
+row_pieces before name space owner numbers resolver end = simp append_assoc
+
+pub digits_at_most : (n : ℕ) → n < 2 ^ 64 → length (decimal n) ≤ 20
+digits_at_most n h = length-decimal-le 20 n (omega arith) (omega arith) h

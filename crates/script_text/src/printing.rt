@@ -1,19 +1,26 @@
 //! The lines that scripts print.
-ghost use Rattle.std.specs.Prelude.{◌≡◌, ◌++◌, codes};
+ghost use Rattle.std.specs.Prelude.{◌≡◌, ◌+◌, ◌≤◌, ◌∷◌, ◌++◌, length, drop, codes};
 ghost use Rattle.std.specs.Fmt.{decimal};
 ghost use Rattle.output.specs.Sending.{SendsOn};
 ghost use Rattle.numbered.specs.Texts.{at_place, place_text};
 ghost use Rattle.clash_record.specs.Texts.{owner_text, side_text};
 ghost use Rattle.builtin_resolvers.specs.Texts.{notice_text};
-ghost use Rattle.script_text.specs.Printed.{numbers_text, owned_text, owner_line, uploaded_line, row_line, clash_line, notice_line};
+ghost use Rattle.builtin_resolvers.specs.Verdicts.{verdict_text};
+ghost use Rattle.script_text.specs.Printed.{numbers_text, owner_line, uploaded_line, row_line, clash_line, notice_line};
 ghost use Rattle.script_text.specs.Printed.{withdrawal_line, healed_line, refusal_line};
 
 use builtin_resolvers::{Notice, Verdict3};
 use clash_record::{Name, Owner, Registration, SideId};
-use itoa::Buffer;
+use itoa::{Buffer, write_digits};
 use numbered::{NumberedRefusal, Place};
 use output::{DeviceFault, send_after};
 use std::io::Write;
+
+// The maximum length of an owner in bytes, for numbers of 64 bits.
+const OWNER_LEN: usize = 41;
+
+// The maximum length of the figures of a registration in bytes, for numbers of 64 bits.
+const FIGURES_LEN: usize = 85;
 
 /// Prints the label of an uploaded program and its number of instructions.
 pub fn print_code_count<W: Write>(
@@ -54,9 +61,8 @@ pub fn print_row<W: Write>(
     ensures { SendsOn sent (W.contents writer.old) (W.contents writer.new)
         (row_line name.now registration.now resolver.now) result }
 {
-    let mut sent = print_owned(sent, writer, name, registration.owner);
-    sent = print_numbers(sent, writer, registration);
-    sent = send_after(sent, writer, b" ");
+    let mut sent = send_after(sent, writer, name.bytes());
+    sent = print_figures(sent, writer, registration);
     sent = send_after(sent, writer, resolver);
     send_after(sent, writer, b"\n")
 }
@@ -72,9 +78,7 @@ pub fn print_clash<W: Write>(
     ensures { SendsOn sent (W.contents writer.old) (W.contents writer.new) (clash_line name.now verdict word) result }
 {
     let mut sent = send_after(sent, writer, name.bytes());
-    sent = send_after(sent, writer, b" ");
-    sent = send_after(sent, writer, verdict.as_str().as_bytes());
-    sent = send_after(sent, writer, b" word ");
+    sent = send_after(sent, writer, verdict_text(verdict));
     sent = print_number(sent, writer, word);
     send_after(sent, writer, b"\n")
 }
@@ -211,34 +215,37 @@ fn print_conflict<W: Write>(
     print_owner(sent, writer, to)
 }
 
-// Prints a name and its owner.
-fn print_owned<W: Write>(
-    sent: Result<(), DeviceFault>,
-    writer: &mut W,
-    name: &Name,
-    owner: Owner,
-) -> Result<(), DeviceFault>
-    ensures { SendsOn sent (W.contents writer.old) (W.contents writer.new) (owned_text name.now owner) result }
-{
-    let mut sent = send_after(sent, writer, name.bytes());
-    sent = send_after(sent, writer, b" ");
-    print_owner(sent, writer, owner)
-}
-
-// Prints the stamp and the weight of a registration, each after a space.
-fn print_numbers<W: Write>(
+// Prints the owner, the stamp and the weight of a registration, with spaces around each.
+fn print_figures<W: Write>(
     sent: Result<(), DeviceFault>,
     writer: &mut W,
     registration: &Registration,
 ) -> Result<(), DeviceFault>
-    ensures { SendsOn sent (W.contents writer.old) (W.contents writer.new) (numbers_text registration.now) result }
+    ensures { SendsOn sent (W.contents writer.old) (W.contents writer.new)
+        (codes " " ++ (owner_text registration.now.owner ++ (numbers_text registration.now ++ codes " "))) result }
 {
-    let mut sent = send_after(sent, writer, b" ");
-    sent = print_number(sent, writer, registration.stamp);
-    sent = send_after(sent, writer, b" ");
-    print_number(sent, writer, registration.weight)
+    let owner = registration.owner;
+    let mut text = [b' '; FIGURES_LEN];
+    let weight = put_number(&mut text, FIGURES_LEN - 1, b' ', registration.weight);
+    let stamp = put_number(&mut text, weight, b' ', registration.stamp);
+    let serial = put_number(&mut text, stamp, b'.', u64::from(owner.serial));
+    let node = put_number(&mut text, serial, b' ', u64::from(owner.node));
+    send_after(sent, writer, &text[node..])
 }
 
+// Writes a byte and then a number, so that they end at `end`. Returns where they start.
+#[tactic(auto, using(crate::proofs::Pieces::digits_at_most))]
+fn put_number(text: &mut [u8], end: usize, byte: u8, number: u64) -> usize
+    requires { (21 ≤ end) × (end ≤ length text.old) }
+    ensures bounds { (result ≤ end) × (end ≤ result + 21) }
+    ensures written { drop result text.new ≡ byte ∷ (decimal number ++ drop end text.old) }
+{
+    let start = write_digits(number, text, end) - 1;
+    text[start] = byte;
+    start
+}
+
+#[tactic(auto, using(crate::proofs::Pieces::digits_at_most))]
 fn print_owner<W: Write>(
     sent: Result<(), DeviceFault>,
     writer: &mut W,
@@ -246,9 +253,10 @@ fn print_owner<W: Write>(
 ) -> Result<(), DeviceFault>
     ensures { SendsOn sent (W.contents writer.old) (W.contents writer.new) (owner_text owner) result }
 {
-    let mut sent = print_number(sent, writer, u64::from(owner.node));
-    sent = send_after(sent, writer, b".");
-    print_number(sent, writer, u64::from(owner.serial))
+    let mut text = [0; OWNER_LEN];
+    let serial = put_number(&mut text, OWNER_LEN, b'.', u64::from(owner.serial));
+    let node = write_digits(u64::from(owner.node), &mut text, serial);
+    send_after(sent, writer, &text[node..])
 }
 
 fn print_number<W: Write>(
@@ -268,5 +276,16 @@ fn side_text(side: SideId) -> &'static [u8]
     match side {
         SideId::A => b"a",
         SideId::B => b"b",
+    }
+}
+
+// Returns the text between the name of a clash and its word.
+fn verdict_text(verdict: Verdict3) -> &'static [u8]
+    ensures { result.now ≡ codes " " ++ verdict_text verdict ++ codes " word " }
+{
+    match verdict {
+        Verdict3::First => b" first word ",
+        Verdict3::Second => b" second word ",
+        Verdict3::Neither => b" none word ",
     }
 }

@@ -35,11 +35,15 @@ pub(crate) fn split_word(text: &[u8]) -> Option<(&[u8], &[u8])>
     Some(text.split_at(word_end(text)))
 }
 
-// Checks whether all bytes are printable characters of ASCII.
+// Checks whether all bytes are printable characters of ASCII. Reads them all, so that many are tested at once.
 pub(crate) fn is_printable(text: &[u8]) -> bool
     ensures { result ≡ list_all is_printable text.now }
 {
-    text.iter().all(|byte| (b' '..=b'~').contains(byte))
+    let mut all = true;
+    for byte in text {
+        all &= (b' '..=b'~').contains(byte);
+    }
+    all
 }
 
 // The text from its first byte that is no space on.

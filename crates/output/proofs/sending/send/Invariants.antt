@@ -1,9 +1,8 @@
-use Rattle.std.proofs.Common.{◌≤◌, length, take}
+use Rattle.std.proofs.Common.{◌≡◌, ℕ, ◌≤◌, length, take, drop}
 use Rattle.std.specs.Io.KnownBytes.{Appends}
 use Rattle.output.proofs.sending.send.Given as goal
 
+-- the bytes after those that went out are left
 abbrev pub invariant-writes : goal.invariant-writes
-invariant-writes g l = record {
-  within : l.sent ≤ length l.bytes;
-  taken : Appends (g.W.Write.contents l.fn.writer) (g.W.Write.contents l.writer) (take l.sent l.bytes);
-}
+invariant-writes g l = (sent : ℕ) × (sent ≤ length l.bytes) × (l.rest ≡ drop sent l.bytes)
+    × Appends (g.W.Write.contents l.fn.writer) (g.W.Write.contents l.writer) (take sent l.bytes)

@@ -1,0 +1,7 @@
+use Rattle.std.proofs.Common.{◌≡◌, take}
+use Rattle.std.specs.List.{list_all}
+use Rattle.script_text.specs.Words.{is_printable}
+use Rattle.script_text.proofs.words.is_printable.Given as goal
+
+abbrev pub invariant-loop-byte : goal.invariant-loop-byte
+invariant-loop-byte l = l.all ≡ list_all is_printable (take l.byte-index l.text)
