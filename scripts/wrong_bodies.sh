@@ -1,7 +1,7 @@
 #!/bin/sh
 # wrong_bodies.sh [CRATE..]: tries the wrong bodies that the gate leaves out, crates/*/must-fail/*.md, of all crates or of these.
-# The prover must refuse each. Works in a copy, where they are edits like the others of their crates. Takes half an hour of
-# processor time, or more where the libraries below aren't proved yet.
+# The prover must refuse each. Works in a copy, where they are edits like the others of their crates. Proves the libraries below
+# first, unless `rt check` has kept them on this machine.
 set -e
 root=$(cd "$(dirname "$0")/.." && pwd)
 work=$(mktemp -d) && trap 'rm -rf "$work"' EXIT
