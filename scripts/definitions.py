@@ -37,8 +37,8 @@ PROMISES = [
     ("messages have one spelling, and are decoded exactly", [
         "exchange_codec::" + name for name in
         ("encode_offer", "decode_offer", "encode_withdrawals", "decode_withdrawals", "one_message_theorem")]),
-    ("what a board shows", ["verdict_board::Board::" + name for name in ("draw", "post", "read", "gather")]
-     + ["verdict_board::seen_theorem"]),
+    ("what a board shows", ["verdict_board::Board::" + name for name in ("draw", "draw_row", "post", "read", "gather")]
+     + ["registry_lock::seen_theorem"]),
     ("two sides that meet have one table", ["registry_lock::meet", "registry_lock::tell_round"]),
     ("a cluster heals", ["cluster::Cluster::heal"]),
     ("notices of a verdict", ["builtin_resolvers::notices"]),

@@ -2,7 +2,7 @@
 """Proves the crates that heal_main is built from, and builds it: crates/heal_main/out/heal_main.
 
 Proves each crate as soon as the crates below it are proved, on all processors, and prints one line on standard error
-for each. `rt` locks the folders of a crate and of all crates below it, so each proof runs in a copy under out/prove: it
+for each. Most processors work on the longest chain of dependencies. `rt` locks the folders of a crate and of all crates below it, so each proof runs in a copy under out/prove: it
 takes the libraries below from crates/*/out, and leaves its own library and kept work there. If a proof fails, this
 prints the last lines of its log, and the status is 125.
 """
@@ -19,7 +19,7 @@ from concurrent.futures import FIRST_COMPLETED, ThreadPoolExecutor, wait
 ROOT = os.path.dirname(os.path.dirname(os.path.realpath(__file__)))
 COPIES = f"{ROOT}/out/prove"
 PROGRAM = "heal_main"
-# More processors hardly speed up a proof.
+# The crate with the longest chain of crates behind it gets three of four processors, but no more than this.
 MOST_JOBS = 4
 # The question that `rt run` answers once the program is built.
 TRIAL = ["check", "b7000000010000009500000000000000"]
@@ -116,15 +116,16 @@ def prove_all(lines, uses):
         for below in uses[name]:
             behind[below] = max(behind[below], size(below) + behind[name])
     processors = len(os.sched_getaffinity(0))
+    most = min(MOST_JOBS, max(1, processors * 3 // 4))
     left, running, proved = sorted(names, key=lambda name: -behind[name]), {}, []
     has_failed = False
     with ThreadPoolExecutor(processors) as pool:
         while running or (left and not has_failed):
             ready = [name for name in left if not has_failed and all(it in proved for it in uses[name])]
-            for at, name in enumerate(ready):
-                idle = processors - sum(jobs for _, jobs in running.values())
-                if len(running) < processors:
-                    jobs = min(MOST_JOBS, max(1, idle // (len(ready) - at)))
+            for name in ready:
+                taken = [jobs for _, jobs in running.values()]
+                jobs = 1 if most in taken else most
+                if sum(taken) + jobs <= processors:
                     running[pool.submit(prove, lines, uses, name, jobs)] = name, jobs
                     left.remove(name)
             for done in wait(running, return_when=FIRST_COMPLETED).done:

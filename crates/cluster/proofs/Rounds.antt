@@ -3,14 +3,14 @@ use Rattle.std.proofs.Common.{◌≡◌, ℕ, ◌+◌, List, [], ◌∷◌, leng
 use Rattle.std.specs.Prelude.{IfOk}
 use Rattle.std.specs.declared.result.Result.{Result}
 use Rattle.std.specs.declared.result.Result.TheVariants.{Ok, Err}
-use Rattle.exchange_core.specs.declared.judged.Judged.{Judged}
+use Rattle.partition_table.specs.declared.judged.Judged.{Judged}
 use Rattle.exchange_core.specs.declared.side.Side as code
 use Rattle.clash_record.specs.declared.side_id.SideId.{SideId}
 use Rattle.clash_record.specs.declared.side_id.SideId.TheVariants.{A, B}
 use Rattle.clash_record.specs.Name.{Name}
 use Rattle.exchange_core.specs.Sides.{Side, clashes_of, take_in, take}
 use Rattle.exchange_core.specs.Calls.{Take, carried_out}
-use Rattle.exchange_core.specs.Worlds.{Ruling}
+use Rattle.partition_table.specs.Rulings.{Ruling}
 use Rattle.exchange_core.specs.Finished.{Finished}
 use Rattle.exchange_core.specs.Shown.{shown, calls}
 use Rattle.verdict_board.specs.Boards.{Place}

@@ -2,7 +2,7 @@
 use Rattle.std.proofs.Common.{◌≡◌, ℕ, List, Option, Some, None, refl, sym, ap, ◌∙◌, subst, option_and_then}
 use Rattle.std.specs.Option.{option_map}
 use Rattle.std.specs.FinMap.{len}
-use Rattle.exchange_core.specs.declared.judged.Judged.{Judged}
+use Rattle.partition_table.specs.declared.judged.Judged.{Judged}
 use Rattle.clash_record.specs.Name.{Name}
 use Rattle.exchange_core.specs.Sides.{Exchange, Heard, Side, clashes_for, clashes_heard, heard_clashes, shown_table}
 use Rattle.exchange_core.specs.laws.Carried.{some_inj}

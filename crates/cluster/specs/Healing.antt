@@ -8,7 +8,7 @@ use Rattle.clash_record.specs.declared.halves.Withdrawal.{Withdrawal}
 use Rattle.clash_record.specs.declared.side_id.SideId.{SideId}
 use Rattle.clash_record.specs.declared.side_id.SideId.TheVariants.{A, B}
 use Rattle.partition_table.specs.Tables.{Table, Gone, is_in}
-use Rattle.exchange_core.specs.declared.judged.Judged.{Judged}
+use Rattle.partition_table.specs.declared.judged.Judged.{Judged}
 use Rattle.exchange_core.specs.Sides.{Side, Exchange, is_side, shown_table, without}
 use Rattle.exchange_core.specs.Finished.{Finished, IsFinished, clashes_merged}
 use Rattle.cluster.specs.Clusters.{Cluster, at}

@@ -1,27 +1,16 @@
 -- One side of an exchange: what it keeps, and what each of its calls leaves.
 use Rattle.std.specs.Prelude.{ℕ, Bool, true, false, not, ◌&&◌, ◌==◌, nat_lt, if◌then◌else◌, List, [], ◌∷◌, ◌++◌, length, map, replicate, Option, Some, None, is_none, is_some, unwrap_or, slice_get, slice_set}
 use Rattle.std.specs.Option.{option_map, option_and_then, option_map_or}
-use Rattle.std.specs.List.{fold, list_all, list_any}
+use Rattle.std.specs.List.{fold, list_all}
 use Rattle.std.specs.FinMap.{empty, insert, remove, contains_key, len}
 use Rattle.builtin_resolvers.specs.declared.verdicts.Verdict3.{Verdict3}
-use Rattle.builtin_resolvers.specs.declared.verdicts.Verdict3.TheVariants.{First, Second, Neither}
+use Rattle.builtin_resolvers.specs.declared.verdicts.Verdict3.TheVariants.{Neither}
 use Rattle.clash_record.specs.Name.{Name}
-use Rattle.partition_table.specs.Tables.{Row, Table, max_names, agrees_with, same_clash, Clash, clashes, answer, word_of, merge, is_in, fit_together}
+use Rattle.partition_table.specs.Tables.{Row, Table, max_names, agrees_with, same_clash, Clash, clashes, merge, is_in, fit_together}
+pub use Rattle.partition_table.specs.declared.judged.Judged.{Judged}
+pub use Rattle.partition_table.specs.Rulings.{is_one_of_four, is_answer, is_lawful}
 use Rattle.clash_record.specs.declared.side_id.SideId.{SideId}
-pub use Rattle.exchange_core.specs.declared.judged.Judged.{Judged}
 use Rattle.clash_record.specs.declared.side_id.SideId.TheVariants.{A, B}
-
--- ---- clashes, words and names
-
--- the test of IsOneOfFour
-abbrev pub is_one_of_four : ℕ → ℕ → ℕ → ℕ → Bool
-is_one_of_four word seed n k = list_any (λ round. word == word_of seed round n k) (0 ∷ 1 ∷ 2 ∷ 3 ∷ [])
-
-abbrev pub is_answer : Verdict3 → Verdict3 → Bool
-is_answer First First = true
-is_answer Second Second = true
-is_answer Neither Neither = true
-is_answer x y = false
 
 -- a table without these names
 abbrev pub without : List Name → Table → Table
@@ -186,12 +175,6 @@ hear_in id own offer exchange =
 -- an offer that comes after the first changes nothing
 abbrev pub hear : Side → Offer → Option Side
 hear side offer = in_exchange side (hear_in side.id side.table offer)
-
--- the word is one of the four of clash k of these, and the answer is its resolver's at that word
-abbrev pub is_lawful : List Clash → ℕ → ℕ → Judged → Bool
-is_lawful all seed k judged =
-    is_one_of_four judged.word seed (length all) k
-    && option_map_or (λ clash. is_answer judged.answer (answer clash judged.word)) (slice_get all k) false
 
 -- a second ruling of a clash changes nothing
 abbrev pub put_ruling : List (Option Judged) → ℕ → Judged → List (Option Judged)

@@ -2,18 +2,12 @@
 use Rattle.std.specs.Prelude.{ℕ, ◌&&◌, ◌==◌, nat_lt, if◌then◌else◌, List, [], ◌∷◌, length, Option, Some, None, is_none, slice_get}
 use Rattle.std.specs.Option.{option_map, option_and_then, option_map_or}
 use Rattle.std.specs.List.{find}
-use Rattle.partition_table.specs.Tables.{Clash, clashes, answer, word_of}
+use Rattle.partition_table.specs.Tables.{Clash, clashes, word_of}
+pub use Rattle.partition_table.specs.Rulings.{Ruling, ruling_of}
 use Rattle.clash_record.specs.declared.side_id.SideId.{SideId}
 use Rattle.clash_record.specs.declared.side_id.SideId.TheVariants.{A, B}
 use Rattle.exchange_core.specs.Sides.{Offer, Withdrawals, Judged, Side, new_side, is_side, has_clash}
 use Rattle.exchange_core.specs.Calls.{Call, Begin, Hear, Take, Close_list, Hear_list, carried_out, takes_message}
-
--- of clash k of the exchange of this number
-pub record Ruling : Type 0 where
-  pub number : ℕ
-  pub k : ℕ
-  pub clash : Clash
-  pub judged : Judged
 
 -- what is never lost
 pub record Past : Type 0 where
@@ -82,11 +76,6 @@ taken_by side ruling =
 
 abbrev pub offer_by : SideId → ℕ → List Offer → Option Offer
 offer_by side number offers = find (λ offer. is_side offer.side side && offer.number == number) offers
-
--- the ruling of a clash at a word is what its resolver answers
-abbrev pub ruling_of : ℕ → ℕ → ℕ → Clash → Ruling
-ruling_of number k word clash =
-    record { number = number; k = k; clash = clash; judged = record { word = word; answer = answer clash word } }
 
 abbrev pub clashes_between : Offer → Offer → List Clash
 clashes_between a b = clashes a.table a.uptime b.table b.uptime

@@ -22,13 +22,12 @@ ghost use Rattle.exchange_core.specs.Shown.{shown, calls, is_full, IsDone, IsUnt
 use crate::fault::SideFault;
 use crate::finished::Finished;
 use crate::journal::Event;
-use crate::judged::Judged;
 use crate::messages::{Offer, Withdrawals};
 use crate::shown_rows::ShownRows;
 use crate::side::Side;
 use crate::state::State;
 use clash_record::{Name, Registration, ResolverId, SideId};
-use partition_table::{ClashList, Ruling, Table};
+use partition_table::{ClashList, Judged, Ruling, Table};
 use std::alloc::{AllocError, Global};
 use std::sync::Arc;
 use upload_store::UploadStore;

@@ -12,11 +12,10 @@ ghost use Rattle.exchange_core.specs.Codings.{names_of};
 
 use crate::fault::MissingPart;
 use crate::journal::Event;
-use crate::judged::Judged;
 use crate::name_list::NameList;
 use crate::settling::{Course, fill};
 use clash_record::Name;
-use partition_table::{ClashList, Table};
+use partition_table::{ClashList, Judged, Table};
 use std::alloc::{AllocError, Global};
 use std::marker::Model;
 use std::sync::Arc;

@@ -4,9 +4,8 @@ ghost use Rattle.std.specs.Arc.{arc_value};
 ghost use Rattle.exchange_core.specs.Finished.{IsFinished, finished_by};
 ghost use Rattle.exchange_core.specs.Codings.{names_of};
 
-use crate::judged::Judged;
 use clash_record::{Name, SideId};
-use partition_table::Table;
+use partition_table::{Judged, Table};
 use std::marker::Model;
 use std::sync::Arc;
 

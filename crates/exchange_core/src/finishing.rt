@@ -8,12 +8,11 @@ ghost use Rattle.clash_record.specs.Name.{Name};
 
 use crate::exchange::Exchange;
 use crate::finished::Finished;
-use crate::judged::Judged;
 use crate::pairing::merge_own;
 use crate::state::State;
 use builtin_resolvers::Verdict3;
 use clash_record::SideId;
-use partition_table::{Table, clashes_theorem, fit_theorem};
+use partition_table::{Judged, Table, clashes_theorem, fit_theorem};
 use std::alloc::{AllocError, Global};
 use std::mem;
 

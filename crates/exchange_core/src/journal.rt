@@ -1,7 +1,7 @@
 //! The events of a side.
-use crate::judged::Judged;
 use crate::messages::{Offer, Withdrawals};
 use clash_record::{Name, Registration};
+use partition_table::Judged;
 use std::sync::Arc;
 use verifier::Verified;
 

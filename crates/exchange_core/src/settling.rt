@@ -9,9 +9,8 @@ use crate::calls::MAX_EVENTS;
 use crate::exchange::Exchange;
 use crate::fault::{MissingPart, SideFault};
 use crate::journal::Event;
-use crate::judged::Judged;
 use crate::state::State;
-use partition_table::{Clash, ClashList, Verdict, word};
+use partition_table::{Clash, ClashList, Judged, Verdict, word};
 
 /// The number of rounds: each has a lawful word for each clash.
 const ROUNDS: u32 = 4;

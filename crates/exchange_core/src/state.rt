@@ -16,12 +16,11 @@ ghost use Rattle.exchange_core.specs.Worlds.{offer_of, list_of};
 
 use crate::exchange::{Exchange, Heard};
 use crate::fault::{MissingPart, SideFault};
-use crate::judged::Judged;
 use crate::messages::{Offer, Withdrawals};
 use crate::pairing::clashes_own;
 use crate::shown_rows::ShownRows;
 use clash_record::{Name, Registration, SideId};
-use partition_table::{ClashList, Table, TableFault};
+use partition_table::{ClashList, Judged, Table, TableFault};
 use std::alloc::{AllocError, Global};
 use std::marker::Model;
 use std::sync::Arc;

@@ -13,6 +13,7 @@ pub use Rattle.upload_store.specs.Programs as Store
 pub use Rattle.upload_store.specs.Uploads
 pub use Rattle.partition_table.specs.Faults as TableFaults
 pub use Rattle.partition_table.specs.Judged
+pub use Rattle.partition_table.specs.Rulings
 pub use Rattle.partition_table.specs.Tables
 pub use Rattle.exchange_core.specs.Calls
 pub use Rattle.exchange_core.specs.Faults as SideFaults

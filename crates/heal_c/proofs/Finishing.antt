@@ -6,7 +6,7 @@ use Rattle.clash_record.specs.Name.{Name}
 use Rattle.clash_record.specs.declared.side_id.SideId.{SideId}
 use Rattle.clash_record.specs.declared.side_id.SideId.TheVariants.{A, B}
 use Rattle.partition_table.specs.Tables.{Table}
-use Rattle.exchange_core.specs.declared.judged.Judged.{Judged}
+use Rattle.partition_table.specs.declared.judged.Judged.{Judged}
 use Rattle.exchange_core.specs.Sides.{Heard, Exchange, Side, clashes_for, clashes_heard, clashes_of}
 use Rattle.exchange_core.specs.Finished.{Finished, clashes_merged, finished_at, finished_in, finished_of, finished_from}
 use Rattle.heal_c.specs.declared.outcome.Outcome.{Outcome}

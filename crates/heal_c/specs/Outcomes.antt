@@ -8,7 +8,7 @@ use Rattle.builtin_resolvers.specs.declared.notice.Notice.{Notice}
 use Rattle.builtin_resolvers.specs.Telling.{notices_of}
 use Rattle.builtin_resolvers.specs.declared.verdicts.Verdict3.{Verdict3}
 use Rattle.partition_table.specs.Tables.{Clash}
-use Rattle.exchange_core.specs.declared.judged.Judged.{Judged}
+use Rattle.partition_table.specs.declared.judged.Judged.{Judged}
 use Rattle.exchange_core.specs.Finished.{Finished, clashes_merged}
 use Rattle.heal_c.specs.declared.codes.HealClash.{HealClash}
 use Rattle.heal_c.specs.declared.codes.HealNotice.{HealNotice}

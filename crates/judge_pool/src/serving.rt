@@ -1,9 +1,8 @@
 //! The loop of one worker.
-ghost use Rattle.std.specs.Prelude.{◌≡◌, ℕ, ◌+◌, ◌^◌, ◌<◌, ◌≤◌, Some, length, slice_get, slice_index, EachIndex};
+ghost use Rattle.std.specs.Prelude.{◌≡◌, ◌+◌, ◌-◌, ◌^◌, ◌<◌, ◌≤◌, Some, length, slice_get};
 ghost use Rattle.partition_table.specs.Tables.{word_of};
 ghost use Rattle.partition_table.specs.Judged.{clash_of_verdict, word_of_verdict};
 ghost use Rattle.judge_pool.specs.Work.{posts, clashes_drawn, DrewIn, IsSpent};
-ghost use Rattle.judge_pool.specs.model.Rows.{Drew};
 
 use crate::done::Done;
 use crate::hooks::{Ear, Gate};
@@ -11,21 +10,22 @@ use crate::judging::judge_in;
 use crate::round::Round;
 use interpreter::Scratch;
 use partition_table::{Verdict, word};
+use std::ops::Range;
 use std::sync::Wait;
-use verdict_board::{Board, Draw, Pass, Posted, Seat};
+use verdict_board::{Board, Pass, Posted, Seat};
 
 // The maximum number of draws of a seat in a round.
 const MOST_DRAWN: u32 = 4097;
 
-// The maximum number of clashes that a worker draws in a row. Adjacent clashes share lines of memory, so one worker
-// should get them.
-const LONGEST_ROW: usize = 8;
+// The maximum number of clashes that a worker draws in a row. Workers wait for one another at the word that counts the
+// draws, and where cells and answers of adjacent clashes share a line of memory.
+const LONGEST_ROW: u32 = 16;
 
 /// Draws clashes of a round until none is left: judges each, calls the gate, posts the verdict, and passes the ruling
 /// that it then reads, if any, to both listeners.
 ///
-/// Requires a seat and a pass of this board, and a round from 0 to 3. Draws up to eight clashes in a row before it judges
-/// them: one, and one more for each 512 clashes of the board. Runs all resolvers in one scratch memory. Each post
+/// Requires a seat and a pass of this board, and a round from 0 to 3. Draws up to 16 clashes in a row before it judges
+/// them: one, and one more for each 256 clashes of the board. Runs all resolvers in one scratch memory. Each post
 /// allocates one word.
 pub fn work<'p, G: Gate, E: Ear, R: Wait>(
     rt: &R,
@@ -83,12 +83,12 @@ impl<'a, 'p, G: Gate, E: Ear> Round<'a, 'p, G, E> {
         let mut pass = pass;
         let mut scratch = Scratch::new();
         let mut done = Done::new(seat);
-        let mut numbers = [0; LONGEST_ROW];
-        let row = &mut numbers[..self.row_len()];
+        let wanted = self.row_len();
         for _turn in 0..MOST_DRAWN {
-            let drawn = self.draw_row(&mut done.seat, row);
-            self.serve_row(rt, &mut pass, &mut scratch, &row[..drawn], &mut done);
-            if drawn < row.len() {
+            let row = self.board.draw_row(&mut done.seat, self.number, wanted);
+            let count = row.end - row.start;
+            self.serve_row(rt, &mut pass, &mut scratch, row, &mut done);
+            if count < wanted {
                 return done;
             }
         }
@@ -96,52 +96,30 @@ impl<'a, 'p, G: Gate, E: Ear> Round<'a, 'p, G, E> {
     }
 
     // Returns how many clashes a worker draws in a row: a single one from a short list, so that each worker gets some.
-    fn row_len(&self) -> usize
+    fn row_len(&self) -> u32
         ensures { (0 < result) × (result ≤ LONGEST_ROW) }
     {
-        (1 + self.board.clashes().len() / 512).min(LONGEST_ROW)
+        (1 + self.board.clashes().len() as u32 / 256).min(LONGEST_ROW)
     }
 
-    // Draws clashes into this row and returns how many. Fills the row unless the round is spent.
-    fn draw_row(&self, seat: &mut Seat, row: &mut [u32]) -> usize
-        requires { seat.old.draws ≡ self.now.board.now.draws }
-        ensures board { seat.new.draws ≡ seat.old.draws }
-        ensures within { result ≤ length row.new }
-        ensures clashes { (i : ℕ) → i < result
-            → slice_index row.new i < length self.entry.now.board.now.place.clashes }
-        ensures drew { Drew (length self.entry.now.board.now.place.clashes) self.entry.now.number result
-            seat.old.drawn seat.new.drawn }
-        ensures spent { result < length row.new
-            → IsSpent (length self.entry.now.board.now.place.clashes) self.entry.now.number seat.new.drawn }
-    {
-        for (count, place) in row.iter_mut().enumerate() {
-            match self.board.draw(seat, self.number) {
-                Draw::Clash(k) => *place = k,
-                Draw::Spent => return count,
-            }
-        }
-        row.len()
-    }
-
-    // Judges and posts these clashes, one after another.
+    // Judges and posts the clashes of a row, one after another.
     fn serve_row<R: Wait>(
         &self,
         rt: &R,
         pass: &mut Pass<'p>,
         scratch: &mut Scratch,
-        row: &[u32],
+        row: Range<u32>,
         done: &mut Done,
     )
         requires pass { pass.old.place ≡ self.now.board.now.place }
-        requires clashes { EachIndex row.now
-            (λ i. slice_index row.now i < length self.now.board.now.place.clashes) }
-        requires room { posts done.old + length row.now < 2 ^ 32 }
+        requires clashes { (row.start ≤ row.end) × (row.end ≤ length self.now.board.now.place.clashes) }
+        requires room { posts done.old + (row.end - row.start) < 2 ^ 32 }
         ensures pass { pass.new.place ≡ pass.old.place }
         ensures seat { done.new.seat ≡ done.old.seat }
-        ensures posts { posts done.new ≡ posts done.old + length row.now }
+        ensures posts { posts done.new ≡ posts done.old + (row.end - row.start) }
     {
-        for k in row {
-            done.count(self.serve(rt, pass, scratch, *k));
+        for k in row.start..row.end {
+            done.count(self.serve(rt, pass, scratch, k));
         }
     }
 

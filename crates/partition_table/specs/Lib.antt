@@ -1,5 +1,6 @@
 pub mod Faults
 pub mod Judged
+pub mod Rulings
 pub mod Tables
 pub mod Views
 pub mod laws

@@ -10,7 +10,7 @@ use Rattle.exchange_core.specs.declared.fault.SideFault.{SideFault}
 use Rattle.exchange_core.specs.declared.side.Side.{Side}
 use Rattle.exchange_core.specs.Sides as sides
 use Rattle.exchange_core.specs.Calls.{Call, Take, carried_out}
-use Rattle.exchange_core.specs.Worlds.{Ruling, ruling_of}
+use Rattle.partition_table.specs.Rulings.{Ruling, ruling_of}
 use Rattle.exchange_core.specs.Shown.{shown, calls, IsDone, IsUntouched}
 use Rattle.partition_table.specs.Tables.{Clash}
 use Rattle.verdict_board.specs.Boards.{Place, ruling_if, ruling_at}

@@ -2,10 +2,11 @@
 use Rattle.std.specs.Prelude.{◌≡◌, List, [], ◌∷◌, ◌++◌, All, Option, Some, map, slice_get}
 use Rattle.std.specs.Option.{option_and_then}
 use Rattle.partition_table.specs.Tables.{answer}
+use Rattle.partition_table.specs.Rulings.{Ruling}
 use Rattle.exchange_core.specs.declared.side.Side.{Side}
 use Rattle.exchange_core.specs.Sides as sides
 use Rattle.exchange_core.specs.Calls.{Call, Take, carried_out}
-use Rattle.exchange_core.specs.Worlds.{Ruling}
+use Rattle.exchange_core.specs.Worlds.{clashes_between}
 use Rattle.exchange_core.specs.Shown.{shown, calls}
 use Rattle.verdict_board.specs.Boards.{Place}
 
@@ -18,6 +19,12 @@ all_carried_out side (call ∷ earlier) =
 -- takes of these rulings
 abbrev pub takes_of : List Ruling → List Call
 takes_of rulings = map (λ ruling. Take ruling.number ruling.k ruling.judged) rulings
+
+-- the board was opened with what these two offers of one number say
+pub record IsBoardOf (a b : sides.Offer) (place : Place) : Type 0 where
+  pub seed_of_a : a.seed ≡ place.seed
+  pub seed_of_b : b.seed ≡ place.seed
+  pub clashes : clashes_between a b ≡ place.clashes
 
 -- a ruling of the board's exchange: it is of the board's clash k, and answers what the resolver does at its word
 pub record IsOfBoard (place : Place) (ruling : Ruling) : Type 0 where

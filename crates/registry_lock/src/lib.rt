@@ -5,12 +5,14 @@ mod comparing;
 mod fault;
 mod healed;
 mod inbox;
+mod laws;
 mod meeting;
 mod partition;
 mod telling;
 
 pub use fault::MeetFault;
 pub use healed::Healed;
+pub use laws::seen_theorem;
 pub use meeting::meet;
 pub use partition::Partition;
 pub use telling::tell_round;

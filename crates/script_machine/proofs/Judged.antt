@@ -2,7 +2,7 @@
 use Rattle.std.proofs.Common.{◌≡◌, ℕ, zero, suc, ◌+◌, ◌<◌, List, [], ◌∷◌, ◌++◌, length, get_or, min, refl, sym, ap, ◌∙◌, take, append_assoc, arith}
 use Rattle.std.proofs.lemmas.Grind.{take_at_read}
 use Rattle.std.proofs.lemmas.List.{length-take-le}
-use Rattle.exchange_core.specs.declared.judged.Judged.{Judged}
+use Rattle.partition_table.specs.declared.judged.Judged.{Judged}
 use Rattle.partition_table.specs.Tables.{Clash}
 use Rattle.script_machine.specs.Healed.{judged_text, clashes_text}
 use Rattle.script_machine.proofs.Pieces.{append_nil}

@@ -7,7 +7,7 @@ use Rattle.builtin_resolvers.specs.declared.notice.Notice.{Notice}
 use Rattle.builtin_resolvers.specs.declared.verdicts.Verdict3.{Verdict3}
 use Rattle.builtin_resolvers.specs.Telling.{notices_of}
 use Rattle.partition_table.specs.Tables.{Clash}
-use Rattle.exchange_core.specs.declared.judged.Judged.{Judged}
+use Rattle.partition_table.specs.declared.judged.Judged.{Judged}
 use Rattle.clash_record.specs.declared.halves.Withdrawal.{Withdrawal}
 use Rattle.cluster.specs.Healings.{Healing}
 use Rattle.script_text.specs.Printed.{clash_line, notice_line, withdrawal_line, healed_line}

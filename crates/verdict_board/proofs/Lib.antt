@@ -2,4 +2,5 @@ mod Answering
 mod Totals
 mod Steps
 mod Looking
+mod OneDraw
 mod Rulings

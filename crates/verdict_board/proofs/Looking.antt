@@ -5,7 +5,7 @@ use Rattle.std.proofs.Math.Seq.{map-set_same, take-suc}
 use Rattle.std.specs.Option.{option_and_then}
 use Rattle.once_cell.specs.Once.{Agrees}
 use Rattle.partition_table.specs.Tables.{Clash}
-use Rattle.exchange_core.specs.Worlds.{Ruling}
+use Rattle.partition_table.specs.Rulings.{Ruling}
 use Rattle.verdict_board.specs.Boards.{Place, Pass, ruling_at, word_seen, seen, LooksAt}
 use Rattle.verdict_board.specs.Views.{WordNote, names, words, place_of, pass_of}
 

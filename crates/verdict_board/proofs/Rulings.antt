@@ -4,8 +4,7 @@ use Rattle.std.specs.Option.{option_and_then}
 use Rattle.partition_table.specs.Tables.{Clash, IsOneOfFour, word_of, answer}
 use Rattle.partition_table.specs.Judged.{clash_of_verdict, word_of_verdict, answer_of_verdict}
 use Rattle.partition_table.specs.declared.verdict.Verdict.{Verdict}
-use Rattle.exchange_core.specs.Sides.{is_one_of_four}
-use Rattle.exchange_core.specs.Worlds.{Ruling, ruling_of}
+use Rattle.partition_table.specs.Rulings.{Ruling, ruling_of, is_one_of_four}
 use Rattle.verdict_board.specs.Boards.{Pass, Place, as_ruling_of, word_seen, seen, ruling_if, ruling_at}
 
 -- ---- the test of a word

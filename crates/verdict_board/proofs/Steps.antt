@@ -12,9 +12,9 @@ use Rattle.atomic_table.specs.Table.{Me, step, keeps, Allows, Splits, Joins, ope
 use Rattle.atomic_table.proofs.Lists.{at_set, at_snoc, set_again}
 use Rattle.std.proofs.lemmas.List.{set-get_or}
 use Rattle.verdict_board.specs.declared.given.Hand.{Hand}
-use Rattle.verdict_board.specs.Draws.{one_if, in_round, is_draw, taken, times, once_below, most_drawn}
+use Rattle.verdict_board.specs.Draws.{one_if, in_round, is_draw, taken, times, once_below, most_drawn, row_from}
 use Rattle.verdict_board.specs.model.Given.{hand, total, IsGiven, Given, Drew, Counted}
-use Rattle.verdict_board.specs.laws.Weights.{weigh-append, one_more}
+use Rattle.verdict_board.specs.laws.Weights.{weigh-append, row_counts, row_counts_none}
 use Rattle.verdict_board.proofs.Totals.{total_set, total-append, total_le, total_alone, times_le, next_below}
 
 abbrev pub S : Type 0
@@ -27,70 +27,82 @@ count_low seats words views j h lt =
     let t = total_le (λ v. taken j v.drawn) (λ v. v.parts) views (λ by v at. h.bound j by v at) in
     omega (arith, t, h.few, h.parts, h.count j lt)
 
-here_weighs : (j i n x : ℕ) → i ≡ j → is_draw i x (j, n) ≡ one_if (eqb n x)
-here_weighs j i n x e = ap (λ (b : Bool). one_if (b && eqb n x)) (eq-eqb j i (sym e))
+module _ (j i n c : ℕ) where
+  -- of a row of draws of round j, those of round i
+  here_counts : i ≡ j → taken i (row_from j n c) ≡ c
+  here_counts e = row_counts (in_round i) j n c (λ y. ap one_if (eq-eqb j i (sym e)))
 
-else_weighs : (j i n x : ℕ) → i ≢ j → is_draw i x (j, n) ≡ 0
-else_weighs j i n x ne = ap (λ (b : Bool). one_if (b && eqb n x)) (ne_eqb j i (λ e. ne (sym e)))
+  else_counts : i ≢ j → taken i (row_from j n c) ≡ 0
+  else_counts ne = row_counts_none (in_round i) j n c (λ y. ap one_if (ne_eqb j i (λ e. ne (sym e))))
 
-here_counts : (j i n : ℕ) → i ≡ j → in_round i (j, n) ≡ 1
-here_counts j i n e = ap one_if (eq-eqb j i (sym e))
+  else_weighs : (x : ℕ) → i ≢ j → times i x (row_from j n c) ≡ 0
+  else_weighs x ne = row_counts_none (is_draw i x) j n c
+      (λ y. ap (λ (b : Bool). one_if (b && eqb y x)) (ne_eqb j i (λ e. ne (sym e))))
 
-else_counts : (j i n : ℕ) → i ≢ j → in_round i (j, n) ≡ 0
-else_counts j i n ne = ap one_if (ne_eqb j i (λ e. ne (sym e)))
+-- the numbers of a row are those from the first on
+here_weighs : (j i x n c : ℕ) → i ≡ j → once_below x (n + c) ≡ once_below x n + times i x (row_from j n c)
+here_weighs j i x n zero e =
+    let same : n + 0 ≡ n = omega arith in
+    omega (arith, ap (once_below x) same)
+here_weighs j i x n (suc c) e =
+    let one : is_draw i x (j, n) ≡ one_if (eqb n x) =
+    ap (λ (b : Bool). one_if (b && eqb n x)) (eq-eqb j i (sym e)) in
+    let same : n + suc c ≡ (n + 1) + c = omega arith in
+    omega (arith, one, next_below x n, ap (once_below x) same, here_weighs j i x (n + 1) c e)
 
-module _ (seats : ℕ) (words : List ℕ) (views : List Hand) (id j : ℕ) (drawn : List (ℕ × ℕ))
+module _ (seats : ℕ) (words : List ℕ) (views : List Hand) (id j c : ℕ) (drawn : List (ℕ × ℕ))
     (h : IsGiven seats words views) (lt : j < 4) (at : get_elem? views id ≡ some (hand 1 drawn))
-    (room : taken j drawn < 4097) where
+    (room : taken j drawn + c ≤ 4097) where
   abbrev found : ℕ
   found = slice_index words j
 
+  abbrev row : List (ℕ × ℕ)
+  row = row_from j found c
+
   abbrev after : Hand
-  after = hand 1 (drawn ++ (j, found) ∷ [])
+  after = hand 1 (drawn ++ row)
 
   abbrev next : List ℕ
-  next = set words j ((found + 1) % 18446744073709551616)
+  next = set words j ((found + c) % 18446744073709551616)
 
-  word_here : slice_index next j ≡ found + 1
+  word_here : slice_index next j ≡ found + c
   word_here =
       let low = count_low seats words views j h lt in
       let inside : j < length words = omega (arith, lt, h.rounds) in
-      get_or-set_same words j ((found + 1) % 18446744073709551616) 0 inside ∙ mod-eq_of_lt (omega (arith, low))
+      get_or-set_same words j ((found + c) % 18446744073709551616) 0 inside ∙ mod-eq_of_lt (omega (arith, low, room))
 
   word_else : (i : ℕ) → i ≢ j → slice_index next i ≡ slice_index words i
-  word_else i ne = get_or-set_other words j i ((found + 1) % 18446744073709551616) 0 ne
+  word_else i ne = get_or-set_other words j i ((found + c) % 18446744073709551616) 0 ne
 
   once_after : (i : ℕ) → i < 4 → (x : ℕ) → total (λ v. times i x v.drawn)
       (set views id after) ≡ once_below x (slice_index next i)
   once_after i lti x =
       let moved = total_set (λ v. times i x v.drawn) views id (hand 1 drawn) after at in
-      let more = one_more (is_draw i x) drawn (j, found) in
+      let more = weigh-append (is_draw i x) drawn row in
       let was = h.once i lti x in
       dite (ℕ_discrete i j)
       (λ e.
-      let one = here_weighs j i found x e in
       let same : slice_index words i ≡ found = ap (slice_index words) e in
       let was' : total (λ v. times i x v.drawn) views ≡ once_below x found = was ∙ ap (once_below x) same in
-      let here : once_below x (slice_index next i) ≡ once_below x (found + 1) = ap (once_below x)
+      let here : once_below x (slice_index next i) ≡ once_below x (found + c) = ap (once_below x)
       (ap (slice_index next) e ∙ word_here) in
-      omega (arith, moved, more, one, was', here, next_below x found))
+      omega (arith, moved, more, was', here, here_weighs j i x found c e))
       (λ ne.
-      let none = else_weighs j i found x ne in
       let here : once_below x (slice_index next i) ≡ once_below x (slice_index words i) = ap (once_below x)
       (word_else i ne) in
-      omega (arith, moved, more, none, was, here))
+      omega (arith, moved, more, else_weighs j i found c x ne, was, here))
 
   count_after : (i : ℕ) → i < 4 → total (λ v. taken i v.drawn) (set views id after) ≡ slice_index next i
   count_after i lti =
       let moved = total_set (λ v. taken i v.drawn) views id (hand 1 drawn) after at in
-      let more = one_more (in_round i) drawn (j, found) in
+      let more = weigh-append (in_round i) drawn row in
       let was = h.count i lti in
       dite (ℕ_discrete i j)
       (λ e.
       let same : slice_index words i ≡ found = ap (slice_index words) e in
-      let here : slice_index next i ≡ found + 1 = ap (slice_index next) e ∙ word_here in
-      omega (arith, moved, more, here_counts j i found e, was, same, here))
-      (λ ne. omega (arith, moved, more, else_counts j i found ne, was, word_else i ne))
+      let here : slice_index next i ≡ found + c = ap (slice_index next) e ∙ word_here in
+      omega (arith, moved, more, here_counts j i found c e, was, same, here))
+      (λ ne. omega (arith, moved, more, else_counts j i found c ne, was, word_else i ne))
 
   bound_after : (i by : ℕ) (v : Hand) → get_elem? (set views id after) by ≡ some v →
       taken i v.drawn ≤ most_drawn * v.parts
@@ -100,72 +112,73 @@ module _ (seats : ℕ) (words : List ℕ) (views : List Hand) (id j : ℕ) (draw
       (λ (t : (by ≢ id) × (get_elem? views by ≡ some v)). h.bound i by v t.1)
       (at_set views id by after v e)
     where
-      mine : taken i (drawn ++ (j, found) ∷ []) ≤ 4097 * 1
+      mine : taken i (drawn ++ row) ≤ 4097 * 1
       mine =
-          let more = one_more (in_round i) drawn (j, found) in
+          let more = weigh-append (in_round i) drawn row in
           let was = h.bound i id (hand 1 drawn) at in
           dite (ℕ_discrete i j)
           (λ e. let same : taken i drawn ≡ taken j drawn = ap (λ (k : ℕ). taken k drawn) e in
-          omega (arith, more, room, here_counts j i found e, same))
-          (λ ne. omega (arith, more, else_counts j i found ne, was))
+          omega (arith, more, room, here_counts j i found c e, same))
+          (λ ne. omega (arith, more, else_counts j i found c ne, was))
 
   draws_keep : IsGiven seats next (set views id after)
   draws_keep = record {
     few = h.few;
-    rounds = length-set words j ((found + 1) % 18446744073709551616) ∙ h.rounds;
+    rounds = length-set words j ((found + c) % 18446744073709551616) ∙ h.rounds;
     parts = (let moved = total_set (λ v. v.parts) views id (hand 1 drawn) after at in omega (arith, moved, h.parts));
     once = once_after;
     count = count_after;
     bound = bound_after;
   }
 
--- a seat takes the next number of a round in which it has room
-pub draws : (seats slots id j : ℕ) (me : Me S Hand) → me ≡ (hand 1 me.0.drawn, []) → j < 4 → taken j me.0.drawn < 4097
-    → Allows {S = S} (Given seats) slots id me j (λ n. (n + 1) % 18446744073709551616)
-    (Drew (step slots j 1 0 none) me)
-draws seats slots id j me one lt room =
-    subst (λ (m : Me S Hand). Allows {S = S} (Given seats) slots id m j (λ n. (n + 1) % 18446744073709551616)
-    (Drew (step slots j 1 0 none) m)) (sym one)
+-- a seat takes the next numbers of a round in which it has room
+pub draws : (seats slots id j c : ℕ) (me : Me S Hand) → me ≡ (hand 1 me.0.drawn, []) → j < 4 →
+    taken j me.0.drawn + c ≤ 4097
+    → Allows {S = S} (Given seats) slots id me j (λ n. (n + c) % 18446744073709551616)
+    (Drew (step slots j c 0 none) me)
+draws seats slots id j c me one lt room =
+    subst (λ (m : Me S Hand). Allows {S = S} (Given seats) slots id m j (λ n. (n + c) % 18446744073709551616)
+    (Drew (step slots j c 0 none) m)) (sym one)
     (λ s h homes at small. (
-      hand 1 (me.0.drawn ++ (j, slice_index s.words j) ∷ []),
+      hand 1 (me.0.drawn ++ row_from j (slice_index s.words j) c),
       keeps,
       tt,
-      draws_keep seats s.words s.views id j me.0.drawn h lt at room,
+      draws_keep seats s.words s.views id j c me.0.drawn h lt at room,
       refl,
     ))
 
--- what a seat knows of itself after a draw
+-- what a seat knows of itself after it drew a row
 pub seat_after : (used : List ℕ) (me new : Me S Hand)
-    (j n : ℕ) → me ≡ (hand 1 me.0.drawn, []) → new ≡ (hand me.0.parts (me.0.drawn ++ (j, n) ∷ []), me.1) → j < 4 →
+    (j n c : ℕ) → me ≡ (hand 1 me.0.drawn, []) → new ≡ (hand me.0.parts (me.0.drawn ++ row_from j n c), me.1) → j < 4 →
     length used ≡ 4
     → ((i : ℕ) → i < 4 → (slice_index used i ≡ taken i me.0.drawn) × (taken i me.0.drawn ≤ most_drawn)) →
-    taken j me.0.drawn < 4097
+    taken j me.0.drawn + c ≤ 4097
     → (new ≡ (hand 1 new.0.drawn, [])) × ((i : ℕ) → i < 4 →
-    (slice_index (set used j (get_or used j 0 + 1)) i ≡ taken i new.0.drawn) × (taken i new.0.drawn ≤ most_drawn))
-seat_after used me new j n one is lt four known room =
-    let after : List (ℕ × ℕ) = me.0.drawn ++ (j, n) ∷ [] in
+    (slice_index (set used j (get_or used j 0 + c)) i ≡ taken i new.0.drawn) × (taken i new.0.drawn ≤ most_drawn))
+seat_after used me new j n c one is lt four known room =
+    let after : List (ℕ × ℕ) = me.0.drawn ++ row_from j n c in
     let e : new ≡ (hand 1 after, []) = is ∙ ap (λ (m : Me S Hand). (hand m.0.parts after, m.1)) one in
     subst (λ (m : Me S Hand). (m ≡ (hand 1 m.0.drawn, []))
-    × ((i : ℕ) → i < 4 → (slice_index (set used j (get_or used j 0 + 1)) i ≡ taken i m.0.drawn)
+    × ((i : ℕ) → i < 4 → (slice_index (set used j (get_or used j 0 + c)) i ≡ taken i m.0.drawn)
     × (taken i m.0.drawn ≤ most_drawn))) (sym e) (
       refl,
       λ i lti.
-          let more = one_more (in_round i) me.0.drawn (j, n) in
+          let more = weigh-append (in_round i) me.0.drawn (row_from j n c) in
           let was = known i lti in
           dite (ℕ_discrete i j)
           (λ d.
           let same : taken i me.0.drawn ≡ taken j me.0.drawn = ap (λ (k : ℕ). taken k me.0.drawn) d in
-          let read : slice_index (set used j (get_or used j 0 + 1)) i ≡ get_or used j 0 + 1 =
-          ap (slice_index (set used j (get_or used j 0 + 1))) d
-          ∙ get_or-set_same used j (get_or used j 0 + 1) 0 (omega (arith, lt, four)) in
+          let read : slice_index (set used j (get_or used j 0 + c)) i ≡ get_or used j 0 + c =
+          ap (slice_index (set used j (get_or used j 0 + c))) d
+          ∙ get_or-set_same used j (get_or used j 0 + c) 0 (omega (arith, lt, four)) in
           let old : get_or used j 0 ≡ taken j me.0.drawn = (known j lt).0 in (
-            omega (arith, more, here_counts j i n d, same, read, old),
-            omega (arith, more, here_counts j i n d, same, room),
+            omega (arith, more, here_counts j i n c d, same, read, old),
+            omega (arith, more, here_counts j i n c d, same, room),
           ))
           (λ d.
-          let read : slice_index (set used j (get_or used j 0 + 1)) i ≡ slice_index used i =
-          get_or-set_other used j i (get_or used j 0 + 1) 0 d in
-          (omega (arith, more, else_counts j i n d, read, was.0), omega (arith, more, else_counts j i n d, was.1))),
+          let read : slice_index (set used j (get_or used j 0 + c)) i ≡ slice_index used i =
+          get_or-set_other used j i (get_or used j 0 + c) 0 d in
+          (omega (arith, more, else_counts j i n c d, read, was.0), omega (arith, more, else_counts j i n c d, was.1))),
     )
 
 pub begins : (seats : ℕ) → seats ≤ 16 → Given {S = S} seats (opening (0 ∷ 0 ∷ 0 ∷ 0 ∷ []) [] (hand seats []))

@@ -6,8 +6,7 @@ use Rattle.partition_table.specs.Tables.{Clash}
 use Rattle.partition_table.specs.Judged.{clash_of_verdict, word_of_verdict, answer_of_verdict}
 use Rattle.partition_table.specs.declared.verdict.Verdict.{Verdict}
 use Rattle.partition_table.specs.declared.verdict.Ruling as code
-use Rattle.exchange_core.specs.Sides.{Offer, is_one_of_four}
-use Rattle.exchange_core.specs.Worlds.{Ruling, ruling_of, clashes_between}
+use Rattle.partition_table.specs.Rulings.{Ruling, ruling_of, is_one_of_four}
 use Rattle.verdict_board.specs.declared.posted.Posted.{Posted}
 use Rattle.verdict_board.specs.declared.posted.Posted.TheVariants.{Kept, Earlier, Refused}
 
@@ -27,12 +26,6 @@ pub record Board : Type 0 where
 pub record Pass : Type 0 where
   pub place : Place
   pub words : List (Option ℕ)
-
--- the board was opened with what these two offers of one number say
-pub record IsBoardOf (a b : Offer) (place : Place) : Type 0 where
-  pub seed_of_a : a.seed ≡ place.seed
-  pub seed_of_b : b.seed ≡ place.seed
-  pub clashes : clashes_between a b ≡ place.clashes
 
 -- a verdict of clash k as the exchange's definitions have it
 abbrev pub as_ruling_of : ℕ → ℕ → Verdict → Ruling

@@ -1,6 +1,7 @@
 -- What was drawn: a list of draws, each a round and a number.
-use Rattle.std.specs.Prelude.{◌≡◌, ◌⊎◌, ℕ, ◌+◌, ◌<◌, ◌≤◌, Bool, true, false, ◌&&◌, ◌==◌, nat_lt, List, [], ◌∷◌, ◌++◌}
+use Rattle.std.specs.Prelude.{◌≡◌, ◌⊎◌, ℕ, zero, suc, ◌+◌, ◌-◌, ◌<◌, ◌≤◌, min, Bool, true, false, ◌&&◌, ◌==◌, nat_lt, List, [], ◌∷◌, ◌++◌}
 use Rattle.atomic_table.specs.Seated.{TableId}
+use Rattle.std.specs.declared.ops.Range.{Range}
 use Rattle.verdict_board.specs.declared.draw.Draw.{Draw}
 use Rattle.verdict_board.specs.declared.draw.Draw.TheVariants.{Clash, Spent}
 
@@ -47,6 +48,22 @@ Draws n round before after (Clash k) = (k < n) × (after ≡ before ++ (round, k
 Draws n round before after Spent =
     ((x : ℕ) × (n ≤ x) × (after ≡ before ++ (round, x) ∷ []))
     ⊎ ((taken round before ≡ most_drawn) × (after ≡ before))
+
+-- a row of draws: so many numbers of a round, from x on
+abbrev pub row_from : ℕ → ℕ → ℕ → List (ℕ × ℕ)
+row_from round x zero = []
+row_from round x (suc count) = (round, x) ∷ row_from round (x + 1) count
+
+-- how many numbers a seat draws in a row: those that are wanted, or all that it may still draw in the round
+abbrev pub row_len : ℕ → ℕ → List (ℕ × ℕ) → ℕ
+row_len round wanted drawn = min wanted (most_drawn - taken round drawn)
+
+-- A call adds a row, from some number x on. Of its numbers, those below the count n of clashes are returned
+pub record DrawsRow (n round wanted : ℕ) (before after : List (ℕ × ℕ)) (clashes : Range ℕ) : Type 0 where
+  pub x : ℕ
+  pub adds : after ≡ before ++ row_from round x (row_len round wanted before)
+  pub start : clashes.start ≡ min x n
+  pub end : clashes.end ≡ min (x + row_len round wanted before) n
 
 -- what all these seats drew, weighed and added up
 abbrev pub weigh_all : (ℕ × ℕ → ℕ) → List Seat → ℕ

@@ -3,9 +3,9 @@ ghost use Rattle.std.specs.Prelude.{◌≡◌, ℕ, ◌<◌, ◌≤◌, [], All,
 ghost use Rattle.std.specs.Option.{option_map};
 ghost use Rattle.partition_table.specs.Tables.{IsOneOfFour};
 ghost use Rattle.partition_table.specs.Judged.{clash_of_verdict, word_of_verdict};
-ghost use Rattle.exchange_core.specs.Worlds.{ruling_of};
+ghost use Rattle.partition_table.specs.Rulings.{ruling_of};
 ghost use Rattle.verdict_board.specs.Boards.{as_ruling, ruling_at, seen, LooksAt, IsAnswer};
-ghost use Rattle.verdict_board.specs.Draws.{Draws, EachOnce};
+ghost use Rattle.verdict_board.specs.Draws.{taken, most_drawn, Draws, DrawsRow, EachOnce};
 ghost use Rattle.verdict_board.specs.model.Given.{hand};
 
 use crate::answers::{AnswerTable, keep_answer, kept_answer, no_answers};
@@ -22,6 +22,7 @@ use partition_table::{ClashList, Ruling, Verdict};
 use std::alloc::{AllocError, Global};
 use std::fmt;
 use std::marker::Model;
+use std::ops::Range;
 
 // The maximum number of draws of a seat in a round. One of them is past the count of clashes.
 const MOST_DRAWN: u32 = 4097;
@@ -159,20 +160,36 @@ impl<'p> Board<'p> {
         ensures board { seat.new.draws ≡ seat.old.draws }
         ensures draws { Draws (length self.now.place.clashes) round seat.old.drawn seat.new.drawn result }
     {
-        let used = seat.used[round as usize];
-        if used == MOST_DRAWN {
-            return Draw::Spent;
-        }
-        let n = self
-            .words
-            .shared
-            .fetch_add::<Took>(&mut seat.token, round as usize, 1);
-        seat.used[round as usize] = used + 1;
-        if n < self.site.clashes.len() as u64 {
-            Draw::Clash(n as u32)
+        let row = self.draw_row(seat, round, 1);
+        if row.start < row.end {
+            Draw::Clash(row.start)
         } else {
             Draw::Spent
         }
+    }
+
+    /// Draws the next numbers of a round in one step, and returns those that are positions of clashes.
+    ///
+    /// Draws as many as are wanted, but no more than 4,097 with one seat. Returns fewer than wanted only if no clash is left
+    /// in the round. Requires a seat of this board and a round from 0 to 3. Never waits.
+    pub fn draw_row(&self, seat: &mut Seat, round: u32, wanted: u32) -> Range<u32>
+        requires board { seat.old.draws ≡ self.now.draws }
+        requires round { round < 4 }
+        ensures board { seat.new.draws ≡ seat.old.draws }
+        ensures draws { DrawsRow (length self.now.place.clashes) round wanted seat.old.drawn seat.new.drawn result }
+        // No seat has drawn more.
+        ensures few { taken round seat.old.drawn ≤ most_drawn }
+    {
+        let used = seat.used[round as usize];
+        let count = wanted.min(MOST_DRAWN - used);
+        let more = u64::from(count);
+        let first = self
+            .words
+            .shared
+            .fetch_add::<Took>(&mut seat.token, round as usize, more);
+        seat.used[round as usize] = used + count;
+        let n = self.site.clashes.len() as u64;
+        first.min(n) as u32..first.saturating_add(more).min(n) as u32
     }
 
     /// Posts a verdict of clash `k` and returns what the pass has then seen of that clash.

@@ -20,7 +20,7 @@ impl TableRule<(), Hand, u64> for GivenOnce {
     ghost first = { λ seats. hand seats [] };
 }
 
-// A seat takes the next number of a round.
+// A seat takes the next numbers of a round.
 pub(crate) struct Took;
 
 impl Play<(), Hand> for Took {

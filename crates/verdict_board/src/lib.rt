@@ -8,7 +8,6 @@ mod board;
 mod draw;
 mod draw_words;
 mod given;
-mod laws;
 mod pass;
 mod posted;
 mod seat;
@@ -16,7 +15,6 @@ mod site;
 
 pub use board::{Board, open};
 pub use draw::Draw;
-pub use laws::seen_theorem;
 pub use pass::Pass;
 pub use posted::Posted;
 pub use seat::Seat;

@@ -1,7 +1,7 @@
 //! The exchange of a board, and the words of its clashes.
 ghost use Rattle.std.specs.Prelude.{◌≡◌, length, is_some, IfSome};
 ghost use Rattle.partition_table.specs.Tables.{word_of};
-ghost use Rattle.exchange_core.specs.Sides.{is_one_of_four};
+ghost use Rattle.partition_table.specs.Rulings.{is_one_of_four};
 
 use partition_table::{ClashList, word};
 

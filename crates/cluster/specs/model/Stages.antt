@@ -7,7 +7,7 @@ use Rattle.clash_record.specs.declared.side_id.SideId.TheVariants.{A, B}
 use Rattle.exchange_core.specs.Sides.{Side, Exchange, Heard, Offer, shown_table}
 use Rattle.exchange_core.specs.Finished.{Finished, IsFinished}
 use Rattle.exchange_core.specs.Shown.{calls}
-use Rattle.exchange_core.specs.declared.judged.Judged.{Judged}
+use Rattle.partition_table.specs.declared.judged.Judged.{Judged}
 use Rattle.clash_record.specs.Name.{Name}
 use Rattle.partition_table.specs.Tables.{Table}
 use Rattle.verdict_board.specs.Boards.{Place, Pass}

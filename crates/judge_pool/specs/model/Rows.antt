@@ -1,4 +1,4 @@
--- The clashes that a seat draws in a row.
+-- The clashes that a worker has drawn.
 use Rattle.std.specs.Prelude.{◌≡◌, ℕ, ◌+◌, ◌≤◌, List}
 use Rattle.verdict_board.specs.Draws.{taken}
 use Rattle.judge_pool.specs.Work.{clashes_drawn, DrewIn}

@@ -4,7 +4,7 @@ use mathlib.Core.Option.{some}
 use lib.ListN.{get_elem?}
 use Rattle.atomic_table.specs.Table.{State, Step, Me}
 use Rattle.verdict_board.specs.declared.given.Hand.{Hand}
-use Rattle.verdict_board.specs.Draws.{taken, times, once_below, most_drawn}
+use Rattle.verdict_board.specs.Draws.{taken, times, once_below, most_drawn, row_from}
 
 abbrev pub hand : ℕ → List (ℕ × ℕ) → Hand
 hand parts drawn = record { parts = parts; drawn = drawn }
@@ -28,9 +28,9 @@ module _ {S : Type 0} where
   abbrev pub Given : ℕ → State S Hand → Type 0
   Given seats s = IsGiven seats s.words s.views
 
-  -- a seat took the number that it found
+  -- a seat took a row of numbers, from the one that it found on
   abbrev pub Drew : Step S → Me S Hand → ℕ → Me S Hand → Type 0
-  Drew s v n w = w ≡ (hand v.0.parts (v.0.drawn ++ (s.word, n) ∷ []), v.1)
+  Drew s v n w = w ≡ (hand v.0.parts (v.0.drawn ++ row_from s.word n s.first), v.1)
 
   -- who has every part learns how often each number was drawn
   abbrev pub Counted : Step S → Me S Hand → ℕ → Me S Hand → Type 0

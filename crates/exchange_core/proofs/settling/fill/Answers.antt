@@ -2,7 +2,7 @@ use Rattle.std.proofs.Common.{◌≡◌, ℕ, ◌+◌, ◌<◌, ◌≤◌, List,
 use Rattle.std.specs.Prelude.{vec_len, vec_capacity}
 use Rattle.std.specs.Option.{option_map}
 use Rattle.std.proofs.lemmas.Option.{slice_get_within}
-use Rattle.exchange_core.specs.declared.judged.Judged.{Judged}
+use Rattle.partition_table.specs.declared.judged.Judged.{Judged}
 use Rattle.exchange_core.specs.model.Settling.{judge_by}
 use Rattle.exchange_core.proofs.Filling.{is_empty, is_held, lack_none, fills, keeps, one_less}
 use Rattle.exchange_core.proofs.settling.fill.Goals as goal

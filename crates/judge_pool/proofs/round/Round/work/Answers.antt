@@ -1,8 +1,8 @@
-use Rattle.std.proofs.Common.{◌≡◌, ◌+◌, ap, ◌∙◌, arith}
+use Rattle.std.proofs.Common.{◌≡◌, ◌+◌, ◌-◌, ap, ◌∙◌, arith}
 use Rattle.std.proofs.lemmas.Grind.{common_steps}
 use Rattle.verdict_board.specs.Draws.{Seat}
 use Rattle.judge_pool.specs.Work.{posts}
-use Rattle.judge_pool.proofs.Drawing.{draws_none, draws_row, most_are_spent}
+use Rattle.judge_pool.proofs.Drawing.{draws_none, draws_row, last_row, most_are_spent}
 use Rattle.judge_pool.proofs.round.Round.work.Goals as goal
 
 pub loop-turn-init : goal.loop-turn-init
@@ -11,7 +11,7 @@ loop-turn-init g c =
       board = ap (λ (s : Seat). s.draws) seat ∙ c.requires.seat;
       pass = c.requires.pass;
       drew = draws_none _ _ _ _ _ c.new-done.ensures.none (ap (λ (s : Seat). s.drawn) seat);
-      row = grind (arith, common_steps);
+      wanted = c.row_len-wanted.ensures;
       some = omega arith;
       few = omega arith;
     }
@@ -20,11 +20,12 @@ pub loop-turn-preserved : goal.loop-turn-preserved
 loop-turn-preserved g c =
     let h = c.loop-turn.invariant in
     let seat = c.serve_row.ensures.seat in
-    let sum : posts c.serve_row.new.done ≡ posts c.loop-turn.done + c.draw_row-drawn.result = grind (arith, common_steps) in record {
-      board = ap (λ (s : Seat). s.draws) seat ∙ c.draw_row-drawn.ensures.board ∙ h.board;
+    let row = c.draw_row-row in record {
+      board = ap (λ (s : Seat). s.draws) seat ∙ row.ensures.board ∙ h.board;
       pass = c.serve_row.ensures.pass ∙ h.pass;
-      drew = draws_row _ _ _ _ _ _ _ _ _ h.drew c.draw_row-drawn.ensures.drew sum (ap (λ (s : Seat). s.drawn) seat);
-      row = (omega arith, omega arith);
+      drew = draws_row _ _ _ _ _ _ _ _ _ row.result h.drew row.ensures.draws c.serve_row.ensures.posts
+          (ap (λ (s : Seat). s.drawn) seat);
+      wanted = h.wanted;
       some = omega arith;
       few = omega arith;
     }
@@ -37,3 +38,23 @@ returns g c =
       spent = most_are_spent _ _ _ _ _ h.drew (omega arith);
       posts = omega (arith, h.drew.clashes);
     }
+
+pub returns-then-count-wanted-clause-round : goal.returns-then-count-wanted-clause-round
+returns-then-count-wanted-clause-round g c =
+    let row = c.draw_row-row in
+    let drew = draws_row _ _ _ _ _ _ _ _ _ row.result c.loop-turn.invariant.drew row.ensures.draws
+    c.serve_row.ensures.posts (ap (λ (s : Seat). s.drawn) c.serve_row.ensures.seat) in
+    drew.others
+
+pub returns-then-count-wanted-clause-spent : goal.returns-then-count-wanted-clause-spent
+returns-then-count-wanted-clause-spent g c =
+    let row = c.draw_row-row in
+    last_row _ _ _ _ _ _ row.result row.ensures.draws c.if-count-wanted.true
+    (ap (λ (s : Seat). s.drawn) c.serve_row.ensures.seat)
+
+pub returns-then-count-wanted-clause-posts : goal.returns-then-count-wanted-clause-posts
+returns-then-count-wanted-clause-posts g c =
+    let row = c.draw_row-row in
+    let drew = draws_row _ _ _ _ _ _ _ _ _ row.result c.loop-turn.invariant.drew row.ensures.draws
+    c.serve_row.ensures.posts (ap (λ (s : Seat). s.drawn) c.serve_row.ensures.seat) in
+    omega (arith, drew.clashes)

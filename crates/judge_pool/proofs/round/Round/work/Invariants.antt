@@ -8,7 +8,7 @@ invariant-loop-turn g l = record {
   board : l.done.seat.draws ≡ l.self.board.now.draws;
   pass : l.pass.place ≡ l.self.board.now.place;
   drew : Drew (length l.self.board.now.place.clashes) l.self.number (posts l.done) l.fn.seat.drawn l.done.seat.drawn;
-  row : (0 < length l.row) × (length l.row ≤ 8);
+  wanted : (0 < l.wanted) × (l.wanted ≤ 16);
   some : l._turn ≤ posts l.done;
-  few : posts l.done ≤ 8 * l._turn;
+  few : posts l.done ≤ 16 * l._turn;
 }

@@ -1,6 +1,6 @@
 use Rattle.std.proofs.Common.{rules, ◌≡◌, ◌≢◌, true, length}
 use Rattle.partition_table.specs.Judged.{word_of_verdict}
-use Rattle.exchange_core.specs.Sides.{is_one_of_four}
+use Rattle.partition_table.specs.Rulings.{is_one_of_four}
 use Rattle.verdict_board.proofs.Rulings.{seen_verdict, seen_other}
 use Rattle.verdict_board.proofs.board.Board.post.Goals as goal
 

@@ -1,8 +1,10 @@
 //! The law of what a pass sees.
 ghost use Rattle.std.specs.Prelude.{◌≡◌, ℕ, ◌<◌, Some, IsTrue, slice_get};
-ghost use Rattle.exchange_core.specs.Sides.{Offer, is_lawful};
-ghost use Rattle.exchange_core.specs.Worlds.{Ruling, clashes_between, ruling_on};
-ghost use Rattle.verdict_board.specs.Boards.{Pass, seen, IsBoardOf};
+ghost use Rattle.partition_table.specs.Rulings.{Ruling, is_lawful};
+ghost use Rattle.exchange_core.specs.Sides.{Offer};
+ghost use Rattle.exchange_core.specs.Worlds.{clashes_between, ruling_on};
+ghost use Rattle.verdict_board.specs.Boards.{Pass, seen};
+ghost use Rattle.registry_lock.specs.Telling.{IsBoardOf};
 
 /// States that what a pass has seen of a clash is a ruling that a judging step of the exchange adds.
 ///

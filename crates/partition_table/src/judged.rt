@@ -1,4 +1,4 @@
-//! The part of a ruling that a side keeps.
+//! The part of a ruling that a side of an exchange keeps.
 use builtin_resolvers::Verdict3;
 
 /// A word, and what the resolver of a clash answers at it.
