@@ -19,7 +19,7 @@ from concurrent.futures import FIRST_COMPLETED, ThreadPoolExecutor, wait
 ROOT = os.path.dirname(os.path.dirname(os.path.realpath(__file__)))
 COPIES = f"{ROOT}/out/prove"
 PROGRAM = "heal_main"
-# The crate with the longest chain of crates behind it gets three of four processors, but no more than this.
+# A crate that the longest chain of dependencies waits for gets three of four processors, but no more than this.
 MOST_JOBS = 4
 # The question that `rt run` answers once the program is built.
 TRIAL = ["check", "b7000000010000009500000000000000"]
@@ -41,8 +41,8 @@ def with_below(uses, name):
 
 def size(name):
     """Returns the size of a crate's sources in bytes: a guess of the time of its proof."""
-    below = os.walk(f"{ROOT}/crates/{name}")
-    return sum(os.path.getsize(f"{at}/{it}") for at, _, names in below for it in names if it.endswith((".rt", ".antt")))
+    folders = [walk for part in ("src", "specs", "proofs") for walk in os.walk(f"{ROOT}/crates/{name}/{part}")]
+    return sum(os.path.getsize(f"{at}/{it}") for at, _, files in folders for it in files)
 
 
 def link_or_copy(source, target):
@@ -124,8 +124,10 @@ def prove_all(lines, uses):
             ready = [name for name in left if not has_failed and all(it in proved for it in uses[name])]
             for name in ready:
                 taken = [jobs for _, jobs in running.values()]
-                jobs = 1 if most in taken else most
-                if sum(taken) + jobs <= processors:
+                is_awaited = name in with_below(uses, left[0])
+                jobs = most if is_awaited and most not in taken else 1
+                # One job too many, since the jobs of a crate aren't always all busy.
+                if sum(taken) + jobs <= processors + 1:
                     running[pool.submit(prove, lines, uses, name, jobs)] = name, jobs
                     left.remove(name)
             for done in wait(running, return_when=FIRST_COMPLETED).done:
