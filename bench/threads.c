@@ -1,19 +1,37 @@
-// threads: how far do threads scale that share nothing? `threads MICROSECONDS` splits multiplications that take that time
-// among 1, 2, 4 and 16 threads, one of them the calling one, and prints for each count the least of 25 times from before
-// the first start until all have ended.
+// threads: how far do threads scale on this machine? `threads MICROSECONDS` splits work that takes one thread that long among
+// 1, 2, 4 and 16 threads, one of them the calling one, and prints a line for each kind of work and count of threads: the least
+// of 25 times in microseconds, from before the first start until all have ended. The kinds:
+//
+//   alone     multiplications in registers; the threads share nothing
+//   one       a model of a board: draws 4,096 numbers one by one, multiplies for each, and posts it, as a cell that points to
+//             a new allocation and as a word
+//   row       the same, but draws 16 numbers in one step
+//   spaced    the same as `row`, with cells and words 64 bytes apart
 #include <pthread.h>
+#include <stdatomic.h>
 #include <stdint.h>
 #include <stdio.h>
 #include <stdlib.h>
 #include <time.h>
 
-enum { ROUNDS = 25, MOST = 16 };
+enum { ROUNDS = 25, MOST = 16, CLASHES = 4096, LINE = 8 };
 
-struct part {
-    uint64_t steps;
-    uint64_t result;
-    char apart[112]; // so that no two parts share a line of memory
+struct kind {
+    const char *name;
+    uint64_t row;     // numbers that are drawn in one step; 0: no board
+    uint64_t spacing; // of cells and words, in words
 };
+
+struct job {
+    const struct kind *kind;
+    uint64_t steps; // multiplications of this thread, or for each clash
+    uint64_t result;
+    char apart[104]; // so that no two jobs share a line of memory
+};
+
+static _Alignas(64) atomic_uint_fast64_t drawn;
+static _Alignas(64) _Atomic(uint64_t *) cells[CLASHES * LINE];
+static _Alignas(64) atomic_uint_fast64_t answers[CLASHES * LINE];
 
 static double microseconds(void) {
     struct timespec now;
@@ -21,44 +39,81 @@ static double microseconds(void) {
     return (double)now.tv_sec * 1e6 + (double)now.tv_nsec / 1e3;
 }
 
-static void *multiply(void *given) {
-    struct part *part = given;
-    uint64_t x = 1;
-    for (uint64_t i = 0; i < part->steps; i++) {
+static uint64_t multiply(uint64_t x, uint64_t steps) {
+    for (uint64_t i = 0; i < steps; i++) {
         x = x * 0x9E3779B97F4A7C15u + i;
     }
-    part->result = x;
-    return NULL;
+    return x;
 }
 
-static double time_of(int threads, uint64_t steps) {
-    static struct part parts[MOST];
+static void post(uint64_t place, uint64_t word) {
+    uint64_t *kept = malloc(sizeof *kept), *none = NULL;
+    if (kept == NULL) {
+        abort();
+    }
+    *kept = word;
+    if (!atomic_compare_exchange_strong(&cells[place], &none, kept)) {
+        abort(); // each number is drawn once
+    }
+    atomic_exchange(&answers[place], word);
+}
+
+static void *work(void *given) {
+    struct job *job = given;
+    const struct kind *kind = job->kind;
+    if (kind->row == 0) {
+        job->result = multiply(1, job->steps);
+        return NULL;
+    }
+    for (;;) {
+        uint64_t first = atomic_fetch_add(&drawn, kind->row);
+        for (uint64_t k = first; k < first + kind->row; k++) {
+            if (k >= CLASHES) {
+                return NULL;
+            }
+            job->result = multiply(k, job->steps);
+            post(k * kind->spacing, job->result);
+        }
+    }
+}
+
+static void clear_board(void) {
+    for (uint64_t i = 0; i < CLASHES * LINE; i++) {
+        free(atomic_exchange(&cells[i], NULL));
+    }
+    atomic_store(&drawn, 0);
+}
+
+static double time_of(const struct kind *kind, int threads, uint64_t steps) {
+    static struct job jobs[MOST];
     pthread_t started[MOST];
+    clear_board();
     double start = microseconds();
     for (int i = 0; i < threads; i++) {
-        parts[i].steps = steps / (uint64_t)threads;
-        if (i > 0 && pthread_create(&started[i], NULL, multiply, &parts[i]) != 0) {
+        jobs[i] = (struct job){.kind = kind, .steps = kind->row ? steps / CLASHES : steps / (uint64_t)threads};
+        if (i > 0 && pthread_create(&started[i], NULL, work, &jobs[i]) != 0) {
             perror("pthread_create");
             exit(1);
         }
     }
-    multiply(&parts[0]);
+    work(&jobs[0]);
     for (int i = 1; i < threads; i++) {
         pthread_join(started[i], NULL);
     }
     return microseconds() - start;
 }
 
-static double least_time(int threads, uint64_t steps) {
-    double least = time_of(threads, steps);
+static double least_time(const struct kind *kind, int threads, uint64_t steps) {
+    double least = time_of(kind, threads, steps);
     for (int i = 1; i < ROUNDS; i++) {
-        double time = time_of(threads, steps);
+        double time = time_of(kind, threads, steps);
         least = time < least ? time : least;
     }
     return least;
 }
 
 int main(int count, char **words) {
+    static const struct kind kinds[] = {{"alone", 0, 0}, {"one", 1, 1}, {"row", 16, 1}, {"spaced", 16, LINE}};
     static const int threads[] = {1, 2, 4, MOST};
     double wanted = count == 2 ? atof(words[1]) : 0;
     if (!(wanted > 0)) {
@@ -66,9 +121,11 @@ int main(int count, char **words) {
         return 2;
     }
     const uint64_t sample = 1000000;
-    uint64_t steps = (uint64_t)(wanted / least_time(1, sample) * (double)sample);
-    for (unsigned i = 0; i < sizeof threads / sizeof *threads; i++) {
-        printf("%d %.0f\n", threads[i], least_time(threads[i], steps));
+    uint64_t steps = (uint64_t)(wanted / least_time(&kinds[0], 1, sample) * (double)sample);
+    for (unsigned kind = 0; kind < sizeof kinds / sizeof *kinds; kind++) {
+        for (unsigned i = 0; i < sizeof threads / sizeof *threads; i++) {
+            printf("%s %d %.0f\n", kinds[kind].name, threads[i], least_time(&kinds[kind], threads[i], steps));
+        }
     }
     return 0;
 }

@@ -1,8 +1,8 @@
 #!/bin/bash
-# workers.sh BEFORE: measures rounds of judging 4,096 clashes by this version and an earlier one in turn, and threads of C that
-# share nothing and multiply for the time that one worker takes. BEFORE is a checkout of the earlier version. Both have heal_bench
-# built. Each time is the least of 25, in microseconds; a part of linear is the time of one divided by that of n and by n, or
-# by four if n is more. Needs gcc.
+# workers.sh BEFORE: measures rounds of judging 4,096 clashes by this version and an earlier one in turn, and the threads of C
+# of threads.c, which do as much work as one worker. BEFORE is a checkout of the earlier version. Both have heal_bench built.
+# Each time is the least of 25, in microseconds. A part of linear is the time of one divided by that of n and by n, or by four
+# if n is more. Needs gcc.
 set -e
 root=$(cd "$(dirname "$0")/.." && pwd)
 before=$(cd "${1:?usage: workers.sh BEFORE}" && pwd)
@@ -16,29 +16,47 @@ line_of() {
     printf '9500000000000000'
 }
 
-# The least number behind "judge" in a file, in microseconds.
-least() { awk '$1 == "judge" && (least == "" || $2 < least) { least = $2 } END { printf "%.0f", least / 1000 }' "$1"; }
+# Prints the least number behind a word and a count of workers or threads.
+least() { awk -v word="$1" -v n="$2" '$1 == word && $2 == n && (least == "" || $3 < least) { least = $3 } END { print least }' "$3"; }
 
-part() { awk -v one="$1" -v time="$2" -v n="$3" 'BEGIN { printf "%.2f", one / time / (n < 4 ? n : 4) }'; }
+# Prints a time and its part of linear.
+shown() {
+    local one time
+    one=$(least "$1" 1 "$3") time=$(least "$1" "$2" "$3")
+    awk -v one="$one" -v time="$time" -v n="$2" 'BEGIN { printf " %8.0f %6.2f", time, one / time / (n < 4 ? n : 4) }'
+}
 
-printf '%-12s %8s %8s %8s %8s %8s %8s %8s\n' instructions workers before linear after linear threads linear
+# Appends the time of a round in microseconds.
+measure() {
+    "$1/crates/heal_bench/out/heal_bench" judge "$3" "$4" | awk -v word="$2" -v n="$4" '$1 == "judge" { print word, n, $2 / 1000 }' \
+        >> "$out/times"
+}
+
+printf '%-12s %7s %8s %6s %8s %6s %8s %6s\n' instructions workers before linear after linear alone linear
 for length in 2 102 1024; do
     hex=$(line_of $length)
     [ $length = 102 ] && hex=$(cat "$root/resolvers/name_hash.hex")
-    for workers in 1 2 4 16; do
-        : > "$out/old.$workers" && : > "$out/new.$workers"
-        for _ in $(seq $rounds); do
-            "$before/crates/heal_bench/out/heal_bench" judge "$hex" $workers >> "$out/old.$workers"
-            "$root/crates/heal_bench/out/heal_bench" judge "$hex" $workers >> "$out/new.$workers"
+    : > "$out/times"
+    for _ in $(seq $rounds); do
+        for workers in 1 2 4 16; do
+            measure "$before" before "$hex" $workers
+            measure "$root" after "$hex" $workers
         done
     done
-    "$out/threads" "$(least "$out/new.1")" > "$out/threads.times"
+    "$out/threads" "$(least after 1 "$out/times")" > "$out/threads.$length"
+    cat "$out/threads.$length" >> "$out/times"
     for workers in 1 2 4 16; do
-        old=$(least "$out/old.$workers") new=$(least "$out/new.$workers")
-        alone=$(awk -v n=$workers '$1 == n { print $2 }' "$out/threads.times")
-        printf '%-12s %8s %8s %8s %8s %8s %8s %8s\n' $length $workers \
-            "$old" "$(part "$(least "$out/old.1")" "$old" $workers)" \
-            "$new" "$(part "$(least "$out/new.1")" "$new" $workers)" \
-            "$alone" "$(part "$(head -1 "$out/threads.times" | cut -d' ' -f2)" "$alone" $workers)"
+        printf '%-12s %7s' $length $workers
+        for word in before after alone; do shown $word $workers "$out/times"; done
+        echo
+    done
+done
+
+printf '\n%-12s %7s %8s %6s %8s %6s %8s %6s\n' model threads one linear row linear spaced linear
+for length in 2 102 1024; do
+    for threads in 1 2 4 16; do
+        printf '%-12s %7s' $length $threads
+        for word in one row spaced; do shown $word $threads "$out/threads.$length"; done
+        echo
     done
 done

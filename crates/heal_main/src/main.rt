@@ -5,8 +5,6 @@ ghost use Rattle.std.specs.Prelude.{None};
 
 mod answering;
 mod obeying;
-#[cfg(test)]
-mod tests;
 
 use answering::answer;
 use std::io;
