@@ -21,6 +21,8 @@ COPIES = f"{ROOT}/out/prove"
 PROGRAM = "heal_main"
 # A crate that the longest chain of dependencies waits for gets three of four processors, but no more than this.
 MOST_JOBS = 4
+# A crate with fewer bytes of sources takes longer with several jobs, each of which loads the libraries below it.
+LARGE = 100_000
 # The question that `rt run` answers once the program is built.
 TRIAL = ["check", "b7000000010000009500000000000000"]
 
@@ -124,7 +126,7 @@ def prove_all(lines, uses):
             ready = [name for name in left if not has_failed and all(it in proved for it in uses[name])]
             for name in ready:
                 taken = [jobs for _, jobs in running.values()]
-                is_awaited = name in with_below(uses, left[0])
+                is_awaited = name in with_below(uses, left[0]) and size(name) >= LARGE
                 jobs = most if is_awaited and most not in taken else 1
                 # One job too many, since the jobs of a crate aren't always all busy.
                 if sum(taken) + jobs <= processors + 1:
