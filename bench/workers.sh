@@ -1,12 +1,12 @@
 #!/bin/bash
-# workers.sh BEFORE: measures rounds of judging 4,096 clashes by this version and an earlier one in turn, and the threads of C
+# workers.sh BEFORE [ROUNDS]: measures rounds of judging 4,096 clashes by this version and an earlier one in turn, and the threads of C
 # of threads.c, which do as much work as one worker. BEFORE is a checkout of the earlier version. Both have heal_bench built.
-# Each time is the least of 25, in microseconds. A part of linear is the time of one divided by that of n and by n, or by four
+# Each time is the least of 25 or ROUNDS, in microseconds. A part of linear is the time of one divided by that of n and by n, or by four
 # if n is more. Needs gcc.
 set -e
 root=$(cd "$(dirname "$0")/.." && pwd)
 before=$(cd "${1:?usage: workers.sh BEFORE}" && pwd)
-rounds=25
+rounds=${2:-25}
 out=$(mktemp -d) && trap 'rm -rf "$out"' EXIT
 gcc -O2 -o "$out/threads" "$root/bench/threads.c" -lpthread
 
