@@ -2,9 +2,9 @@
 """Proves the crates that heal_main is built from, and builds it: crates/heal_main/out/heal_main.
 
 Proves each crate as soon as the crates below it are proved, on all processors, and prints one line on standard error
-for each. Most processors work on the longest chain of dependencies. `rt` locks the folders of a crate and of all crates below it, so each proof runs in a copy under out/prove: it
-takes the libraries below from crates/*/out, and leaves its own library and kept work there. If a proof fails, this
-prints the last lines of its log, and the status is 125.
+for each. Large crates of the longest chain of dependencies get most processors. `rt` locks the folders of a crate and of
+all crates below it, so each proof runs in a copy under out/prove: it takes the libraries below from crates/*/out, and
+leaves its own library and kept work there. If a proof fails, this prints the last lines of its log, and the status is 125.
 """
 
 import fcntl
@@ -21,7 +21,7 @@ COPIES = f"{ROOT}/out/prove"
 PROGRAM = "heal_main"
 # A crate that the longest chain of dependencies waits for gets three of four processors, but no more than this.
 MOST_JOBS = 4
-# A crate with fewer bytes of sources takes longer with several jobs, each of which loads the libraries below it.
+# Two crates with fewer bytes of sources took longer with several jobs, each of which loads the libraries below.
 LARGE = 100_000
 # The question that `rt run` answers once the program is built.
 TRIAL = ["check", "b7000000010000009500000000000000"]
