@@ -1,4 +1,3 @@
-pub mod Bytes
 pub mod Instructions
 pub mod Fronts
 pub mod Runs

@@ -1,3 +1,2 @@
 -- Definitions that mirror the code.
-pub mod Flat
-pub mod Effects
+pub mod Room

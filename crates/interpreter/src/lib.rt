@@ -1,11 +1,8 @@
 //! Runs verified code on a clash record: its answer is the code's meaning.
 #![tactic(auto)]
 
-mod machine;
-mod memory;
 mod running;
 mod scratch;
-mod table;
 
 pub use running::{Ended, one_meaning_theorem, run, run_in, run_written};
 pub use scratch::Scratch;

@@ -6,8 +6,8 @@ ghost use Rattle.clash_record.specs.Name.{name_limit};
 ghost use Rattle.clash_record.specs.Record.{clash_bytes, with_word};
 ghost use Rattle.instruction_set.specs.Machine.{record_len};
 
-use crate::memory::MEMORY_LEN;
 use clash_record::{ClashRecord, Facts, Name, RECORD_LEN, Registration, set_word, write_record};
+use execution::MEMORY_LEN;
 use std::marker::Model;
 
 /// The memory of a run: the record and the stack. One scratch memory serves any number of runs, one after another.
@@ -20,7 +20,7 @@ pub struct Scratch {
 
 impl Model for Scratch {
     ghost use Rattle.std.specs.Prelude.{ℕ, List};
-    ghost use Rattle.interpreter.specs.model.Flat.{record_in};
+    ghost use Rattle.execution.specs.model.Flat.{record_in};
 
     ghost Value = { List ℕ };
 

@@ -1,0 +1,3 @@
+-- Definitions that mirror the code.
+pub mod Flat
+pub mod Effects
