@@ -18,7 +18,7 @@ use verifier::Verified;
 /// A name that two tables register differently, with everything that judging it reads.
 ///
 /// The lesser registration is first, and its resolver judges.
-#[derive(Debug, Drop)]
+#[derive(Debug)]
 pub struct Clash {
     name: Name,
     first: Registration,
@@ -26,6 +26,20 @@ pub struct Clash {
     of_first: Facts,
     of_second: Facts,
     program: Option<Arc<Verified>>,
+}
+
+// Written out, so that a drop is one call in the proofs of callers.
+impl Drop for Clash {
+    fn drop(self) {
+        let Clash {
+            name: _,
+            first: _,
+            second: _,
+            of_first: _,
+            of_second: _,
+            program: _,
+        } = self;
+    }
 }
 
 impl Model for Clash {
@@ -159,9 +173,16 @@ impl Clash {
 }
 
 /// The clashes of two tables, in the order of names. Contracts see them as a list.
-#[derive(Debug, Drop)]
+#[derive(Debug)]
 pub struct ClashList {
     clashes: Vec<Clash>,
+}
+
+// Written out, so that a drop is one call in the proofs of callers.
+impl Drop for ClashList {
+    fn drop(self) {
+        let ClashList { clashes: _ } = self;
+    }
 }
 
 impl Model for ClashList {

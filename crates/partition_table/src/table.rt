@@ -35,10 +35,20 @@ pub type Rows<'a> = btree_map::Iter<'a, Name, Registration>;
 /// At most 4,096 names with their registrations, and the programs that the registrations name.
 ///
 /// Contracts see it as a finite map from names to rows: a registration with the code of its program.
-#[derive(Debug, Drop)]
+#[derive(Debug)]
 pub struct Table {
     rows: BTreeMap<Name, Registration>,
     programs: BTreeMap<ProgramId, Kept>,
+}
+
+// Written out, so that a drop is one call in the proofs of callers.
+impl Drop for Table {
+    fn drop(self) {
+        let Table {
+            rows: _,
+            programs: _,
+        } = self;
+    }
 }
 
 impl Model for Table {

@@ -12,12 +12,24 @@ use upload_store::UploadStore;
 
 /// What a script keeps from line to line: the labels, the uploaded programs, the two halves of a cluster, and the
 /// number of the latest exchange.
-#[derive(Debug, Drop)]
+#[derive(Debug)]
 pub struct Machine {
     pub(crate) labels: Vec<Label>,
     pub(crate) store: UploadStore,
     pub(crate) cluster: Cluster,
     pub(crate) latest: u64,
+}
+
+// Written out, so that a drop is one call in the proofs of callers.
+impl Drop for Machine {
+    fn drop(self) {
+        let Machine {
+            labels: _,
+            store: _,
+            cluster: _,
+            latest: _,
+        } = self;
+    }
 }
 
 impl Machine {

@@ -21,11 +21,22 @@ const PIECE: usize = 4096;
 const BLOCK: usize = 16;
 
 /// The bytes that were read and not yet used. Contracts see it as the list of these bytes.
-#[derive(Debug, Drop)]
+#[derive(Debug)]
 pub struct ReadBuffer {
     bytes: Vec<u8>,
     start: usize,
     end: usize,
+}
+
+// Written out, so that a drop is one call in the proofs of callers.
+impl Drop for ReadBuffer {
+    fn drop(self) {
+        let ReadBuffer {
+            bytes: _,
+            start: _,
+            end: _,
+        } = self;
+    }
 }
 
 impl Model for ReadBuffer {
@@ -138,10 +149,17 @@ fn has_byte<R: Read>(buffer: &mut ReadBuffer, reader: &mut R) -> io::Result<bool
 }
 
 /// A line of at most 20,000 bytes. Contracts see it as the list of its bytes.
-#[derive(Debug, Drop)]
+#[derive(Debug)]
 pub struct LineBuffer {
     bytes: Vec<u8>,
     len: usize,
+}
+
+// Written out, so that a drop is one call in the proofs of callers.
+impl Drop for LineBuffer {
+    fn drop(self) {
+        let LineBuffer { bytes: _, len: _ } = self;
+    }
 }
 
 impl Model for LineBuffer {

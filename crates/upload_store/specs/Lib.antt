@@ -1,4 +1,5 @@
 pub mod Faults
 pub mod Programs
 pub mod Uploads
+pub mod laws
 pub mod model

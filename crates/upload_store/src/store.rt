@@ -36,9 +36,16 @@ pub struct Uploaded {
 /// At most 256 uploaded programs: safe code, each under the SHA-256 digest of the bytes that spell it (FIPS 180-4).
 ///
 /// Contracts see it as the finite map from ids to code.
-#[derive(Debug, Drop)]
+#[derive(Debug)]
 pub struct UploadStore {
     programs: BTreeMap<ProgramId, Arc<Verified>>,
+}
+
+// Written out, so that a drop is one call in the proofs of callers.
+impl Drop for UploadStore {
+    fn drop(self) {
+        let UploadStore { programs: _ } = self;
+    }
 }
 
 impl Model for UploadStore {

@@ -49,7 +49,7 @@ Draws n round before after Spent =
     ((x : ℕ) × (n ≤ x) × (after ≡ before ++ (round, x) ∷ []))
     ⊎ ((taken round before ≡ most_drawn) × (after ≡ before))
 
--- a row of draws: so many numbers of a round, from x on
+-- a row of draws: `count` numbers of a round, from x on
 abbrev pub row_from : ℕ → ℕ → ℕ → List (ℕ × ℕ)
 row_from round x zero = []
 row_from round x (suc count) = (round, x) ∷ row_from round (x + 1) count

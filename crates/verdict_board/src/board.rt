@@ -31,7 +31,6 @@ const MOST_DRAWN: u32 = 4097;
 ///
 /// The cell of a clash holds the word of its first verdict. `post` then keeps that verdict's answer too, and `read` runs
 /// the resolver only until it has.
-#[derive(Drop)]
 pub struct Board<'p> {
     site: Site<'p>,
     cells: Vec<OnceBox<u64>>,
@@ -39,6 +38,20 @@ pub struct Board<'p> {
     words: Table<(), Hand, u64, GivenOnce, Global>,
     seats: u32,
     alloc: Global,
+}
+
+// Written out, so that a drop is one call in the proofs of callers.
+impl<'p> Drop for Board<'p> {
+    fn drop(self) {
+        let Board {
+            site: _,
+            cells: _,
+            answers: _,
+            words: _,
+            seats: _,
+            alloc: _,
+        } = self;
+    }
 }
 
 impl<'p> Model for Board<'p> {

@@ -10,10 +10,17 @@ use std::marker::Model;
 /// instructions.
 ///
 /// Contracts see it as the list of its instructions.
-#[derive(Debug, Drop)]
+#[derive(Debug)]
 pub struct Verified {
     code: Code,
     stores: bool,
+}
+
+// Written out, so that a drop is one call in the proofs of callers.
+impl Drop for Verified {
+    fn drop(self) {
+        let Verified { code: _, stores: _ } = self;
+    }
 }
 
 impl Model for Verified {

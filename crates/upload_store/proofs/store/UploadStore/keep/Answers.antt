@@ -4,11 +4,11 @@ use Rattle.std.specs.FinMap as map
 use Rattle.instruction_set.specs.laws.SameInsn.{same_code}
 use Rattle.upload_store.specs.Programs.{programs_by, IsProgram, max_programs}
 use Rattle.upload_store.proofs.Maps.{get_lent, insert_again, map_inserted, still_kept}
-use Rattle.upload_store.proofs.store.UploadStore.keep.Goals.{After-drop-program-inside-then-eq, Joined-insert-2}
+use Rattle.upload_store.proofs.store.UploadStore.keep.Goals.{After-drop-program, Joined-insert-2}
 use Rattle.upload_store.proofs.store.UploadStore.keep.Goals as goal
 
 -- the code that was there is the program's
-again : (c : After-drop-program-inside-then-eq) → map.get c.args.self.now c.args.id ≡ Some c.args.program
+again : (c : After-drop-program) → map.get c.args.self.now c.args.id ≡ Some c.args.program
 again c =
     let decides = same_code c.code-in-Some.result.now c.code-in-Some-2.result.now c.eq.result c.eq.ensures in
     let equal : c.code-in-Some.result.now ≡ c.code-in-Some-2.result.now = decides.0 c.if-eq.true in
