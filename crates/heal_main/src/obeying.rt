@@ -8,7 +8,7 @@ use judge_pool::OpenGate;
 use output::send;
 use script_engine::run_script;
 use std::fs;
-use std::io::{ErrorKind, Input, Write};
+use std::io::{ErrorKind, Input, Read, Write};
 use std::rt::Files;
 use std::sync::Wait;
 use std::thread::Threads;
@@ -54,12 +54,24 @@ fn run<R: Files + Input + Threads + Wait + Sync + AllocGlobal, W: Write>(
     ensures { RunsFile (W.contents writer.old) (W.contents writer.new) result }
 {
     if is_standard_input(file) {
-        return run_script(rt, &mut rt.reader(), writer, workers.count(), &OpenGate);
+        return run_from(rt, &mut rt.reader(), workers, writer);
     }
     match fs::open(rt, file) {
-        Ok(mut file) => run_script(rt, &mut file, writer, workers.count(), &OpenGate),
+        Ok(mut file) => run_from(rt, &mut file, workers, writer),
         Err(error) => tell_unopened(error.kind(), writer),
     }
+}
+
+// Carries out the script that a reader yields.
+fn run_from<T: Threads + Wait + Sync + AllocGlobal, R: Read, W: Write>(
+    rt: &T,
+    reader: &mut R,
+    workers: Workers,
+    writer: &mut W,
+) -> u8
+    ensures { RunsFile (W.contents writer.old) (W.contents writer.new) result }
+{
+    run_script(rt, reader, writer, workers.count(), &OpenGate)
 }
 
 // Reports that a file could not be opened, and returns the status.

@@ -39,22 +39,16 @@ returns g c =
       posts = omega (arith, h.drew.clashes);
     }
 
-pub returns-then-count-wanted-clause-round : goal.returns-then-count-wanted-clause-round
-returns-then-count-wanted-clause-round g c =
+pub returns-then-count-wanted : goal.returns-then-count-wanted
+returns-then-count-wanted g c =
+    let h = c.loop-turn.invariant in
+    let seat = c.serve_row.ensures.seat in
     let row = c.draw_row-row in
-    let drew = draws_row _ _ _ _ _ _ _ _ _ row.result c.loop-turn.invariant.drew row.ensures.draws
-    c.serve_row.ensures.posts (ap (λ (s : Seat). s.drawn) c.serve_row.ensures.seat) in
-    drew.others
-
-pub returns-then-count-wanted-clause-spent : goal.returns-then-count-wanted-clause-spent
-returns-then-count-wanted-clause-spent g c =
-    let row = c.draw_row-row in
-    last_row _ _ _ _ _ _ row.result row.ensures.draws c.if-count-wanted.true
-    (ap (λ (s : Seat). s.drawn) c.serve_row.ensures.seat)
-
-pub returns-then-count-wanted-clause-posts : goal.returns-then-count-wanted-clause-posts
-returns-then-count-wanted-clause-posts g c =
-    let row = c.draw_row-row in
-    let drew = draws_row _ _ _ _ _ _ _ _ _ row.result c.loop-turn.invariant.drew row.ensures.draws
-    c.serve_row.ensures.posts (ap (λ (s : Seat). s.drawn) c.serve_row.ensures.seat) in
-    omega (arith, drew.clashes)
+    let drew = draws_row _ _ _ _ _ _ _ _ _ row.result h.drew row.ensures.draws c.serve_row.ensures.posts
+    (ap (λ (s : Seat). s.drawn) seat) in record {
+      board = ap (λ (s : Seat). s.draws) seat ∙ row.ensures.board ∙ h.board;
+      round = drew.others;
+      spent = last_row _ _ _ _ _ _ row.result row.ensures.draws c.if-count-wanted.true
+          (ap (λ (s : Seat). s.drawn) seat);
+      posts = omega (arith, drew.clashes);
+    }
