@@ -39,9 +39,18 @@ impl fmt::Display for ExchangeTimes {
 pub(crate) fn measure(rt: &HostRuntime, rows: &str) -> Result<ExchangeTimes, Fault> {
     let rows = row_count(rows)?;
     let mut a = side(rt.alloc(), SideId::A, rows, 1)?;
+    measure_with(rt, &mut a, rows)
+}
+
+// Measures an exchange of this side and one that has the same names.
+fn measure_with(rt: &HostRuntime, a: &mut Side, rows: u16) -> Result<ExchangeTimes, Fault> {
     let mut b = side(rt.alloc(), SideId::B, rows, 2)?;
-    let (offers, begin) = begin(rt, &mut a, &mut b)?;
-    go_on(rt, &mut a, &mut b, &offers, begin)
+    measure_both(rt, a, &mut b)
+}
+
+fn measure_both(rt: &HostRuntime, a: &mut Side, b: &mut Side) -> Result<ExchangeTimes, Fault> {
+    let (offers, begin) = begin(rt, a, b)?;
+    go_on(rt, a, b, &offers, begin)
 }
 
 // Begins on both sides.

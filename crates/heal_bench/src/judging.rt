@@ -54,19 +54,41 @@ pub(crate) fn measure<R: Threads + Wait + Clock + AllocGlobal + Sync>(
 ) -> Result<RoundTime, Fault> {
     let workers = worker_count(workers)?;
     let list = clashes_by(rt.alloc(), &hex::decode(rt.alloc(), code)?)?;
+    measure_rounds(rt, &list, workers)
+}
+
+fn measure_rounds<R: Threads + Wait + Clock + AllocGlobal + Sync>(
+    rt: &R,
+    list: &ClashList,
+    workers: u32,
+) -> Result<RoundTime, Fault>
+    requires { (0 < workers) × (workers ≤ 16) }
+{
     let mut total: u128 = 0;
     let mut kept: u32 = 0;
     for _ in 0..ROUNDS {
-        let (board, seats) = open(rt.alloc(), NUMBER, SEED, &list, workers)?;
-        let start = Instant::now(rt)?;
-        let done = heal_round(rt, rt.alloc(), &board, seats, 0, &OpenGate, &Deaf, &Deaf);
-        total = total.wrapping_add(start.elapsed(rt)?.as_nanos());
-        kept = kept.wrapping_add(done.kept);
+        let (judge, of_round) = measure_round(rt, list, workers)?;
+        total = total.wrapping_add(judge);
+        kept = kept.wrapping_add(of_round);
     }
     Ok(RoundTime {
         judge: total / u128::from(ROUNDS),
         kept,
     })
+}
+
+// Returns the nanoseconds of one round on a new board, and how many verdicts were kept.
+fn measure_round<R: Threads + Wait + Clock + AllocGlobal + Sync>(
+    rt: &R,
+    list: &ClashList,
+    workers: u32,
+) -> Result<(u128, u32), Fault>
+    requires { (0 < workers) × (workers ≤ 16) }
+{
+    let (board, seats) = open(rt.alloc(), NUMBER, SEED, list, workers)?;
+    let start = Instant::now(rt)?;
+    let done = heal_round(rt, rt.alloc(), &board, seats, 0, &OpenGate, &Deaf, &Deaf);
+    Ok((start.elapsed(rt)?.as_nanos(), done.kept))
 }
 
 // The count of workers that a word gives.

@@ -34,18 +34,25 @@ fn main(rt: HostRuntime) -> io::Result<ExitCode> {
     let words: Vec<String> = env::args(&rt)?.collect(rt.alloc())?;
     let words: Vec<&str> = words.iter().map(|word| word.as_str()).collect(rt.alloc())?;
     match words.as_slice() {
+        [_, "judge", code, workers] => report(&rt, judging::measure(&rt, code, workers)),
+        words => answer(&rt, words),
+    }
+}
+
+// Measures what the words request in one thread, and prints it.
+fn answer(rt: &HostRuntime, words: &[&str]) -> io::Result<ExitCode> {
+    match words {
         // No words at all are a question, and words of another form are a fault.
         [] | [_] => {
-            print!(&rt; "{USAGE}")?;
+            print!(rt; "{USAGE}")?;
             Ok(ExitCode::SUCCESS)
         }
-        [_, "program", code, clash, runs] => report(&rt, programs::measure(&rt, code, clash, runs)),
-        [_, "tables", rows] => report(&rt, tables::measure(&rt, rows)),
-        [_, "exchange", rows] => report(&rt, exchanges::measure(&rt, rows)),
-        [_, "messages", rows, programs] => report(&rt, messages::measure(&rt, rows, programs)),
-        [_, "judge", code, workers] => report(&rt, judging::measure(&rt, code, workers)),
+        [_, "program", code, clash, runs] => report(rt, programs::measure(rt, code, clash, runs)),
+        [_, "tables", rows] => report(rt, tables::measure(rt, rows)),
+        [_, "exchange", rows] => report(rt, exchanges::measure(rt, rows)),
+        [_, "messages", rows, programs] => report(rt, messages::measure(rt, rows, programs)),
         _ => {
-            eprint!(&rt; "{USAGE}")?;
+            eprint!(rt; "{USAGE}")?;
             Ok(ExitCode::FAILURE)
         }
     }

@@ -37,12 +37,21 @@ pub(crate) fn measure(rt: &HostRuntime, rows: &str, programs: &str) -> Result<Me
     let (rows, programs) = (row_count(rows)?, program_count(programs)?);
     let mut build = u128::MAX;
     for _ in 0..CALLS {
-        let start = Instant::now(rt)?;
-        side(rt.alloc(), rows, programs)?;
-        build = build.min(start.elapsed(rt)?.as_nanos());
+        build = build.min(build_time(rt, rows, programs)?);
     }
-    let offer = side(rt.alloc(), rows, programs)?.begin(rt.alloc(), 1, 0, 0)?;
+    let offer = offer(rt.alloc(), rows, programs)?;
     message_times(rt, build, &offer)
+}
+
+fn build_time(rt: &HostRuntime, rows: u16, programs: u16) -> Result<u128, Fault> {
+    let start = Instant::now(rt)?;
+    side(rt.alloc(), rows, programs)?;
+    Ok(start.elapsed(rt)?.as_nanos())
+}
+
+fn offer(alloc: Global, rows: u16, programs: u16) -> Result<Offer, Fault> {
+    let mut side = side(alloc, rows, programs)?;
+    side.begin(alloc, 1, 0, 0).map_err(Fault::from)
 }
 
 fn message_times(rt: &HostRuntime, build: u128, offer: &Offer) -> Result<MessageTimes, Fault> {
@@ -68,8 +77,7 @@ fn side(alloc: Global, rows: u16, programs: u16) -> Result<Side, Fault> {
     let mut store = UploadStore::new(alloc);
     let resolvers = upload_all(alloc, &mut store, programs)?;
     let mut side = Side::new(alloc, SideId::A);
-    register_all(&mut side, rows, &resolvers, &store)?;
-    Ok(side)
+    register_all(&mut side, rows, &resolvers, &store).map(move |()| side)
 }
 
 // Uploads `programs` programs, and returns their resolvers.

@@ -27,10 +27,16 @@ const REACH: u32 = 3;
 const MOST_KEPT: usize = 6;
 
 /// A side, and the latest number that it began.
-#[derive(Drop)]
 struct Half {
     side: Side,
     begun: u64,
+}
+
+/// Written by hand, so that a function that drops a half makes one call. A derived drop is proved there part by part.
+impl Drop for Half {
+    fn drop(self) {
+        let Half { side: _, begun: _ } = self;
+    }
 }
 
 /// Two sides, and what stands between them.
@@ -75,10 +81,11 @@ fn other(id: SideId) -> SideId {
 
 impl Walk {
     fn new(alloc: Global, seed: u64) -> Result<Walk, Fail> {
+        let between = Between::new(alloc, seed)?;
         Ok(Walk {
             a: Half::new(alloc, SideId::A, 0),
             b: Half::new(alloc, SideId::B, 0),
-            between: Between::new(alloc, seed)?,
+            between,
         })
     }
 
@@ -345,8 +352,8 @@ impl Between {
     fn finish(&mut self, half: &mut Half) -> Result<Option<SideFault>, Fail> {
         match half.side.finish(self.alloc) {
             Ok(finished) => {
-                self.log.note(Call::Finish, None)?;
                 self.compare(finished)?;
+                self.log.note(Call::Finish, None)?;
                 Ok(None)
             }
             Err(fault) => {
@@ -359,34 +366,69 @@ impl Between {
     // Compares the table with that of the other side, if it finished the number before.
     fn compare(&mut self, finished: Finished) -> Result<(), Fail> {
         let number = finished.number();
-        let clashes = finished.rulings().len();
         match self.finished.remove(&number) {
-            Some(table) if &table == finished.table() => self.log.note_agreed(clashes),
-            Some(_) => self.log.wrong = Some(Wrong::Unequal(number)),
-            None => {
-                self.finished
-                    .insert(number, finished.into_table())
-                    .map_err(AllocError::from)?;
+            Some(table) => {
+                self.compare_with(&table, &finished);
+                Ok(())
             }
+            None => self.keep(number, finished.into_table()),
         }
+    }
+
+    // Compares the table of the side that finished first with what the other finished with.
+    fn compare_with(&mut self, table: &Table, finished: &Finished) {
+        if table == finished.table() {
+            self.log.note_agreed(finished.rulings().len());
+        } else {
+            self.log.wrong = Some(Wrong::Unequal(finished.number()));
+        }
+    }
+
+    // Keeps the table of the side that finishes this number first.
+    fn keep(&mut self, number: u64, table: Table) -> Result<(), Fail> {
+        self.finished
+            .insert(number, table)
+            .map_err(AllocError::from)?;
         Ok(())
     }
 }
 
+/// What a walk came to.
+#[derive(Clone, Copy)]
+struct Outcome {
+    /// The first step after which something is wrong, and what is wrong.
+    wrong: Option<(u32, Wrong)>,
+    agreed: u32,
+    judged: usize,
+    unseen: Option<(Call, Option<u32>)>,
+}
+
+// Takes the whole walk.
+fn take_walk(alloc: Global) -> Result<Outcome, Fail> {
+    let mut walk = Walk::new(alloc, SEED)?;
+    let wrong = walk.first_wrong(STEPS)?;
+    let log = &walk.between.log;
+    Ok(Outcome {
+        wrong,
+        agreed: log.agreed,
+        judged: log.judged,
+        unseen: log.first_unseen(),
+    })
+}
+
 #[test]
 fn sides_that_finish_hold_one_table(rt: HostRuntime) -> Result<(), Fail> {
-    let mut walk = Walk::new(rt.alloc(), SEED)?;
-    assert_eq!(rt;
-        walk.first_wrong(STEPS)?,
-        None,
-        "in the walk of seed {SEED}"
-    );
-    let log = &walk.between.log;
-    let (agreed, judged) = (log.agreed, log.judged);
+    let Outcome {
+        wrong,
+        agreed,
+        judged,
+        unseen,
+    } = take_walk(rt.alloc())?;
+    assert!(rt; wrong.is_none(), "{wrong:?} in the walk of seed {SEED}");
     assert!(rt;
         agreed >= 500 && judged >= 500,
         "{agreed} exchanges, {judged} clashes"
     );
-    assert_eq!(rt; log.first_unseen(), None);
+    assert!(rt; unseen.is_none(), "{unseen:?}");
     Ok(())
 }

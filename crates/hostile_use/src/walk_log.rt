@@ -64,7 +64,7 @@ pub(crate) enum Told {
 }
 
 /// A violated expectation.
-#[derive(Clone, Copy, Debug, PartialEq, Eq)]
+#[derive(Clone, Copy, Debug)]
 pub(crate) enum Wrong {
     /// A call was refused with a number that its table doesn't have.
     Refusal(Call, u32),

@@ -7,7 +7,10 @@ use judge_pool::judge;
 use partition_table::{ClashList, word};
 use registry_lock::meet;
 use std::alloc::{AllocError, Global};
-use verdict_board::{Board, Draw, Pass, Posted, Seat, open};
+use verdict_board::{Board, Pass, Posted, Seat, open};
+
+/// The count of seats of each board.
+pub(crate) const SEATS: u32 = 2;
 
 /// A board with two seats, and a pass of it.
 #[derive(Drop)]
@@ -23,7 +26,7 @@ pub(crate) struct Caller<'p> {
 impl<'p> Caller<'p> {
     /// A board of these clashes, and a pass that has seen nothing.
     pub(crate) fn new(alloc: Global, list: &'p ClashList) -> Result<Caller<'p>, AllocError> {
-        let (board, seats) = open(alloc, NUMBER, SEED, list, 2)?;
+        let (board, seats) = open(alloc, NUMBER, SEED, list, SEATS)?;
         let pass = board.pass()?;
         Ok(Caller { board, seats, pass })
     }
@@ -60,8 +63,8 @@ impl<'p> Caller<'p> {
             mut pass,
             ..
         } = self;
-        let ruling = board.read(0, &mut pass)?;
-        Some(ruling.verdict.word())
+        let ruling = board.read(0, &mut pass);
+        ruling.map(|ruling| ruling.verdict.word())
     }
 
     /// Returns the word of the first clash that a new pass sees, or the error if memory runs out.
@@ -87,24 +90,7 @@ impl<'p> Caller<'p> {
             mut pass,
             ..
         } = self;
-        let healed = meet(&board, &mut pass, first, second).ok()?;
-        Some(healed.table().len())
-    }
-
-    /// Returns the first draw of the last seat in the first round.
-    pub(crate) fn draw(self) -> Option<Draw> {
-        let Caller {
-            board,
-            mut seats,
-            ..
-        } = self;
-        let mut seat = seats.pop()?;
-        Some(board.draw(&mut seat, 0))
-    }
-
-    /// Returns the draws in each round.
-    pub(crate) fn gather(self) -> [u64; 4] {
-        let Caller { board, seats, .. } = self;
-        board.gather(seats)
+        let healed = meet(&board, &mut pass, first, second).ok();
+        healed.map(|healed| healed.table().len())
     }
 }

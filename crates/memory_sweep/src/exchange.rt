@@ -51,7 +51,6 @@ pub(crate) const WHOLE: [Step; 6] = [
 ];
 
 /// A side, what it hears of the other, and what its calls answered.
-#[derive(Drop)]
 pub(crate) struct Exchange {
     /// The count of names when the exchange begins.
     names: u16,
@@ -64,6 +63,24 @@ pub(crate) struct Exchange {
     offer: Option<Offer>,
     list: Option<Withdrawals>,
     finished: Option<Finished>,
+}
+
+/// Written by hand, so that a function drops an exchange by one call: a derived drop is proved part by part there.
+impl Drop for Exchange {
+    fn drop(self) {
+        let Exchange {
+            names: _,
+            side: _,
+            store: _,
+            program: _,
+            of_other: _,
+            list_of_other: _,
+            unregistered: _,
+            offer: _,
+            list: _,
+            finished: _,
+        } = self;
+    }
 }
 
 impl Exchange {
@@ -80,8 +97,8 @@ impl Exchange {
     fn idle(alloc: Global, names: u16) -> Result<Exchange, Fault> {
         let (store, program) = stored(alloc, &BY_WORD)?;
         let resolver = ResolverId::Program(program);
-        let side = numbered_side(alloc, SideId::A, names, 1, resolver, &store)?;
         let (of_other, list_of_other) = sent_by_other(alloc, names, resolver, &store)?;
+        let side = numbered_side(alloc, SideId::A, names, 1, resolver, &store)?;
         Ok(Exchange {
             names,
             side,
@@ -167,10 +184,7 @@ impl Exchange {
             let Some(ruling) = ruling_of(&list, NUMBER, SEED, k) else {
                 break;
             };
-            let answer = self.side.take(ruling);
-            if taken.is_ok() {
-                taken = answer;
-            }
+            taken = taken.and(self.side.take(ruling));
         }
         Ok(taken?)
     }
@@ -207,8 +221,13 @@ fn sent_by_other(
     store: &UploadStore,
 ) -> Result<(Offer, Withdrawals), Fault> {
     let mut other = numbered_side(alloc, SideId::B, names, 2, resolver, store)?;
-    let offer = other.begin(alloc, NUMBER, SEED, 0)?;
-    Ok((offer, other.close_list(alloc)?))
+    sent_by(alloc, &mut other)
+}
+
+// Begins the exchange, and returns the offer and the list of this side.
+fn sent_by(alloc: Global, side: &mut Side) -> Result<(Offer, Withdrawals), Fault> {
+    let offer = side.begin(alloc, NUMBER, SEED, 0)?;
+    Ok((offer, side.close_list(alloc)?))
 }
 
 fn has_same_rows(one: &Side, other: &Side) -> bool {

@@ -39,13 +39,14 @@ struct Merging {
 impl Merging {
     // Returns two tables that clash in `names` names, all judged by a program.
     fn new(alloc: Global, names: u16) -> Result<Merging, Fault> {
+        let gone = [numbered_name(b'n', 0)?];
         let (store, program) = stored(alloc, &BY_WORD)?;
         let resolver = ResolverId::Program(program);
         let a = numbered_table(alloc, names, 1, resolver, &store)?;
         let b = numbered_table(alloc, names, 2, resolver, &store)?;
         Ok(Merging {
             pair: Pair::of(alloc, a, b)?,
-            gone: [numbered_name(b'n', 0)?],
+            gone,
             merged: None,
         })
     }

@@ -8,32 +8,33 @@ use std::alloc::Global;
 /// How many names a side has before the call, so that at one of them its journal is to grow.
 const SIZES: [u16; 4] = [1, 2, 3, 4];
 
+/// A call's name, the step that makes it, and the steps before it.
+type Row = (&'static str, Step, &'static [Step]);
+
 /// A call of a side that has `names` names.
 #[derive(Clone, Copy)]
 struct SideCall {
     names: u16,
-    name: &'static str,
-    step: Step,
-    before: &'static [Step],
+    row: &'static Row,
 }
 
 impl Call<Exchange> for SideCall {
     fn name(&self) -> &'static str {
-        self.name
+        self.row.0
     }
 
     fn prepare(&self, alloc: Global) -> Result<Exchange, Fault> {
-        Exchange::after(alloc, self.names, self.before)
+        Exchange::after(alloc, self.names, self.row.2)
     }
 
     fn make(&self, alloc: Global, exchange: &mut Exchange) -> Result<(), Fault> {
-        exchange.step(alloc, self.step)
+        exchange.step(alloc, self.row.1)
     }
 }
 
-/// The calls of a side, each with what is done before it.
+/// The calls of a side.
 #[rattlefmt::skip]
-const CALLS: [(&'static str, Step, &'static [Step]); 11] = [
+const CALLS: [Row; 11] = [
     ("Side::register of a built-in", Step::RegisterBuiltin, &[]),
     ("Side::register of a program", Step::RegisterProgram, &[]),
     ("Side::unregister", Step::Unregister, &[]),
@@ -49,17 +50,9 @@ const CALLS: [(&'static str, Step, &'static [Step]); 11] = [
 
 /// Sweeps the calls of a side.
 pub(crate) fn sweep_sides(rt: &HostRuntime) -> Result<(), Fault> {
-    for names in SIZES {
-        for (name, step, before) in CALLS {
-            sweep(
-                rt,
-                &SideCall {
-                    names,
-                    name,
-                    step,
-                    before,
-                },
-            )?;
+    for names in &SIZES {
+        for row in &CALLS {
+            sweep(rt, &SideCall { names: *names, row })?;
         }
     }
     Ok(())

@@ -43,36 +43,34 @@ enum Outcome {
     Answered,
     /// It ran out of memory, changed nothing, and succeeded when it was made again.
     Refused,
-    /// The call is wrong, for this reason.
+    /// The call is wrong, as this line says.
     Wrong(&'static str),
 }
 
 /// Makes the call with each of its requests for memory refused in turn, and prints whether it is right.
 pub(crate) fn sweep<S: Subject, C: Call<S>>(rt: &HostRuntime, call: &C) -> Result<(), Fault> {
     println!(rt; "call {}", call.name())?;
+    let end = refuse_each(rt, call)?;
+    println!(rt; "{end}")?;
+    Ok(())
+}
+
+// Makes the call with each request refused in turn, prints each outcome, and returns the line that ends the sweep.
+fn refuse_each<S: Subject, C: Call<S>>(rt: &HostRuntime, call: &C) -> Result<&'static str, Fault> {
     let mut answered: u32 = 0;
     for request in 1..MOST_REQUESTS {
-        match refuse_one(rt, request, call)? {
-            Outcome::Refused => {
-                println!(rt; "refused")?;
-                answered = 0;
-            }
-            Outcome::Answered => {
-                println!(rt; "answered")?;
-                answered = answered.wrapping_add(1);
-            }
-            Outcome::Wrong(what) => {
-                println!(rt; "wrong: {what}")?;
-                return Ok(());
-            }
-        }
+        let (outcome, now) = match refuse_one(rt, request, call)? {
+            Outcome::Refused => ("refused", 0),
+            Outcome::Answered => ("answered", answered.wrapping_add(1)),
+            Outcome::Wrong(line) => return Ok(line),
+        };
+        println!(rt; "{outcome}")?;
+        answered = now;
         if answered == ANSWERED_WINDOWS {
-            println!(rt; "right")?;
-            return Ok(());
+            return Ok("right");
         }
     }
-    println!(rt; "wrong: it makes no end of requests")?;
-    Ok(())
+    Ok("wrong: it makes no end of requests")
 }
 
 // Makes the call with this request refused, and looks at what it answered and left.
@@ -84,13 +82,13 @@ fn refuse_one<S: Subject, C: Call<S>>(
     let alloc = rt.alloc();
     let mut subject = call.prepare(alloc)?;
     match make_refused(rt, request, call, &mut subject)? {
-        Ok(()) => Ok(if is_as_unrefused(alloc, subject, call)? {
+        Ok(()) => Ok(if is_as_unrefused(alloc, &mut subject, call)? {
             Outcome::Answered
         } else {
-            Outcome::Wrong("it left something else than it always leaves")
+            Outcome::Wrong("wrong: it left something else than it always leaves")
         }),
-        Err(fault) if fault.is_out_of_memory() => make_again(alloc, subject, call),
-        Err(_) => Ok(Outcome::Wrong("it was refused for something else than memory")),
+        Err(fault) if fault.is_out_of_memory() => make_again(alloc, &mut subject, call),
+        Err(_) => Ok(Outcome::Wrong("wrong: it was refused for something else than memory")),
     }
 }
 
@@ -110,30 +108,28 @@ fn make_refused<S: Subject, C: Call<S>>(
 // Makes a call again that was refused.
 fn make_again<S: Subject, C: Call<S>>(
     alloc: Global,
-    refused: S,
+    subject: &mut S,
     call: &C,
 ) -> Result<Outcome, Fault> {
-    let mut subject = refused;
     if !subject.is_same(&call.prepare(alloc)?) {
-        return Ok(Outcome::Wrong("the refused call changed something"));
+        return Ok(Outcome::Wrong("wrong: the refused call changed something"));
     }
-    if call.make(alloc, &mut subject).is_err() {
-        return Ok(Outcome::Wrong("it was refused again with ample memory"));
+    if call.make(alloc, subject).is_err() {
+        return Ok(Outcome::Wrong("wrong: it was refused again with ample memory"));
     }
     Ok(if is_as_unrefused(alloc, subject, call)? {
         Outcome::Refused
     } else {
-        Outcome::Wrong("made again it left something else")
+        Outcome::Wrong("wrong: made again it left something else")
     })
 }
 
 // Whether the call left what it leaves with ample memory, also once both go on.
 fn is_as_unrefused<S: Subject, C: Call<S>>(
     alloc: Global,
-    called: S,
+    subject: &mut S,
     call: &C,
 ) -> Result<bool, Fault> {
-    let mut subject = called;
     let mut wanted = call.prepare(alloc)?;
     call.make(alloc, &mut wanted)?;
     if !subject.is_same(&wanted) {
@@ -185,21 +181,18 @@ impl<'r> Starved<'r> {
 }
 
 fn print_refusal(rt: &HostRuntime, name: &str) -> Result<(), Fault> {
-    println!(rt; "call {name}")?;
-    println!(rt; "refuse all")?;
+    println!(rt; "call {name}\nrefuse all")?;
     Ok(())
 }
 
+// Writes `ample` by itself: the library reports its counts right after the write that ends the window.
 fn print_answer<A: PartialEq + Drop>(rt: &HostRuntime, answer: A, wanted: A) -> Result<(), Fault> {
     println!(rt; "ample")?;
-    println!(rt; "answered")?;
-    println!(rt;
-        "{}",
-        if answer == wanted {
-            "right"
-        } else {
-            "wrong: it answered something else"
-        }
-    )?;
+    let end = if answer == wanted {
+        "right"
+    } else {
+        "wrong: it answered something else"
+    };
+    println!(rt; "answered\n{end}")?;
     Ok(())
 }

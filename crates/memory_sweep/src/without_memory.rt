@@ -1,7 +1,7 @@
 //! Calls that take no memory.
 
-use crate::callers::Caller;
-use crate::exchange::{Exchange, SEED, WHOLE};
+use crate::callers::{Caller, SEATS};
+use crate::exchange::{Exchange, NUMBER, SEED, WHOLE};
 use crate::fault::Fault;
 use crate::rows::clashing;
 use crate::sweep::{Starved, Subject};
@@ -20,22 +20,31 @@ use judge_pool::judge;
 use partition_table::{ClashList, Table, Verdict, word};
 use program::read_program;
 use upload_store::UploadStore;
-use verdict_board::Draw;
+use verdict_board::{Draw, open};
 
 /// The word of the record that programs are run on. It is odd.
 const WORD: u64 = 7;
 
 /// Makes the calls that take no memory.
 pub(crate) fn sweep_without_memory(rt: &HostRuntime) -> Result<(), Fault> {
+    let list = clashing(rt.alloc(), 1)?;
+    make_calls(rt, &list)
+}
+
+// Makes all the calls, some of them on this list of one clash, and returns the first fault.
+fn make_calls(rt: &HostRuntime, list: &ClashList) -> Result<(), Fault> {
     let mut calls = Starved::new(rt);
-    records(&mut calls)?;
-    runs(&mut calls)?;
-    answers(&mut calls)?;
-    verdicts(&mut calls)?;
-    stores(&mut calls)?;
-    tables(&mut calls)?;
-    sides(&mut calls)?;
-    boards(&mut calls)?;
+    records(&mut calls)
+        .and(runs(&mut calls))
+        .and(answers(&mut calls))
+        .and(verdicts(&mut calls, list))
+        .and(stores(&mut calls))
+        .and(tables(&mut calls))
+        .and(sides(&mut calls))
+        .and(draws(&mut calls, list))
+        .and(gathers(&mut calls, list))
+        .and(reads(&mut calls, list))
+        .and(meetings(&mut calls, list))?;
     operations(&mut calls);
     sets_of_words(&mut calls);
     operations_on_sets(&mut calls);
@@ -114,8 +123,7 @@ fn answers(calls: &mut Starved<'_>) -> Result<(), Fault> {
     Ok(())
 }
 
-fn verdicts(calls: &mut Starved<'_>) -> Result<(), Fault> {
-    let list = clashing(calls.alloc(), 1)?;
+fn verdicts(calls: &mut Starved<'_>, list: &ClashList) -> Result<(), Fault> {
     if list.len() == 0 {
         return Err(Fault::Unprepared);
     }
@@ -123,9 +131,9 @@ fn verdicts(calls: &mut Starved<'_>) -> Result<(), Fault> {
     calls.refuse("Verdict::judged");
     calls.gave(Verdict::judged(clash, WORD).answer(), Verdict3::Second);
     calls.refuse("judge");
-    calls.gave(judge(&list, 0, WORD).answer(), Verdict3::Second);
+    calls.gave(judge(list, 0, WORD).answer(), Verdict3::Second);
     calls.refuse("the parts of a list of clashes");
-    calls.gave(is_same_list(&list, &list), true);
+    calls.gave(is_same_list(list, list), true);
     calls.refuse("word");
     calls.gave(word(5, 2, 3, 1), 12);
     Ok(())
@@ -148,15 +156,11 @@ fn tables(calls: &mut Starved<'_>) -> Result<(), Fault> {
     let alloc = calls.alloc();
     calls.refuse("Table::new");
     calls.gave(Table::new(alloc).len(), 0);
+    let first = numbered_name(b'n', 0)?;
     let (store, program) = stored(alloc, &BY_WORD)?;
     let resolver = ResolverId::Program(program);
     let mut table = numbered_table(alloc, 12, 1, resolver, &store)?;
-    calls_of_table(
-        calls,
-        &mut table,
-        numbered_name(b'n', 0)?,
-        registration(1, 1, resolver),
-    );
+    calls_of_table(calls, &mut table, first, registration(1, 1, resolver));
     Ok(())
 }
 
@@ -186,8 +190,6 @@ fn sides(calls: &mut Starved<'_>) -> Result<(), Fault> {
     let registered = numbered_name(b'n', 0)?;
     let exchange = Exchange::after(alloc, 1, &WHOLE)?;
     calls_of_side(calls, &exchange, &registered);
-    calls.refuse("the parts of an exchange");
-    calls.gave(exchange.is_same(&exchange), true);
     Ok(())
 }
 
@@ -201,6 +203,8 @@ fn calls_of_side(calls: &mut Starved<'_>, exchange: &Exchange, registered: &Name
     calls.gave(side.whereis(registered).copied(), Some(registration));
     calls.refuse("Side::rows");
     calls.gave(count_rows(side), 1);
+    calls.refuse("the parts of an exchange");
+    calls.gave(exchange.is_same(exchange), true);
 }
 
 fn count_rows(side: &Side) -> usize {
@@ -211,20 +215,22 @@ fn count_rows(side: &Side) -> usize {
     count
 }
 
-fn boards(calls: &mut Starved<'_>) -> Result<(), Fault> {
-    let list = clashing(calls.alloc(), 1)?;
-    draws(calls, &list)?;
-    reads(calls, &list)?;
-    meetings(calls, &list)
+// The last seat draws first, in the first round.
+fn draws(calls: &mut Starved<'_>, list: &ClashList) -> Result<(), Fault> {
+    let (board, mut seats) = open(calls.alloc(), NUMBER, SEED, list, SEATS)?;
+    calls.refuse("Board::draw");
+    let drawn = match seats.pop() {
+        Some(mut seat) => Some(board.draw(&mut seat, 0)),
+        None => None,
+    };
+    calls.gave(drawn, Some(Draw::Clash(0)));
+    Ok(())
 }
 
-fn draws(calls: &mut Starved<'_>, list: &ClashList) -> Result<(), Fault> {
-    let drawer = Caller::new(calls.alloc(), list)?;
-    calls.refuse("Board::draw");
-    calls.gave(drawer.draw(), Some(Draw::Clash(0)));
-    let gatherer = Caller::new(calls.alloc(), list)?;
+fn gathers(calls: &mut Starved<'_>, list: &ClashList) -> Result<(), Fault> {
+    let (board, seats) = open(calls.alloc(), NUMBER, SEED, list, SEATS)?;
     calls.refuse("Board::gather");
-    calls.gave(gatherer.gather(), [0; 4]);
+    calls.gave(board.gather(seats), [0; 4]);
     Ok(())
 }
 

@@ -1,5 +1,5 @@
 //! Messages while one allocation fails.
-use crate::messages::{Kind, LIST, OFFER, again};
+use crate::messages::{DOCUMENTED, Kind, again, is_same_again};
 use numbered::OUT_OF_MEMORY;
 use std::alloc::Global;
 use std::test::*;
@@ -8,9 +8,7 @@ use std::test::*;
 fn is_answered(alloc: Global, kind: Kind, message: &[u8]) -> bool {
     match again(alloc, kind, message) {
         Ok(bytes) => bytes.as_slice() == message,
-        Err(refusal) if refusal.number == OUT_OF_MEMORY => {
-            again(alloc, kind, message).is_ok_and(|bytes| bytes.as_slice() == message)
-        }
+        Err(refusal) if refusal.number == OUT_OF_MEMORY => is_same_again(alloc, kind, message),
         Err(_) => false,
     }
 }
@@ -18,7 +16,7 @@ fn is_answered(alloc: Global, kind: Kind, message: &[u8]) -> bool {
 // If one allocation fails, one call fails with 90, and the next answers.
 #[test]
 fn survives_a_failed_allocation(rt: HostRuntime) {
-    for (kind, message) in [(Kind::OneRow, &OFFER[..]), (Kind::List, &LIST[..])] {
-        assert!(rt; is_answered(rt.alloc(), kind, message), "{kind:?}");
+    for (kind, message) in &DOCUMENTED {
+        assert!(rt; is_answered(rt.alloc(), *kind, message), "{kind:?}");
     }
 }

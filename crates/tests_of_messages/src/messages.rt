@@ -3,11 +3,10 @@ use clash_record::{ResolverId, SideId, name};
 use exchange_codec::{
     MessageFault, decode_offer, decode_withdrawals, encode_offer, encode_withdrawals,
 };
-use exchange_core::{Offer, Side, Withdrawals};
-use fixtures::{EXIT, FIRST, answering, register_rows, registration, stored};
+use exchange_core::Side;
+use fixtures::{EXIT, FIRST, FixtureFault, answering, register_rows, registration};
 use numbered::{NumberedRefusal, refusal_of};
 use std::alloc::Global;
-use std::test::Fail;
 use upload_store::UploadStore;
 
 /// A message of the tests.
@@ -21,9 +20,12 @@ pub(crate) enum Kind {
     List,
 }
 
-/// The list of `docs/MESSAGES.md`.
+/// The messages of `docs/MESSAGES.md`.
+pub(crate) const DOCUMENTED: [(Kind, &[u8]); 2] = [(Kind::OneRow, &OFFER), (Kind::List, &LIST)];
+
+// The list.
 #[rattlefmt::skip]
-pub(crate) const LIST: [u8; 27] = [
+const LIST: [u8; 27] = [
     0x48, 0x45, 0x41, 0x4c, 0x58, 0x43, 1, 2,
     1,
     4, 0, 0, 0, 0, 0, 0, 0,
@@ -32,9 +34,9 @@ pub(crate) const LIST: [u8; 27] = [
     2, 0x61, 0x62,
 ];
 
-/// The offer of `docs/MESSAGES.md`.
+// The offer.
 #[rattlefmt::skip]
-pub(crate) const OFFER: [u8; 101] = [
+const OFFER: [u8; 101] = [
     0x48, 0x45, 0x41, 0x4c, 0x58, 0x43, 1, 1,
     0,
     4, 0, 0, 0, 0, 0, 0, 0,
@@ -52,53 +54,65 @@ pub(crate) const OFFER: [u8; 101] = [
     0x95, 0, 0, 0, 0, 0, 0, 0,
 ];
 
-// A side with two programs, one of them named twice.
-fn small_side(alloc: Global) -> Result<Side, Fail> {
-    let mut store = UploadStore::new(alloc);
+// Registers four names with two programs, one of them named twice.
+fn register_four(
+    alloc: Global,
+    side: &mut Side,
+    store: &mut UploadStore,
+) -> Result<(), FixtureFault> {
     let one = ResolverId::Program(store.upload(alloc, &FIRST)?);
     let two = ResolverId::Program(store.upload(alloc, &answering(2))?);
-    let mut side = Side::new(alloc, SideId::B);
     let rows = [
         ("db", registration(7, 1, one)),
         ("ab", registration(7, 2, two)),
         ("dba", registration(7, 3, one)),
         ("e", registration(7, 4, EXIT)),
     ];
-    register_rows(&mut side, &rows, &store)?;
-    Ok(side)
+    register_rows(side, &rows, store)
 }
 
-// The offer of a side with two programs.
-fn small_offer(alloc: Global) -> Result<Offer, Fail> {
-    let mut side = small_side(alloc)?;
-    Ok(side.begin(alloc, 4, 77, 1000)?)
+fn register_one(
+    alloc: Global,
+    side: &mut Side,
+    store: &mut UploadStore,
+) -> Result<(), FixtureFault> {
+    let program = ResolverId::Program(store.upload(alloc, &FIRST)?);
+    Ok(side.register(name(b"db")?, registration(7, 1, program), store)?)
 }
 
-// A list of two names.
-fn small_list(alloc: Global) -> Result<Withdrawals, Fail> {
-    let mut side = small_side(alloc)?;
-    side.begin(alloc, 4, 77, 1000)?;
+// Withdraws two names, and returns the list as bytes.
+fn spell_list(alloc: Global, side: &mut Side) -> Result<Vec<u8>, FixtureFault> {
     side.withdraw(&name(b"db")?)?;
     side.withdraw(&name(b"ab")?)?;
-    Ok(side.close_list(alloc)?)
+    let list = side.close_list(alloc)?;
+    Ok(encode_withdrawals(alloc, &list)?)
 }
 
-// The offer of `docs/MESSAGES.md`.
-fn one_row(alloc: Global) -> Result<Offer, Fail> {
-    let (store, id) = stored(alloc, &FIRST)?;
-    let mut side = Side::new(alloc, SideId::A);
-    let row = registration(7, 1, ResolverId::Program(id));
-    side.register(name(b"db")?, row, &store)?;
-    Ok(side.begin(alloc, 4, 77, 1000)?)
+fn spell(
+    alloc: Global,
+    kind: Kind,
+    side: &mut Side,
+    store: &mut UploadStore,
+) -> Result<Vec<u8>, FixtureFault> {
+    match kind {
+        Kind::Offer | Kind::List => register_four(alloc, side, store)?,
+        Kind::OneRow => register_one(alloc, side, store)?,
+    }
+    let offer = side.begin(alloc, 4, 77, 1000)?;
+    match kind {
+        Kind::Offer | Kind::OneRow => Ok(encode_offer(alloc, &offer)?),
+        Kind::List => spell_list(alloc, side),
+    }
 }
 
 /// Returns a small message of this kind as bytes.
-pub(crate) fn small(alloc: Global, kind: Kind) -> Result<Vec<u8>, Fail> {
-    match kind {
-        Kind::Offer => Ok(encode_offer(alloc, &small_offer(alloc)?)?),
-        Kind::OneRow => Ok(encode_offer(alloc, &one_row(alloc)?)?),
-        Kind::List => Ok(encode_withdrawals(alloc, &small_list(alloc)?)?),
-    }
+pub(crate) fn small(alloc: Global, kind: Kind) -> Result<Vec<u8>, FixtureFault> {
+    let id = match kind {
+        Kind::Offer | Kind::List => SideId::B,
+        Kind::OneRow => SideId::A,
+    };
+    let mut side = Side::new(alloc, id);
+    spell(alloc, kind, &mut side, &mut UploadStore::new(alloc))
 }
 
 /// Decodes a message of this kind, and encodes it again.
@@ -117,4 +131,9 @@ pub(crate) fn again(alloc: Global, kind: Kind, bytes: &[u8]) -> Result<Vec<u8>, 
         Ok(bytes) => Ok(bytes),
         Err(_) => Err(refusal_of(&MessageFault::OutOfMemory)),
     }
+}
+
+/// Checks whether the message is decoded, and encoded to the same bytes again.
+pub(crate) fn is_same_again(alloc: Global, kind: Kind, message: &[u8]) -> bool {
+    again(alloc, kind, message).is_ok_and(|bytes| bytes.as_slice() == message)
 }

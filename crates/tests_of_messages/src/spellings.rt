@@ -1,21 +1,17 @@
 //! Messages written by hand.
-use crate::messages::{Kind, LIST, OFFER, again, small};
+use crate::messages::{DOCUMENTED, Kind, is_same_again, small};
+use std::alloc::Global;
 use std::test::*;
 
-#[test]
-fn messages_are_encoded_as_documented(rt: HostRuntime) -> Result<(), Fail> {
-    assert_eq!(rt; small(rt.alloc(), Kind::List)?.as_slice(), &LIST[..]);
-    assert_eq!(rt; small(rt.alloc(), Kind::OneRow)?.as_slice(), &OFFER[..]);
-    Ok(())
+fn is_encoded_as(alloc: Global, kind: Kind, message: &[u8]) -> Result<bool, Fail> {
+    Ok(small(alloc, kind)?.as_slice() == message)
 }
 
 #[test]
-fn documented_messages_are_decoded(rt: HostRuntime) -> Result<(), Fail> {
-    let list = again(rt.alloc(), Kind::List, &LIST).ok().ok_or("a list")?;
-    assert_eq!(rt; list.as_slice(), &LIST[..]);
-    let offer = again(rt.alloc(), Kind::OneRow, &OFFER)
-        .ok()
-        .ok_or("an offer")?;
-    assert_eq!(rt; offer.as_slice(), &OFFER[..]);
+fn messages_are_encoded_and_decoded_as_documented(rt: HostRuntime) -> Result<(), Fail> {
+    for (kind, message) in &DOCUMENTED {
+        assert!(rt; is_encoded_as(rt.alloc(), *kind, message)?, "{kind:?}");
+        assert!(rt; is_same_again(rt.alloc(), *kind, message), "{kind:?}");
+    }
     Ok(())
 }

@@ -1,8 +1,8 @@
 //! Splits that heal, and the answers.
-use crate::devices::{Said, first_other};
+use crate::devices::Said;
 
 /// Scripts that heal a split, or are refused.
-const SCRIPTS: [Said; 13] = [
+pub(crate) const SCRIPTS: &[Said] = &[
     // Both halves have the merge: the clash `db`, and `web` of one half.
     (
         "register a db 1.10 5 0 - exit\nregister b db 2.20 9 0 - exit\nregister b web 2.21 1 0 - notify-all\nheal 0\nshow a\nshow b\n",
@@ -80,8 +80,3 @@ const SCRIPTS: [Said; 13] = [
         "yes\nyes\nline 3: refused 31\nline 4: refused 47\nhealed 1 names\ndb 1.10 5 0 exit\nend\n",
     ),
 ];
-
-#[test]
-fn splits_heal(rt: HostRuntime) {
-    assert_eq!(&rt; first_other(&rt, &SCRIPTS), None);
-}

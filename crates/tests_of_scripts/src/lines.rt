@@ -1,8 +1,9 @@
 //! The answers to single lines, blank ones and too long ones included.
 use crate::devices::{Device, GOOD, Said, first_other, is_answered};
+use crate::heals;
 
 /// Scripts of a few lines.
-const SCRIPTS: [Said; 10] = [
+const SCRIPTS: &[Said] = &[
     ("", 0, ""),
     ("whereis a db", 0, "undefined\n"),
     ("# \t\n\n   \n  whereis  a db  \n", 0, "undefined\n"),
@@ -36,8 +37,10 @@ const SCRIPTS: [Said; 10] = [
 ];
 
 #[test]
-fn lines_are_answered(rt: HostRuntime) {
-    assert_eq!(&rt; first_other(&rt, &SCRIPTS), None);
+fn scripts_are_answered(rt: HostRuntime) {
+    for scripts in [SCRIPTS, heals::SCRIPTS] {
+        assert_eq!(&rt; first_other(&rt, scripts), None);
+    }
 }
 
 /// Two comments, of 20,000 bytes and of one more, and a line.

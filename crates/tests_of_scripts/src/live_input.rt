@@ -3,6 +3,7 @@ ghost use Rattle.std.specs.Prelude.{None, Some};
 
 use judge_pool::OpenGate;
 use script_engine::run_script;
+use std::alloc::Global;
 use std::cell::Cell;
 use std::io;
 use std::io::{BufWriter, Read, Write};
@@ -11,7 +12,7 @@ use std::test::Fail;
 use std::thread::Threads;
 
 /// Lines, and the answers to them.
-const LINES: [(&'static str, &'static str); 6] = [
+const LINES: &[(&'static str, &'static str)] = &[
     ("register a db 1.1 0 0 - exit\n", "yes\n"),
     ("# a comment\n", ""),
     ("whereis a db\n", "1.1\n"),
@@ -25,6 +26,15 @@ const LINES: [(&'static str, &'static str); 6] = [
 struct Taken {
     bytes: Cell<usize>,
     calls: Cell<usize>,
+}
+
+impl Taken {
+    fn nothing() -> Taken {
+        Taken {
+            bytes: Cell::new(0),
+            calls: Cell::new(0),
+        }
+    }
 }
 
 /// A device that counts what it takes.
@@ -76,12 +86,19 @@ impl<'a> Read for LineReader<'a> {
     }
 }
 
+/// Runs the reader's script, and returns whether it ends with status 0 and the writer takes all answers.
+fn is_run<T, R, W>(rt: &T, reader: &mut R, writer: &mut W) -> bool
+where
+    T: Threads + Wait + Sync + AllocGlobal,
+    R: Read,
+    W: Write,
+{
+    run_script(rt, reader, writer, 4, &OpenGate) == 0 && writer.flush().is_ok()
+}
+
 /// Checks that all earlier lines were answered before each read, and the last one at the end.
 fn is_each_answered<T: Threads + Wait + Sync + AllocGlobal>(rt: &T) -> io::Result<bool> {
-    let taken = Taken {
-        bytes: Cell::new(0),
-        calls: Cell::new(0),
-    };
+    let taken = Taken::nothing();
     let mut reader = LineReader {
         next: 0,
         answered: 0,
@@ -89,9 +106,28 @@ fn is_each_answered<T: Threads + Wait + Sync + AllocGlobal>(rt: &T) -> io::Resul
         taken: &taken,
     };
     let mut writer = BufWriter::new(rt.alloc(), NotingWriter { taken: &taken })?;
-    let status = run_script(rt, &mut reader, &mut writer, 4, &OpenGate);
-    writer.flush()?;
-    Ok(status == 0 && reader.late == 0 && taken.bytes.get() == reader.answered)
+    let is_run = is_run(rt, &mut reader, &mut writer);
+    Ok(is_run && reader.late == 0 && taken.bytes.get() == reader.answered)
+}
+
+/// Returns all lines in one piece.
+fn whole_script(alloc: Global) -> io::Result<Vec<u8>> {
+    let mut script = Vec::new(alloc);
+    for (line, _) in LINES {
+        script.extend_from_slice(line.as_bytes())?;
+    }
+    Ok(script)
+}
+
+/// Returns the number of writes for a script that is read in one piece, if it is run.
+fn writes_for<T>(rt: &T, mut script: &[u8]) -> io::Result<Option<usize>>
+where
+    T: Threads + Wait + Sync + AllocGlobal,
+{
+    let taken = Taken::nothing();
+    let mut writer = BufWriter::new(rt.alloc(), NotingWriter { taken: &taken })?;
+    let is_run = is_run(rt, &mut script, &mut writer);
+    Ok(is_run.then_some(taken.calls.get()))
 }
 
 #[test]
@@ -101,26 +137,10 @@ fn an_answer_comes_before_the_next_line(rt: HostRuntime) -> Result<(), Fail> {
     Ok(())
 }
 
-/// Returns the number of writes for a script that is read in one piece.
-fn writes_for_whole<T: Threads + Wait + Sync + AllocGlobal>(rt: &T) -> io::Result<usize> {
-    let mut script = Vec::new(rt.alloc());
-    for (line, _) in LINES {
-        script.extend_from_slice(line.as_bytes())?;
-    }
-    let taken = Taken {
-        bytes: Cell::new(0),
-        calls: Cell::new(0),
-    };
-    let mut reader = script.as_slice();
-    let mut writer = BufWriter::new(rt.alloc(), NotingWriter { taken: &taken })?;
-    run_script(rt, &mut reader, &mut writer, 4, &OpenGate);
-    writer.flush()?;
-    Ok(taken.calls.get())
-}
-
 #[test]
 fn a_whole_script_takes_few_writes(rt: HostRuntime) -> Result<(), Fail> {
-    let writes = writes_for_whole(&rt)?;
-    assert!(&rt; writes == 1, "{writes} writes");
+    let script = whole_script(rt.alloc())?;
+    let writes = writes_for(&rt, &script)?;
+    assert_eq!(&rt; writes, Some(1));
     Ok(())
 }

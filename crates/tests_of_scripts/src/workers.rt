@@ -38,13 +38,20 @@ fn run_together<T: Threads + Wait + Sync + AllocGlobal + Clock>(
     status == 0 && gate.counts() == (u64::from(workers), 0)
 }
 
+/// Checks that so many workers judge as many clashes concurrently.
+fn are_together<T>(rt: &T, workers: u32) -> Result<bool, Fail>
+where
+    T: Threads + Wait + Sync + AllocGlobal + Clock,
+    requires { (0 < workers) × (workers ≤ 16) }
+{
+    let script = clashing(rt.alloc(), workers)?;
+    Ok(run_together(rt, workers, &script))
+}
+
 #[test]
 fn workers_run_beside_each_other(rt: HostRuntime) -> Result<(), Fail> {
-    let two = clashing(rt.alloc(), 2)?;
-    let both = run_together(&rt, 2, &two);
-    assert!(&rt; both);
-    let sixteen = clashing(rt.alloc(), 16)?;
-    let all = run_together(&rt, 16, &sixteen);
-    assert!(&rt; all);
+    let two = are_together(&rt, 2)?;
+    let sixteen = are_together(&rt, 16)?;
+    assert_eq!(&rt; (two, sixteen), (true, true));
     Ok(())
 }
