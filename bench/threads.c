@@ -6,6 +6,7 @@
 //   one       a model of a board: draws 4,096 numbers one by one, multiplies for each, and posts it, as a cell that points to
 //             a new allocation and as a word
 //   row       the same, but draws 16 numbers in one step
+//   list      the same as `row`, and first reads a record of 256 bytes, a clash's size, which the calling thread has written once
 //   spaced    the same as `row`, with cells and words 64 bytes apart
 #include <pthread.h>
 #include <stdatomic.h>
@@ -14,12 +15,13 @@
 #include <stdlib.h>
 #include <time.h>
 
-enum { ROUNDS = 25, MOST = 16, CLASHES = 4096, LINE = 8 };
+enum { ROUNDS = 25, MOST = 16, CLASHES = 4096, LINE = 8, RECORD = 32 };
 
 struct kind {
     const char *name;
     uint64_t row;     // numbers that are drawn in one step; 0: no board
     uint64_t spacing; // of cells and words, in words
+    int reads;        // whether it reads a record for each number
 };
 
 struct job {
@@ -32,6 +34,7 @@ struct job {
 static _Alignas(64) atomic_uint_fast64_t drawn;
 static _Alignas(64) _Atomic(uint64_t *) cells[CLASHES * LINE];
 static _Alignas(64) atomic_uint_fast64_t answers[CLASHES * LINE];
+static _Alignas(64) uint64_t records[CLASHES][RECORD];
 
 static double microseconds(void) {
     struct timespec now;
@@ -71,7 +74,11 @@ static void *work(void *given) {
             if (k >= CLASHES) {
                 return NULL;
             }
-            job->result = multiply(k, job->steps);
+            uint64_t word = k;
+            for (int i = 0; kind->reads && i < RECORD; i++) {
+                word += records[k][i];
+            }
+            job->result = multiply(word, job->steps);
             post(k * kind->spacing, job->result);
         }
     }
@@ -113,12 +120,15 @@ static double least_time(const struct kind *kind, int threads, uint64_t steps) {
 }
 
 int main(int count, char **words) {
-    static const struct kind kinds[] = {{"alone", 0, 0}, {"one", 1, 1}, {"row", 16, 1}, {"spaced", 16, LINE}};
+    static const struct kind kinds[] = {{"alone", 0, 0, 0}, {"one", 1, 1, 0}, {"row", 16, 1, 0}, {"list", 16, 1, 1}, {"spaced", 16, LINE, 0}};
     static const int threads[] = {1, 2, 4, MOST};
     double wanted = count == 2 ? atof(words[1]) : 0;
     if (!(wanted > 0)) {
         fprintf(stderr, "usage: threads MICROSECONDS\n");
         return 2;
+    }
+    for (uint64_t i = 0; i < CLASHES * RECORD; i++) {
+        records[i / RECORD][i % RECORD] = i;
     }
     const uint64_t sample = 1000000;
     uint64_t steps = (uint64_t)(wanted / least_time(&kinds[0], 1, sample) * (double)sample);

@@ -52,11 +52,11 @@ for length in 2 102 1024; do
     done
 done
 
-printf '\n%-12s %7s %8s %6s %8s %6s %8s %6s\n' model threads one linear row linear spaced linear
+printf '\n%-12s %7s %8s %6s %8s %6s %8s %6s %8s %6s\n' model threads one linear row linear list linear spaced linear
 for length in 2 102 1024; do
     for threads in 1 2 4 16; do
         printf '%-12s %7s' $length $threads
-        for word in one row spaced; do shown $word $threads "$out/threads.$length"; done
+        for word in one row list spaced; do shown $word $threads "$out/threads.$length"; done
         echo
     done
 done

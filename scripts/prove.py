@@ -2,9 +2,10 @@
 """Proves the crates that heal_main is built from, and builds it: crates/heal_main/out/heal_main.
 
 Proves each crate as soon as the crates below it are proved, on all processors, and prints one line on standard error
-for each. Large crates of the longest chain of dependencies get most processors. `rt` locks the folders of a crate and of
-all crates below it, so each proof runs in a copy under out/prove: it takes the libraries below from crates/*/out, and
-leaves its own library and kept work there. If a proof fails, this prints the last lines of its log, and the status is 125.
+for each. Crates of the longest chain of dependencies go first, and large ones get most processors. `rt` locks the folders of a
+crate and of all crates below it, so each proof runs in a copy under out/prove: it takes the libraries below from
+crates/*/out, and leaves its own library and kept work there. If a proof fails, this prints the last lines of its log, and
+the status is 125.
 """
 
 import fcntl
@@ -97,14 +98,17 @@ def run_logged(name, words, folder):
         return subprocess.run(words, cwd=folder, stdin=subprocess.DEVNULL, stdout=log, stderr=log).returncode
 
 
-def prove(lines, uses, name, jobs):
-    """Proves a crate with `jobs` processes, and returns the status and the time in seconds."""
+def prove(lines, uses, name, jobs, is_awaited):
+    """Proves a crate with `jobs` processes, and returns the status and the time in seconds.
+
+    Crates that the longest chain doesn't wait for leave the processors to those that it does.
+    """
     start = time.monotonic()
     if name == PROGRAM:
         status = run_logged(name, ["rt", "run", "--", *TRIAL], f"{ROOT}/crates/{name}")
     else:
         folder = copy_crates(lines, with_below(uses, name), name)
-        status = run_logged(name, ["rt", "lib", "--jobs", str(jobs)], folder)
+        status = run_logged(name, [*([] if is_awaited else ["nice"]), "rt", "lib", "--jobs", str(jobs)], folder)
         give_back(folder, name)
         shutil.rmtree(f"{COPIES}/{name}")
     return status, time.monotonic() - start
@@ -126,11 +130,11 @@ def prove_all(lines, uses):
             ready = [name for name in left if not has_failed and all(it in proved for it in uses[name])]
             for name in ready:
                 taken = [jobs for _, jobs in running.values()]
-                is_awaited = name in with_below(uses, left[0]) and size(name) >= LARGE
-                jobs = most if is_awaited and most not in taken else 1
+                is_awaited = name in with_below(uses, left[0])
+                jobs = most if is_awaited and size(name) >= LARGE and most not in taken else 1
                 # One job too many, since the jobs of a crate aren't always all busy.
                 if sum(taken) + jobs <= processors + 1:
-                    running[pool.submit(prove, lines, uses, name, jobs)] = name, jobs
+                    running[pool.submit(prove, lines, uses, name, jobs, is_awaited)] = name, jobs
                     left.remove(name)
             for done in wait(running, return_when=FIRST_COMPLETED).done:
                 name, _ = running.pop(done)
