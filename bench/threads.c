@@ -2,7 +2,8 @@
 // 1, 2, 4 and 16 threads, one of them the calling one, and prints a line for each kind of work and count of threads: the least
 // of 25 times in microseconds, from before the first start until all have ended. The kinds:
 //
-//   alone     multiplications in registers; the threads share nothing
+//   chain     multiplications in registers, each of which waits for the one before; the threads share nothing
+//   wide      additions and shifts of eight words in registers, several of which run at a time; the threads share nothing
 //   one       a model of a board: draws 4,096 numbers one by one, multiplies for each, and posts it, as a cell that points to
 //             a new allocation and as a word
 //   row       the same, but draws 16 numbers in one step
@@ -22,6 +23,7 @@ struct kind {
     uint64_t row;     // numbers that are drawn in one step; 0: no board
     uint64_t spacing; // of cells and words, in words
     int reads;        // whether it reads a record for each number
+    int wide;         // whether the operations are independent
 };
 
 struct job {
@@ -49,6 +51,15 @@ static uint64_t multiply(uint64_t x, uint64_t steps) {
     return x;
 }
 
+static uint64_t mix(uint64_t x, uint64_t steps) {
+    uint64_t a = x, b = 1, c = 2, d = 3, e = 4, f = 5, g = 6, h = 7;
+    for (uint64_t i = 0; i < steps; i++) {
+        a += i ^ b, c += i ^ d, e += i ^ f, g += i ^ h;
+        b ^= a >> 3, d ^= c >> 5, f ^= e >> 7, h ^= g >> 9;
+    }
+    return a + b + c + d + e + f + g + h;
+}
+
 static void post(uint64_t place, uint64_t word) {
     uint64_t *kept = malloc(sizeof *kept), *none = NULL;
     if (kept == NULL) {
@@ -65,7 +76,7 @@ static void *work(void *given) {
     struct job *job = given;
     const struct kind *kind = job->kind;
     if (kind->row == 0) {
-        job->result = multiply(1, job->steps);
+        job->result = kind->wide ? mix(1, job->steps) : multiply(1, job->steps);
         return NULL;
     }
     for (;;) {
@@ -120,7 +131,14 @@ static double least_time(const struct kind *kind, int threads, uint64_t steps) {
 }
 
 int main(int count, char **words) {
-    static const struct kind kinds[] = {{"alone", 0, 0, 0}, {"one", 1, 1, 0}, {"row", 16, 1, 0}, {"list", 16, 1, 1}, {"spaced", 16, LINE, 0}};
+    static const struct kind kinds[] = {
+        {.name = "chain"},
+        {.name = "wide", .wide = 1},
+        {.name = "one", .row = 1, .spacing = 1},
+        {.name = "row", .row = 16, .spacing = 1},
+        {.name = "list", .row = 16, .spacing = 1, .reads = 1},
+        {.name = "spaced", .row = 16, .spacing = LINE},
+    };
     static const int threads[] = {1, 2, 4, MOST};
     double wanted = count == 2 ? atof(words[1]) : 0;
     if (!(wanted > 0)) {
@@ -131,8 +149,10 @@ int main(int count, char **words) {
         records[i / RECORD][i % RECORD] = i;
     }
     const uint64_t sample = 1000000;
-    uint64_t steps = (uint64_t)(wanted / least_time(&kinds[0], 1, sample) * (double)sample);
+    uint64_t narrow = (uint64_t)(wanted / least_time(&kinds[0], 1, sample) * (double)sample);
+    uint64_t wide = (uint64_t)(wanted / least_time(&kinds[1], 1, sample) * (double)sample);
     for (unsigned kind = 0; kind < sizeof kinds / sizeof *kinds; kind++) {
+        uint64_t steps = kinds[kind].wide ? wide : narrow;
         for (unsigned i = 0; i < sizeof threads / sizeof *threads; i++) {
             printf("%s %d %.0f\n", kinds[kind].name, threads[i], least_time(&kinds[kind], threads[i], steps));
         }

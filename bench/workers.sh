@@ -32,7 +32,7 @@ measure() {
         >> "$out/times"
 }
 
-printf '%-12s %7s %8s %6s %8s %6s %8s %6s\n' instructions workers before linear after linear alone linear
+printf '%-12s %7s %8s %6s %8s %6s %8s %6s %8s %6s\n' instructions workers before linear after linear chain linear wide linear
 for length in 2 102 1024; do
     hex=$(line_of $length)
     [ $length = 102 ] && hex=$(cat "$root/resolvers/name_hash.hex")
@@ -47,7 +47,7 @@ for length in 2 102 1024; do
     cat "$out/threads.$length" >> "$out/times"
     for workers in 1 2 4 16; do
         printf '%-12s %7s' $length $workers
-        for word in before after alone; do shown $word $workers "$out/times"; done
+        for word in before after chain wide; do shown $word $workers "$out/times"; done
         echo
     done
 done
