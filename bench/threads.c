@@ -3,7 +3,7 @@
 // of 25 times in microseconds, from before the first start until all have ended. The kinds:
 //
 //   chain     multiplications in registers, each of which waits for the one before; the threads share nothing
-//   wide      additions and shifts of eight words in registers, several of which run at a time; the threads share nothing
+//   wide      additions and shifts of eight words in registers, several of which run at once; the threads share nothing
 //   one       a model of a board: draws 4,096 numbers one by one, multiplies for each, and posts it, as a cell that points to
 //             a new allocation and as a word
 //   row       the same, but draws 16 numbers in one step
