@@ -1,5 +1,5 @@
 //! Devices that give and take a few bytes a call, and what a script answers over them.
-ghost use Rattle.std.specs.Prelude.{None};
+ghost use Rattle.std.specs.Prelude.{Some};
 
 use judge_pool::OpenGate;
 use script_engine::run_script;
@@ -29,7 +29,7 @@ struct PieceReader<'a> {
 }
 
 impl<'a> Read for PieceReader<'a> {
-    ghost remaining = { λ _. None };
+    ghost remaining = { λ r. Some r.bytes.now };
 
     fn read(&mut self, buf: &mut [u8]) -> io::Result<usize> {
         if self.device.calls == 0 {
@@ -56,7 +56,7 @@ struct PieceWriter {
 }
 
 impl Write for PieceWriter {
-    ghost contents = { λ _. None };
+    ghost contents = { λ w. Some w.written.items };
 
     fn write(&mut self, buf: &[u8]) -> io::Result<usize> {
         if self.device.calls == 0 {

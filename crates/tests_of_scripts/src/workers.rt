@@ -38,7 +38,7 @@ fn run_together<T: Threads + Wait + Sync + AllocGlobal + Clock>(
     status == 0 && gate.counts() == (u64::from(workers), 0)
 }
 
-/// Checks that so many workers judge as many clashes concurrently.
+/// Checks that `workers` workers judge as many clashes concurrently.
 fn are_together<T>(rt: &T, workers: u32) -> Result<bool, Fail>
 where
     T: Threads + Wait + Sync + AllocGlobal + Clock,
