@@ -18,7 +18,7 @@ module _ {id : SideId} {side : Side} {past : Past} (fits : SideFits id side past
     same_id = fits.same_id;
     covers = fits.covers;
     covers_list = fits.covers_list;
-    open_fits = λ exchange e. cc;
+    open_fits = λ exchange e. absurd (cc);
   }
 
   -- a side that is idle from now on, with another table
@@ -27,7 +27,7 @@ module _ {id : SideId} {side : Side} {past : Past} (fits : SideFits id side past
     same_id = fits.same_id;
     covers = fits.covers;
     covers_list = fits.covers_list;
-    open_fits = λ exchange e. cc;
+    open_fits = λ exchange e. absurd (cc);
   }
 
   -- the exchange goes on

@@ -1,13 +1,13 @@
 -- If no refusal applies, the journal has room.
-use Rattle.std.proofs.Common.{◌≡◌, ◌==◌, ◌&&◌, ℕ, Bool, true, false, not, nat_lt, nat_le, if◌then◌else◌, Option, Some, None, is_some, is_none, refl}
+use Rattle.std.proofs.Common.{◌≡◌, ◌==◌, ◌&&◌, ℕ, Bool, true, false, not, nat_le, if◌then◌else◌, Option, Some, None, is_some, is_none, refl}
 use Rattle.std.specs.Option.{option_map_or}
-use Rattle.std.specs.FinMap.{contains_key, len}
+use Rattle.std.specs.FinMap.{contains_key}
 use Rattle.clash_record.specs.Name.{Name}
 use Rattle.partition_table.specs.Tables.{Clash, max_names}
 use Rattle.exchange_core.specs.declared.fault.SideFault.{SideFault}
 use Rattle.exchange_core.specs.declared.fault.SideFault.TheVariants.{Healing, NotHealing, StaleNumber, SeedDiffers, StrangeRuling, JournalFull}
 use Rattle.exchange_core.specs.declared.fault.SideFault.TheVariants as of
-use Rattle.partition_table.specs.declared.fault.TableFault.TheVariants.{NameTaken, NoSuchName, Full, TooManyNames}
+use Rattle.partition_table.specs.declared.fault.TableFault.TheVariants.{NoSuchName, TooManyNames}
 use Rattle.exchange_core.specs.declared.fault.MissingPart.{MissingPart}
 use Rattle.exchange_core.specs.Sides.{Offer, Withdrawals, Exchange, Side, is_above}
 use Rattle.exchange_core.specs.Refusals.{unregister_fault, begin_fault, union_for, first_offer_fault, is_first_offer, hear_fault_in, hear_fault, is_strange, take_fault_in, take_fault, withdraw_fault_in, withdraw_fault, close_list_fault_in, close_list_fault, sent_fault, hear_list_fault, missing_of, missing_or_full, finish_fault, abandon_fault}

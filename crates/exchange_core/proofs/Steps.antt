@@ -82,14 +82,14 @@ pub record Made (number k round : ℕ) (a b : Option Offer) (r : Ruling) : Type 
 
 made_of : (number k round : ℕ) (a b : Option Offer) (r : Ruling) → ruling_on number k round a b ≡ Some r →
     Made number k round a b r
-made_of number k round None b r e = cc
-made_of number k round (Some a) None r e = cc
+made_of number k round None b r e = absurd (cc)
+made_of number k round (Some a) None r e = absurd (cc)
 made_of number k round (Some a) (Some b) r e = by_seeds (a.seed == b.seed) refl e
   where
     by_clash : a.seed ≡ b.seed → (o : Option Clash) → slice_get (clashes_between a b) k ≡ o →
         option_map (ruling_of number k (word_of a.seed round (length (clashes_between a b)) k)) o ≡ Some r →
         Made number k round (Some a) (Some b) r
-    by_clash seeds None at e = cc
+    by_clash seeds None at e = absurd (cc)
     by_clash seeds (Some c) at e = record {
       of_a = a;
       of_b = b;
@@ -106,7 +106,7 @@ made_of number k round (Some a) (Some b) r e = by_seeds (a.seed == b.seed) refl 
         let due = option_map (ruling_of number k (word_of a.seed round (length all) k)) (slice_get all k) in
         (if t then due else None) ≡ Some r → Made number k round (Some a) (Some b) r
     by_seeds true t e = by_clash (eqb-true _ _ t) _ refl e
-    by_seeds false t e = cc
+    by_seeds false t e = absurd (cc)
 
 -- what a judging that is carried out does
 pub record NewRuling (past : Past) (number k round : ℕ) : Type 0 where
@@ -242,8 +242,8 @@ none : {X P : Type 0} {x : X} → Has [] x → P
 none h = let e = h.1 in cc
 
 first_fits : (id : SideId) → SideFits id (side_of first_world id) first_world.past
-first_fits A = record { same_id = refl; covers = λ _ h. none h; covers_list = λ _ h. none h; open_fits = λ _ e. cc }
-first_fits B = record { same_id = refl; covers = λ _ h. none h; covers_list = λ _ h. none h; open_fits = λ _ e. cc }
+first_fits A = record { same_id = refl; covers = λ _ h. none h; covers_list = λ _ h. none h; open_fits = λ _ e. absurd (cc) }
+first_fits B = record { same_id = refl; covers = λ _ h. none h; covers_list = λ _ h. none h; open_fits = λ _ e. absurd (cc) }
 
 pub sound : (history : List Event) → Sound (world_after history)
 sound [] = record { fits = first_fits; one = record { one_offer = λ o p h. none h; one_list = λ o p h. none h } }

@@ -6,7 +6,7 @@ use Rattle.partition_table.specs.Tables.{Clash, clashes, word_of}
 pub use Rattle.partition_table.specs.Rulings.{Ruling, ruling_of}
 use Rattle.clash_record.specs.declared.side_id.SideId.{SideId}
 use Rattle.clash_record.specs.declared.side_id.SideId.TheVariants.{A, B}
-use Rattle.exchange_core.specs.Sides.{Offer, Withdrawals, Judged, Side, new_side, is_side, has_clash}
+use Rattle.exchange_core.specs.Sides.{Offer, Withdrawals, Side, new_side, is_side, has_clash}
 use Rattle.exchange_core.specs.Calls.{Call, Begin, Hear, Take, Close_list, Hear_list, carried_out, takes_message}
 
 -- what is never lost

@@ -1,5 +1,6 @@
 //! The calls of a side.
-ghost use Rattle.std.specs.Prelude.{◌≡◌, ◌≤◌, ◌+◌, [], ◌∷◌, Some, None, Ok, Err, IfOk, IfErr, OnOk, OnErr, length};
+ghost use Rattle.std.specs.Prelude.{◌≡◌, IsTrue, ◌≤◌, ◌+◌, [], ◌∷◌, Some, None, Ok, Err, IfOk, IfErr, OnOk, OnErr, length};
+ghost use Rattle.std.specs.Bool.{Decides};
 ghost use Rattle.std.specs.Option.{option_map, option_map_or};
 ghost use Rattle.std.specs.Arc.{arc_value};
 ghost use Rattle.std.specs.FinMap.{get, len};
@@ -7,7 +8,7 @@ ghost use Rattle.partition_table.specs.Tables.{row_for, code_for, rows_of};
 ghost use Rattle.exchange_core.specs.Lists.{AreNamesOf};
 ghost use Rattle.exchange_core.specs.Rows.{rows_left};
 ghost use Rattle.partition_table.specs.Judged.{clash_of_verdict, word_of_verdict, answer_of_verdict};
-ghost use Rattle.exchange_core.specs.Sides.{heard_clashes, new_side, shown_table};
+ghost use Rattle.exchange_core.specs.Sides.{has_clash, heard_clashes, new_side, shown_table};
 ghost use Rattle.exchange_core.specs.Settling.{IsSettled};
 ghost use Rattle.exchange_core.specs.Calls.{Call};
 ghost use Rattle.exchange_core.specs.Calls as call;
@@ -105,6 +106,15 @@ impl Side {
         ensures clashes { option_map (λ list. list.now) result ≡ heard_clashes (shown self.now) }
     {
         self.state.clashes()
+    }
+
+    /// Checks whether these are the clashes of the open exchange. Allocates nothing.
+    ///
+    /// If the tables of each list fit, compares the code of each program once, and not once for each clash.
+    pub fn has_clashes(&self, clashes: &ClashList) -> bool
+        ensures { Decides result (heard_clashes (shown self.now) ≡ Some clashes.now) }
+    {
+        self.state.has_clashes(clashes)
     }
 
     /// Shares the list of clashes of the open exchange: adds an owner, and copies nothing.
@@ -207,7 +217,7 @@ impl Side {
     /// together, 40 if the journal is full, 42 if the tables have two codes under one id, 45 for another number, and 46
     /// for an offer of this side: the least that applies. 36, 37 and 42 apply only to the
     /// other side's first offer of the open number. Returns 90 when out of memory: it allocates the list of clashes,
-    /// one more owner of each program that judges, a place for each ruling, and two owners of the table.
+    /// copies of both maps of programs, a place for each ruling, and two owners of the table.
     pub fn hear(&mut self, alloc: Global, offer: &Offer) -> Result<(), SideFault>
         ensures answer { IsAnswered side_fault_number (due.hear_fault (is_full self.old) (shown self.old) offer.now) result }
         ensures done { OnOk result (IsDone self.old (call.Hear offer.now) self.new) }
@@ -238,7 +248,40 @@ impl Side {
         }) self.new) }
         ensures untouched { OnErr result (IsUntouched self.old self.new) }
     {
-        if let Some(fault) = self.state.take_fault(self.is_full(), ruling) {
+        let is_own = self.state.has_clash(ruling.k, ruling.verdict.clash());
+        self.take_if(is_own, ruling)
+    }
+
+    /// Takes a ruling as `take` does, with the same refusals, but compares no clash.
+    ///
+    /// Requires that the ruling's clash is clash `k` of the open exchange. `has_clashes` checks that for a whole list.
+    pub fn take_own(&mut self, ruling: Ruling<'_>) -> Result<(), SideFault>
+        requires { IsTrue (has_clash (shown self.old) ruling.k (clash_of_verdict ruling.verdict)) }
+        ensures answer { IsAnswered side_fault_number (due.take_fault (is_full self.old) (shown self.old) ruling.entry.number
+            ruling.entry.k
+            (clash_of_verdict ruling.entry.verdict) (word_of_verdict ruling.entry.verdict)) result }
+        ensures done { OnOk result (IsDone self.old (call.Take ruling.entry.number ruling.entry.k record {
+          word = word_of_verdict ruling.entry.verdict;
+          answer = answer_of_verdict ruling.entry.verdict;
+        }) self.new) }
+        ensures untouched { OnErr result (IsUntouched self.old self.new) }
+    {
+        self.take_if(true, ruling)
+    }
+
+    // Takes a ruling. `is_own` is whether its clash is clash `k` of the open exchange.
+    fn take_if(&mut self, is_own: bool, ruling: Ruling<'_>) -> Result<(), SideFault>
+        requires { is_own ≡ has_clash (shown self.old) ruling.k (clash_of_verdict ruling.verdict) }
+        ensures answer { IsAnswered side_fault_number (due.take_fault (is_full self.old) (shown self.old) ruling.entry.number
+            ruling.entry.k
+            (clash_of_verdict ruling.entry.verdict) (word_of_verdict ruling.entry.verdict)) result }
+        ensures done { OnOk result (IsDone self.old (call.Take ruling.entry.number ruling.entry.k record {
+          word = word_of_verdict ruling.entry.verdict;
+          answer = answer_of_verdict ruling.entry.verdict;
+        }) self.new) }
+        ensures untouched { OnErr result (IsUntouched self.old self.new) }
+    {
+        if let Some(fault) = self.state.take_fault(self.is_full(), is_own, ruling) {
             return Err(fault);
         }
         let judged = Judged {

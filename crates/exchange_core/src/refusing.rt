@@ -6,7 +6,7 @@ ghost use Rattle.upload_store.specs.Programs.{Programs};
 ghost use Rattle.partition_table.specs.Faults.{IsRefused};
 ghost use Rattle.partition_table.specs.Judged.{clash_of_verdict, word_of_verdict};
 ghost use Rattle.partition_table.specs.Tables.{max_names, same_clash};
-ghost use Rattle.exchange_core.specs.Sides.{is_above, is_side, is_one_of_four};
+ghost use Rattle.exchange_core.specs.Sides.{is_above, is_side, is_one_of_four, clashes_of, has_clash};
 ghost use Rattle.exchange_core.specs.Sides as sides;
 ghost use Rattle.exchange_core.specs.Refusals as due;
 ghost use Rattle.exchange_core.specs.model.Early.{closed_register_fault};
@@ -110,8 +110,14 @@ impl State {
         None
     }
 
-    // Returns the refusal to take the ruling.
-    pub(crate) fn take_fault(&self, full: bool, ruling: Ruling<'_>) -> Option<SideFault>
+    // Returns the refusal to take the ruling. `is_own` is whether its clash is clash `k` of the open exchange.
+    pub(crate) fn take_fault(
+        &self,
+        full: bool,
+        is_own: bool,
+        ruling: Ruling<'_>,
+    ) -> Option<SideFault>
+        requires { is_own ≡ has_clash self.now ruling.k (clash_of_verdict ruling.verdict) }
         ensures { result ≡ due.take_fault full self.now ruling.entry.number ruling.entry.k
             (clash_of_verdict ruling.entry.verdict) (word_of_verdict ruling.entry.verdict) }
     {
@@ -119,8 +125,8 @@ impl State {
             return Some(SideFault::NotHealing);
         };
         let is_open = exchange.number() == ruling.number;
-        let verdict = ruling.verdict;
-        if is_open && self.is_strange(exchange, ruling.k, verdict.clash(), verdict.word()) {
+        let word = ruling.verdict.word();
+        if is_open && !(is_own && self.is_word_of(exchange, ruling.k, word)) {
             return Some(SideFault::StrangeRuling);
         }
         if full {
@@ -132,17 +138,28 @@ impl State {
         None
     }
 
-    // Checks whether the clash isn't clash `k` of the open exchange, or the word is none of its four.
-    fn is_strange(&self, exchange: &Exchange, k: u32, clash: &Clash, at: u64) -> bool
-        ensures { result ≡ due.is_strange self.now exchange.now k clash.now at }
+    // Checks whether the clash is clash `k` of the open exchange.
+    pub(crate) fn has_clash(&self, k: u32, clash: &Clash) -> bool
+        ensures { result ≡ has_clash self.now k clash.now }
     {
         let Some(clashes) = &self.clashes else {
-            return true;
+            return false;
         };
-        let Some(own) = clashes.get(k) else {
-            return true;
+        match clashes.get(k) {
+            Some(own) => is_same_clash(clash, own),
+            None => false,
+        }
+    }
+
+    // Checks whether the word is one of the four of clash `k` of the open exchange.
+    fn is_word_of(&self, exchange: &Exchange, k: u32, at: u64) -> bool
+        ensures { result ≡ is_one_of_four at exchange.now.seed (length (clashes_of self.now)) k }
+    {
+        let count = match &self.clashes {
+            Some(clashes) => clashes.len() as u32,
+            None => 0,
         };
-        !(is_same_clash(clash, own) && is_one_of_four(at, exchange.seed(), clashes.len() as u32, k))
+        is_one_of_four(at, exchange.seed(), count, k)
     }
 
     // Returns the refusal to withdraw the name.

@@ -1,5 +1,6 @@
 //! The state of a side, and what each call leaves of it.
 ghost use Rattle.std.specs.Prelude.{◌≡◌, [], Some, None, IsTrue, IfOk, OnOk, OnErr, is_some};
+ghost use Rattle.std.specs.Bool.{Decides};
 ghost use Rattle.std.specs.FinMap.{get};
 ghost use Rattle.partition_table.specs.Tables.{row_for, rows_of};
 ghost use Rattle.numbered.specs.Answers.{IsAnswered};
@@ -114,6 +115,16 @@ impl State {
         match &self.clashes {
             Some(clashes) => Some(clashes),
             None => None,
+        }
+    }
+
+    // Checks whether these are the clashes of the open exchange.
+    pub(crate) fn has_clashes(&self, clashes: &ClashList) -> bool
+        ensures { Decides result (heard_clashes self.now ≡ Some clashes.now) }
+    {
+        match &self.clashes {
+            Some(own) => is_same_list(own, clashes),
+            None => false,
         }
     }
 
@@ -300,6 +311,13 @@ impl State {
         take_out(&mut self.table, exchange.withdrawn().names());
         self.clashes = None;
     }
+}
+
+// Checks whether the two lists are equal.
+fn is_same_list(own: &ClashList, clashes: &ClashList) -> bool
+    ensures { Decides result (own.now ≡ clashes.now) }
+{
+    own == clashes
 }
 
 // Takes these names out of the table.

@@ -1,6 +1,7 @@
 pub mod Agreeing
 pub mod Building
 pub mod Changes
+pub mod Coded
 pub mod Counts
 pub mod EitherWay
 pub mod Equal

@@ -1,3 +1,4 @@
+pub mod Coding
 pub mod Judging
 pub mod Keeping
 pub mod Merging

@@ -1,12 +1,14 @@
 //! Clashes: names that two tables register differently.
-ghost use Rattle.std.specs.Prelude.{◌≡◌, ◌≤◌, ◌↔◌, [], length, slice_get, IfOk, IsTrue};
+ghost use Rattle.std.specs.Prelude.{◌≡◌, ◌≤◌, ◌↔◌, [], length, slice_get, IfOk, IsTrue, All};
 ghost use Rattle.std.specs.Option.{option_map};
 ghost use Rattle.std.specs.Arc.{arc_value};
 ghost use Rattle.std.specs.Slice.Iter.{iter_rest};
 ghost use Rattle.clash_record.specs.Record.{clash_bytes};
 ghost use Rattle.partition_table.specs.Tables.{max_names};
 ghost use Rattle.partition_table.specs.Tables as tables;
+ghost use Rattle.partition_table.specs.model.Coding.{IsCoded};
 
+use crate::both::BothPrograms;
 use clash_record::{ClashRecord, Facts, Name, Registration, ResolverId, record};
 use interpreter::Scratch;
 use std::alloc::AllocError;
@@ -176,19 +178,24 @@ impl Clash {
 #[derive(Debug)]
 pub struct ClashList {
     clashes: Vec<Clash>,
+    programs: BothPrograms,
 }
 
 // Written out, so that a drop is one call in the proofs of callers.
 impl Drop for ClashList {
     fn drop(self) {
-        let ClashList { clashes: _ } = self;
+        let ClashList {
+            clashes: _,
+            programs: _,
+        } = self;
     }
 }
 
 impl Model for ClashList {
-    ghost use Rattle.std.specs.Prelude.{◌≤◌, List, length};
+    ghost use Rattle.std.specs.Prelude.{◌≤◌, List, length, All};
     ghost use Rattle.std.specs.Coded.{coded_list};
     ghost use Rattle.partition_table.specs.Tables.{Clash, max_names};
+    ghost use Rattle.partition_table.specs.model.Coding.{IsCoded};
     ghost use Rattle.partition_table.specs.Views.{coded_clash};
 
     ghost Value = { List Clash };
@@ -197,16 +204,31 @@ impl Model for ClashList {
 
     ghost view = { λ l. l.clashes.items };
 
-    ghost invariant = { λ l. length l.clashes.items ≤ max_names };
+    ghost invariant = { λ l. (length l.clashes.items ≤ max_names) × All (IsCoded l.programs) l.clashes.items };
 }
 
 impl ClashList {
-    // Returns the list of these clashes.
-    pub(crate) fn new(clashes: Vec<Clash>) -> ClashList
-        requires { length clashes.items ≤ max_names }
+    // Returns the list of these clashes, of two tables with these programs.
+    pub(crate) fn new(clashes: Vec<Clash>, programs: BothPrograms) -> ClashList
+        requires few { length clashes.items ≤ max_names }
+        requires coded { All (IsCoded programs) clashes.items }
         ensures { result ≡ clashes.items }
     {
-        ClashList { clashes }
+        ClashList { clashes, programs }
+    }
+
+    // Returns the clashes.
+    pub(crate) fn clashes(&self) -> &[Clash]
+        ensures { result.now ≡ self.now }
+    {
+        &self.clashes
+    }
+
+    // Returns the programs of the two tables. Each clash has its code from one of them.
+    pub(crate) fn programs(&self) -> &BothPrograms
+        ensures { All (IsCoded result.now) self.now }
+    {
+        &self.programs
     }
 
     /// Returns the number of clashes, at most 4,096.

@@ -4,6 +4,7 @@ ghost use Rattle.std.specs.Option.{option_map};
 ghost use Rattle.std.specs.FinMap as map;
 ghost use Rattle.partition_table.specs.Tables.{IsTable, facts_of, clash_at, clashes, clash_names};
 
+use crate::both::BothPrograms;
 use crate::clash::{Clash, ClashList};
 use crate::order::order;
 use crate::paired::Paired;
@@ -21,7 +22,8 @@ struct Half<'a> {
 
 /// Returns the clashes of two tables, in the order of names, with the uptime of each half.
 ///
-/// Walks both tables once. Allocates the list and one more owner of each program that judges.
+/// Walks both tables once. Allocates the list and copies of both maps of programs. Adds an owner to a program for each clash
+/// that it judges.
 pub fn clashes(
     alloc: Global,
     a: &Table,
@@ -33,6 +35,7 @@ pub fn clashes(
     // One for each name that clashes.
     ensures count { IfOk result (λ list. length list ≡ length (clash_names a.now b.now)) }
 {
+    let programs = BothPrograms::of(a, b)?;
     let half_a = Half {
         table: a,
         facts: facts(a, uptime_a),
@@ -50,7 +53,7 @@ pub fn clashes(
             found.push(clash)?;
         }
     }
-    Ok(ClashList::new(found))
+    Ok(ClashList::new(found, programs))
 }
 
 // Returns the size of the table and the uptime of its half.

@@ -1,13 +1,15 @@
-//! Equality of tables and of clashes.
+//! Equality of tables, of clashes and of their lists.
 ghost use Rattle.std.specs.Prelude.{◌≡◌, ◌↔◌, Some, IsTrue};
 ghost use Rattle.std.specs.Option.{option_map};
 ghost use Rattle.std.specs.Arc.{arc_value};
 ghost use Rattle.std.specs.Cmp.{partial_equiv_from_equiv};
+ghost use Rattle.std.specs.Cmp.Lexicographic.{pointwise};
 ghost use Rattle.partition_table.specs.Tables.{IsTable, is_name, same_code, same_registration, same_table, same_clash};
-ghost use Rattle.partition_table.specs.laws.Sameness.{tables_equivalent, clashes_equivalent};
+ghost use Rattle.partition_table.specs.laws.Sameness.{tables_equivalent, clashes_equivalent, lists_equivalent};
+ghost use Rattle.partition_table.specs.model.Coding.{IdsDecide, IsDecided};
 ghost use Rattle.partition_table.specs.model.Walking.{IsWithin};
 
-use crate::clash::Clash;
+use crate::clash::{Clash, ClashList};
 use crate::order::order;
 use crate::paired::Paired;
 use crate::table::Table;
@@ -35,17 +37,66 @@ impl PartialEq for Clash {
     ghost laws = { partial_equiv_from_equiv clashes_equivalent };
 
     fn eq(&self, other: &Clash) -> bool {
-        same_name(self.name(), other.name())
-            && same_registration(self.first(), other.first())
-            && same_registration(self.second(), other.second())
-            && self.of_first() == other.of_first()
-            && self.of_second() == other.of_second()
-            && same_program(self.program(), other.program())
+        is_same(self, other, false)
     }
 }
 
 impl Eq for Clash {
     ghost laws = { clashes_equivalent };
+}
+
+impl PartialEq for ClashList {
+    ghost eq = { pointwise same_clash };
+
+    ghost laws = { partial_equiv_from_equiv lists_equivalent };
+
+    // Compares each program once if the tables fit, and not once for each clash.
+    fn eq(&self, other: &ClashList) -> bool {
+        let ids_decide = self.programs().agree_with(other.programs());
+        are_same(self.clashes(), other.clashes(), ids_decide)
+    }
+}
+
+impl Eq for ClashList {
+    ghost laws = { lists_equivalent };
+}
+
+// Checks whether the lists are equal. Compares no code if the ids of programs decide.
+fn are_same(list: &[Clash], others: &[Clash], ids_decide: bool) -> bool
+    requires { IsTrue ids_decide → IdsDecide list.now others.now }
+    ensures { result ≡ pointwise same_clash list.now others.now }
+{
+    let mut rest = others.iter();
+    for mine in list {
+        let Some(other) = rest.next() else {
+            return false;
+        };
+        if !is_same(mine, other, ids_decide) {
+            return false;
+        }
+    }
+    rest.next().is_none()
+}
+
+// Checks whether two clashes are equal. Compares no code if the id of the program decides.
+fn is_same(a: &Clash, b: &Clash, id_decides: bool) -> bool
+    requires { IsTrue id_decides → IsDecided a.now b.now }
+    ensures { result ≡ same_clash a.now b.now }
+{
+    same_name(a.name(), b.name())
+        && same_registration(a.first(), b.first())
+        && same_registration(a.second(), b.second())
+        && a.of_first() == b.of_first()
+        && a.of_second() == b.of_second()
+        && has_same_code(a, b, id_decides)
+}
+
+// Checks whether two clashes that have the same first registration have the same code. Compares none if the id decides.
+fn has_same_code(a: &Clash, b: &Clash, id_decides: bool) -> bool
+    requires { IsTrue id_decides → IsDecided a.now b.now }
+    ensures { IsTrue (same_registration a.now.first b.now.first) → result ≡ same_code a.now.code b.now.code }
+{
+    id_decides || same_program(a.program(), b.program())
 }
 
 // Checks that the other table has each name of this one with the same registration.

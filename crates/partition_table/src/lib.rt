@@ -1,6 +1,7 @@
 //! Tables of names, their clashes, and their merge.
 #![tactic(auto)]
 
+mod both;
 mod builder;
 mod clash;
 mod clashing;

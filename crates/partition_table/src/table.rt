@@ -7,6 +7,7 @@ ghost use Rattle.std.specs.BTreeMap.{IsFromIterResult, Updates, get};
 ghost use Rattle.clash_record.specs.Orders.{name_cmp};
 ghost use Rattle.clash_record.specs.Name.{Name};
 ghost use Rattle.partition_table.specs.Tables.{IsTable, IsCodeOf, agrees_with, max_names, tables_agree, row_for, rows_of, Row};
+ghost use Rattle.partition_table.specs.model.Coding.{HasCodesOf};
 ghost use Rattle.partition_table.specs.model.Keeping.{kept_code, IsKept, IsKeptFor};
 ghost use Rattle.partition_table.specs.Views.{table_by};
 ghost use Rattle.partition_table.specs.declared.fault.TableFault.TheVariants.{NameTaken};
@@ -159,6 +160,14 @@ impl Table {
             rows: self.rows.clone()?,
             programs: self.programs.clone()?,
         })
+    }
+
+    // Copies the programs. Allocates one more owner of each.
+    pub(crate) fn copy_programs(&self) -> Result<BTreeMap<ProgramId, Kept>, AllocError>
+        ensures { IfOk result (λ programs. HasCodesOf (programs_by kept_code programs.entries) self.now) }
+    {
+        let programs = self.programs.clone()?;
+        Ok(programs)
     }
 
     // Checks that no program has one code here and another in the other table.

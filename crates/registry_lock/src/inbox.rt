@@ -1,4 +1,7 @@
 //! The rulings that a side receives during a round.
+ghost use Rattle.std.specs.Prelude.{◌≡◌, Some, IsTrue};
+ghost use Rattle.exchange_core.specs.Sides.{heard_clashes};
+ghost use Rattle.exchange_core.specs.Shown.{shown};
 ghost use Rattle.registry_lock.specs.Telling.{IsTold};
 
 use crossbeam_queue::SegQueue;
@@ -46,11 +49,12 @@ impl Inbox {
         ensures { IsTold board.entry.now.place side result }
     {
         let mut side = side;
+        let is_own = side.has_clashes(board.clashes());
         for _turn in 0..board.clashes().len() {
             let Some(told) = self.next(rt) else {
                 break;
             };
-            take_told(board, &mut side, told);
+            take_told(board, is_own, &mut side, told);
         }
         side
     }
@@ -63,11 +67,18 @@ impl Inbox {
     }
 }
 
-// Lets the side take the board's ruling at the word, if any. Drops a refusal.
-fn take_told(board: &Board<'_>, side: &mut Side, told: Told)
+// Lets the side take the board's ruling at the word, if any. Drops a refusal. `is_own` is whether the side's clashes are
+// those of the board, so that this ruling's needn't be compared.
+fn take_told(board: &Board<'_>, is_own: bool, side: &mut Side, told: Told)
+    requires { IsTrue is_own → heard_clashes (shown side.old) ≡ Some board.now.place.clashes }
     ensures { IsTold board.entry.now.place side.old side.new }
 {
-    if let Some(ruling) = board.ruling(told.k, told.word) {
-        let _ = side.take(ruling);
-    }
+    let Some(ruling) = board.ruling(told.k, told.word) else {
+        return;
+    };
+    let _ = if is_own {
+        side.take_own(ruling)
+    } else {
+        side.take(ruling)
+    };
 }

@@ -5,6 +5,7 @@ use Rattle.std.proofs.lemmas.Bool.Decides.{Decides-eqb, same_from_decides}
 use Rattle.std.proofs.lemmas.Slice.Eq.{slice_eq-Decides}
 use Rattle.std.specs.Bool.{Decides}
 use Rattle.std.specs.Cmp.{IsEquivalence, IsTotalOrder, Equal-is, tied_itself}
+use Rattle.std.specs.Cmp.Lexicographic.{pointwise}
 use Rattle.std.specs.declared.cmp.Ordering.{Ordering}
 use Rattle.std.specs.Ordering.{eq_by_cmp, is_eq}
 use Rattle.std.specs.FinMap.{IsAntisymmetric, entries, same_entries_map}
@@ -157,3 +158,9 @@ tables_equivalent = equivalent_by table_decides
 
 pub clashes_equivalent : IsEquivalence same_clash
 clashes_equivalent = equivalent_by clash_decides
+
+pub list_decides : (cs ds : List Clash) → Decides (pointwise same_clash cs ds) (cs ≡ ds)
+list_decides cs ds = slice_eq-Decides clash_decides cs ds _ refl
+
+pub lists_equivalent : IsEquivalence (pointwise same_clash)
+lists_equivalent = equivalent_by list_decides

@@ -4,7 +4,7 @@ use Rattle.exchange_core.specs.Sides.{take}
 use Rattle.exchange_core.proofs.Taking.{takeable}
 use Rattle.exchange_core.proofs.Due.{room_take}
 use Rattle.exchange_core.proofs.Journaled.{kept_on, few_on}
-use Rattle.exchange_core.proofs.side.Side.take.Goals as goal
+use Rattle.exchange_core.proofs.side.Side.take_if.Goals as goal
 
 pub invariant_of-self-2-clause-replayed : goal.invariant_of-self-2-clause-replayed
 invariant_of-self-2-clause-replayed c =

@@ -1,0 +1,44 @@
+//! The programs of two tables.
+ghost use Rattle.std.specs.Prelude.{IsTrue, ◌↔◌, IfOk};
+ghost use Rattle.partition_table.specs.model.Coding.{AreProgramsOf, AgreeWithBoth, BothAgree};
+ghost use Rattle.partition_table.specs.model.Keeping.{kept_code};
+ghost use Rattle.upload_store.specs.Programs.{programs_by};
+
+use crate::programs::{Kept, programs_agree};
+use crate::table::Table;
+use clash_record::ProgramId;
+use std::alloc::AllocError;
+use std::collections::BTreeMap;
+
+// The programs of two tables, each under its id.
+#[derive(Debug, Drop)]
+pub(crate) struct BothPrograms {
+    pub(crate) a: BTreeMap<ProgramId, Kept>,
+    pub(crate) b: BTreeMap<ProgramId, Kept>,
+}
+
+impl BothPrograms {
+    // Copies the programs of two tables. Allocates one more owner of each.
+    pub(crate) fn of(a: &Table, b: &Table) -> Result<BothPrograms, AllocError>
+        ensures { IfOk result (AreProgramsOf a.now b.now) }
+    {
+        Ok(BothPrograms {
+            a: a.copy_programs()?,
+            b: b.copy_programs()?,
+        })
+    }
+
+    // Checks that no id has one code here and another there.
+    pub(crate) fn agree_with(&self, other: &BothPrograms) -> bool
+        ensures { IsTrue result ↔ BothAgree self.now other.now }
+    {
+        agree_with_both(&self.a, other) && agree_with_both(&self.b, other)
+    }
+}
+
+// Checks that no id has one code here and another there.
+fn agree_with_both(programs: &BTreeMap<ProgramId, Kept>, both: &BothPrograms) -> bool
+    ensures { IsTrue result ↔ AgreeWithBoth (programs_by kept_code programs.now.entries) both.now }
+{
+    programs_agree(programs, &both.a) && programs_agree(programs, &both.b)
+}
