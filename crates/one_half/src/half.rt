@@ -44,21 +44,20 @@ impl Half {
 
     /// Carries out a line.
     pub(crate) fn obey(&mut self, text: &str) -> Result<Reply, Refused> {
-        let Line { word, rest } = line::split(text)?;
-        match (word, rest) {
-            ("upload", [code, "", "", "", ""]) => self.upload(code),
-            ("register", [name, node, serial, stamp, resolver]) => {
-                self.register(name, [node, serial, stamp], resolver)
-            }
-            ("begin", [number, seed, uptime, "", ""]) => self.begin(number, seed, uptime),
-            ("hear", [message, "", "", "", ""]) => self.hear(message),
-            ("settle", [round, "", "", "", ""]) => self.settle(round),
-            ("withdraw", [name, "", "", "", ""]) => self.withdraw(name),
-            ("close", ["", "", "", "", ""]) => self.close(),
-            ("hear-list", [message, "", "", "", ""]) => self.hear_list(message),
-            ("finish", ["", "", "", "", ""]) => Ok(Reply::Finished(self.side.finish(self.alloc)?)),
-            ("abandon", ["", "", "", "", ""]) => self.abandon(),
-            ("names", ["", "", "", "", ""]) => Ok(Reply::Names),
+        let Line { word, count, rest } = line::split(text)?;
+        let [first, second, third, fourth, fifth] = rest;
+        match (word, count) {
+            ("upload", 1) => self.upload(first),
+            ("register", 5) => self.register(first, [second, third, fourth], fifth),
+            ("begin", 3) => self.begin(first, second, third),
+            ("hear", 1) => self.hear(first),
+            ("settle", 1) => self.settle(first),
+            ("withdraw", 1) => self.withdraw(first),
+            ("close", 0) => self.close(),
+            ("hear-list", 1) => self.hear_list(first),
+            ("finish", 0) => self.finish(),
+            ("abandon", 0) => self.abandon(),
+            ("names", 0) => Ok(Reply::Names),
             _ => Err(Refused::words()),
         }
     }
@@ -120,6 +119,10 @@ impl Half {
         let list = decode_withdrawals(self.alloc, &bytes(self.alloc, message)?)?;
         self.side.hear_list(&list)?;
         Ok(Reply::Done)
+    }
+
+    fn finish(&mut self) -> Result<Reply, Refused> {
+        Ok(Reply::Finished(self.side.finish(self.alloc)?))
     }
 
     fn abandon(&mut self) -> Result<Reply, Refused> {

@@ -4,10 +4,11 @@ use heal::ProgramId;
 use hex::FromHexError;
 use std::alloc::{AllocError, Global};
 
-/// A word, and at most five after it. Those that the line lacks are empty.
+/// A word, and how many come after it: at most five. Those that the line lacks are empty.
 #[derive(Clone, Copy, Debug)]
 pub(crate) struct Line<'a> {
     pub word: &'a str,
+    pub count: usize,
     pub rest: [&'a str; 5],
 }
 
@@ -16,6 +17,7 @@ pub(crate) fn split(line: &str) -> Result<Line<'_>, Refused> {
     let mut words = line.split(' ');
     let found = Line {
         word: words.next().unwrap_or(""),
+        count: line.split(' ').count().saturating_sub(1),
         rest: [
             words.next().unwrap_or(""),
             words.next().unwrap_or(""),
