@@ -26,7 +26,7 @@ exchange: two sides with ROWS names begin, hear each other, take a ruling for ea
 nanoseconds of each of these on both sides together.
 messages: a side registers ROWS names, judged in turn by PROGRAMS programs, 0 to 256; prints the least of 5 times in
 nanoseconds of each: of uploading and registering, and of encoding and decoding its offer.
-judge: 1 to 16 WORKERS judge 4,096 clashes by the program in each of 20 rounds; prints the mean time of a round in
+judge: 1 to 16 WORKERS judge 4,096 clashes by the program in each of 20 rounds; prints the least time of a round in
 nanoseconds, and how many verdicts were kept in all.
 ";
 
