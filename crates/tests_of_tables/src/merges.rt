@@ -30,7 +30,7 @@ struct Merge {
 
 /// By the answers alone; then the side that holds what is kept drops it, the side that lost changes nothing, and equal
 /// registrations go by either.
-const MERGES: [Merge; 4] = [
+const MERGES: &[Merge] = &[
     Merge {
         a: &[("db", 2, 1), ("log", 2, 2), ("own", 2, 3), ("same", 3, 1)],
         b: &[("db", 1, 1), ("log", 1, 2), ("same", 3, 1), ("web", 1, 3)],
@@ -107,7 +107,7 @@ fn merge_by(
     Ok(merge(alloc, a, b, by.answers, &gone_a, &gone_b))
 }
 
-fn merged(alloc: Global, case: Merge) -> Result<Table, Fail> {
+fn merged(alloc: Global, case: &Merge) -> Result<Table, Fail> {
     let a = table_of(alloc, case.a)?;
     let b = table_of(alloc, case.b)?;
     Ok(merge_by(alloc, &a, &b, case.by)??)

@@ -67,10 +67,13 @@ fn record_with_facts(rt: HostRuntime) -> Result<(), Fail> {
     Ok(())
 }
 
+// No byte, a space, and 33 bytes.
+const NOT_NAMES: &[&str] = &["", "a b", "aaaaaaaaaaaaaaaaaaaaaaaaaaaaaaaaa"];
+
 #[test]
 fn names_that_are_none(rt: HostRuntime) -> Result<(), Fail> {
-    for bytes in [b"".as_slice(), b"a b".as_slice(), [b'a'; 33].as_slice()] {
-        assert_eq!(rt; name(bytes).err(), Some(BadName));
+    for text in NOT_NAMES {
+        assert_eq!(rt; name(text.as_bytes()).err(), Some(BadName));
     }
     assert!(rt; name(&[b'~'; 32]).is_ok());
     let refusal = NumberedRefusal {

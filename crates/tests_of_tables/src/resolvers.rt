@@ -56,7 +56,7 @@ impl Told {
 }
 
 /// Exit and notify send a notice to the loser's owner, notify-all to both; the other verdicts send none.
-const NOTICES: [(Builtin, Verdict3, Told); 9] = [
+const NOTICES: &[(Builtin, Verdict3, Told)] = &[
     (Builtin::Exit, Verdict3::First, Told::Exit(SECOND)),
     (Builtin::Exit, Verdict3::Second, Told::Exit(FIRST)),
     (Builtin::Notify, Verdict3::First, Told::Conflict(SECOND)),
@@ -74,7 +74,7 @@ fn notices_of_each_verdict(rt: HostRuntime) -> Result<(), BadName> {
     for (resolver, verdict, told) in NOTICES {
         let wanted = told.notices(m);
         let count = wanted.iter().flatten().count();
-        let got = notices(resolver, &m, FIRST, SECOND, verdict);
+        let got = notices(*resolver, &m, FIRST, SECOND, *verdict);
         let all = got.as_slice();
         let counted = (all.len(), got.len(), got.is_empty());
         assert_eq!(rt; counted, (count, count, count == 0));

@@ -17,8 +17,10 @@ fn row_at(table: &Table, place: usize) -> Option<(Name, u32)> {
     Some((*name, registration.owner.serial))
 }
 
-// How many names the table has, and what it has this name registered with.
-fn seen(table: &Table, name: &Name) -> (usize, Option<Registration>) {
+/// How many names a table has, and what it has a name registered with.
+type Found = (usize, Option<Registration>);
+
+fn seen(table: &Table, name: &Name) -> Found {
     (table.len(), table.whereis(name).copied())
 }
 
@@ -28,19 +30,43 @@ fn unregister_twice(table: &mut Table, name: &Name) -> (Option<Registration>, Op
     (first, number(table.unregister(name).err()))
 }
 
+// The names ab, a and b, registered in this order.
+const UNORDERED: &[Row] = &[("ab", 1, 1), ("a", 1, 2), ("b", 1, 3)];
+
+// The first four rows of their table.
+fn ordered(alloc: Global) -> Result<[Option<(Name, u32)>; 4], Fail> {
+    let table = table_of(alloc, UNORDERED)?;
+    Ok([0, 1, 2, 3].map(|place| row_at(&table, place)))
+}
+
 #[test]
 fn rows_in_name_order(rt: HostRuntime) -> Result<(), Fail> {
+    let wanted = [
+        Some((name(b"a")?, 2)),
+        Some((name(b"ab")?, 1)),
+        Some((name(b"b")?, 3)),
+        None,
+    ];
+    assert_eq!(rt; ordered(rt.alloc())?, wanted);
+    Ok(())
+}
+
+// What their table shows of ab before and after it is unregistered twice, and what that returns.
+fn unregistered(
+    alloc: Global,
+) -> Result<(Found, (Option<Registration>, Option<u32>), Found), Fail> {
     let ab = name(b"ab")?;
-    let mut table = table_of(rt.alloc(), &[("ab", 1, 1), ("a", 1, 2), ("b", 1, 3)])?;
-    for (place, text, serial) in [(0, "a", 2), (1, "ab", 1), (2, "b", 3)] {
-        let (name, found) = row_at(&table, place).ok_or("too few rows")?;
-        assert_eq!(rt; (name.as_str(), found), (text, serial));
-    }
-    assert!(rt; row_at(&table, 3).is_none());
-    assert_eq!(rt; seen(&table, &ab), (3, Some(exit_registration(1, 1))));
+    let mut table = table_of(alloc, UNORDERED)?;
+    let before = seen(&table, &ab);
     let gone = unregister_twice(&mut table, &ab);
-    assert_eq!(rt; gone, (Some(exit_registration(1, 1)), Some(31)));
-    assert_eq!(rt; seen(&table, &ab), (2, None));
+    Ok((before, gone, seen(&table, &ab)))
+}
+
+#[test]
+fn a_name_is_unregistered_once(rt: HostRuntime) -> Result<(), Fail> {
+    let ab = Some(exit_registration(1, 1));
+    let wanted = ((3, ab), (ab, Some(31)), (2, None));
+    assert_eq!(rt; unregistered(rt.alloc())?, wanted);
     Ok(())
 }
 
