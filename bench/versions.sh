@@ -2,7 +2,7 @@
 # versions.sh BEFORE: measures this version and an earlier one in turn, with DPDK's rte_bpf and OTP's `global` in the same run.
 # BEFORE is a checkout of the earlier version. Both checkouts have heal_bench and heal_main built by `rt run`, this one also
 # bindings/c/build.sh and bindings/erlang. Needs what build.sh needs, and Debian's erlang-base and erlang-dev. Each time is
-# the least of 25, in nanoseconds for runs, microseconds for rounds, and milliseconds for scripts and clusters.
+# the least of 25, in nanoseconds for runs, and milliseconds for scripts and clusters.
 set -e
 here=$(cd "$(dirname "$0")" && pwd)
 root=$(dirname "$here")
@@ -39,21 +39,6 @@ for file in "$out"/*.hex; do
     old=$(number run "$out/old") new=$(number run "$out/new") copied=$(number run-copied "$out/new") peer=$(number run "$out/peers")
     printf '%-12s %8s %8s %8s %8s %8s %8s\n' "$(basename "$file" .hex)" "$old" "$new" "$copied" "$peer" \
         "$(ratio "$new" "$peer")" "$(ratio "$copied" "$peer")"
-done
-
-printf '\n%-12s %8s %8s %8s\n' workers before after 'of linear'
-hex=$(cat "$out/name_hash.hex")
-for workers in 1 2 4 16; do
-    : > "$out/old" && : > "$out/new"
-    for _ in $(seq $rounds); do
-        "$(bench_of "$before")" judge "$hex" $workers >> "$out/old"
-        "$(bench_of "$root")" judge "$hex" $workers >> "$out/new"
-    done
-    new=$(number judge "$out/new")
-    [ $workers = 1 ] && alone=$new
-    shared=$((workers < 4 ? workers : 4))
-    printf '%-12s %8s %8s %8s\n' $workers $(($(number judge "$out/old") / 1000)) $((new / 1000)) \
-        "$(ratio "$alone" $((new * shared)))"
 done
 
 printf '\n%-12s %8s %8s\n' clashes before after

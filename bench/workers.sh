@@ -1,12 +1,10 @@
 #!/bin/bash
-# workers.sh BEFORE [ROUNDS]: measures rounds of judging 4,096 clashes by this version and an earlier one in turn, and the threads of C
-# of threads.c, which do as much work as one worker. BEFORE is a checkout of the earlier version. Both have heal_bench built.
-# Each time is the least of 25 or ROUNDS, in microseconds. A part of linear is the time of one divided by that of n and by n, or by four
-# if n is more. Needs gcc.
+# workers.sh [ROUNDS]: measures rounds of judging 4,096 clashes, and the threads of C of threads.c, which do as much work as one worker.
+# Needs heal_bench built, and gcc. Each time is the least of 20 rounds in each of 25 or ROUNDS runs, those of C of 25 rounds, in
+# microseconds. A part of linear is the time of one divided by that of n and by n, or by four if n is more.
 set -e
 root=$(cd "$(dirname "$0")/.." && pwd)
-before=$(cd "${1:?usage: workers.sh BEFORE}" && pwd)
-rounds=${2:-25}
+rounds=${1:-25}
 out=$(mktemp -d) && trap 'rm -rf "$out"' EXIT
 gcc -O2 -o "$out/threads" "$root/bench/threads.c" -lpthread
 
@@ -28,26 +26,24 @@ shown() {
 
 # Appends the time of a round in microseconds.
 measure() {
-    "$1/crates/heal_bench/out/heal_bench" judge "$3" "$4" | awk -v word="$2" -v n="$4" '$1 == "judge" { print word, n, $2 / 1000 }' \
-        >> "$out/times"
+    "$root/crates/heal_bench/out/heal_bench" judge "$1" "$2" | awk -v n="$2" '$1 == "judge" { print "heal", n, $2 / 1000 }' >> "$out/times"
 }
 
-printf '%-12s %7s %8s %6s %8s %6s %8s %6s %8s %6s\n' instructions workers before linear after linear chain linear wide linear
+printf '%-12s %7s %8s %6s %8s %6s %8s %6s\n' instructions workers heal linear chain linear wide linear
 for length in 2 102 1024; do
     hex=$(line_of $length)
     [ $length = 102 ] && hex=$(cat "$root/resolvers/name_hash.hex")
     : > "$out/times"
     for _ in $(seq $rounds); do
         for workers in 1 2 4 16; do
-            measure "$before" before "$hex" $workers
-            measure "$root" after "$hex" $workers
+            measure "$hex" $workers
         done
     done
-    "$out/threads" "$(least after 1 "$out/times")" > "$out/threads.$length"
+    "$out/threads" "$(least heal 1 "$out/times")" > "$out/threads.$length"
     cat "$out/threads.$length" >> "$out/times"
     for workers in 1 2 4 16; do
         printf '%-12s %7s' $length $workers
-        for word in before after chain wide; do shown $word $workers "$out/times"; done
+        for word in heal chain wide; do shown $word $workers "$out/times"; done
         echo
     done
 done

@@ -72,7 +72,9 @@ def refusals(half):
     half.expect("settle x", "refused 52: an invalid number: not decimal, with a sign or leading zeros, or too big")
     half.expect("hear 0", "refused 50: invalid hex digits, or the wrong number of them")
     half.expect(f"hear {8 * '00'}", "refused 71 at byte 0: not a message of this kind")
-    half.expect("hear", "refused 70 at byte 0: a message that ends too early")
+    half.expect("hear", "refused 51: an unknown word, the wrong number of words, or an unprintable character")
+    # A message without bytes.
+    half.expect("hear ", "refused 70 at byte 0: a message that ends too early")
     half.expect("upload 95", "refused 3: an incomplete last slot")
     half.expect("settle 0", "refused 34: no exchange is open")
 
