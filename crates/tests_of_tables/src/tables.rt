@@ -1,4 +1,4 @@
-//! Tables: rows told in the order of names, refusals, clones, and refused memory.
+//! Tables: rows in the order of names, refusals, clones, and failed allocations.
 use clash_record::{Name, Registration, ResolverId, name};
 use fixtures::{Row, UNKNOWN, exit_registration, reading, registration, table_of};
 use numbered::{Numbered, NumberedRefusal, refusal_of};
@@ -20,7 +20,7 @@ fn row_at(table: &Table, place: usize) -> Option<(Name, u32)> {
 /// How many names a table has, and what it has a name registered with.
 type Found = (usize, Option<Registration>);
 
-fn seen(table: &Table, name: &Name) -> Found {
+fn found(table: &Table, name: &Name) -> Found {
     (table.len(), table.whereis(name).copied())
 }
 
@@ -51,15 +51,15 @@ fn rows_in_name_order(rt: HostRuntime) -> Result<(), Fail> {
     Ok(())
 }
 
-// What their table shows of ab before and after it is unregistered twice, and what that returns.
+// Unregisters ab twice. Returns what the table has of it before, both answers, and what it has afterwards.
 fn unregistered(
     alloc: Global,
 ) -> Result<(Found, (Option<Registration>, Option<u32>), Found), Fail> {
     let ab = name(b"ab")?;
     let mut table = table_of(alloc, UNORDERED)?;
-    let before = seen(&table, &ab);
+    let before = found(&table, &ab);
     let gone = unregister_twice(&mut table, &ab);
-    Ok((before, gone, seen(&table, &ab)))
+    Ok((before, gone, found(&table, &ab)))
 }
 
 #[test]
@@ -89,7 +89,7 @@ fn refusals_of_register(rt: HostRuntime) -> Result<(), Fail> {
     let taken = refused(rt.alloc(), &mut table, db, exit_registration(1, 9));
     let unknown = refused(rt.alloc(), &mut table, web, registration(1, 1, UNKNOWN));
     assert_eq!(rt; (taken, unknown), (Some(30), Some(41)));
-    assert_eq!(rt; seen(&table, &db), (1, Some(exit_registration(2, 1))));
+    assert_eq!(rt; found(&table, &db), (1, Some(exit_registration(2, 1))));
     Ok(())
 }
 
@@ -130,12 +130,12 @@ fn register_in_the_end(
 
 // If one allocation fails, one call fails and leaves the table unchanged.
 #[test]
-fn survives_want_of_memory(rt: HostRuntime) -> Result<(), Fail> {
+fn survives_a_failed_allocation(rt: HostRuntime) -> Result<(), Fail> {
     let db = name(b"db")?;
     let mut table = Table::new(rt.alloc());
     let row = register_in_the_end(rt.alloc(), &mut table, db)?;
     if row.is_some() {
-        assert_eq!(rt; seen(&table, &db), (1, row));
+        assert_eq!(rt; found(&table, &db), (1, row));
     }
     Ok(())
 }

@@ -133,7 +133,7 @@ fn refuses_in_words(rt: HostRuntime) -> Result<(), Fail> {
 
 // When one allocation fails, at most one upload fails, and the next answers as if nothing had failed.
 #[test]
-fn survives_want_of_memory(rt: HostRuntime) {
+fn survives_a_failed_allocation(rt: HostRuntime) {
     let mut store = UploadStore::new(rt.alloc());
     let first = store.upload(rt.alloc(), &answering(0));
     let kept = store.len();

@@ -24,24 +24,24 @@ fn lesser_is_first(rt: HostRuntime) -> Result<(), Fail> {
             second: exit_registration(2, 1),
             facts: ((3, 6), (2, 5)),
             resolver: EXIT,
-            has_none: true,
+            is_builtin: true,
         };
         assert_eq!(rt; clash, Some(wanted));
     }
     Ok(())
 }
 
-/// What is seen of a clash: its registrations, facts and resolver, and whether it has no program.
+/// The fields of a clash. A built-in resolver has no code.
 #[derive(Clone, Copy, Debug, PartialEq)]
 struct Shown {
     first: Registration,
     second: Registration,
     facts: ((u64, u64), (u64, u64)),
     resolver: ResolverId,
-    has_none: bool,
+    is_builtin: bool,
 }
 
-// How many clashes the tables have, by both counts and by the second place, and what is seen of the first, whose name is db.
+// Returns the count of clashes, by length and by iteration, whether the second is missing, and the first if its name is db.
 fn only_clash(
     alloc: Global,
     left: &[Row],
@@ -63,7 +63,7 @@ fn shown_db(clash: &Clash) -> Option<Shown> {
         second: *clash.second(),
         facts: facts_of(clash),
         resolver: clash.resolver(),
-        has_none: clash.program().is_none(),
+        is_builtin: clash.program().is_none(),
     })
 }
 
