@@ -34,6 +34,8 @@ PROMISES = [
         "exchange_core::Side::" + name for name in
         ("register", "unregister", "begin", "hear", "take", "withdraw", "close_list", "hear_list", "finish", "abandon",
          "whereis", "rows", "events")]),
+    ("a side settles, is renewed, and gives up", ["exchange_core::Side::" + name for name in ("settle", "renew", "give_up")]),
+    ("two sides that settled alike hold one table", ["exchange_core::one_round_theorem"]),
     ("messages have one spelling, and are decoded exactly", [
         "exchange_codec::" + name for name in
         ("encode_offer", "decode_offer", "encode_withdrawals", "decode_withdrawals", "one_message_theorem")]),
@@ -41,6 +43,7 @@ PROMISES = [
      + ["registry_lock::seen_theorem"]),
     ("two sides that meet have one table", ["registry_lock::meet", "registry_lock::tell_round"]),
     ("a cluster heals", ["cluster::Cluster::heal"]),
+    ("a cluster is renewed", ["cluster::Cluster::" + name for name in ("renew", "renew_long")]),
     ("notices of a verdict", ["builtin_resolvers::notices"]),
     ("answers to questions", ["QUESTIONS::reply_to"]),
     ("what a script reads and writes", ["script_engine::run_script"]),

@@ -69,14 +69,14 @@ def register(half, node, code, names):
 def refusals(half):
     """Lines that are refused and change nothing."""
     half.expect("heal", "refused 51: an unknown word, the wrong number of words, or an unprintable character")
-    half.expect("settle x", "refused 52: an invalid number: not decimal, with a sign or leading zeros, or too big")
+    half.expect("begin x 7 60", "refused 52: an invalid number: not decimal, with a sign or leading zeros, or too big")
     half.expect("hear 0", "refused 50: invalid hex digits, or the wrong number of them")
     half.expect(f"hear {8 * '00'}", "refused 71 at byte 0: not a message of this kind")
     half.expect("hear", "refused 51: an unknown word, the wrong number of words, or an unprintable character")
     # A message without bytes.
     half.expect("hear ", "refused 70 at byte 0: a message that ends too early")
     half.expect("upload 95", "refused 3: an incomplete last slot")
-    half.expect("settle 0", "refused 34: no exchange is open")
+    half.expect("settle", "refused 34: no exchange is open")
 
 
 def lost_offer(a, b):
@@ -84,8 +84,8 @@ def lost_offer(a, b):
     old_a = a.word_of("begin 1 7 3600", "offer")
     old_b = b.word_of("begin 1 7 60", "offer")
     a.expect(f"hear {old_b}")
-    a.expect("settle 0")
-    b.expect("settle 0", "refused 39: the exchange isn't complete")
+    a.expect("settle")
+    b.expect("settle", "refused 39: the exchange isn't complete")
     a.expect("abandon")
     b.expect("abandon")
     return old_a, old_b
@@ -103,7 +103,7 @@ def healed(a, b, stale):
     b.expect(f"hear {offer_a}")
     b.expect(f"hear {stale[0]}", "refused 45: the exchange numbers differ")
     for half in (a, b):
-        half.expect("settle 0")
+        half.expect("settle")
     a.expect("withdraw mail")
     a.expect("withdraw mail", "refused 47: the name is already withdrawn")
     b.expect("withdraw queue")

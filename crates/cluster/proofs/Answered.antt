@@ -9,8 +9,8 @@ use Rattle.exchange_core.specs.Sides.{Side}
 use Rattle.exchange_core.specs.Calls.{Call, carried_out}
 use Rattle.exchange_core.specs.Shown.{shown, calls, IsDone, IsUntouched}
 use Rattle.cluster.specs.Clusters.{Cluster, standing_of}
-use Rattle.cluster.specs.Healing.{HasGrown}
-use Rattle.cluster.specs.model.Stages.{Grows}
+use Rattle.cluster.specs.Healing.{HaveGrown}
+use Rattle.cluster.specs.model.Stages.{AddsEvents}
 
 abbrev pub pair : code.Side → code.Side → Cluster
 pair a b = record { a = standing_of a; b = standing_of b }
@@ -40,24 +40,24 @@ pub by_answer : {X : Type 0} (r : Result X SideFault) (old new : code.Side) (cal
 by_answer (Ok x) old new call P done same before after = after (shown new) done.carried
 by_answer (Err e) old new call P done same before after = subst P (sym same.state) before
 
-grows_to : (old new : code.Side) (n : ℕ) → length (calls new) ≡ n → length (calls old) ≤ n → Grows old new
+grows_to : (old new : code.Side) (n : ℕ) → length (calls new) ≡ n → length (calls old) ≤ n → AddsEvents old new
 grows_to old new n e h = subst (λ m. length (calls old) ≤ m) (sym e) h
 
-pub done_grows : (old new : code.Side) (call : Call) → IsDone old call new → Grows old new
+pub done_grows : (old new : code.Side) (call : Call) → IsDone old call new → AddsEvents old new
 done_grows old new call done = grows_to old new _ (ap length done.written) (omega arith)
 
-pub untouched_grows : (old new : code.Side) → IsUntouched old new → Grows old new
+pub untouched_grows : (old new : code.Side) → IsUntouched old new → AddsEvents old new
 untouched_grows old new same = grows_to old new _ (ap length same.journal) (omega arith)
 
 pub answer_grows : {X : Type 0} (r : Result X SideFault) (old new : code.Side) (call : Call) →
-    OnOk r (IsDone old call new) → OnErr r (IsUntouched old new) → Grows old new
+    OnOk r (IsDone old call new) → OnErr r (IsUntouched old new) → AddsEvents old new
 answer_grows (Ok x) old new call done same = done_grows old new call done
 answer_grows (Err e) old new call done same = untouched_grows old new same
 
 pub le_trans : (x y z : ℕ) → x ≤ y → y ≤ z → x ≤ z
 le_trans x y z h k = omega arith
 
-pub grown_on : (was : Cluster) (old_a old_b new_a new_b : code.Side) → HasGrown was (pair old_a old_b) →
-    Grows old_a new_a → Grows old_b new_b → HasGrown was (pair new_a new_b)
+pub grown_on : (was : Cluster) (old_a old_b new_a new_b : code.Side) → HaveGrown was (pair old_a old_b) →
+    AddsEvents old_a new_a → AddsEvents old_b new_b → HaveGrown was (pair new_a new_b)
 grown_on was old_a old_b new_a new_b h a b =
-    record { a = le_trans _ _ _ h.a a; b = le_trans _ _ _ h.b b }
+    record { a = λ few. le_trans _ _ _ (h.a few) a; b = λ few. le_trans _ _ _ (h.b few) b }

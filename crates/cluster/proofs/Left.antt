@@ -1,24 +1,25 @@
 -- The state of a half after a failure.
-use Rattle.std.proofs.Common.{◌≡◌, ℕ, length, Option, None, sym, ap, ◌∙◌, subst, take, inl, inr, arith}
+use Rattle.std.proofs.Common.{◌≡◌, ℕ, length, Option, None, refl, sym, ap, ◌∙◌, subst, take, inl, inr, arith}
 use Rattle.std.specs.Option.{option_map_or}
 use Rattle.std.proofs.lemmas.List.{take_all}
 use Rattle.clash_record.specs.declared.side_id.SideId.{SideId}
 use Rattle.exchange_core.specs.Sides.{Exchange, Side, shown_table, without}
 use Rattle.exchange_core.specs.Finished.{Finished, IsFinished}
 use Rattle.cluster.specs.Clusters.{Cluster, at}
-use Rattle.cluster.specs.Healing.{Plan, gone_of_side, idle_side, IsLeft, as_before, merged, left_open, untouched}
-use Rattle.cluster.specs.model.Stages.{IsRested, IsTrying, IsMerged, rested}
+use Rattle.cluster.specs.Healing.{Plan, HasHeld, gone_of_side, idle_side, IsLeft, as_before, merged, left_open, untouched}
+use Rattle.exchange_core.specs.Sides.{rested}
+use Rattle.cluster.specs.model.Stages.{IsRested, IsTrying, IsMerged}
 
 module _ (plan : Plan) (was : Cluster) (id : SideId) (same : (at was id).side.id ≡ id) where
   pub left_rested : (side : Side) → IsRested (at was id).side side → IsLeft plan was id 0 side
   left_rested side r =
       let is : side ≡ idle_side id (shown_table (at was id).side) side.latest =
       λ i. record { id = (r.id ∙ same) i; table = r.table i; exchange = r.idle i; latest = side.latest } in
-      as_before side.latest is (inl r.latest)
+      as_before side.latest refl is (inl r.latest)
 
   pub left_trying : (n : ℕ) (side : Side) → IsTrying plan was id (gone_of_side id (take n plan.gone)) side →
       IsLeft plan was id n side
-  left_trying n side t = left_open record {
+  left_trying n side t = left_open t.is_new t.under_way.held record {
     exchange = t.exchange;
     is_open = t.opened;
     number = t.under_way.number;
@@ -36,10 +37,10 @@ module _ (plan : Plan) (was : Cluster) (id : SideId) (same : (at was id).side.id
       (subst (λ gone. IsTrying plan was id (gone_of_side id gone) side)
       (sym (take_all (length plan.gone) plan.gone (omega arith))) t)
 
-  pub left_merged : (n : ℕ) (finished : Finished) (side : Side) → IsMerged plan was id finished side →
-      IsLeft plan was id n side
-  left_merged n finished side m =
-      merged finished.rulings finished.table (subst IsFinished m.is m.lawful) m.idle
+  pub left_merged : (finished : Finished) (side : Side) → IsMerged plan was id finished side →
+      IsLeft plan was id (length plan.gone) side
+  left_merged finished side m =
+      merged finished.rulings finished.table (subst IsFinished m.is m.lawful) m.is_new refl m.held m.idle
 
   -- an idle half that showed this table, after n withdrawals
   idle_after : ℕ → Option ℕ → Side
@@ -49,9 +50,10 @@ module _ (plan : Plan) (was : Cluster) (id : SideId) (same : (at was id).side.id
   -- abandoning an open exchange
   pub left_abandoned : (n : ℕ) (side : Side) → IsLeft plan was id n side → IsLeft plan was id n (rested side)
   unfolding idle_after
-  left_abandoned n side (as_before latest e l) = as_before latest (ap rested e) l
-  left_abandoned n side (merged rulings table lawful e) = merged rulings table lawful (ap rested e)
-  left_abandoned n side (left_open o) =
+  left_abandoned n side (as_before latest held e l) = as_before latest held (ap rested e) l
+  left_abandoned n side (merged rulings table lawful is_new all held e) =
+      merged rulings table lawful is_new all held (ap rested e)
+  left_abandoned n side (left_open is_new held o) =
       let names = gone_of_side id (take n plan.gone) in
       let shows : shown_table side ≡ without names (shown_table (at was id).side) =
       ap (λ (x : Option Exchange). option_map_or (λ exchange. without exchange.withdrawn side.table) x side.table)
@@ -59,7 +61,7 @@ module _ (plan : Plan) (was : Cluster) (id : SideId) (same : (at was id).side.id
       ∙ (λ i. without (o.withdrawn i) (o.table i)) in
       let is : rested side ≡ idle_after n side.latest =
       λ i. record { id = (o.id ∙ same) i; table = shows i; exchange = None; latest = side.latest } in
-      as_before side.latest is (inr o.latest)
+      as_before side.latest held is (inr (o.latest, is_new))
   left_abandoned n side (untouched none e) =
       let is : rested side ≡ idle_after 0 (at was id).side.latest =
       ap rested e
@@ -69,5 +71,6 @@ module _ (plan : Plan) (was : Cluster) (id : SideId) (same : (at was id).side.id
         exchange = None;
         latest = (at was id).side.latest;
       }) in
-      as_before (at was id).side.latest (is ∙ ap (λ m. idle_after m (at was id).side.latest) (sym none))
+      as_before (at was id).side.latest (subst (λ m. HasHeld was id (take m plan.gone)) (sym none) refl)
+      (is ∙ ap (λ m. idle_after m (at was id).side.latest) (sym none))
       (inl (ap (λ (s : Side). s.latest) e))

@@ -17,7 +17,7 @@ use Rattle.verdict_board.specs.Boards.{Place}
 use Rattle.registry_lock.specs.Telling.{all_carried_out, takes_of, IsTold}
 use Rattle.cluster.specs.Clusters.{Cluster}
 use Rattle.cluster.specs.Healing.{Plan, gone_of_side, IsFailed, IsLeft}
-use Rattle.cluster.specs.model.Stages.{AreSides, Grows, IsTrying, AreTrying, IsMerged, IsInRounds, AreInRounds}
+use Rattle.cluster.specs.model.Stages.{AreSides, AddsEvents, IsTrying, AreTrying, IsMerged, IsInRounds, AreInRounds}
 use Rattle.cluster.proofs.Answered.{pair, grown_on}
 use Rattle.exchange_core.specs.laws.Carried.{some_inj, goes}
 use Rattle.cluster.proofs.Steps.{takes}
@@ -71,12 +71,13 @@ told_half place plan was id None old new told t =
 told_half place plan was id (Some finished) old new told m = record {
   is = m.is;
   lawful = m.lawful;
+  is_new = m.is_new;
   held = m.held;
   idle =
       sym (told_idle told.rulings (shown old) (shown new) (ap (λ (s : Side). s.exchange) m.idle) told.carried) ∙ m.idle;
 }
 
-told_grows : (place : Place) (old new : code.Side) → IsTold place old new → Grows old new
+told_grows : (place : Place) (old new : code.Side) → IsTold place old new → AddsEvents old new
 told_grows place old new told =
     let count : length (calls new) ≡ length (takes_of told.rulings) + length (calls old) =
     ap length told.written ∙ length-append (takes_of told.rulings) (calls old) in
@@ -98,7 +99,7 @@ pub finished_both : (old_a old_b new_a new_b : code.Side) (plan : Plan) (was : C
     (of_a of_b now_a now_b : Option Finished) →
     (IsInRounds plan was A of_a (shown old_a) → IsInRounds plan was A now_a (shown new_a)) →
     (IsInRounds plan was B of_b (shown old_b) → IsInRounds plan was B now_b (shown new_b)) →
-    Grows old_a new_a → Grows old_b new_b → AreInRounds plan was of_a of_b (pair old_a old_b) →
+    AddsEvents old_a new_a → AddsEvents old_b new_b → AreInRounds plan was of_a of_b (pair old_a old_b) →
     AreInRounds plan was now_a now_b (pair new_a new_b)
 finished_both old_a old_b new_a new_b plan was of_a of_b now_a now_b a b grows_a grows_b rounds = record {
   a = a rounds.a;
@@ -132,9 +133,9 @@ rounds_failed plan was of_a of_b now sides rounds =
       count = all;
       a =
           left_in_rounds plan was A all of_a now.a.side (left_all plan was A sides.a now.a.side)
-          (λ f m. left_merged plan was A sides.a all f now.a.side m) rounds.a;
+          (λ f m. left_merged plan was A sides.a f now.a.side m) rounds.a;
       b =
           left_in_rounds plan was B all of_b now.b.side (left_all plan was B sides.b now.b.side)
-          (λ f m. left_merged plan was B sides.b all f now.b.side m) rounds.b;
+          (λ f m. left_merged plan was B sides.b f now.b.side m) rounds.b;
       grown = rounds.grown;
     }

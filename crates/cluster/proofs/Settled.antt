@@ -50,6 +50,8 @@ settled plan was now first second rulings all count place rounds same_clashes ha
       clashes_are = same_clashes;
       withdrawn_are = refl;
       count_is = have.counted ∙ ap (λ (t : Table). len t) (sym met.first_has);
+      new_a = rounds.a.is_new;
+      new_b = rounds.b.is_new;
       held_a = rounds.a.held;
       held_b = rounds.b.held;
       a = rounds.a.idle;

@@ -1,12 +1,12 @@
 -- A half after each call of an exchange.
-use Rattle.std.proofs.Common.{◌≡◌, ℕ, Bool, true, false, if◌then◌else◌, List, [], ◌∷◌, ◌++◌, Option, Some, None, is_some, refl, sym, ap, ◌∙◌, subst, option_and_then}
+use Rattle.std.proofs.Common.{◌≡◌, ℕ, Bool, true, false, ◌&&◌, if◌then◌else◌, List, [], ◌∷◌, ◌++◌, Option, Some, None, is_some, refl, sym, ap, ◌∙◌, subst, option_and_then}
 use Rattle.std.specs.Option.{option_map_or}
 use Rattle.partition_table.specs.declared.judged.Judged.{Judged}
 use Rattle.clash_record.specs.declared.side_id.SideId.{SideId}
 use Rattle.clash_record.specs.declared.side_id.SideId.TheVariants.{A, B}
 use Rattle.clash_record.specs.Name.{Name}
 use Rattle.partition_table.specs.Tables.{Table}
-use Rattle.exchange_core.specs.Sides.{Offer, Withdrawals, Heard, Exchange, Side, new_exchange, begin, hear_in, hear_first, heard_of, hear, clashes_of, take_heard, take_in, take, withdraw_in, withdraw, close_in, close_list, hear_list_in, hear_list, finish, in_exchange, merged_table, shown_table}
+use Rattle.exchange_core.specs.Sides.{Offer, Withdrawals, Heard, Exchange, Side, new_exchange, is_above, begin, hear_in, hear_first, heard_of, hear, clashes_of, take_heard, take_in, take, withdraw_in, withdraw, close_in, close_list, hear_list_in, hear_list, finish, in_exchange, merged_table, shown_table}
 use Rattle.exchange_core.specs.Worlds.{offer_of, list_of}
 use Rattle.exchange_core.specs.Finished.{Finished, IsFinished, Half, finished_by, finished_in, finished_of, finished_from, all_held}
 use Rattle.cluster.specs.Clusters.{Cluster, at}
@@ -14,6 +14,10 @@ use Rattle.cluster.specs.Healing.{Plan, gone_of_side, finished_as, idle_side}
 use Rattle.cluster.specs.model.Stages.{other, uptime_of, IsRested, offer_in, HasHeard, IsUnderWay, IsTrying, IsMerged}
 use Rattle.exchange_core.specs.laws.Carried.{some_inj, when, unless, when_some, goes, found}
 use Rattle.cluster.proofs.Held.{one_held}
+
+both_true : (a b : Bool) → (a && b) ≡ true → b ≡ true
+both_true true b h = h
+both_true false b h = cc
 
 module _ (plan : Plan) (was : Cluster) (id : SideId) where
   -- the offer that a half makes
@@ -33,6 +37,7 @@ module _ (plan : Plan) (was : Cluster) (id : SideId) where
     same_id = r.id ∙ same;
     table = r.table;
     latest = refl;
+    is_new = subst (λ (l : Option ℕ). is_above plan.number l ≡ true) r.latest (both_true _ _ (when _ _ _ e).0);
     exchange = new_exchange plan.number plan.seed (uptime_of id plan.uptimes);
     opened = refl;
     under_way = record {
@@ -58,6 +63,7 @@ module _ (plan : Plan) (was : Cluster) (id : SideId) where
         same_id = t.same_id;
         table = t.table;
         latest = t.latest;
+        is_new = t.is_new;
         exchange = g.after;
         opened = refl;
         under_way = keeps g.before g.after g.does u;
@@ -227,6 +233,7 @@ module _ (plan : Plan) (was : Cluster) (id : SideId) where
         is = is ∙ (λ i. finished_as plan was (ap (λ (x : Finished). x.rulings) (sym is) i)
             (ap (λ (x : Finished). x.table) (sym is) i));
         lawful = lawful;
+        is_new = t.is_new;
         held = t.under_way.held;
         idle = sym f.new_is ∙ idle;
       }

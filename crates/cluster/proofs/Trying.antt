@@ -1,6 +1,8 @@
 -- Both halves after each stage of an exchange.
-use Rattle.std.proofs.Common.{◌≡◌, ℕ, List, [], ◌∷◌, ◌++◌, take, Some, refl, sym, ap, ◌∙◌, subst, length, get_or, ◌<◌, ◌+◌, arith}
+use Rattle.std.proofs.Common.{◌≡◌, ℕ, ◌≤◌, Bool, true, false, ◌&&◌, nat_lt, List, [], ◌∷◌, ◌++◌, take, Some, refl, sym, ap, ◌∙◌, subst, length, get_or, ◌<◌, ◌+◌, arith}
 use Rattle.std.proofs.lemmas.Grind.{take_at_read}
+use Rattle.std.proofs.lemmas.Bool.Decides.{nat_tests}
+use Rattle.std.specs.Bool.{MatchBool}
 use Rattle.std.specs.Prelude.{OnOk, OnErr, IfOk}
 use Rattle.std.specs.declared.result.Result.{Result}
 use Rattle.std.specs.declared.result.Result.TheVariants.{Ok, Err}
@@ -14,9 +16,10 @@ use Rattle.exchange_core.specs.Sides.{Side, Offer, Withdrawals}
 use Rattle.exchange_core.specs.Calls.{Call, Begin, Hear, Withdraw, Close_list, Hear_list, carried_out}
 use Rattle.exchange_core.specs.Shown.{shown, IsDone, IsUntouched}
 use Rattle.clash_record.specs.declared.halves.Withdrawal.{Withdrawal}
-use Rattle.cluster.specs.Clusters.{Cluster, at}
-use Rattle.cluster.specs.Healing.{Plan, gone_of_side, IsLeft, untouched, IsFailed}
-use Rattle.cluster.specs.model.Stages.{AreSides, Grows, rested, AreRested, AreOffers, IsTrying, AreTrying}
+use Rattle.cluster.specs.Clusters.{Standing, Cluster, at, half_full, is_long, IsRenewed, IsFresh, AreFresh}
+use Rattle.cluster.specs.Healing.{Plan, Grows, gone_of_side, IsLeft, untouched, IsFailed}
+use Rattle.exchange_core.specs.Sides.{rested}
+use Rattle.cluster.specs.model.Stages.{AreSides, AddsEvents, IsRested, AreRested, HaveAbandoned, AreOffers, IsTrying, AreTrying}
 use Rattle.cluster.proofs.Answered.{pair, was_ok, by_answer, done_grows, answer_grows, le_trans, grown_on}
 use Rattle.cluster.proofs.Steps.{begun, hears, withdraws, closes, hears_list}
 use Rattle.cluster.proofs.Left.{left_rested, left_trying, left_all, left_abandoned}
@@ -26,7 +29,7 @@ use Rattle.cluster.proofs.Left.{left_rested, left_trying, left_all, left_abandon
 -- a side that abandoned its open exchange, or is unchanged
 abbrev pub RestsOrStays : {X : Type 0} → Result X SideFault → code.Side → code.Side → Type 0
 RestsOrStays r old new =
-    OnOk r (shown new ≡ rested (shown old)) × OnErr r (shown new ≡ shown old) × Grows old new
+    OnOk r (shown new ≡ rested (shown old)) × OnErr r (shown new ≡ shown old) × AddsEvents old new
 
 left_still : {X : Type 0} (r : Result X SideFault) (plan : Plan) (was : Cluster) (id : SideId) (n : ℕ)
     (old new : code.Side) → (at was id).side.id ≡ id → OnOk r (shown new ≡ rested (shown old)) →
@@ -179,7 +182,7 @@ withdrawn_of_a (Ok x) one old_a new_a b is done = λ plan was gone trying. recor
   b =
       subst (λ names. IsTrying plan was B names (shown b)) (none_more B gone one (names_of B one A is)) trying.b;
   grown = record {
-    a = le_trans _ _ _ trying.grown.a (done_grows old_a new_a (Withdraw one.name) done);
+    a = λ few. le_trans _ _ _ (trying.grown.a few) (done_grows old_a new_a (Withdraw one.name) done);
     b = trying.grown.b;
   };
 }
@@ -198,7 +201,7 @@ withdrawn_of_b (Ok x) one a old_b new_b is done = λ plan was gone trying. recor
       (withdraws plan was B (gone_of_side B gone) (shown old_b) (shown new_b) one.name done.carried trying.b);
   grown = record {
     a = trying.grown.a;
-    b = le_trans _ _ _ trying.grown.b (done_grows old_b new_b (Withdraw one.name) done);
+    b = λ few. le_trans _ _ _ (trying.grown.b few) (done_grows old_b new_b (Withdraw one.name) done);
   };
 }
 withdrawn_of_b (Err e) one a old_b new_b is done = tt
@@ -228,7 +231,7 @@ nothing_done plan was = record {
   count = 0;
   a = untouched refl refl;
   b = untouched refl refl;
-  grown = record { a = omega arith; b = omega arith };
+  grown = record { a = λ few. omega arith; b = λ few. omega arith };
 }
 
 -- both halves are idle
@@ -251,3 +254,39 @@ pub one_taken : (i : ℕ) (gone : List Withdrawal) (one : Withdrawal) → i < le
     take i gone ++ one ∷ [] ≡ take (i + 1) gone
 one_taken i gone one below is =
     ap (λ (w : Withdrawal). take i gone ++ w ∷ []) is ∙ sym (take_at_read gone i one below).1
+
+-- ---- renewing
+
+fresh_side : (old new : Standing) → IsFresh old new → new.side ≡ old.side
+fresh_side old new = by_length (is_long old)
+  where
+    by_length : (long : Bool) → MatchBool long (IsRenewed old new) (new ≡ old) → new.side ≡ old.side
+    by_length true fresh = fresh.side
+    by_length false same = ap (λ (s : Standing). s.side) same
+
+-- a journal that is less than half full isn't renewed after one event more
+fresh_grows : (was mid now : Standing) → Grows was mid → mid.events ≤ was.events + 1 → IsFresh mid now → Grows was now
+fresh_grows was mid now grows few fresh low = by_length (is_long mid) refl fresh
+  where
+    by_length : (long : Bool) → is_long mid ≡ long → MatchBool long (IsRenewed mid now) (now ≡ mid) →
+        was.events ≤ now.events
+    by_length true is renewed = absurd (not_long _ is)
+      where
+        not_long : (idle : Bool) → (idle && nat_lt half_full mid.events) ≡ true → ⊥
+        not_long true is = grind (arith, nat_tests)
+        not_long false is = cc
+    by_length false is same = subst (λ (s : Standing). was.events ≤ s.events) (sym same) (grows low)
+
+fresh_rested : (was mid now : Side) → now ≡ mid → IsRested was mid → IsRested was now
+fresh_rested was mid now same rest = subst (IsRested was) (sym same) rest
+
+-- idle halves whose long journals were renewed are idle
+pub rested_fresh : (was mid now : Cluster) → HaveAbandoned was mid → AreFresh mid now → AreRested was now
+rested_fresh was mid now left fresh = record {
+  a = fresh_rested was.a.side mid.a.side now.a.side (fresh_side mid.a now.a fresh.a) left.rested.a;
+  b = fresh_rested was.b.side mid.b.side now.b.side (fresh_side mid.b now.b fresh.b) left.rested.b;
+  grown = record {
+    a = fresh_grows was.a mid.a now.a left.rested.grown.a left.few_a fresh.a;
+    b = fresh_grows was.b mid.b now.b left.rested.grown.b left.few_b fresh.b;
+  };
+}

@@ -1,5 +1,5 @@
 -- The outcome of an exchange of the two halves.
-use Rattle.std.specs.Prelude.{◌≡◌, ◌⊎◌, ℕ, ◌≤◌, Bool, true, not, ◌&&◌, IsTrue, if◌then◌else◌, List, [], ◌∷◌, ◌++◌, take, Option, Some, None}
+use Rattle.std.specs.Prelude.{◌≡◌, ◌⊎◌, ℕ, ◌<◌, ◌≤◌, Bool, true, not, ◌&&◌, IsTrue, if◌then◌else◌, List, [], ◌∷◌, ◌++◌, length, take, Option, Some, None}
 use Rattle.std.specs.List.{filter_map}
 use Rattle.std.specs.FinMap.{len, contains_key}
 use Rattle.clash_record.specs.Name.{Name}
@@ -9,9 +9,9 @@ use Rattle.clash_record.specs.declared.side_id.SideId.{SideId}
 use Rattle.clash_record.specs.declared.side_id.SideId.TheVariants.{A, B}
 use Rattle.partition_table.specs.Tables.{Table, Gone, is_in}
 use Rattle.partition_table.specs.declared.judged.Judged.{Judged}
-use Rattle.exchange_core.specs.Sides.{Side, Exchange, is_side, shown_table, without}
+use Rattle.exchange_core.specs.Sides.{Side, Exchange, is_above, is_side, shown_table, without}
 use Rattle.exchange_core.specs.Finished.{Finished, IsFinished, clashes_merged}
-use Rattle.cluster.specs.Clusters.{Cluster, at}
+use Rattle.cluster.specs.Clusters.{Standing, Cluster, at, half_full}
 use Rattle.cluster.specs.Healings.{Healing}
 use Rattle.cluster.specs.declared.plan.Plan as code
 
@@ -67,10 +67,21 @@ IsLawful plan old rulings table = IsFinished (finished_as plan old rulings table
 abbrev pub idle_side : SideId → Table → Option ℕ → Side
 idle_side id table latest = record { id = id; table = table; exchange = None; latest = latest }
 
--- no event of a journal is lost
-pub record HasGrown (old new : Cluster) : Type 0 where
-  pub a : old.a.events ≤ new.a.events
-  pub b : old.b.events ≤ new.b.events
+-- a journal that is less than half full loses no event. A fuller one may be renewed
+abbrev pub Grows : Standing → Standing → Type 0
+Grows old new = old.events < half_full → old.events ≤ new.events
+
+pub record HaveGrown (old new : Cluster) : Type 0 where
+  pub a : Grows old.a new.a
+  pub b : Grows old.b new.b
+
+-- the plan's number is above every number that the half began
+abbrev pub IsNew : Plan → Cluster → SideId → Type 0
+IsNew plan old id = IsTrue (is_above plan.number (at old id).side.latest)
+
+-- the half held each of its names among these, and withdrew it once
+abbrev pub HasHeld : Cluster → SideId → List Withdrawal → Type 0
+HasHeld old id gone = AreHeld (shown_table (at old id).side) (gone_of_side id gone)
 
 -- the split is healed: both halves have one table, the lawful merge of the two that they showed, and each half held the
 -- names that it withdrew, each once
@@ -80,15 +91,18 @@ pub record IsHealed (plan : Plan) (old new : Cluster) (healing : Healing) : Type
   pub clashes_are : healing.clashes ≡ clashes_merged (finished_as plan old healing.rulings table)
   pub withdrawn_are : healing.withdrawn ≡ plan.gone
   pub count_is : healing.names ≡ len table
-  pub held_a : AreHeld (shown_table old.a.side) (gone_of_side A plan.gone)
-  pub held_b : AreHeld (shown_table old.b.side) (gone_of_side B plan.gone)
+  pub new_a : IsNew plan old A
+  pub new_b : IsNew plan old B
+  pub held_a : HasHeld old A plan.gone
+  pub held_b : HasHeld old B plan.gone
   pub a : new.a.side ≡ idle_side A table (Some plan.number)
   pub b : new.b.side ≡ idle_side B table (Some plan.number)
-  pub grown : HasGrown old new
+  pub grown : HaveGrown old new
 
--- the number of the side's latest exchange is unchanged, or the plan's
-abbrev pub IsLatest : Plan → Side → Side → Type 0
-IsLatest plan old new = (new.latest ≡ old.latest) ⊎ (new.latest ≡ Some plan.number)
+-- the number of the side's latest exchange is unchanged, or the plan's, which is new
+abbrev pub IsLatest : Plan → Cluster → SideId → Side → Type 0
+IsLatest plan old id new =
+    (new.latest ≡ (at old id).side.latest) ⊎ ((new.latest ≡ Some plan.number) × IsNew plan old id)
 
 -- the planned exchange is open, of the table that the side showed, and the side withdrew these names
 pub record IsOpen (plan : Plan) (old new : Side) (names : List Name) : Type 0 where
@@ -101,16 +115,18 @@ pub record IsOpen (plan : Plan) (old new : Side) (names : List Name) : Type 0 wh
   pub id : new.id ≡ old.id
   pub latest : new.latest ≡ Some plan.number
 
--- A side after an exchange that failed once the first `count` planned names were withdrawn: idle with the table that it
--- showed, without its names among those; idle with a lawful merge; left open; or unchanged, where not even its earlier
--- exchange was abandoned and nothing was withdrawn
+-- A side after an exchange that failed once the first `count` planned names were withdrawn, each held before: idle with
+-- the table that it showed, without its names among those; idle with a lawful merge, for which all planned names were
+-- withdrawn; left open; or unchanged, where not even its earlier exchange was abandoned and nothing was withdrawn
 pub data IsLeft (plan : Plan) (old : Cluster) (id : SideId) (count : ℕ) (new : Side) : Type 0 where
-  as_before : (latest : Option ℕ) →
+  as_before : (latest : Option ℕ) → HasHeld old id (take count plan.gone) →
       new ≡ idle_side id (without (gone_of_side id (take count plan.gone)) (shown_table (at old id).side)) latest →
-      IsLatest plan (at old id).side new → IsLeft plan old id count new
-  merged : (rulings : List Judged) (table : Table) → IsLawful plan old rulings table →
-      new ≡ idle_side id table (Some plan.number) → IsLeft plan old id count new
-  left_open : IsOpen plan (at old id).side new (gone_of_side id (take count plan.gone)) → IsLeft plan old id count new
+      IsLatest plan old id new → IsLeft plan old id count new
+  merged : (rulings : List Judged) (table : Table) → IsLawful plan old rulings table → IsNew plan old id →
+      count ≡ length plan.gone → HasHeld old id plan.gone → new ≡ idle_side id table (Some plan.number) →
+      IsLeft plan old id count new
+  left_open : IsNew plan old id → HasHeld old id (take count plan.gone) →
+      IsOpen plan (at old id).side new (gone_of_side id (take count plan.gone)) → IsLeft plan old id count new
   untouched : count ≡ 0 → new ≡ (at old id).side → IsLeft plan old id count new
 
 -- the exchange failed; the names withdrawn of the two halves are the first `count` of the plan
@@ -118,4 +134,4 @@ pub record IsFailed (plan : Plan) (old new : Cluster) : Type 0 where
   pub count : ℕ
   pub a : IsLeft plan old A count new.a.side
   pub b : IsLeft plan old B count new.b.side
-  pub grown : HasGrown old new
+  pub grown : HaveGrown old new

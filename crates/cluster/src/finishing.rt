@@ -6,7 +6,7 @@ ghost use Rattle.exchange_core.specs.Finished.{IsFinished, finished_from};
 ghost use Rattle.exchange_core.specs.Shown.{shown, IsDone, IsUntouched};
 ghost use Rattle.cluster.specs.Clusters as shown_as;
 ghost use Rattle.cluster.specs.Healing as planned;
-ghost use Rattle.cluster.specs.model.Stages.{Grows, IsInRounds};
+ghost use Rattle.cluster.specs.model.Stages.{AddsEvents, IsInRounds};
 
 use crate::fault::HealFault;
 use exchange_core::{Finished, Side, SideFault};
@@ -36,7 +36,7 @@ impl Finishing {
         ensures goes_on { (plan : planned.Plan) (was : shown_as.Cluster) (id : SideId)
             → IsInRounds plan was id self.old.finished (shown side.old)
             → IsInRounds plan was id self.new.finished (shown side.new) }
-        ensures grown { Grows side.old side.new }
+        ensures grown { AddsEvents side.old side.new }
     {
         if self.finished.is_some() {
             return;

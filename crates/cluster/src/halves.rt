@@ -1,11 +1,12 @@
 //! An exchange up to the lists of withdrawn names.
-ghost use Rattle.std.specs.Prelude.{◌≡◌, [], ◌∷◌, ◌++◌, List, Ok, OnOk, OnErr, IfOk};
+ghost use Rattle.std.specs.Prelude.{◌≡◌, ◌≤◌, ◌+◌, [], ◌∷◌, ◌++◌, List, length, Ok, OnOk, OnErr, IfOk};
 ghost use Rattle.clash_record.specs.declared.halves.Withdrawal.{Withdrawal};
-ghost use Rattle.exchange_core.specs.Shown.{shown};
+ghost use Rattle.exchange_core.specs.Shown.{shown, calls};
 ghost use Rattle.cluster.specs.Clusters as shown_as;
 ghost use Rattle.cluster.specs.Healing as planned;
 ghost use Rattle.cluster.specs.Healing.{plan_of, IsFailed};
-ghost use Rattle.cluster.specs.model.Stages.{halves_of, AreSides, Grows, rested, AreRested, AreOffers, AreTrying};
+ghost use Rattle.exchange_core.specs.Sides.{rested};
+ghost use Rattle.cluster.specs.model.Stages.{halves_of, AreSides, AddsEvents, AreRested, HaveAbandoned, AreOffers, AreTrying};
 
 use crate::fault::HealFault;
 use crate::plan::Plan;
@@ -23,7 +24,7 @@ pub(crate) struct Halves {
 impl Halves {
     // Abandons each open exchange. A half that rejects this is unchanged.
     pub fn abandon_open(&mut self) -> Result<(), HealFault>
-        ensures rested { OnOk result (AreRested (halves_of self.old) (halves_of self.new)) }
+        ensures rested { OnOk result (HaveAbandoned (halves_of self.old) (halves_of self.new)) }
         // Halves that a failure left stay so.
         ensures left { (plan : planned.Plan) (was : shown_as.Cluster) → AreSides was
             → IsFailed plan was (halves_of self.old)
@@ -113,7 +114,8 @@ impl Halves {
 fn abandon_open(side: &mut Side) -> Result<(), SideFault>
     ensures rested { OnOk result (shown side.new ≡ rested (shown side.old)) }
     ensures same { OnErr result (shown side.new ≡ shown side.old) }
-    ensures grown { Grows side.old side.new }
+    ensures grown { AddsEvents side.old side.new }
+    ensures few { length (calls side.new) ≤ length (calls side.old) + 1 }
 {
     match side.abandon() {
         Err(SideFault::NotHealing) => Ok(()),

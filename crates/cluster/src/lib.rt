@@ -7,6 +7,7 @@ mod finishing;
 mod halves;
 mod healing;
 mod plan;
+mod renewing;
 mod settling;
 
 pub use cluster::Cluster;

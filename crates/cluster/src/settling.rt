@@ -32,7 +32,8 @@ use verdict_board::{Board, Seat, open};
 impl Cluster {
     /// Heals the split: the halves exchange their tables, `workers` judge the clashes, and both keep the merge.
     ///
-    /// First abandons an exchange that an earlier failure left open. On failure, abandons each open half, unless the
+    /// First abandons an exchange that an earlier failure left open, and renews each journal that has more than 32,768
+    /// events, so that an exchange fits. On failure, abandons each open half, unless the
     /// half rejects that, and returns the fault with the least number met: of the calls of a side, of `meet`, or 90 when
     /// out of memory. A half that finished stays merged. Requires 1 to 16 workers, and waits for them.
     pub fn heal<G: Gate + Sync, R: Threads + Wait + Sync>(
@@ -60,7 +61,7 @@ impl Cluster {
 }
 
 impl Halves {
-    // Abandons an open exchange, tries the new one, and abandons it after a failure.
+    // Abandons an open exchange, renews long journals, tries the new exchange, and abandons it after a failure.
     fn heal<G: Gate + Sync, R: Threads + Wait + Sync>(
         &mut self,
         rt: &R,
@@ -76,6 +77,7 @@ impl Halves {
             → IsFailed (plan_of plan.entry.now) (halves_of self.old) (halves_of self.new)) }
     {
         self.abandon_open()?;
+        self.renew_long();
         match self.exchange(rt, alloc, plan, workers, gate) {
             Ok(healing) => Ok(healing),
             Err(fault) => Err(self.give_up(fault)),

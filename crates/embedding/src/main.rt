@@ -43,6 +43,9 @@ fn main(rt: HostRuntime) -> io::Result<ExitCode> {
         Ok(healing) => {
             print_healing(&rt, &healing)?;
             print_names(&rt, &cluster)?;
+            if let Ok([a, b]) = renew(&mut cluster) {
+                println!(&rt; "Renewed, the journals have {a} and {b} events")?;
+            }
             Ok(ExitCode::SUCCESS)
         }
         Err(Refused(refusal)) => {
@@ -124,6 +127,16 @@ fn print_clash(rt: &impl Print, clash: &Clash, verdict: Verdict3) -> io::Result<
         }
     }
     Ok(())
+}
+
+// Renews the journals of both halves, so that they have room for further exchanges. Returns the number of events of each.
+fn renew(cluster: &mut Cluster) -> Result<[usize; 2], Refused> {
+    cluster.renew(SideId::A)?;
+    cluster.renew(SideId::B)?;
+    Ok([
+        cluster.side(SideId::A).events(),
+        cluster.side(SideId::B).events(),
+    ])
 }
 
 // Prints each name with its owner on half A and on half B.

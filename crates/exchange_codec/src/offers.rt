@@ -127,7 +127,7 @@ pub fn decode_offer(alloc: Global, bytes: &[u8]) -> Result<Offer, MessageFault>
         → ReturnsOrRunsOut message_fault_number result (Ok offer) }
     // A refusal has its cause.
     ensures refused { IfErr result (HasCause message_fault_number (IsOfferFault bytes.now)) }
-    // The fault of the bytes is returned, unless memory runs out; bytes have at most one.
+    // A fault of the bytes is returned, unless memory runs out.
     ensures told { (fault : MessageFault) → IsOfferFault bytes.now fault
         → ReturnsOrRunsOut message_fault_number result (Err fault) }
 {

@@ -39,6 +39,8 @@ pub fn encode_withdrawals(alloc: Global, list: &Withdrawals) -> Result<Vec<u8>, 
 }
 
 /// Encodes the list that a side makes when it closes its list with these names. Fails only when out of memory.
+///
+/// For repeated names, or more than 4,096, the bytes spell no list.
 pub fn spell_withdrawals(
     alloc: Global,
     side: SideId,

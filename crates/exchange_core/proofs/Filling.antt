@@ -1,14 +1,12 @@
 -- Places that get their rulings one after another.
-use Rattle.std.proofs.Common.{◌≡◌, ℕ, suc, true, false, is_some, get_or, subst, ◌+◌, ◌<◌, ◌≤◌, List, [], ◌∷◌, ◌++◌, length, take, drop, set, map, filter, Option, Some, None, is_none, slice_get, slice_set, reverse, refl, sym, ap, ◌∙◌, append_assoc, arith, add-one, drop-cons}
+use Rattle.std.proofs.Common.{◌≡◌, ℕ, suc, true, false, is_some, get_or, subst, ◌+◌, ◌<◌, ◌≤◌, List, [], ◌∷◌, ◌++◌, length, take, drop, set, filter, Option, Some, None, is_none, slice_get, slice_set, reverse, refl, sym, ap, ◌∙◌, append_assoc, arith, add-one, drop-cons}
 use Rattle.std.proofs.lemmas.List.{take_more, take_more_set, drop-set-lt, reverse-append}
 use Rattle.std.proofs.lemmas.Option.{get_or_from_slice_get, slice_get_within, slice_get-get_or}
-use Rattle.std.specs.List.{fold}
 use Rattle.partition_table.specs.Tables.{Clash}
-use Rattle.exchange_core.specs.declared.journal.Event.{Event}
-use Rattle.exchange_core.specs.declared.journal.Event.TheVariants.{Take}
 use Rattle.exchange_core.specs.Sides.{Judged}
 use Rattle.exchange_core.specs.Settling.{filled, lacking}
-use Rattle.exchange_core.specs.model.Settling.{take_event}
+use Rattle.exchange_core.specs.Calls.{Call, Take}
+use Rattle.exchange_core.specs.model.Settling.{take_calls}
 
 -- what is at k stands first of what is left
 left_at : {X : Type 0} (xs : List X) (k : ℕ) (x : X) → slice_get xs k ≡ Some x → drop k xs ≡ x ∷ drop (suc k) xs
@@ -92,37 +90,42 @@ is_held rs k within e = something (get_or rs k None) refl e
     something None is e = cc
     something (Some j) is e = (j, slice_get-get_or rs k None within ∙ ap Some is)
 
+-- the latest of a list stands first once the list is reversed
+pub reverse_onto : {X : Type 0} (x : X) (xs ys : List X) → reverse (x ∷ xs) ++ ys ≡ reverse xs ++ x ∷ ys
+reverse_onto x xs ys = rw (reverse-append (x ∷ []) xs) (append_assoc (reverse xs) (x ∷ []) ys)
+
 -- the places that are filled, and what is written
 pub record IsFilling (judge : ℕ → Clash → Judged) (number : ℕ) (cs : List Clash) (rs : List (Option Judged)) (k : ℕ)
-    (events : List Event) (all : List (Option Judged)) (whole : List Event) : Type 0 where
+    (calls : List Call) (all : List (Option Judged)) (whole : List Call) : Type 0 where
   pub filled : take k rs ++ filled judge k (drop k cs) (drop k rs) ≡ all
-  pub written : events ++ map (take_event number) (lacking judge k (drop k cs) (drop k rs)) ≡ whole
+  pub written : reverse (take_calls number (lacking judge k (drop k cs) (drop k rs))) ++ calls ≡ whole
 
 module _ (judge : ℕ → Clash → Judged) (number : ℕ) (cs : List Clash) (rs : List (Option Judged)) (k : ℕ) (c : Clash)
-    (at : slice_get cs k ≡ Some c) (events : List Event) (all : List (Option Judged)) (whole : List Event)
-    (h : IsFilling judge number cs rs k events all whole) where
+    (at : slice_get cs k ≡ Some c) (calls : List Call) (all : List (Option Judged)) (whole : List Call)
+    (h : IsFilling judge number cs rs k calls all whole) where
   pub fills : slice_get rs k ≡ Some None → (j : Judged) → j ≡ judge k c → (new : List (Option Judged)) →
-      new ≡ set rs k (Some j) → (after : List Event) → after ≡ events ++ Take number k j ∷ [] →
+      new ≡ set rs k (Some j) → (after : List Call) → after ≡ Take number k j ∷ calls →
       IsFilling judge number cs new (k + 1) after all whole
   fills none j is new set_is after added =
-      subst (λ (p : List (Option Judged) × List Event). IsFilling judge number cs p.0 (k + 1) p.1 all whole)
-      (λ i. (sym (set_is ∙ ap (λ j. set rs k (Some j)) is) i, sym (added ∙ ap (λ j. events ++ Take number k j ∷ []) is) i))
+      subst (λ (p : List (Option Judged) × List Call). IsFilling judge number cs p.0 (k + 1) p.1 all whole)
+      (λ i. (sym (set_is ∙ ap (λ j. set rs k (Some j)) is) i, sym (added ∙ ap (λ j. Take number k j ∷ calls) is) i))
       record {
         filled = fill_one judge cs rs k c at none ∙ h.filled;
         written =
-            append_assoc events (Take number k (judge k c) ∷ []) _
-            ∙ ap (λ l. events ++ map (take_event number) l) (sym (lack_one judge cs rs k c at none))
+            sym (reverse_onto (Take number k (judge k c)) (take_calls number
+            (lacking judge (k + 1) (drop (k + 1) cs) (drop (k + 1) (set rs k (Some (judge k c)))))) calls)
+            ∙ ap (λ l. reverse (take_calls number l) ++ calls) (sym (lack_one judge cs rs k c at none))
             ∙ h.written;
       }
 
   pub keeps : (j : Judged) → slice_get rs k ≡ Some (Some j) → (new : List (Option Judged)) → new ≡ rs →
-      (after : List Event) → after ≡ events → IsFilling judge number cs new (k + 1) after all whole
+      (after : List Call) → after ≡ calls → IsFilling judge number cs new (k + 1) after all whole
   keeps j there new same after kept =
-      subst (λ (p : List (Option Judged) × List Event). IsFilling judge number cs p.0 (k + 1) p.1 all whole)
+      subst (λ (p : List (Option Judged) × List Call). IsFilling judge number cs p.0 (k + 1) p.1 all whole)
       (λ i. (sym same i, sym kept i)) record {
         filled = keep_one judge cs rs k c at j there ∙ h.filled;
         written =
-            ap (λ l. events ++ map (take_event number) l) (sym (lack_none judge cs rs k c at j there)) ∙ h.written;
+            ap (λ l. reverse (take_calls number l) ++ calls) (sym (lack_none judge cs rs k c at j there)) ∙ h.written;
       }
 
   -- there is one ruling less to take
@@ -135,15 +138,6 @@ module _ (judge : ℕ → Clash → Judged) (number : ℕ) (cs : List Clash) (rs
       lack_one judge cs rs k c at none
       ∙ ap (λ l. (k, judge k c) ∷ lacking judge (k + 1) (drop (k + 1) cs) (drop (k + 1) l)) (sym is) in
       let e = ap length same in omega (arith, e)
-
--- what is written goes before what was written, the latest first
-pub onto : {E L : Type 0} (call_of : E → L) (events : List E) (calls : List L) →
-    fold (λ calls event. call_of event ∷ calls) calls events ≡ reverse (map call_of events) ++ calls
-onto call_of [] calls = refl
-onto call_of (event ∷ events) calls =
-    onto call_of events (call_of event ∷ calls)
-    ∙ sym (rw (reverse-append (call_of event ∷ []) (map call_of events))
-    (append_assoc (reverse (map call_of events)) (call_of event ∷ []) calls))
 
 -- the place right after a front
 pub at_seam : {X : Type 0} (front rest : List X) (x : X) → slice_get (front ++ x ∷ rest) (length front) ≡ Some x

@@ -12,6 +12,7 @@ pub mod Once
 pub mod OneRound
 pub mod Places
 pub mod Ready
+pub mod Registered
 pub mod Renewed
 pub mod Replays
 pub mod Rulings

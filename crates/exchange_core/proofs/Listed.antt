@@ -9,7 +9,7 @@ use Rattle.std.specs.FinMap.{contains_key, contains_key-keys, entries, keys, len
 use Rattle.clash_record.specs.Name.{Name}
 use Rattle.partition_table.specs.Tables.{Table, IsTable, is_name}
 use Rattle.partition_table.specs.laws.Sameness.{name_decides}
-use Rattle.exchange_core.specs.declared.journal.Event as journal
+use Rattle.exchange_core.specs.Calls.{Call}
 use Rattle.exchange_core.specs.Sides.{Exchange, Side}
 use Rattle.exchange_core.specs.Worlds.{list_of}
 use Rattle.exchange_core.specs.Journal.{IsJournal}
@@ -29,14 +29,14 @@ member_there table (n ∷ names) all q any =
     by_name first rest false same any = rest any
 
 -- a side's list has distinct names of its table
-pub replayed_list : (events : List journal.Event) (side : Side) → IsJournal events side →
+pub replayed_list : (calls : List Call) (side : Side) → IsJournal calls side →
     AreNamesOf side.table (list_of side).names
-replayed_list events side led = by side.exchange refl
+replayed_list calls side led = by side.exchange refl
   where
     by : (o : Option Exchange) → side.exchange ≡ o →
         AreNamesOf side.table (option_map_or (λ exchange. exchange.withdrawn) o [])
     by None is = record { there = refl; distinct = none_apart }
-    by (Some x) is = replayed_names events side led x is
+    by (Some x) is = replayed_names calls side led x is
 
 pub listed : (table : Table) (names : List Name) → IsTable table → AreNamesOf table names → IsNameList names
 listed table names kept own = record {

@@ -1,5 +1,5 @@
 -- The rows of a table, registered one after another, lead to the table.
-use Rattle.std.proofs.Common.{◌≡◌, ℕ, suc, ◌+◌, ◌<◌, ◌≤◌, Bool, true, not, if◌then◌else◌, List, [], ◌∷◌, ◌++◌, length, map, Option, Some, None, is_none, nat_lt, refl, sym, ap, subst, ◌∙◌, append_assoc, append-nil, length-append, arith}
+use Rattle.std.proofs.Common.{◌≡◌, ℕ, suc, ◌+◌, ◌<◌, ◌≤◌, Bool, true, not, if◌then◌else◌, List, [], ◌∷◌, ◌++◌, length, map, Option, Some, None, is_none, nat_lt, refl, sym, ap, subst, ◌∙◌, append_assoc, append-nil, length-append, arith, add-one, option_and_then}
 use Rattle.std.proofs.lemmas.Bool.{and_parts, and_from}
 use Rattle.std.proofs.lemmas.Bool.Decides.{nat_tests}
 use Rattle.std.specs.List.{list_all}
@@ -8,28 +8,25 @@ use Rattle.clash_record.specs.Name.{Name}
 use Rattle.clash_record.specs.Orders.{name_cmp}
 use Rattle.clash_record.specs.laws.Orders.{names_total, names_exact}
 use Rattle.clash_record.specs.declared.registrations.Registration.{Registration}
-use Rattle.instruction_set.specs.declared.insn.Insn.{Insn}
 use Rattle.partition_table.specs.Tables.{Row, Table, IsTable, max_names, rows_agree, agrees_with, rows_of}
-use Rattle.exchange_core.specs.declared.journal.Event.{Event}
-use Rattle.exchange_core.specs.declared.journal.Event.TheVariants as event
 use Rattle.exchange_core.specs.Sides.{Side, register}
-use Rattle.exchange_core.specs.Calls.{Register, carried_out}
-use Rattle.exchange_core.specs.Journal.{IsJournal, call_of}
-use Rattle.exchange_core.specs.model.Renewing.{number_events}
+use Rattle.exchange_core.specs.Calls.{Call, Register, Begin, Abandon, carried_out}
+use Rattle.exchange_core.specs.Journal.{IsJournal, max_events}
+use Rattle.exchange_core.specs.model.Renewing.{number_calls}
 use Rattle.exchange_core.specs.laws.Entries.{Entry, entries_front, has_entry, is_new, not_in_front, made_again}
-use Rattle.exchange_core.proofs.Journaled.{led_on}
+use Rattle.exchange_core.proofs.Journaled.{kept_on}
 
 abbrev pub pair : Entry → Name × Registration
 pair e = (e.0, e.1.registration)
 
 -- some of the rows are registered, and these are left
-pub record IsRenewing (side : Side) (events : List Event) (left : List (Name × Registration)) : Type 0 where
+pub record IsRenewing (side : Side) (calls : List Call) (left : List (Name × Registration)) : Type 0 where
   pub done : List Entry
   pub rest : List Entry
   pub parts : entries side.table ≡ done ++ rest
   pub left_is : left ≡ map pair rest
-  pub leads : IsJournal events (record side { table = from_entries done })
-  pub few : length events ≤ length done + 2
+  pub leads : IsJournal calls (record side { table = from_entries done })
+  pub few : length calls ≤ length done + 2
 
 -- the idle side before it has any row
 abbrev bare : Side → Side
@@ -40,9 +37,9 @@ bare_is : (side : Side) (latest : Option ℕ) → side.exchange ≡ None → sid
 bare_is side latest idle same =
     λ i. record { id = side.id; table = empty; exchange = sym idle i; latest = sym same i }
 
-pub renewing : (side : Side) (events : List Event) (left : List (Name × Registration)) → IsJournal events (bare side) →
-    length events ≤ 2 → left ≡ rows_of side.table → IsRenewing side events left
-renewing side events left leads few is = record {
+pub renewing : (side : Side) (calls : List Call) (left : List (Name × Registration)) → IsJournal calls (bare side) →
+    length calls ≤ 2 → left ≡ rows_of side.table → IsRenewing side calls left
+renewing side calls left leads few is = record {
   done = [];
   rest = entries side.table;
   parts = refl;
@@ -57,22 +54,22 @@ from_nothing side idle none = bare_is side None idle none
 
 -- one that began this number as its latest
 pub from_number : (side : Side) (n : ℕ) → side.exchange ≡ None → side.latest ≡ Some n →
-    IsJournal (event.Begin n 0 0 ∷ event.Abandon ∷ []) (bare side)
+    IsJournal (Abandon ∷ Begin n 0 0 ∷ []) (bare side)
 from_number side n idle latest = bare_is side (Some n) idle latest
 
 -- no row is registered yet
-pub begun_events : (side : Side) (events : List Event) (left : List (Name × Registration)) → side.exchange ≡ None →
-    events ≡ number_events side.latest → left ≡ rows_of side.table → IsRenewing side events left
-begun_events side events left idle made is = by_latest side.latest refl made
+pub begun_calls : (side : Side) (calls : List Call) (left : List (Name × Registration)) → side.exchange ≡ None →
+    calls ≡ number_calls side.latest → left ≡ rows_of side.table → IsRenewing side calls left
+begun_calls side calls left idle made is = by_latest side.latest refl made
   where
-    by_latest : (latest : Option ℕ) → side.latest ≡ latest → events ≡ number_events latest →
-        IsRenewing side events left
+    by_latest : (latest : Option ℕ) → side.latest ≡ latest → calls ≡ number_calls latest →
+        IsRenewing side calls left
     by_latest None same made =
-        subst (λ (l : List Event). IsRenewing side l left) (sym made)
+        subst (λ (l : List Call). IsRenewing side l left) (sym made)
         (renewing side [] left (from_nothing side idle same) (omega arith) is)
     by_latest (Some n) same made =
-        subst (λ (l : List Event). IsRenewing side l left) (sym made)
-        (renewing side (event.Begin n 0 0 ∷ event.Abandon ∷ []) left (from_number side n idle same) (omega arith) is)
+        subst (λ (l : List Call). IsRenewing side l left) (sym made)
+        (renewing side (Abandon ∷ Begin n 0 0 ∷ []) left (from_number side n idle same) (omega arith) is)
 
 all_of_front : {X : Type 0} (p : X → Bool) (xs ys : List X) → list_all p (xs ++ ys) ≡ true → list_all p xs ≡ true
 all_of_front p [] ys h = refl
@@ -126,14 +123,14 @@ module _ (side : Side) (idle : side.exchange ≡ None) (kept : IsTable side.tabl
 
 module _ (side : Side) (idle : side.exchange ≡ None) (kept : IsTable side.table) where
   -- one more row is registered
-  pub renewing_on : (events after : List Event) (left more : List (Name × Registration)) (name : Name)
-      (r : Registration) (event : Event) (code : Option (List Insn)) → IsRenewing side events left →
-      left ≡ (name, r) ∷ more → after ≡ events ++ event ∷ [] →
-      call_of event ≡ Register name (record { registration = r; code = code }) →
-      ((name : Name) (row : Row) → get side.table name ≡ Some row → row.registration.resolver ≡ r.resolver
-      → code ≡ row.code) →
+  pub renewing_on : (calls after : List Call) (left more : List (Name × Registration)) (name : Name)
+      (r : Registration) → IsRenewing side calls left → left ≡ (name, r) ∷ more →
+      after ≡ Register name (record {
+        registration = r;
+        code = option_and_then (λ (row : Row). row.code) (get side.table name);
+      }) ∷ calls →
       IsRenewing side after more
-  renewing_on events after left more name r event code h is added call coded = by_rest h.rest refl
+  renewing_on calls after left more name r h is added = by_rest h.rest refl
     where
       by_rest : (rest : List Entry) → h.rest ≡ rest → IsRenewing side after more
       by_rest [] e = let none : (name, r) ∷ more ≡ [] = sym is ∙ h.left_is ∙ ap (map pair) e in absurd (cc)
@@ -145,42 +142,49 @@ module _ (side : Side) (idle : side.exchange ≡ None) (kept : IsTable side.tabl
           let others : more ≡ map pair rest = cc in
           let same_name : name ≡ e.0 = ap (λ (p : Name × Registration). p.0) first in
           let same_r : r ≡ e.1.registration = ap (λ (p : Name × Registration). p.1) first in
-          let same_code : code ≡ e.1.code =
-          coded e.0 e.1 (has_entry side.table h.done e rest parts) (sym (ap (λ (r : Registration). r.resolver) same_r)) in
-          let named : call_of event ≡ Register e.0 e.1 =
-          call ∙ (λ i. Register (same_name i) (record { registration = same_r i; code = same_code i })) in
-          let carried : carried_out (record side { table = from_entries h.done }) (call_of event)
+          let row = λ (n : Name). option_and_then (λ (row : Row). row.code) (get side.table n) in
+          let same_code : row name ≡ e.1.code =
+          ap row same_name ∙ ap (option_and_then (λ (row : Row). row.code)) (has_entry side.table h.done e rest parts) in
+          let wrote : after ≡ Register e.0 e.1 ∷ calls =
+          added ∙ (λ i. Register (same_name i) (record { registration = same_r i; code = same_code i }) ∷ calls) in
+          let carried : carried_out (record side { table = from_entries h.done }) (Register e.0 e.1)
           ≡ Some (record side { table = from_entries (h.done ++ e ∷ []) }) =
-          ap (carried_out (record side { table = from_entries h.done })) named
-          ∙ registers side idle kept h.done e rest parts in
+          registers side idle kept h.done e rest parts in
           let grown = length-append h.done (e ∷ []) in
-          let longer : length after ≡ length events + 1 = ap length added ∙ length-append events (event ∷ []) in
+          let longer : length after ≡ length calls + 1 = ap length wrote ∙ sym (add-one (length calls)) in
           let few = h.few in
           record {
             done = h.done ++ e ∷ [];
             rest = rest;
             parts = parts ∙ sym (append_assoc h.done (e ∷ []) rest);
             left_is = others;
-            leads =
-                subst (λ (l : List Event). IsJournal l (record side { table = from_entries (h.done ++ e ∷ []) })) (sym
-                added)
-                (led_on events event _ _ h.leads carried);
+            leads = kept_on calls after (Register e.0 e.1) _ _ wrote h.leads carried;
             few = omega (arith, grown, longer, few);
           }
 
--- once no row is left, the events lead to the side
-pub renewed : (side : Side) (events : List Event) (left : List (Name × Registration)) → IsRenewing side events left →
-    left ≡ [] → IsJournal events side × (length events ≤ len side.table + 2)
-renewed side events left h none = by_rest h.rest refl
+-- while a row is left, the journal has room for it
+pub renewing_room : (side : Side) (calls : List Call) (left more : List (Name × Registration)) (e : Name × Registration) →
+    IsTable side.table → IsRenewing side calls left → left ≡ e ∷ more → length calls < max_events
+renewing_room side calls left more e kept h is =
+    let count = len-entries side.table in
+    let parts = ap length h.parts ∙ length-append h.done h.rest in
+    let few = h.few in
+    let most = kept.few in
+    omega (arith, count, parts, few, most)
+
+-- once no row is left, the calls lead to the side
+pub renewed : (side : Side) (calls : List Call) (left : List (Name × Registration)) → IsRenewing side calls left →
+    left ≡ [] → IsJournal calls side × (length calls ≤ len side.table + 2)
+renewed side calls left h none = by_rest h.rest refl
   where
-    by_rest : (rest : List Entry) → h.rest ≡ rest → IsJournal events side × (length events ≤ len side.table + 2)
+    by_rest : (rest : List Entry) → h.rest ≡ rest → IsJournal calls side × (length calls ≤ len side.table + 2)
     by_rest (e ∷ rest) is = let some : [] ≡ pair e ∷ map pair rest = sym none ∙ h.left_is ∙ ap (map pair) is in absurd (cc)
     by_rest [] is =
         let whole : entries side.table ≡ h.done =
         h.parts ∙ ap (λ (l : List Entry). h.done ++ l) is ∙ append-nil h.done in
         let count : len side.table ≡ length h.done = len-entries side.table ∙ ap length whole in
         let few = h.few in (
-          subst (λ (t : Table). IsJournal events (record side { table = t }))
+          subst (λ (t : Table). IsJournal calls (record side { table = t }))
               (ap from_entries (sym whole) ∙ made_again side.table) h.leads,
           omega (arith, count, few),
         )

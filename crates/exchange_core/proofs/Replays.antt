@@ -11,9 +11,8 @@ use Rattle.clash_record.specs.Name.{Name}
 use Rattle.clash_record.specs.laws.Orders.{names_total}
 use Rattle.partition_table.specs.Tables.{Table, Clash, IsOneOfFour, is_name, is_in}
 use Rattle.exchange_core.specs.Sides.{answer_in, Offer, Withdrawals, Judged, Heard, Exchange, Side, fit_for, clashes_heard, clashes_of, hear_first, hear_in, hear, is_lawful, take_heard, take_in, take, withdraw_in, withdraw, close_in, close_list, hear_list_in, hear_list, finish}
-use Rattle.exchange_core.specs.Journal.{calls_of, IsJournal}
+use Rattle.exchange_core.specs.Journal.{IsJournal}
 use Rattle.exchange_core.specs.Lists.{AreNamesOf}
-use Rattle.exchange_core.specs.declared.journal.Event as journal
 use Rattle.exchange_core.specs.Calls.{Call, Register, Unregister, Begin, Hear, Take, Withdraw, Close_list, Hear_list, Finish, Abandon, carried_out, replay, takes_message}
 use Rattle.clash_record.specs.declared.side_id.SideId.TheVariants.{A, B}
 use Rattle.exchange_core.specs.Worlds.{World, Event, Does, Hears, Hears_list, Tells, Judges, side_of, past_after, with_side, called, called_if, happens, world_after}
@@ -239,10 +238,10 @@ replay_holds id (call ∷ earlier) = by_call (replay_holds id earlier) (carried_
     by_call h (Some new) is = call_holds h call new is
 
 -- the names withdrawn by a side that a journal leads to are distinct names of its table
-pub replayed_names : (events : List journal.Event) (side : Side) → IsJournal events side → (x : Exchange) →
+pub replayed_names : (calls : List Call) (side : Side) → IsJournal calls side → (x : Exchange) →
     side.exchange ≡ Some x → AreNamesOf side.table x.withdrawn
-replayed_names events side led x opened =
-    let h = subst (λ (s : Side). Holds side.id s) led (replay_holds side.id (calls_of events)) in
+replayed_names calls side led x opened =
+    let h = subst (λ (s : Side). Holds side.id s) led (replay_holds side.id calls) in
     let o = h.open_holds x opened in
     record { there = o.there; distinct = o.distinct }
 

@@ -1,27 +1,19 @@
 -- A side that is settled is where its journal leads.
-use Rattle.std.proofs.Common.{◌≡◌, ℕ, suc, ◌-◌, ◌<◌, ◌≤◌, Bool, true, false, not, nat_lt, if◌then◌else◌, List, [], ◌∷◌, ◌++◌, length, map, Option, Some, None, is_some, slice_get, slice_set, unwrap_or, eq-eqb, refl, sym, ap, ◌∙◌, subst, append_assoc, arith, option_map, option_and_then, reverse}
+use Rattle.std.proofs.Common.{◌≡◌, ℕ, suc, ◌-◌, ◌<◌, ◌≤◌, Bool, true, false, not, nat_lt, if◌then◌else◌, List, [], ◌∷◌, ◌++◌, length, Option, Some, None, is_some, slice_get, slice_set, unwrap_or, eq-eqb, refl, sym, ap, ◌∙◌, subst, append_assoc, arith, option_map, option_and_then, reverse}
 use Rattle.std.proofs.lemmas.Bool.Decides.{nat_tests}
 use Rattle.std.specs.Option.{option_map_or}
-use Rattle.std.proofs.lemmas.List.Sums.{fold-append}
-use Rattle.std.specs.List.{fold}
 use Rattle.partition_table.specs.Tables.{Clash}
-use Rattle.exchange_core.specs.declared.journal.Event.{Event}
-use Rattle.exchange_core.specs.declared.journal.Event.TheVariants as event
 use Rattle.exchange_core.specs.Sides.{Judged, Heard, Exchange, Side, clashes_heard, heard_clashes, rulings_of, put_ruling, take_heard, take}
 use Rattle.exchange_core.specs.Calls.{Call, Take}
-use Rattle.exchange_core.specs.Journal.{IsJournal, call_of, calls_of, max_events}
-use Rattle.exchange_core.specs.Settling.{judged_in, filled, lacking, lacking_of, number_in, settled, settle_calls}
-use Rattle.exchange_core.specs.Refusals.{count_lacking, settle_fault, settle_fault_in, settle_fault_heard}
-use Rattle.exchange_core.specs.declared.fault.SideFault.TheVariants.{StrangeRuling, JournalFull, NotHealing}
-use Rattle.exchange_core.specs.model.Settling.{SideHasPlaces, take_event}
-use Rattle.exchange_core.proofs.Filling.{onto, at_seam, set_seam, length-lacking}
+use Rattle.exchange_core.specs.Journal.{IsJournal, max_events}
+use Rattle.exchange_core.specs.Settling.{judged_in, filled, lacking, lacking_of, settled, settle_calls}
+use Rattle.exchange_core.specs.Refusals.{count_lacking, settle_fault, settle_fault_heard}
+use Rattle.exchange_core.specs.declared.fault.SideFault.TheVariants.{JournalFull, NotHealing}
+use Rattle.exchange_core.specs.model.Settling.{SideHasPlaces, take_calls}
+use Rattle.exchange_core.proofs.Filling.{reverse_onto, at_seam, set_seam, length-lacking}
 use Rattle.exchange_core.proofs.Journaled.{led_on}
 use Rattle.exchange_core.proofs.Replays.{Holds}
 use Rattle.exchange_core.proofs.Rulings.{lawful_passes, clashes_are}
-
-end_of : {X : Type 0} (xs : List X) → xs ++ [] ≡ xs
-end_of [] = refl
-end_of (x ∷ xs) = ap (λ l. x ∷ l) (end_of xs)
 
 length-seam : {X : Type 0} (xs : List X) (x : X) → length (xs ++ x ∷ []) ≡ suc (length xs)
 length-seam [] x = refl
@@ -64,86 +56,59 @@ module _ (side : Side) (x : Exchange) (heard : Heard) (round : ℕ) (early : rou
       ∙ ap (λ (l : List (Option Judged)). Some (held l)) (put_seam front rest j)
 
   settles : (cs before : List Clash) → before ++ cs ≡ clashes_heard side x heard → (front rest : List (Option Judged))
-      → length front ≡ length before → (k : ℕ) → k ≡ length front → (events : List Event) →
-      IsJournal events (held (front ++ rest)) →
-      IsJournal (events ++ map (take_event x.number) (lacking judge k cs rest))
+      → length front ≡ length before → (k : ℕ) → k ≡ length front → (calls : List Call) →
+      IsJournal calls (held (front ++ rest)) →
+      IsJournal (reverse (take_calls x.number (lacking judge k cs rest)) ++ calls)
       (held (front ++ filled judge k cs rest))
-  settles [] before whole front rest same k is events h =
-      subst (λ (l : List Event). IsJournal l (held (front ++ rest))) (sym (end_of events)) h
-  settles (c ∷ cs) before whole front [] same k is events h =
-      subst (λ (l : List Event). IsJournal l (held (front ++ []))) (sym (end_of events)) h
-  settles (c ∷ cs) before whole front (Some j ∷ rest) same k is events h =
+  settles [] before whole front rest same k is calls h = h
+  settles (c ∷ cs) before whole front [] same k is calls h = h
+  settles (c ∷ cs) before whole front (Some j ∷ rest) same k is calls h =
       subst (λ (l : List (Option Judged)).
-      IsJournal (events ++ map (take_event x.number) (lacking judge (suc k) cs rest)) (held l))
+      IsJournal (reverse (take_calls x.number (lacking judge (suc k) cs rest)) ++ calls) (held l))
       (append_assoc front (Some j ∷ []) (filled judge (suc k) cs rest))
       (settles cs (before ++ c ∷ []) (append_assoc before (c ∷ []) cs ∙ whole) (front ++ Some j ∷ []) rest
       (length-seam front (Some j) ∙ ap suc same ∙ sym (length-seam before c)) (suc k) (ap suc is
-      ∙ sym (length-seam front (Some j))) events
-      (subst (λ (l : List (Option Judged)). IsJournal events (held l)) (sym (append_assoc front (Some j ∷ []) rest)) h))
-  settles (c ∷ cs) before whole front (None ∷ rest) same k is events h =
+      ∙ sym (length-seam front (Some j))) calls
+      (subst (λ (l : List (Option Judged)). IsJournal calls (held l)) (sym (append_assoc front (Some j ∷ []) rest)) h))
+  settles (c ∷ cs) before whole front (None ∷ rest) same k is calls h =
       let j = judge k c in
-      let event : Event = event.Take x.number k j in
+      let call : Call = Take x.number k j in
       let at : slice_get (clashes_heard side x heard) (length front) ≡ Some c =
       ap (λ (n : ℕ). slice_get (clashes_heard side x heard) n) same
       ∙ ap (λ (l : List Clash). slice_get l (length before)) (sym whole) ∙ at_seam before cs c in
       let taken : take (held (front ++ None ∷ rest)) x.number k j ≡ Some (held (front ++ Some j ∷ rest)) =
       subst (λ (n : ℕ). take (held (front ++ None ∷ rest)) x.number n (judge n c)
       ≡ Some (held (front ++ Some (judge n c) ∷ rest))) (sym is) (take_next front rest c at) in
-      let one : IsJournal (events ++ event ∷ []) (held (front ++ Some j ∷ rest)) =
-      led_on events event (held (front ++ None ∷ rest)) (held (front ++ Some j ∷ rest)) h taken in
-      subst (λ (p : List Event × List (Option Judged)). IsJournal p.0 (held p.1))
+      let one : IsJournal (call ∷ calls) (held (front ++ Some j ∷ rest)) =
+      led_on calls call (held (front ++ None ∷ rest)) (held (front ++ Some j ∷ rest)) h taken in
+      subst (λ (p : List Call × List (Option Judged)). IsJournal p.0 (held p.1))
       (λ i. (
-        append_assoc events (event ∷ []) (map (take_event x.number) (lacking judge (suc k) cs rest)) i,
+        sym (reverse_onto call (take_calls x.number (lacking judge (suc k) cs rest)) calls) i,
         append_assoc front
             (Some j ∷ []) (filled judge (suc k) cs rest) i,
       ))
       (settles cs (before ++ c ∷ []) (append_assoc before (c ∷ []) cs ∙ whole) (front ++ Some j ∷ []) rest
       (length-seam front (Some j) ∙ ap suc same ∙ sym (length-seam before c)) (suc k) (ap suc is
-      ∙ sym (length-seam front (Some j))) (events ++ event ∷ [])
-      (subst (λ (l : List (Option Judged)). IsJournal (events ++ event ∷ []) (held l))
+      ∙ sym (length-seam front (Some j))) (call ∷ calls)
+      (subst (λ (l : List (Option Judged)). IsJournal (call ∷ calls) (held l))
       (sym (append_assoc front (Some j ∷ []) rest)) one))
 
-pub settled_journal : (events : List Event) (side : Side) (round : ℕ) → round < 4 → IsJournal events side →
-    IsJournal (events ++ map (take_event (number_in side)) (lacking_of round side)) (settled round side)
-settled_journal events side round early is = by_open side.exchange is
+pub settled_journal : (calls : List Call) (side : Side) (round : ℕ) → round < 4 → IsJournal calls side →
+    IsJournal (reverse (settle_calls round side) ++ calls) (settled round side)
+settled_journal calls side round early is = by_open side.exchange is
   where
     by_heard : (x : Exchange) (h : Option Heard) →
         let now : Side = record side { exchange = Some (record x { heard = h }) } in
-        IsJournal events now →
-        IsJournal (events ++ map (take_event (number_in now)) (lacking_of round now)) (settled round now)
-    by_heard x None is =
-        subst (λ (l : List Event). IsJournal l (record side { exchange = Some (record x { heard = None }) }))
-        (sym (end_of events)) is
+        IsJournal calls now → IsJournal (reverse (settle_calls round now) ++ calls) (settled round now)
+    by_heard x None is = is
     by_heard x (Some heard) is =
-        settles side x heard round early (clashes_heard side x heard) [] refl [] heard.rulings refl 0 refl events is
+        settles side x heard round early (clashes_heard side x heard) [] refl [] heard.rulings refl 0 refl calls is
 
     by_open : (o : Option Exchange) →
         let now : Side = record side { exchange = o } in
-        IsJournal events now →
-        IsJournal (events ++ map (take_event (number_in now)) (lacking_of round now)) (settled round now)
-    by_open None is =
-        subst (λ (l : List Event). IsJournal l (record side { exchange = None })) (sym (end_of events)) is
+        IsJournal calls now → IsJournal (reverse (settle_calls round now) ++ calls) (settled round now)
+    by_open None is = is
     by_open (Some x) is = by_heard x x.heard is
-
--- the calls of the events that settling writes
-pub settled_calls : (events after : List Event) (side : Side) (round : ℕ) →
-    after ≡ events ++ map (take_event (number_in side)) (lacking_of round side) →
-    calls_of after ≡ reverse (settle_calls round side) ++ calls_of events
-settled_calls events after side round e =
-    let new = map (take_event (number_in side)) (lacking_of round side) in
-    ap calls_of e
-    ∙ fold-onto events new
-    ∙ onto call_of new (calls_of events)
-    ∙ ap (λ (l : List Call). reverse l ++ calls_of events) (calls_are (lacking_of round side))
-  where
-    fold-onto : (xs ys : List Event) → calls_of (xs ++ ys)
-        ≡ fold (λ calls event. call_of event ∷ calls) (calls_of xs) ys
-    fold-onto xs ys = fold-append (λ calls event. call_of event ∷ calls) [] xs ys
-
-    calls_are : (l : List (ℕ × Judged)) →
-        map call_of (map (take_event (number_in side)) l) ≡ map (λ p. Take (number_in side) p.0 p.1) l
-    calls_are [] = refl
-    calls_are (p ∷ l) = ap (λ (l : List Call). Take (number_in side) p.0 p.1 ∷ l) (calls_are l)
 
 -- there is one place for each clash
 pub has_places : (side : Side) → Holds side.id side → SideHasPlaces side
@@ -204,21 +169,11 @@ same_clashes round side = by_open side.exchange
     by_open None = refl
     by_open (Some x) = by_heard x x.heard
 
--- a side that nothing keeps from settling has a lawful round, and room for the rulings that it lacks
-pub record CanSettle (events : ℕ) (side : Side) (round : ℕ) : Type 0 where
-  pub early : round < 4
-  pub room : count_lacking (rulings_of side) ≤ max_events - events
-
-pub can_settle : (events : ℕ) (side : Side) (round : ℕ) → settle_fault events side round ≡ None →
-    CanSettle events side round
-can_settle events side round e = by_open side.exchange e
+-- a side that nothing keeps from settling has room for the rulings that it lacks
+pub can_settle : (events : ℕ) (side : Side) → settle_fault events side ≡ None →
+    count_lacking (rulings_of side) ≤ max_events - events
+can_settle events side e = by_open side.exchange e
   where
-    by_round : (x : Exchange) (b : Bool) → nat_lt round 4 ≡ b →
-        (if not b then Some StrangeRuling else settle_fault_heard events x.heard) ≡ None →
-        (round < 4) × (settle_fault_heard events x.heard ≡ None)
-    by_round x true is e = (grind (arith, nat_tests), e)
-    by_round x false is e = cc
-
     by_room : (n : ℕ) (b : Bool) → nat_lt (max_events - events) n ≡ b →
         (if b then Some JournalFull else None) ≡ None → n ≤ max_events - events
     by_room n true is e = cc
@@ -229,9 +184,35 @@ can_settle events side round e = by_open side.exchange e
     by_heard x None e = cc
     by_heard x (Some heard) e = by_room (count_lacking heard.rulings) _ refl e
 
-    by_open : (o : Option Exchange) → option_map_or (settle_fault_in events round) o (Some NotHealing) ≡ None →
-        CanSettle events (record side { exchange = o }) round
+    by_open : (o : Option Exchange) →
+        option_map_or (λ exchange. settle_fault_heard events exchange.heard) o (Some NotHealing) ≡ None →
+        count_lacking (rulings_of (record side { exchange = o })) ≤ max_events - events
     by_open None e = cc
-    by_open (Some x) e =
-        let h = by_round x (nat_lt round 4) refl e in
-        record { early = h.0; room = by_heard x x.heard h.1 }
+    by_open (Some x) e = by_heard x x.heard e
+
+-- where each clash has a place, none lacks a ruling after they are filled
+filled_whole : (judge : ℕ → Clash → Judged) (k : ℕ) (cs : List Clash) (rs : List (Option Judged)) →
+    length rs ≡ length cs → count_lacking (filled judge k cs rs) ≡ 0
+filled_whole judge k [] [] e = refl
+filled_whole judge k [] (r ∷ rs) e = absurd (omega (arith, e))
+filled_whole judge k (c ∷ cs) [] e = absurd (omega (arith, e))
+filled_whole judge k (c ∷ cs) (None ∷ rs) e = filled_whole judge (suc k) cs rs (omega (arith, e))
+filled_whole judge k (c ∷ cs) (Some j ∷ rs) e = filled_whole judge (suc k) cs rs (omega (arith, e))
+
+pub settled_whole : (side : Side) (round : ℕ) → SideHasPlaces side →
+    count_lacking (rulings_of (settled round side)) ≡ 0
+settled_whole side round places = by_open side.exchange places
+  where
+    by_heard : (x : Exchange) (h : Option Heard) →
+        let now : Side = record side { exchange = Some (record x { heard = h }) } in
+        SideHasPlaces now → count_lacking (rulings_of (settled round now)) ≡ 0
+    by_heard x None places = refl
+    by_heard x (Some heard) places =
+        filled_whole (judged_in x.seed round (length (clashes_heard side x heard))) 0 (clashes_heard side x heard)
+        heard.rulings (places _ refl heard refl)
+
+    by_open : (o : Option Exchange) →
+        let now : Side = record side { exchange = o } in
+        SideHasPlaces now → count_lacking (rulings_of (settled round now)) ≡ 0
+    by_open None places = refl
+    by_open (Some x) places = by_heard x x.heard places

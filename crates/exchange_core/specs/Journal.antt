@@ -1,10 +1,10 @@
 -- What the events of a journal record, and where a journal leads.
 use Rattle.std.specs.Prelude.{◌≡◌, ℕ, List, [], ◌∷◌}
-use Rattle.std.specs.Option.{option_map}
-use Rattle.std.specs.List.{fold}
-use Rattle.std.specs.Arc.{arc_value}
+use Rattle.std.specs.Option.{option_and_then}
+use Rattle.std.specs.FinMap.{get}
 use Rattle.exchange_core.specs.declared.journal.Event.{Event}
 use Rattle.exchange_core.specs.declared.journal.Event.TheVariants as event
+use Rattle.exchange_core.specs.declared.journal.Past.{Past, Empty, Then'}
 use Rattle.exchange_core.specs.Sides.{Side}
 use Rattle.exchange_core.specs.Calls.{Call, Register, Unregister, Begin, Hear, Take, Withdraw, Close_list, Hear_list, Finish, Abandon, replay}
 
@@ -14,22 +14,25 @@ max_events = 65536
 
 -- the call that an event records
 abbrev pub call_of : Event → Call
-call_of (event.Register name registration program) =
-    Register name (record { registration = registration; code = option_map arc_value program })
+call_of (event.Register name registration table) = Register name (record {
+  registration = registration;
+  code = option_and_then (λ row. row.code) (get table.value name);
+})
 call_of (event.Unregister name) = Unregister name
 call_of (event.Begin number seed uptime) = Begin number seed uptime
-call_of (event.Hear offer) = Hear offer
+call_of (event.Hear offer) = Hear offer.value
 call_of (event.Take number k judged) = Take number k judged
 call_of (event.Withdraw name) = Withdraw name
 call_of event.CloseList = Close_list
-call_of (event.HearList sent) = Hear_list sent
+call_of (event.HearList sent) = Hear_list sent.value
 call_of event.Finish = Finish
 call_of event.Abandon = Abandon
 
 -- the calls of a journal, the latest first
-abbrev pub calls_of : List Event → List Call
-calls_of events = fold (λ calls event. call_of event ∷ calls) [] events
+abbrev pub calls_of : Past → List Call
+calls_of Empty = []
+calls_of (Then' event shape earlier) = call_of event ∷ calls_of earlier
 
--- the journal leads to the side
-abbrev pub IsJournal : List Event → Side → Type 0
-IsJournal events side = replay side.id (calls_of events) ≡ side
+-- the calls lead to the side
+abbrev pub IsJournal : List Call → Side → Type 0
+IsJournal calls side = replay side.id calls ≡ side

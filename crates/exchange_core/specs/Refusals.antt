@@ -1,5 +1,5 @@
 -- The refusal that is due at each call of a side: the least number that stands.
-use Rattle.std.specs.Prelude.{ℕ, ◌+◌, ◌-◌, Bool, not, ◌&&◌, ◌==◌, nat_lt, nat_le, if◌then◌else◌, List, [], ◌∷◌, length, Option, Some, None, is_some, is_none, filter}
+use Rattle.std.specs.Prelude.{◌≡◌, ℕ, ◌+◌, ◌-◌, Bool, not, ◌&&◌, ◌==◌, nat_lt, nat_le, if◌then◌else◌, List, [], ◌∷◌, length, Option, Some, None, Result, Ok, Err, is_some, is_none, filter}
 use Rattle.std.specs.Option.{option_map_or}
 use Rattle.std.specs.FinMap.{len, contains_key}
 use Rattle.clash_record.specs.declared.registrations.Registration.{Registration}
@@ -17,6 +17,11 @@ use Rattle.exchange_core.specs.declared.fault.SideFault.TheVariants.{Healing, No
 use Rattle.exchange_core.specs.declared.fault.SideFault.TheVariants as of
 use Rattle.exchange_core.specs.Journal.{max_events}
 use Rattle.exchange_core.specs.Sides.{Offer, Withdrawals, Judged, Heard, Exchange, Side, is_one_of_four, is_side, is_above, clashes_of, has_clash}
+
+-- a call that needs no memory succeeds exactly where no refusal is due, and else returns that refusal
+abbrev pub IsDecidedBy : {A : Type 0} → Option SideFault → Result A SideFault → Type 0
+IsDecidedBy due (Ok value) = due ≡ None
+IsDecidedBy due (Err fault) = due ≡ Some fault
 
 -- In each of these, `full` is whether the journal has 65,536 events.
 
@@ -157,13 +162,10 @@ settle_fault_heard events None = Some (Missing TheirOffer)
 settle_fault_heard events (Some heard) =
     if nat_lt (max_events - events) (count_lacking heard.rulings) then Some JournalFull else None
 
-abbrev pub settle_fault_in : ℕ → ℕ → Exchange → Option SideFault
-settle_fault_in events round exchange =
-    if not (nat_lt round 4) then Some StrangeRuling else settle_fault_heard events exchange.heard
-
 -- of a side whose journal has this many events: each ruling that is taken adds one
-abbrev pub settle_fault : ℕ → Side → ℕ → Option SideFault
-settle_fault events side round = option_map_or (settle_fault_in events round) side.exchange (Some NotHealing)
+abbrev pub settle_fault : ℕ → Side → Option SideFault
+settle_fault events side =
+    option_map_or (λ exchange. settle_fault_heard events exchange.heard) side.exchange (Some NotHealing)
 
 abbrev pub clashes_fault_in : Exchange → Option SideFault
 clashes_fault_in exchange = if is_some exchange.heard then None else Some (Missing TheirOffer)

@@ -8,6 +8,10 @@ use Rattle.exchange_core.specs.Calls.{Call, Take}
 use Rattle.exchange_core.specs.Shown.{shown, calls}
 use Rattle.exchange_core.specs.Finished.{Finished, clashes_merged}
 
+-- the round at whose words sides settle, so that both take the same rulings
+abbrev pub the_round : ℕ
+the_round = 0
+
 -- what the resolver of clash k of n answers at the round's word
 abbrev pub judged_in : ℕ → ℕ → ℕ → ℕ → Clash → Judged
 judged_in seed round n k clash =

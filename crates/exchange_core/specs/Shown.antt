@@ -10,7 +10,7 @@ shown side = side.state
 
 -- the calls that it answered Ok, the latest first
 abbrev pub calls : Side → List Call
-calls side = calls_of side.journal.items
+calls side = calls_of side.journal.past.value
 
 -- it has as many events as it holds
 abbrev pub is_full : Side → Bool

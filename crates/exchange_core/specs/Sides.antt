@@ -248,3 +248,13 @@ finish side = option_and_then (λ exchange. finish_in side exchange exchange.hea
 -- the names that it withdrew are gone all the same
 abbrev pub abandon : Side → Option Side
 abandon side = if is_some side.exchange then Some (record side { table = shown_table side; exchange = None }) else None
+
+-- ---- giving an exchange up
+
+-- the names that it withdrew in the open exchange
+abbrev pub withdrawn_by : Side → List Name
+withdrawn_by side = option_map_or (λ exchange. exchange.withdrawn) side.exchange []
+
+-- idle, without the names that it withdrew in an open exchange
+abbrev pub rested : Side → Side
+rested side = record side { table = shown_table side; exchange = None }

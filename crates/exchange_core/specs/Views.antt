@@ -14,4 +14,4 @@ finished_inside f =
     finished_by f.id f.number f.seed
     (record { table = f.own; uptime = f.own_uptime; gone = f.own_gone.items })
     (record { table = arc_value f.other; uptime = f.other_uptime; gone = names_of f.other_gone })
-    f.rulings.items f.table
+    f.rulings.items (arc_value f.table)

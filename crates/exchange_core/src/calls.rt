@@ -1,41 +1,45 @@
 //! The calls of a side.
-ghost use Rattle.std.specs.Prelude.{◌≡◌, IsTrue, ◌≤◌, ◌+◌, [], ◌∷◌, Some, None, Ok, Err, IfOk, IfErr, OnOk, OnErr, length};
+ghost use Rattle.std.specs.Prelude.{◌≡◌, ◌≢◌, IsTrue, ◌≤◌, ◌+◌, [], ◌∷◌, Some, None, Ok, Err, IfOk, IfErr, OnOk, OnErr, length};
 ghost use Rattle.std.specs.Bool.{Decides};
-ghost use Rattle.std.specs.Option.{option_map, option_map_or};
+ghost use Rattle.std.specs.Option.{option_map};
 ghost use Rattle.std.specs.Arc.{arc_value};
 ghost use Rattle.std.specs.FinMap.{get, len};
-ghost use Rattle.partition_table.specs.Tables.{row_for, code_for, rows_of};
+ghost use Rattle.partition_table.specs.Tables.{row_for, rows_of};
 ghost use Rattle.exchange_core.specs.Lists.{AreNamesOf};
 ghost use Rattle.exchange_core.specs.Rows.{rows_left};
 ghost use Rattle.partition_table.specs.Judged.{clash_of_verdict, word_of_verdict, answer_of_verdict};
-ghost use Rattle.exchange_core.specs.Sides.{has_clash, heard_clashes, new_side, shown_table};
-ghost use Rattle.exchange_core.specs.Settling.{IsSettled};
+ghost use Rattle.exchange_core.specs.Sides.{has_clash, heard_clashes, new_side, rested, rulings_of, shown_table, withdrawn_by};
+ghost use Rattle.exchange_core.specs.Settling.{IsSettled, the_round};
 ghost use Rattle.exchange_core.specs.Calls.{Call};
 ghost use Rattle.exchange_core.specs.Calls as call;
 ghost use Rattle.exchange_core.specs.Worlds.{offer_of, list_of};
 ghost use Rattle.exchange_core.specs.Journal.{max_events};
 ghost use Rattle.exchange_core.specs.Finished.{finished_from};
-ghost use Rattle.numbered.specs.Answers.{IsAnswered};
+ghost use Rattle.numbered.specs.Answers.{IsAnswered, out_of_memory};
 ghost use Rattle.exchange_core.specs.Faults.{side_fault_number};
 ghost use Rattle.exchange_core.specs.Refusals as due;
+ghost use Rattle.exchange_core.specs.Refusals.{IsDecidedBy, count_lacking};
 ghost use Rattle.exchange_core.specs.Shown.{shown, calls, is_full, IsDone, IsUntouched};
 
 use crate::fault::SideFault;
 use crate::finished::Finished;
-use crate::journal::Event;
+use crate::journal::{Event, Journal};
 use crate::messages::{Offer, Withdrawals};
 use crate::shown_rows::ShownRows;
 use crate::side::Side;
 use crate::state::State;
-use clash_record::{Name, Registration, ResolverId, SideId};
+use clash_record::{Name, Registration, SideId};
 use partition_table::{ClashList, Judged, Ruling, Table};
-use std::alloc::{AllocError, Global};
+use std::alloc::Global;
+use std::snapshot::Snapshot;
 use std::sync::Arc;
 use upload_store::UploadStore;
-use verifier::Verified;
 
 /// The most events that a side's journal holds.
 pub const MAX_EVENTS: usize = 65_536;
+
+// The round at whose words sides settle.
+const ROUND: u32 = 0;
 
 impl Side {
     /// An idle side without names. Allocates nothing.
@@ -45,7 +49,7 @@ impl Side {
     {
         Side {
             state: State::new(alloc, id),
-            journal: Vec::new(alloc),
+            journal: Journal::new(),
         }
     }
 
@@ -56,7 +60,8 @@ impl Side {
         self.state.id()
     }
 
-    /// Returns the number of calls that returned `Ok`, except for `whereis` and `rows`: at most 65,536. Allocates nothing.
+    /// Returns the number of events in the journal, at most 65,536: one for each call that returned `Ok` and changes the side
+    /// or its journal, one for each ruling that `settle` took, and after `renew` those of the fresh journal. Allocates nothing.
     pub fn events(&self) -> usize
         ensures count { result ≡ length (calls self.now) }
         ensures few { result ≤ max_events }
@@ -96,7 +101,7 @@ impl Side {
 
     /// Returns the names that the side withdrew in the open exchange, the earliest first. Allocates nothing.
     pub fn withdrawn(&self) -> &[Name]
-        ensures { result.now ≡ option_map_or (λ exchange. exchange.withdrawn) (shown self.now).exchange [] }
+        ensures { result.now ≡ withdrawn_by (shown self.now) }
     {
         self.state.withdrawn()
     }
@@ -154,18 +159,17 @@ impl Side {
         if self.is_full() || self.state.is_open() {
             return Err(self.state.closed_register_fault(&name));
         }
-        let program = named_program(store, registration.resolver)?;
-        self.journal.reserve(1)?;
         self.state.register(name, registration, store)?;
+        let table = Snapshot::of(self.state.table());
         self.journal
-            .push_reserved(Event::Register(name, registration, program));
+            .push(Event::Register(name, registration, table));
         Ok(())
     }
 
     /// Unregisters the name on an idle side, and returns its registration.
     ///
     /// Returns 31 for a name that isn't registered, 33 if an exchange is open, and 40 if the journal is full: the least
-    /// that applies. Returns 90 when out of memory.
+    /// that applies. Returns 90 when out of memory: it copies the table if others still share it.
     pub fn unregister(&mut self, name: &Name) -> Result<Registration, SideFault>
         ensures answer { IsAnswered side_fault_number (due.unregister_fault (is_full self.old) (shown self.old) name.now) result }
         ensures given { IfOk result (λ registration. option_map (λ row. row.registration)
@@ -176,9 +180,8 @@ impl Side {
         if let Some(fault) = self.state.unregister_fault(self.is_full(), name) {
             return Err(fault);
         }
-        self.journal.reserve(1)?;
         let registration = self.state.unregister(name)?;
-        self.journal.push_reserved(Event::Unregister(*name));
+        self.journal.push(Event::Unregister(*name));
         Ok(registration)
     }
 
@@ -186,8 +189,8 @@ impl Side {
     /// or `abandon`.
     ///
     /// Returns 33 if an exchange is open, 35 for a number that isn't above every number that this side began, and 40 if
-    /// the journal is full: the least that applies. Returns 90 when out of memory: it allocates the offer's table and
-    /// the event.
+    /// the journal is full: the least that applies. Returns 90 when out of memory. The offer shares the
+    /// side's table.
     pub fn begin(
         &mut self,
         alloc: Global,
@@ -203,10 +206,8 @@ impl Side {
         if let Some(fault) = self.state.begin_fault(self.is_full(), number) {
             return Err(fault);
         }
-        self.journal.reserve(1)?;
         let offer = self.state.begin(alloc, number, seed, uptime)?;
-        self.journal
-            .push_reserved(Event::Begin(number, seed, uptime));
+        self.journal.push(Event::Begin(number, seed, uptime));
         Ok(offer)
     }
 
@@ -226,20 +227,18 @@ impl Side {
         if let Some(fault) = self.state.hear_fault(self.is_full(), offer) {
             return Err(fault);
         }
-        let copy = offer.share()?;
-        self.journal.reserve(1)?;
         self.state.hear(alloc, offer)?;
-        self.journal.push_reserved(Event::Hear(copy));
+        self.journal.push(Event::Hear(Snapshot::of(offer)));
         Ok(())
     }
 
     /// Takes a ruling of a clash. A second one of the same clash changes nothing but the journal.
     ///
     /// Returns 34 if no exchange is open, 38 for a ruling of the open number that isn't of clash `k` of the exchange at
-    /// one of its four words, 40 if the journal is full, and 45 for another number: the least that applies. Returns 90
-    /// when out of memory.
+    /// one of its four words, 40 if the journal is full, and 45 for another number: the least that applies. Allocates
+    /// nothing.
     pub fn take(&mut self, ruling: Ruling<'_>) -> Result<(), SideFault>
-        ensures answer { IsAnswered side_fault_number (due.take_fault (is_full self.old) (shown self.old) ruling.entry.number
+        ensures answer { IsDecidedBy (due.take_fault (is_full self.old) (shown self.old) ruling.entry.number
             ruling.entry.k
             (clash_of_verdict ruling.entry.verdict) (word_of_verdict ruling.entry.verdict)) result }
         ensures done { OnOk result (IsDone self.old (call.Take ruling.entry.number ruling.entry.k record {
@@ -257,7 +256,7 @@ impl Side {
     /// Requires that the ruling's clash is clash `k` of the open exchange. `has_clashes` checks that for a whole list.
     pub fn take_own(&mut self, ruling: Ruling<'_>) -> Result<(), SideFault>
         requires { IsTrue (has_clash (shown self.old) ruling.k (clash_of_verdict ruling.verdict)) }
-        ensures answer { IsAnswered side_fault_number (due.take_fault (is_full self.old) (shown self.old) ruling.entry.number
+        ensures answer { IsDecidedBy (due.take_fault (is_full self.old) (shown self.old) ruling.entry.number
             ruling.entry.k
             (clash_of_verdict ruling.entry.verdict) (word_of_verdict ruling.entry.verdict)) result }
         ensures done { OnOk result (IsDone self.old (call.Take ruling.entry.number ruling.entry.k record {
@@ -272,7 +271,7 @@ impl Side {
     // Takes a ruling. `is_own` is whether its clash is clash `k` of the open exchange.
     fn take_if(&mut self, is_own: bool, ruling: Ruling<'_>) -> Result<(), SideFault>
         requires { is_own ≡ has_clash (shown self.old) ruling.k (clash_of_verdict ruling.verdict) }
-        ensures answer { IsAnswered side_fault_number (due.take_fault (is_full self.old) (shown self.old) ruling.entry.number
+        ensures answer { IsDecidedBy (due.take_fault (is_full self.old) (shown self.old) ruling.entry.number
             ruling.entry.k
             (clash_of_verdict ruling.entry.verdict) (word_of_verdict ruling.entry.verdict)) result }
         ensures done { OnOk result (IsDone self.old (call.Take ruling.entry.number ruling.entry.k record {
@@ -288,29 +287,27 @@ impl Side {
             word: ruling.verdict.word(),
             answer: ruling.verdict.answer(),
         };
-        self.journal.reserve(1)?;
         self.state.take(ruling.number, ruling.k, judged);
         self.journal
-            .push_reserved(Event::Take(ruling.number, ruling.k, judged));
+            .push(Event::Take(ruling.number, ruling.k, judged));
         Ok(())
     }
 
-    /// Judges each clash that has no ruling at its word of this round, and takes the rulings.
+    /// Judges each clash that has no ruling, and takes the rulings. All sides settle at the words of round 0, so that two that
+    /// settle one exchange take the same rulings.
     ///
-    /// Returns 34 if no exchange is open, 38 for a round above 3, 39 if the other's offer isn't heard, and 40 if the
-    /// journal has fewer free places than there are clashes without a ruling: the least that applies. Returns 90 when
-    /// out of memory: it allocates the events.
-    pub fn settle(&mut self, round: u32) -> Result<(), SideFault>
-        ensures answer { IsAnswered side_fault_number (due.settle_fault (length (calls self.old)) (shown self.old) round) result }
-        ensures done { OnOk result (IsSettled self.old round self.new) }
+    /// Returns 34 if no exchange is open, 39 if the other's offer isn't heard, and 40 if the journal has fewer free places
+    /// than there are clashes without a ruling: the least that applies. Allocates nothing.
+    pub fn settle(&mut self) -> Result<(), SideFault>
+        ensures answer { IsDecidedBy (due.settle_fault (length (calls self.old)) (shown self.old)) result }
+        ensures done { OnOk result (IsSettled self.old the_round self.new) }
+        ensures complete { OnOk result (count_lacking (rulings_of (shown self.new)) ≡ 0) }
         ensures untouched { OnErr result (IsUntouched self.old self.new) }
     {
-        if let Some(fault) = self.state.settle_fault(self.events(), round) {
+        if let Some(fault) = self.state.settle_fault(self.events()) {
             return Err(fault);
         }
-        let lacking = self.state.count_lacking();
-        self.journal.reserve(lacking)?;
-        self.state.settle(round, &mut self.journal);
+        self.state.settle(ROUND, &mut self.journal);
         Ok(())
     }
 
@@ -327,9 +324,8 @@ impl Side {
         if let Some(fault) = self.state.withdraw_fault(self.is_full(), name) {
             return Err(fault);
         }
-        self.journal.reserve(1)?;
         self.state.withdraw(name)?;
-        self.journal.push_reserved(Event::Withdraw(*name));
+        self.journal.push(Event::Withdraw(*name));
         Ok(())
     }
 
@@ -348,9 +344,8 @@ impl Side {
         if let Some(fault) = self.state.close_list_fault(self.is_full()) {
             return Err(fault);
         }
-        self.journal.reserve(1)?;
         let list = self.state.close_list(alloc)?;
-        self.journal.push_reserved(Event::CloseList);
+        self.journal.push(Event::CloseList);
         Ok(list)
     }
 
@@ -366,10 +361,8 @@ impl Side {
         if let Some(fault) = self.state.hear_list_fault(self.is_full(), sent) {
             return Err(fault);
         }
-        let copy = sent.share()?;
-        self.journal.reserve(1)?;
         self.state.hear_list(sent)?;
-        self.journal.push_reserved(Event::HearList(copy));
+        self.journal.push(Event::HearList(Snapshot::of(sent)));
         Ok(())
     }
 
@@ -377,7 +370,7 @@ impl Side {
     ///
     /// Returns 34 if no exchange is open, 39 with the part that is missing (the other's offer, else the first clash
     /// without a ruling, else this side's list, else the other's), and 40 if the journal is full: the least that applies.
-    /// Returns 90 when out of memory: it allocates the merge, its copy, the rulings and the answers.
+    /// Returns 90 when out of memory: it allocates the merge, the rulings and the answers.
     pub fn finish(&mut self, alloc: Global) -> Result<Finished, SideFault>
         ensures answer { IsAnswered side_fault_number (due.finish_fault (is_full self.old) (shown self.old)) result }
         ensures given { IfOk result (λ finished. finished_from (shown self.old) ≡ Some finished) }
@@ -387,19 +380,17 @@ impl Side {
         if let Some(fault) = self.state.finish_fault(self.is_full()) {
             return Err(fault);
         }
-        self.journal.reserve(1)?;
         let finished = self.state.finish(alloc)?;
-        self.journal.push_reserved(Event::Finish);
+        self.journal.push(Event::Finish);
         Ok(finished)
     }
 
     /// Shortens the journal of an idle side: afterwards it has at most two events more than the table has names. The
     /// table and the greatest number that the side began stay as they are.
     ///
-    /// Returns 33 if an exchange is open, and 90 when out of memory: it allocates the events, with one more owner of
-    /// each program.
-    pub fn renew(&mut self, alloc: Global) -> Result<(), SideFault>
-        ensures answer { IsAnswered side_fault_number (due.renew_fault (shown self.old)) result }
+    /// Returns 33 if an exchange is open. Allocates nothing.
+    pub fn renew(&mut self) -> Result<(), SideFault>
+        ensures answer { IsDecidedBy (due.renew_fault (shown self.old)) result }
         ensures same { OnOk result (shown self.new ≡ shown self.old) }
         ensures short { OnOk result (length (calls self.new) ≤ len (shown self.old).table + 2) }
         ensures untouched { OnErr result (IsUntouched self.old self.new) }
@@ -407,42 +398,42 @@ impl Side {
         if self.state.is_open() {
             return Err(SideFault::Healing);
         }
-        let journal = self.state.fresh_journal(alloc)?;
-        self.journal = journal;
+        self.journal = self.state.fresh_journal();
         Ok(())
     }
 
     /// Closes the exchange and keeps the table, without the withdrawn names.
     ///
     /// Returns 34 if no exchange is open, and 40 if the journal is full: the least that applies. Returns 90 when out of
-    /// memory.
+    /// memory: it copies the table if it withdrew a name and others still share the table.
     pub fn abandon(&mut self) -> Result<(), SideFault>
         ensures answer { IsAnswered side_fault_number (due.abandon_fault (is_full self.old) (shown self.old)) result }
+        // Without a withdrawn name it needs no memory.
+        ensures free { withdrawn_by (shown self.old) ≡ [] → IsDecidedBy (due.abandon_fault (is_full self.old) (shown self.old)) result }
         ensures done { OnOk result (IsDone self.old call.Abandon self.new) }
         ensures untouched { OnErr result (IsUntouched self.old self.new) }
     {
         if let Some(fault) = self.state.abandon_fault(self.is_full()) {
             return Err(fault);
         }
-        self.journal.reserve(1)?;
-        self.state.abandon();
-        self.journal.push_reserved(Event::Abandon);
+        self.state.abandon()?;
+        self.journal.push(Event::Abandon);
         Ok(())
     }
-}
 
-// The program in the store that the resolver names, with one more owner.
-fn named_program(
-    store: &UploadStore,
-    resolver: ResolverId,
-) -> Result<Option<Arc<Verified>>, AllocError>
-    ensures { IfOk result (λ program. option_map arc_value program ≡ code_for store.now resolver) }
-{
-    let ResolverId::Program(id) = resolver else {
-        return Ok(None);
-    };
-    match store.get(&id) {
-        Some(program) => Ok(Some(program.clone()?)),
-        None => Ok(None),
+    /// Gives the open exchange up, if there is one, and renews the journal, also a full one. Afterwards the side is idle,
+    /// without the names that it withdrew, and its journal has at most two events more than the table has names.
+    ///
+    /// Returns 90 when out of memory: it copies the table if it withdrew a name and others still share the table.
+    pub fn give_up(&mut self) -> Result<(), SideFault>
+        ensures answer { IfErr result (λ fault. side_fault_number fault ≡ out_of_memory) }
+        ensures withdrew { OnErr result (withdrawn_by (shown self.old) ≢ []) }
+        ensures rested { OnOk result (shown self.new ≡ rested (shown self.old)) }
+        ensures short { OnOk result (length (calls self.new) ≤ len (shown self.new).table + 2) }
+        ensures untouched { OnErr result (IsUntouched self.old self.new) }
+    {
+        self.state.rest()?;
+        self.journal = self.state.fresh_journal();
+        Ok(())
     }
 }

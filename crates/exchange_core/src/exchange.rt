@@ -1,5 +1,5 @@
 //! The open exchange of a side.
-ghost use Rattle.std.specs.Prelude.{◌≡◌, ◌≤◌, ◌+◌, ◌∷◌, ◌++◌, [], Some, None, IfOk, OnOk, OnErr, replicate, is_some, true, length, map, vec_len, vec_capacity};
+ghost use Rattle.std.specs.Prelude.{◌≡◌, ◌≤◌, ◌+◌, ◌∷◌, ◌++◌, [], Some, None, IfOk, OnOk, OnErr, replicate, is_some, true, length, reverse};
 ghost use Rattle.std.specs.Option.{option_map};
 ghost use Rattle.std.specs.Arc.{arc_value};
 ghost use Rattle.partition_table.specs.Tables.{is_in};
@@ -7,11 +7,12 @@ ghost use Rattle.exchange_core.specs.Sides.{put_ruling, new_exchange};
 ghost use Rattle.exchange_core.specs.Refusals.{first_without, missing_of};
 ghost use Rattle.exchange_core.specs.model.Changing.{with_ruling};
 ghost use Rattle.exchange_core.specs.Settling.{filled, lacking};
-ghost use Rattle.exchange_core.specs.model.Settling.{judge_by, take_event};
+ghost use Rattle.exchange_core.specs.model.Settling.{judge_by, take_calls};
+ghost use Rattle.exchange_core.specs.Journal.{calls_of, max_events};
 ghost use Rattle.exchange_core.specs.Codings.{names_of};
 
 use crate::fault::MissingPart;
-use crate::journal::Event;
+use crate::journal::Journal;
 use crate::name_list::NameList;
 use crate::settling::{Course, fill};
 use clash_record::Name;
@@ -85,15 +86,16 @@ impl Heard {
     }
 
     // Gives each place without a ruling that of its clash, and writes an event for each.
-    pub(crate) fn fill(&mut self, course: Course, clashes: &ClashList, journal: &mut Vec<Event>)
+    pub(crate) fn fill(&mut self, course: Course, clashes: &ClashList, journal: &mut Journal)
         requires places { length self.old.rulings ≡ length clashes.now }
-        requires room { vec_len journal.old
-            + length (lacking (judge_by course (length clashes.now)) 0 clashes.now self.old.rulings) ≤ vec_capacity journal.old }
+        requires room { length (calls_of journal.old.past.value)
+            + length (lacking (judge_by course (length clashes.now)) 0 clashes.now self.old.rulings) ≤ max_events }
         ensures filled { self.new ≡ record self.old {
           rulings = filled (judge_by course (length clashes.now)) 0 clashes.now self.old.rulings;
         } }
-        ensures written { journal.new.items ≡ journal.old.items
-            ++ map (take_event course.number) (lacking (judge_by course (length clashes.now)) 0 clashes.now self.old.rulings) }
+        ensures written { calls_of journal.new.past.value
+            ≡ reverse (take_calls course.number (lacking (judge_by course (length clashes.now)) 0 clashes.now self.old.rulings))
+            ++ calls_of journal.old.past.value }
     {
         fill(course, clashes, &mut self.rulings, journal);
     }

@@ -4,6 +4,7 @@ ghost use Rattle.std.specs.Arc.{arc_value};
 ghost use Rattle.exchange_core.specs.Finished.{IsFinished, finished_by};
 ghost use Rattle.exchange_core.specs.Codings.{names_of};
 
+use crate::held_table::HeldTable;
 use clash_record::{Name, SideId};
 use partition_table::{Judged, Table};
 use std::marker::Model;
@@ -19,14 +20,14 @@ pub struct Finished {
     pub(crate) id: SideId,
     pub(crate) number: u64,
     pub(crate) seed: u64,
-    pub(crate) own: Table,
+    pub(crate) own: HeldTable,
     pub(crate) own_uptime: u64,
     pub(crate) own_gone: Vec<Name>,
     pub(crate) other: Arc<Table>,
     pub(crate) other_uptime: u64,
     pub(crate) other_gone: Arc<Vec<Name>>,
     pub(crate) rulings: Vec<Judged>,
-    pub(crate) table: Table,
+    pub(crate) table: Arc<Table>,
 }
 
 impl Model for Finished {
@@ -65,7 +66,7 @@ impl Finished {
         ensures { result.now ≡ self.now.a }
     {
         match self.id {
-            SideId::A => &self.own,
+            SideId::A => self.own.table(),
             SideId::B => &self.other,
         }
     }
@@ -76,7 +77,7 @@ impl Finished {
     {
         match self.id {
             SideId::A => &self.other,
-            SideId::B => &self.own,
+            SideId::B => self.own.table(),
         }
     }
 
@@ -136,9 +137,9 @@ impl Finished {
         &self.table
     }
 
-    /// The merged table itself.
-    pub fn into_table(self) -> Table
-        ensures { result ≡ self.table }
+    /// The merged table itself, which the side may share.
+    pub fn into_table(self) -> Arc<Table>
+        ensures { arc_value result ≡ self.table }
     {
         self.table
     }

@@ -8,6 +8,7 @@ ghost use Rattle.clash_record.specs.Name.{Name};
 
 use crate::exchange::Exchange;
 use crate::finished::Finished;
+use crate::held_table::HeldTable;
 use crate::pairing::merge_own;
 use crate::state::State;
 use builtin_resolvers::Verdict3;
@@ -15,6 +16,7 @@ use clash_record::SideId;
 use partition_table::{Judged, Table, clashes_theorem, fit_theorem};
 use std::alloc::{AllocError, Global};
 use std::mem;
+use std::sync::Arc;
 
 // The rulings of an exchange, and its merged table.
 #[derive(Drop)]
@@ -35,14 +37,20 @@ impl State {
         let Some(exchange) = &self.exchange else {
             unreachable!()
         };
-        let merged = merge_exchange(alloc, self.id, &self.table, exchange)?;
-        let table = merged.table.try_clone()?;
+        let Merged { rulings, table } = merge_exchange(
+            alloc,
+            self.id,
+            self.table.table(),
+            exchange,
+        )?;
+        let mut held = HeldTable::new(alloc, table);
+        let table = held.share()?;
         let Some(exchange) = self.exchange.take() else {
             unreachable!()
         };
         self.clashes = None;
-        let own = mem::replace(&mut self.table, table);
-        Ok(finished_with(self.id, own, exchange, merged))
+        let own = mem::replace(&mut self.table, held);
+        Ok(finished_with(self.id, own, exchange, rulings, table))
     }
 }
 
@@ -76,12 +84,18 @@ fn merge_exchange(
 }
 
 // The finished exchange of a side that had this table.
-fn finished_with(id: SideId, own: Table, exchange: Exchange, merged: Merged) -> Finished
+fn finished_with(
+    id: SideId,
+    own: HeldTable,
+    exchange: Exchange,
+    rulings: Vec<Judged>,
+    table: Arc<Table>,
+) -> Finished
     requires ready { IsMergeable id own exchange }
-    requires merged { IsMergeOf id own exchange merged.rulings.items merged.table }
+    requires merged { IsMergeOf id own exchange rulings.items (arc_value table) }
     ensures { (heard : sides.Heard) (theirs : List Name) → exchange.heard ≡ Some heard
         → exchange.their_list ≡ Some theirs
-        → result ≡ finished_at id own exchange heard theirs merged.rulings.items merged.table }
+        → result ≡ finished_at id own exchange heard theirs rulings.items (arc_value table) }
 {
     let (Some(heard), Some(other_gone)) = (exchange.heard, exchange.their_list) else {
         unreachable!()
@@ -97,8 +111,8 @@ fn finished_with(id: SideId, own: Table, exchange: Exchange, merged: Merged) -> 
         other,
         other_uptime,
         other_gone,
-        rulings: merged.rulings,
-        table: merged.table,
+        rulings,
+        table,
     }
 }
 

@@ -6,6 +6,7 @@ mod exchange;
 mod fault;
 mod finished;
 mod finishing;
+mod held_table;
 mod history;
 mod journal;
 mod messages;

@@ -113,19 +113,6 @@ impl Offer {
     {
         self.table.clone()
     }
-
-    // Copies the offer, with one more owner of its table.
-    pub(crate) fn share(&self) -> Result<Offer, AllocError>
-        ensures { IfOk result (λ offer. offer ≡ self.now) }
-    {
-        Ok(Offer {
-            side: self.side,
-            number: self.number,
-            seed: self.seed,
-            uptime: self.uptime,
-            table: self.table.clone()?,
-        })
-    }
 }
 
 /// The distinct names that a side withdrew in an exchange, the earliest first; at most 4,096. Only `Side::close_list`
@@ -203,16 +190,5 @@ impl Withdrawals {
         ensures { IfOk result (λ names. names_of names ≡ self.now.names) }
     {
         self.names.clone()
-    }
-
-    // Copies the list, with one more owner of its names.
-    pub(crate) fn share(&self) -> Result<Withdrawals, AllocError>
-        ensures { IfOk result (λ sent. sent ≡ self.now) }
-    {
-        Ok(Withdrawals {
-            side: self.side,
-            number: self.number,
-            names: self.names.clone()?,
-        })
     }
 }

@@ -25,10 +25,10 @@ impl State {
     pub(crate) fn closed_register_fault(&self, name: &Name) -> SideFault
         ensures { result ≡ closed_register_fault self.now name.now }
     {
-        if self.table.whereis(name).is_some() {
+        if self.table.table().whereis(name).is_some() {
             return SideFault::Table(TableFault::NameTaken);
         }
-        if self.table.len() == MAX_NAMES {
+        if self.table.table().len() == MAX_NAMES {
             return SideFault::Table(TableFault::Full);
         }
         if self.exchange.is_some() {
@@ -41,7 +41,7 @@ impl State {
     pub(crate) fn unregister_fault(&self, full: bool, name: &Name) -> Option<SideFault>
         ensures { result ≡ due.unregister_fault full self.now name.now }
     {
-        if self.table.whereis(name).is_none() {
+        if self.table.table().whereis(name).is_none() {
             return Some(SideFault::Table(TableFault::NoSuchName));
         }
         if self.exchange.is_some() {
@@ -87,7 +87,7 @@ impl State {
     fn fit(&self, other: &Table) -> Result<(), TableFault>
         ensures { IsRefused (fit_fault_for self.now.id self.now.table other.now) result }
     {
-        fit_own(&self.table, other)
+        fit_own(self.table.table(), other)
     }
 
     // Returns the refusal of the other side's first offer of the open number.
@@ -166,7 +166,7 @@ impl State {
     pub(crate) fn withdraw_fault(&self, full: bool, name: &Name) -> Option<SideFault>
         ensures { result ≡ due.withdraw_fault full self.now name.now }
     {
-        if self.table.whereis(name).is_none() {
+        if self.table.table().whereis(name).is_none() {
             return Some(SideFault::Table(TableFault::NoSuchName));
         }
         let Some(exchange) = &self.exchange else {

@@ -1,19 +1,17 @@
 //! Settles an exchange: judges each clash without a ruling, all at the words of one round.
-ghost use Rattle.std.specs.Prelude.{◌≡◌, ◌≤◌, ◌<◌, ◌+◌, ◌++◌, length, map, Some, IfSome, slice_get, vec_len, vec_capacity};
+ghost use Rattle.std.specs.Prelude.{◌≡◌, ◌≤◌, ◌<◌, ◌+◌, ◌++◌, length, reverse, Some, IfSome, slice_get};
 ghost use Rattle.exchange_core.specs.Sides as sides;
 ghost use Rattle.exchange_core.specs.Refusals as due;
-ghost use Rattle.exchange_core.specs.Settling.{filled, lacking, lacking_in, lacking_of, number_in, settled, settled_exchange};
-ghost use Rattle.exchange_core.specs.model.Settling.{HasPlaces, SideHasPlaces, judge_by, take_event};
+ghost use Rattle.exchange_core.specs.Settling.{filled, lacking, lacking_in, lacking_of, settle_calls, settled, settled_exchange};
+ghost use Rattle.exchange_core.specs.model.Settling.{HasPlaces, SideHasPlaces, judge_by, take_calls};
+ghost use Rattle.exchange_core.specs.Journal.{calls_of, max_events};
 
 use crate::calls::MAX_EVENTS;
 use crate::exchange::Exchange;
 use crate::fault::{MissingPart, SideFault};
-use crate::journal::Event;
+use crate::journal::{Event, Journal};
 use crate::state::State;
 use partition_table::{Clash, ClashList, Judged, Verdict, word};
-
-/// The number of rounds: each has a lawful word for each clash.
-const ROUNDS: u32 = 4;
 
 // The numbers of an exchange that rulings are made of.
 #[derive(Clone, Copy)]
@@ -24,16 +22,13 @@ pub(crate) struct Course {
 }
 
 impl State {
-    // Returns the refusal to settle at this round; the journal has this many events.
-    pub(crate) fn settle_fault(&self, events: usize, round: u32) -> Option<SideFault>
-        ensures { result ≡ due.settle_fault events self.now round }
+    // Returns the refusal to settle; the journal has this many events.
+    pub(crate) fn settle_fault(&self, events: usize) -> Option<SideFault>
+        ensures { result ≡ due.settle_fault events self.now }
     {
         let Some(exchange) = &self.exchange else {
             return Some(SideFault::NotHealing);
         };
-        if round >= ROUNDS {
-            return Some(SideFault::StrangeRuling);
-        }
         let Some(heard) = &exchange.heard else {
             return Some(SideFault::Missing(MissingPart::TheirOffer));
         };
@@ -43,26 +38,13 @@ impl State {
         None
     }
 
-    // Counts the clashes without a ruling.
-    pub(crate) fn count_lacking(&self) -> usize
-        ensures { result ≡ due.count_lacking (sides.rulings_of self.now) }
-    {
-        let Some(exchange) = &self.exchange else {
-            return 0;
-        };
-        match &exchange.heard {
-            Some(heard) => count_lacking(heard.rulings()),
-            None => 0,
-        }
-    }
-
     // Gives each clash without a ruling that of the round, and writes an event for each.
-    pub(crate) fn settle(&mut self, round: u32, journal: &mut Vec<Event>)
+    pub(crate) fn settle(&mut self, round: u32, journal: &mut Journal)
         requires places { SideHasPlaces self.old }
-        requires room { vec_len journal.old + length (lacking_of round self.old) ≤ vec_capacity journal.old }
+        requires room { length (calls_of journal.old.past.value) + length (lacking_of round self.old) ≤ max_events }
         ensures state { self.new ≡ settled round self.old }
-        ensures written { journal.new.items
-            ≡ journal.old.items ++ map (take_event (number_in self.old)) (lacking_of round self.old) }
+        ensures written { calls_of journal.new.past.value
+            ≡ reverse (settle_calls round self.old) ++ calls_of journal.old.past.value }
     {
         let Some(clashes) = &self.clashes else {
             return;
@@ -76,12 +58,12 @@ impl State {
 
 impl Exchange {
     // Gives each of these clashes without a ruling that of the round, and writes an event for each.
-    fn settle(&mut self, round: u32, clashes: &ClashList, journal: &mut Vec<Event>)
+    fn settle(&mut self, round: u32, clashes: &ClashList, journal: &mut Journal)
         requires places { HasPlaces clashes.now self.old }
-        requires room { vec_len journal.old + length (lacking_in round clashes.now self.old) ≤ vec_capacity journal.old }
+        requires room { length (calls_of journal.old.past.value) + length (lacking_in round clashes.now self.old) ≤ max_events }
         ensures state { self.new ≡ settled_exchange round clashes.now self.old }
-        ensures written { journal.new.items
-            ≡ journal.old.items ++ map (take_event self.old.number) (lacking_in round clashes.now self.old) }
+        ensures written { calls_of journal.new.past.value
+            ≡ reverse (take_calls self.old.number (lacking_in round clashes.now self.old)) ++ calls_of journal.old.past.value }
     {
         let course = Course {
             number: self.number,
@@ -107,14 +89,15 @@ pub(crate) fn fill(
     course: Course,
     clashes: &ClashList,
     rulings: &mut [Option<Judged>],
-    journal: &mut Vec<Event>,
+    journal: &mut Journal,
 )
     requires places { length rulings.old ≡ length clashes.now }
-    requires room { vec_len journal.old + length (lacking (judge_by course (length clashes.now)) 0 clashes.now rulings.old)
-        ≤ vec_capacity journal.old }
+    requires room { length (calls_of journal.old.past.value)
+        + length (lacking (judge_by course (length clashes.now)) 0 clashes.now rulings.old) ≤ max_events }
     ensures filled { rulings.new ≡ filled (judge_by course (length clashes.now)) 0 clashes.now rulings.old }
-    ensures written { journal.new.items ≡ journal.old.items
-        ++ map (take_event course.number) (lacking (judge_by course (length clashes.now)) 0 clashes.now rulings.old) }
+    ensures written { calls_of journal.new.past.value
+        ≡ reverse (take_calls course.number (lacking (judge_by course (length clashes.now)) 0 clashes.now rulings.old))
+        ++ calls_of journal.old.past.value }
 {
     let count = clashes.len() as u32;
     for k in 0..count {
@@ -124,7 +107,7 @@ pub(crate) fn fill(
         if rulings[k as usize].is_none() {
             let judged = judge(course, count, k, clash);
             rulings[k as usize] = Some(judged);
-            journal.push_reserved(Event::Take(course.number, k, judged));
+            journal.push(Event::Take(course.number, k, judged));
         }
     }
 }

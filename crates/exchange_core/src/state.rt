@@ -1,11 +1,11 @@
 //! The state of a side, and what each call leaves of it.
-ghost use Rattle.std.specs.Prelude.{◌≡◌, [], Some, None, IsTrue, IfOk, OnOk, OnErr, is_some};
+ghost use Rattle.std.specs.Prelude.{◌≡◌, ◌≢◌, [], Some, None, IsTrue, IfOk, OnOk, OnErr, is_some};
 ghost use Rattle.std.specs.Bool.{Decides};
 ghost use Rattle.std.specs.FinMap.{get};
 ghost use Rattle.partition_table.specs.Tables.{row_for, rows_of};
 ghost use Rattle.numbered.specs.Answers.{IsAnswered};
 ghost use Rattle.partition_table.specs.Faults as table;
-ghost use Rattle.exchange_core.specs.Sides.{new_side, without, shown_table, heard_clashes};
+ghost use Rattle.exchange_core.specs.Sides.{new_side, rested, withdrawn_by, without, shown_table, heard_clashes};
 ghost use Rattle.exchange_core.specs.Lists.{AreNamesOf};
 ghost use Rattle.exchange_core.specs.Rows.{rows_left};
 ghost use Rattle.std.specs.Option.{option_map, option_map_or};
@@ -17,6 +17,7 @@ ghost use Rattle.exchange_core.specs.Worlds.{offer_of, list_of};
 
 use crate::exchange::{Exchange, Heard};
 use crate::fault::{MissingPart, SideFault};
+use crate::held_table::HeldTable;
 use crate::messages::{Offer, Withdrawals};
 use crate::pairing::clashes_own;
 use crate::shown_rows::ShownRows;
@@ -31,7 +32,7 @@ use upload_store::UploadStore;
 #[derive(Debug, Drop)]
 pub(crate) struct State {
     pub(crate) id: SideId,
-    pub(crate) table: Table,
+    pub(crate) table: HeldTable,
     pub(crate) exchange: Option<Exchange>,
     pub(crate) clashes: Option<Arc<ClashList>>,
     pub(crate) latest: Option<u64>,
@@ -60,7 +61,7 @@ impl State {
     {
         State {
             id,
-            table: Table::new(alloc),
+            table: HeldTable::new(alloc, Table::new(alloc)),
             exchange: None,
             clashes: None,
             latest: None,
@@ -78,7 +79,7 @@ impl State {
     pub(crate) fn table(&self) -> &Table
         ensures { result.now ≡ self.now.table }
     {
-        &self.table
+        self.table.table()
     }
 
     // Checks whether an exchange is open.
@@ -100,7 +101,7 @@ impl State {
 
     // Returns the names withdrawn in the open exchange.
     pub(crate) fn withdrawn(&self) -> &[Name]
-        ensures { result.now ≡ option_map_or (λ exchange. exchange.withdrawn) self.now.exchange [] }
+        ensures { result.now ≡ withdrawn_by self.now }
     {
         match &self.exchange {
             Some(exchange) => exchange.withdrawn().names(),
@@ -148,12 +149,12 @@ impl State {
             ≡ option_map (λ row. row.registration) (get (shown_table self.now) name.now) }
     {
         let Some(exchange) = &self.exchange else {
-            return self.table.whereis(name);
+            return self.table.table().whereis(name);
         };
         if exchange.has_withdrawn(name) {
             return None;
         }
-        self.table.whereis(name)
+        self.table.table().whereis(name)
     }
 
     // The rows of the table, without the names that were withdrawn.
@@ -162,12 +163,12 @@ impl State {
     {
         let Some(exchange) = &self.exchange else {
             return ShownRows {
-                rows: self.table.rows(),
+                rows: self.table.table().rows(),
                 withdrawn: None,
             };
         };
         ShownRows {
-            rows: self.table.rows(),
+            rows: self.table.table().rows(),
             withdrawn: Some(exchange.withdrawn()),
         }
     }
@@ -184,16 +185,27 @@ impl State {
         ensures done { OnOk result (sides.register self.old name (row_for store.now registration) ≡ Some self.new) }
         ensures unchanged { OnErr result (self.new ≡ self.old) }
     {
-        self.table.register(name, registration, store)
+        let mut table = self.table.take()?;
+        let result = table.register(name, registration, store);
+        self.table.put(table);
+        result
     }
 
     // Takes the name out.
-    pub(crate) fn unregister(&mut self, name: &Name) -> Result<Registration, TableFault>
+    pub(crate) fn unregister(&mut self, name: &Name) -> Result<Registration, AllocError>
         requires { IsTrue (is_some (sides.unregister self.old name.now)) }
-        ensures answer { result ≡ table.unregister_answer (get self.old.table name.now) }
-        ensures done { sides.unregister self.old name.now ≡ Some self.new }
+        ensures given { IfOk result (λ registration. option_map (λ row. row.registration) (get self.old.table name.now)
+            ≡ Some registration) }
+        ensures done { OnOk result (sides.unregister self.old name.now ≡ Some self.new) }
+        ensures unchanged { OnErr result (self.new ≡ self.old) }
     {
-        self.table.unregister(name)
+        let mut table = self.table.take()?;
+        let taken_out = table.unregister(name);
+        self.table.put(table);
+        match taken_out {
+            Ok(registration) => Ok(registration),
+            Err(_) => unreachable!(),
+        }
     }
 
     // Opens an exchange.
@@ -209,7 +221,7 @@ impl State {
         ensures offer { IfOk result (λ offer. offer ≡ offer_of self.old number seed uptime) }
         ensures unchanged { OnErr result (self.new ≡ self.old) }
     {
-        let table = Arc::new(alloc, self.table.try_clone()?)?;
+        let table = self.table.share()?;
         self.exchange = Some(Exchange::new(alloc, number, seed, uptime));
         self.clashes = None;
         self.latest = Some(number);
@@ -230,7 +242,7 @@ impl State {
         }
         let clashes = clashes_own(
             alloc,
-            &self.table,
+            self.table.table(),
             exchange.uptime(),
             offer.table(),
             offer.uptime(),
@@ -277,7 +289,7 @@ impl State {
             unreachable!()
         };
         // For the prover: the table has at most 4,096 names.
-        self.table.len();
+        self.table.table().len();
         let names = exchange.copy_names(alloc)?;
         let number = exchange.number();
         exchange.close();
@@ -301,15 +313,37 @@ impl State {
     }
 
     // Closes the exchange, and takes out the names that were withdrawn.
-    pub(crate) fn abandon(&mut self)
+    pub(crate) fn abandon(&mut self) -> Result<(), AllocError>
         requires { IsTrue (is_some (sides.abandon self.old)) }
-        ensures { sides.abandon self.old ≡ Some self.new }
+        ensures done { OnOk result (sides.abandon self.old ≡ Some self.new) }
+        // Only withdrawn names need memory.
+        ensures withdrew { OnErr result (withdrawn_by self.old ≢ []) }
+        ensures unchanged { OnErr result (self.new ≡ self.old) }
     {
-        let Some(exchange) = self.exchange.take() else {
+        let Some(exchange) = &self.exchange else {
             unreachable!()
         };
-        take_out(&mut self.table, exchange.withdrawn().names());
+        let gone = exchange.withdrawn().names();
+        if !gone.is_empty() {
+            let mut table = self.table.take()?;
+            take_out(&mut table, gone);
+            self.table.put(table);
+        }
+        self.exchange = None;
         self.clashes = None;
+        Ok(())
+    }
+
+    // Closes the exchange as `abandon` does, if one is open.
+    pub(crate) fn rest(&mut self) -> Result<(), AllocError>
+        ensures done { OnOk result (self.new ≡ rested self.old) }
+        ensures withdrew { OnErr result (withdrawn_by self.old ≢ []) }
+        ensures unchanged { OnErr result (self.new ≡ self.old) }
+    {
+        if self.exchange.is_none() {
+            return Ok(());
+        }
+        self.abandon()
     }
 }
 

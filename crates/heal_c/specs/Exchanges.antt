@@ -8,7 +8,7 @@ use Rattle.exchange_core.specs.declared.fault.SideFault.{SideFault}
 use Rattle.exchange_core.specs.Faults.{side_fault_number}
 use Rattle.exchange_core.specs.Finished.{Finished, finished_from}
 use Rattle.exchange_core.specs.Refusals as due
-use Rattle.exchange_core.specs.Settling.{IsSettled}
+use Rattle.exchange_core.specs.Settling.{IsSettled, the_round}
 use Rattle.exchange_core.specs.Shown.{shown, calls, is_full}
 use Rattle.exchange_core.specs.Worlds.{offer_of, list_of}
 use Rattle.exchange_codec.specs.declared.fault.MessageFault.{MessageFault}
@@ -18,7 +18,7 @@ use Rattle.exchange_codec.specs.Withdrawals.{SpellsWithdrawals, list_due}
 use Rattle.exchange_codec.specs.Withdrawals as lists
 use Rattle.heal_c.specs.declared.half.Half.{Half}
 use Rattle.heal_c.specs.declared.outcome.Outcome.{Outcome}
-use Rattle.heal_c.specs.Answers.{unless, and_then, IsAnswer}
+use Rattle.heal_c.specs.Answers.{unless, and_then, IsAnswer, Gives}
 use Rattle.heal_c.specs.Codes.{name_of}
 use Rattle.heal_c.specs.Outcomes.{IsOutcome}
 use Rattle.heal_c.specs.Sides.{Stays, CarriesOut}
@@ -80,9 +80,9 @@ pub record HearsList (bytes : List ℕ) (old new : Half) (n : ℕ) : Type 0 wher
 
 -- ---- the other calls
 
-abbrev pub Settles : ℕ → Half → Half → ℕ → Type 0
-Settles round old new = IsAnswer (allowed (due.settle_fault (length (calls old.side)) (shown old.side) round))
-    (λ _. IsSettled old.side round new.side × (new.store ≡ old.store)) (Stays old new)
+abbrev pub Settles : Half → Half → ℕ → Type 0
+Settles old new = Gives (allowed (due.settle_fault (length (calls old.side)) (shown old.side)))
+    (λ _. IsSettled old.side the_round new.side × (new.store ≡ old.store)) (Stays old new)
 
 abbrev pub withdrawing : List ℕ → Half → Result Name ℕ
 withdrawing bytes half = and_then (name_of bytes) (λ name. unless side_fault_number

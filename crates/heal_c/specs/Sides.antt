@@ -1,5 +1,5 @@
 -- The calls of a half on its table and its programs: what is due to each, and what it leaves.
-use Rattle.std.specs.Prelude.{◌≡◌, ◌≤◌, ◌+◌, ◌⊎◌, ℕ, Bool, true, false, List, [], length, Option, Some, Result, Ok, Err, slice_get}
+use Rattle.std.specs.Prelude.{◌≡◌, ◌≢◌, ◌≤◌, ◌+◌, ◌⊎◌, ℕ, Bool, true, false, List, [], length, Option, Some, Result, Ok, Err, slice_get}
 use Rattle.std.specs.Option.{option_map, ok_or}
 use Rattle.std.specs.FinMap as map
 use Rattle.numbered.specs.Answers.{out_of_memory}
@@ -16,7 +16,7 @@ use Rattle.exchange_core.specs.Calls.{Call, Register, Unregister}
 use Rattle.exchange_core.specs.Faults.{side_fault_number}
 use Rattle.exchange_core.specs.Refusals.{register_fault, unregister_fault, renew_fault}
 use Rattle.exchange_core.specs.Shown.{shown, calls, is_full, IsDone, IsUntouched}
-use Rattle.exchange_core.specs.Sides.{new_side, shown_table}
+use Rattle.exchange_core.specs.Sides.{new_side, rested, shown_table, withdrawn_by}
 use Rattle.heal_c.specs.declared.half.Half.{Half}
 use Rattle.heal_c.specs.declared.codes.HealRegistration.{HealRegistration}
 use Rattle.heal_c.specs.declared.codes.HealRow.{HealRow}
@@ -83,8 +83,21 @@ pub record IsRenewed (old new : Half) : Type 0 where
   pub store : new.store ≡ old.store
 
 abbrev pub Renews : Half → Half → ℕ → Type 0
-Renews old new = IsAnswer (unless side_fault_number (renew_fault (shown old.side)) (tt {0}))
+Renews old new = Gives (unless side_fault_number (renew_fault (shown old.side)) (tt {0}))
     (λ _. IsRenewed old new) (Stays old new)
+
+-- ---- giving an exchange up
+
+-- the side is idle without the names that it withdrew, its journal is short, and the programs stay
+pub record GaveUp (old new : Half) : Type 0 where
+  pub state : shown new.side ≡ rested (shown old.side)
+  pub short : length (calls new.side) ≤ map.len (shown new.side).table + 2
+  pub store : new.store ≡ old.store
+
+-- only withdrawn names need memory
+abbrev pub GivesUp : Half → Half → ℕ → Type 0
+GivesUp old new n = ((n ≡ 0) × GaveUp old new)
+    ⊎ ((n ≡ out_of_memory) × (withdrawn_by (shown old.side) ≢ []) × Stays old new)
 
 -- ---- uploading
 

@@ -56,17 +56,17 @@ pub extern "C" fn heal_side_hear(alloc: Global, side: &mut HealSide, offer: &[u8
     }
 }
 
-/// Judges every clash that has no ruling at its word of this round, 0 to 3.
+/// Judges every clash that has no ruling, at the word that both halves judge it at.
 ///
-/// Returns 91 for an empty handle; then 34 if no exchange is open, 38 for another round, 39 if the other's offer isn't
-/// heard, and 40 if the journal has no room. Returns 90 when out of memory.
+/// Returns 91 for an empty handle; then 34 if no exchange is open, 39 if the other's offer isn't heard, and 40 if the
+/// journal has no room. Needs no memory.
 #[unsafe(no_mangle)]
-pub extern "C" fn heal_side_settle(alloc: Global, side: &mut HealSide, round: u32) -> u32
-    ensures { OnHandle side.old.half side.new.half (Settles round) (Unit {0}) result }
+pub extern "C" fn heal_side_settle(alloc: Global, side: &mut HealSide) -> u32
+    ensures { OnHandle side.old.half side.new.half Settles (Unit {0}) result }
 {
     match side.take(alloc) {
         Some(mut half) => {
-            let number = number_of(&half.side.settle(round));
+            let number = number_of(&half.side.settle());
             side.put(half);
             number
         }

@@ -4,7 +4,7 @@ ghost use Rattle.std.specs.FinMap.{len};
 ghost use Rattle.numbered.specs.Answers.{out_of_memory};
 ghost use Rattle.exchange_core.specs.Shown.{shown, calls};
 ghost use Rattle.heal_c.specs.Answers.{Gives, OnHandle, Reads};
-ghost use Rattle.heal_c.specs.Sides.{side_id, Registers, Unregisters, Renews, IsNew, IsUpload, found_at, row_at};
+ghost use Rattle.heal_c.specs.Sides.{side_id, Registers, Unregisters, Renews, GivesUp, IsNew, IsUpload, found_at, row_at};
 
 use crate::answer::{EMPTY_HANDLE, give, number_of};
 use crate::codes::{HealRegistration, HealRow};
@@ -196,14 +196,32 @@ pub extern "C" fn heal_side_events(alloc: Global, side: &mut HealSide, events: &
 
 /// Starts a fresh journal on an idle side.
 ///
-/// Returns 91 for an empty handle, and 33 if an exchange is open. Returns 90 when out of memory.
+/// Returns 91 for an empty handle, and 33 if an exchange is open. Needs no memory.
 #[unsafe(no_mangle)]
 pub extern "C" fn heal_side_renew(alloc: Global, side: &mut HealSide) -> u32
     ensures { OnHandle side.old.half side.new.half Renews (Unit {0}) result }
 {
     match side.take(alloc) {
         Some(mut half) => {
-            let number = number_of(&half.side.renew(alloc));
+            let number = number_of(&half.side.renew());
+            side.put(half);
+            number
+        }
+        None => EMPTY_HANDLE,
+    }
+}
+
+/// Gives the open exchange up, if there is one, and starts a fresh journal, also where the journal is full. Afterwards
+/// the side is idle, without the names that it withdrew.
+///
+/// Returns 91 for an empty handle. Returns 90 when out of memory, which only withdrawn names need.
+#[unsafe(no_mangle)]
+pub extern "C" fn heal_side_give_up(alloc: Global, side: &mut HealSide) -> u32
+    ensures { OnHandle side.old.half side.new.half GivesUp (Unit {0}) result }
+{
+    match side.take(alloc) {
+        Some(mut half) => {
+            let number = number_of(&half.side.give_up());
             side.put(half);
             number
         }

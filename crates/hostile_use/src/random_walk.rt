@@ -8,6 +8,7 @@ use fixtures::{BY_STAMP, EXIT, Mail, UNKNOWN, registration, stored};
 use partition_table::{Ruling, Table, Verdict, word};
 use std::alloc::{AllocError, Global};
 use std::collections::BTreeMap;
+use std::sync::Arc;
 use std::test::Fail;
 use upload_store::UploadStore;
 
@@ -58,7 +59,7 @@ struct Between {
     latest: u64,
     mail: Mail,
     // The tables of the numbers that one side finished.
-    finished: BTreeMap<u64, Table>,
+    finished: BTreeMap<u64, Arc<Table>>,
     log: Log,
 }
 
@@ -385,7 +386,7 @@ impl Between {
     }
 
     // Keeps the table of the side that finishes this number first.
-    fn keep(&mut self, number: u64, table: Table) -> Result<(), Fail> {
+    fn keep(&mut self, number: u64, table: Arc<Table>) -> Result<(), Fail> {
         self.finished
             .insert(number, table)
             .map_err(AllocError::from)?;

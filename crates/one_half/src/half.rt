@@ -51,7 +51,7 @@ impl Half {
             ("register", 5) => self.register(first, [second, third, fourth], fifth),
             ("begin", 3) => self.begin(first, second, third),
             ("hear", 1) => self.hear(first),
-            ("settle", 1) => self.settle(first),
+            ("settle", 0) => self.settle(),
             ("withdraw", 1) => self.withdraw(first),
             ("close", 0) => self.close(),
             ("hear-list", 1) => self.hear_list(first),
@@ -100,8 +100,8 @@ impl Half {
         Ok(Reply::Done)
     }
 
-    fn settle(&mut self, round: &str) -> Result<Reply, Refused> {
-        self.side.settle(small_number(round)?)?;
+    fn settle(&mut self) -> Result<Reply, Refused> {
+        self.side.settle()?;
         Ok(Reply::Done)
     }
 

@@ -13,7 +13,7 @@ use Rattle.script_text.specs.Lines.{Line, Short, Long}
 use Rattle.script_machine.specs.declared.reply.Reply.{Reply}
 use Rattle.script_machine.specs.Machines.{Machine, resolver_of}
 use Rattle.script_machine.specs.Replies.{Answer, Says, Shows, Heals}
-use Rattle.script_machine.specs.Steps.{Step, AnswersText, Answers, Replies, Refuses, Edits, RegisterStep, UploadsHex, is_free}
+use Rattle.script_machine.specs.Steps.{Step, AnswersLine, AnswersText, Answers, Replies, Refuses, Edits, RegisterStep, UploadsHex, is_free}
 
 stays : (old new : Machine) → new ≡ old → new.latest ≤ old.latest + 1
 stays old new same = omega (arith, ap (λ (m : Machine). m.latest) same)
@@ -80,10 +80,17 @@ text_answered old (Err fault) (Says reply) new (inr h) = stays old new h.1
 text_answered old (Err fault) (Shows labels rows) new h = absurd h
 text_answered old (Err fault) (Heals healing) new h = absurd h
 
+line_answered : (old : Machine) (line : Line) (answer : Answer) (new : Machine) → AnswersLine old line answer new
+    → new.latest ≤ old.latest + 1
+line_answered old (Short text) answer new h = text_answered old (asked_of text) answer new h
+line_answered old Long (Says reply) new h = stays old new h.1
+line_answered old Long (Shows labels rows) new h = absurd h
+line_answered old Long (Heals healing) new h = absurd h
+
 -- after a line the number of the latest exchange is at most one more than before
 pub latest_after : (old : Machine) (line : Line) (answer : Answer) (new : Machine) → Step old line answer new
     → new.latest ≤ old.latest + 1
-latest_after old (Short text) answer new h = text_answered old (asked_of text) answer new h
-latest_after old Long (Says reply) new h = stays old new h.1
-latest_after old Long (Shows labels rows) new h = absurd h
-latest_after old Long (Heals healing) new h = absurd h
+latest_after old line answer new step =
+    let most = line_answered step.fresh line answer new step.answered in
+    let same = step.renewed.latest in
+    omega (arith, most, same)

@@ -9,7 +9,7 @@ use Rattle.script_machine.specs.declared.reply.Reply.{Reply}
 use Rattle.script_machine.specs.declared.reply.Reply.TheVariants.{Silent, Refused}
 use Rattle.script_machine.specs.Machines.{Machine}
 use Rattle.script_machine.specs.Replies.{Answer, Says, reply_text, reply_status}
-use Rattle.script_machine.specs.Steps.{Step, AnswersText, Refuses}
+use Rattle.script_machine.specs.Steps.{AnswersLine, AnswersText, Refuses}
 use Rattle.script_engine.specs.model.Progress.{SendsNext, IsSaid}
 
 -- a reply that is sent is an answer
@@ -30,7 +30,7 @@ starved machine (Err fault) reply h = inr h
 pub fault_told : (machine : Machine) (text : List ℕ) (fault : LineFault) (reply : Reply)
     → (asked_of text ≡ Err fault) ⊎ (fault ≡ OutOfMemory)
     → reply ≡ Refused (record { number = line_fault_number fault; place = None })
-    → Step machine (Short text) (Says reply) machine
+    → AnswersLine machine (Short text) (Says reply) machine
 fault_told machine text fault reply (inl e) told =
     subst (λ asked. AnswersText machine asked (Says reply) machine) (sym e) (inl (told, refl))
 fault_told machine text fault reply (inr e) told =
@@ -39,6 +39,6 @@ fault_told machine text fault reply (inr e) told =
 
 -- a blank line or a comment has an empty answer
 pub nothing_told : (machine : Machine) (text : List ℕ) → asked_of text ≡ Ok None
-    → Step machine (Short text) (Says Silent) machine
+    → AnswersLine machine (Short text) (Says Silent) machine
 nothing_told machine text e =
     subst (λ asked. AnswersText machine asked (Says Silent) machine) (sym e) (inl (refl, refl))

@@ -6,7 +6,7 @@ ghost use Rattle.script_text.specs.Commands.{asked};
 ghost use Rattle.script_text.specs.Asking.{Heal};
 ghost use Rattle.script_machine.specs.Machines.{machine_of};
 ghost use Rattle.script_machine.specs.Replies.{reply_text, reply_status};
-ghost use Rattle.script_engine.specs.model.Progress.{SendsNext, Serves, ServesAsked};
+ghost use Rattle.script_engine.specs.model.Progress.{SendsNext, Serves, ServesLine, ServesAsked};
 
 use crate::crew::Crew;
 use crate::fault::LineTooLong;
@@ -30,6 +30,23 @@ pub(crate) fn serve<T: Threads + Wait + Sync + AllocGlobal, G: Gate + Sync, W: W
 ) -> Result<u8, DeviceFault>
     requires { (machine_of machine.old).latest < 2 ^ 64 - 1 }
     ensures { Serves (machine_of machine.old) (machine_of machine.new) (seen_line is_long line.now) number
+        (W.contents writer.old) (W.contents writer.new) result }
+{
+    machine.renew_long();
+    answer(crew, machine, writer, number, line, is_long)
+}
+
+// Carries out a line on a machine whose long journals are renewed, and writes its answer.
+fn answer<T: Threads + Wait + Sync + AllocGlobal, G: Gate + Sync, W: Write>(
+    crew: &Crew<'_, T, G>,
+    machine: &mut Machine,
+    writer: &mut W,
+    number: u64,
+    line: &LineBuffer,
+    is_long: bool,
+) -> Result<u8, DeviceFault>
+    requires { (machine_of machine.old).latest < 2 ^ 64 - 1 }
+    ensures { ServesLine (machine_of machine.old) (machine_of machine.new) (seen_line is_long line.now) number
         (W.contents writer.old) (W.contents writer.new) result }
 {
     if is_long {

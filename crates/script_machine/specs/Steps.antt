@@ -29,7 +29,7 @@ use Rattle.script_text.specs.declared.fault.LineFault.{LineFault}
 use Rattle.script_text.specs.Faults.{line_fault_number}
 use Rattle.script_text.specs.Asking.{Asked, Upload, Register, Unregister, Whereis, Show, Heal, asked_of}
 use Rattle.script_text.specs.Lines.{Line, Short, Long}
-use Rattle.cluster.specs.Clusters.{Cluster, at, with_standing, is_full_at}
+use Rattle.cluster.specs.Clusters.{Cluster, AreFresh, at, with_standing, is_full_at}
 use Rattle.cluster.specs.Healing.{Plan, IsHealed, IsFailed}
 use Rattle.cluster.specs.Healings.{Healing}
 use Rattle.cluster.specs.Faults.{heal_fault_number}
@@ -189,7 +189,20 @@ AnswersText old (Err fault) (Says reply) new =
 AnswersText old (Err fault) answer new = ⊥
 
 -- a line has this answer, and leaves new. A line that is too long is refused for any contents
-abbrev pub Step : Machine → Line → Answer → Machine → Type 0
-Step old (Short text) answer new = AnswersText old (asked_of text) answer new
-Step old Long (Says reply) new = Refuses 54 None old reply new
-Step old Long answer new = ⊥
+abbrev pub AnswersLine : Machine → Line → Answer → Machine → Type 0
+AnswersLine old (Short text) answer new = AnswersText old (asked_of text) answer new
+AnswersLine old Long (Says reply) new = Refuses 54 None old reply new
+AnswersLine old Long answer new = ⊥
+
+-- the journals of idle halves that were more than half full are renewed, and nothing else changed
+pub record IsRenewed (old new : Machine) : Type 0 where
+  pub labels : new.labels ≡ old.labels
+  pub programs : new.programs ≡ old.programs
+  pub cluster : AreFresh old.cluster new.cluster
+  pub latest : new.latest ≡ old.latest
+
+-- long journals are renewed before each line
+pub record Step (old : Machine) (line : Line) (answer : Answer) (new : Machine) : Type 0 where
+  pub fresh : Machine
+  pub renewed : IsRenewed old fresh
+  pub answered : AnswersLine fresh line answer new

@@ -1,7 +1,7 @@
 //! The state of a script between its lines.
 ghost use Rattle.std.specs.Prelude.{◌≡◌};
 ghost use Rattle.script_machine.specs.Machines.{machine_of, new_machine};
-ghost use Rattle.script_machine.specs.Steps.{whereis_reply};
+ghost use Rattle.script_machine.specs.Steps.{IsRenewed, whereis_reply};
 
 use crate::labels::Label;
 use crate::reply::Reply;
@@ -43,6 +43,14 @@ impl Machine {
             cluster: Cluster::new(alloc),
             latest: 0,
         }
+    }
+
+    /// Renews the journal of each idle half that is more than half full, so that no line is refused for a full journal.
+    /// Allocates nothing.
+    pub fn renew_long(&mut self)
+        ensures { IsRenewed (machine_of self.old) (machine_of self.new) }
+    {
+        self.cluster.renew_long();
     }
 
     /// Who owns a name on a side, if anybody does; an open side leaves out the names that it withdrew. Allocates nothing.

@@ -4,6 +4,7 @@ use fixtures::{Ended, begin_both, hear_both};
 use partition_table::{ClashList, Table};
 use registry_lock::meet;
 use std::alloc::Global;
+use std::sync::Arc;
 use std::test::Fail;
 use verdict_board::Board;
 
@@ -38,7 +39,7 @@ fn first_four(rulings: &[Judged]) -> [Option<Judged>; 4] {
 }
 
 /// Returns the one table of both sides, which meet at the board.
-pub(crate) fn meet_at<'p>(ended: Ended, board: &Board<'p>) -> Result<Table, Fail> {
+pub(crate) fn meet_at<'p>(ended: Ended, board: &Board<'p>) -> Result<Arc<Table>, Fail> {
     let mut pass = board.pass()?;
     let Ended { first, second } = ended;
     Ok(meet(board, &mut pass, first, second)?.into_table())

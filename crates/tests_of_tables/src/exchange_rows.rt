@@ -278,26 +278,20 @@ pub(crate) const NEXT_WHOLE: &[Row] = &[
     (B, Call::Finish, None),
 ];
 
-/// Both hear the other, with seed 1, and side A can't settle before. Both take the ruling of clash 1 in round 1, settle
-/// in round 0, and lack nothing then.
+/// Both hear the other, with seed 1, and side A can't settle before. Both take the ruling of clash 1 in round 1, settle,
+/// and lack nothing then.
 pub(crate) const SETTLED: &[Row] = &[
-    (A, Call::Settle(0), Some((34, None))),
+    (A, Call::Settle, Some((34, None))),
     (A, Call::Begin(1, 1), None),
     (B, Call::Begin(1, 1), None),
-    (
-        A,
-        Call::Settle(0),
-        Some((39, Some(MissingPart::TheirOffer))),
-    ),
-    (A, Call::Settle(4), Some((38, None))),
+    (A, Call::Settle, Some((39, Some(MissingPart::TheirOffer)))),
     (A, Call::Hear(B, 1), None),
     (B, Call::Hear(A, 1), None),
-    (A, Call::Settle(4), Some((38, None))),
     (A, Call::Take(1, 1, 5), None),
     (B, Call::Take(1, 1, 5), None),
-    (A, Call::Settle(0), None),
-    (B, Call::Settle(0), None),
-    (A, Call::Settle(3), None),
+    (A, Call::Settle, None),
+    (B, Call::Settle, None),
+    (A, Call::Settle, None),
 ];
 
 /// Both close and hear lists, and finish.
@@ -334,7 +328,7 @@ pub(crate) const RENEWED_LEFT: &[Row] = &[
 
 /// The side has room for one ruling, and two clashes have none.
 pub(crate) const NO_ROOM: &[Row] = &[
-    (A, Call::Settle(0), Some((40, None))),
+    (A, Call::Settle, Some((40, None))),
     (A, Call::Take(1, 0, 0), None),
-    (A, Call::Settle(0), Some((40, None))),
+    (A, Call::Settle, Some((40, None))),
 ];

@@ -7,6 +7,7 @@ use fixtures::{
 };
 use partition_table::{ClashList, Table, Verdict, clashes};
 use std::alloc::Global;
+use std::sync::Arc;
 use std::test::Fail;
 use upload_store::UploadStore;
 
@@ -16,7 +17,7 @@ fn stamped(node: u32, serial: u32, stamp: u64, resolver: ResolverId) -> Registra
     given
 }
 
-fn heal(alloc: Global, a: &mut Side, b: &mut Side) -> Result<Table, SideFault> {
+fn heal(alloc: Global, a: &mut Side, b: &mut Side) -> Result<Arc<Table>, SideFault> {
     let offers = begin_both(alloc, 1, 0, a, b)?;
     hear_both(alloc, a, b, &offers)?;
     take_rulings(a, b, &offers.clashes(alloc)?)?;

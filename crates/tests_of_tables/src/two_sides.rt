@@ -36,7 +36,7 @@ pub(crate) enum Call {
     Finish,
     Abandon,
     /// Settles at the words of this round.
-    Settle(u32),
+    Settle,
     Renew,
 }
 
@@ -304,8 +304,8 @@ impl Sent {
             }
             Call::Finish => self.finish(side),
             Call::Abandon => Ok(side.abandon().err()),
-            Call::Settle(round) => Ok(side.settle(round).err()),
-            Call::Renew => Ok(side.renew(self.alloc).err()),
+            Call::Settle => Ok(side.settle().err()),
+            Call::Renew => Ok(side.renew().err()),
         }
     }
 

@@ -1,5 +1,5 @@
 -- The two halves at each stage of an exchange.
-use Rattle.std.specs.Prelude.{◌≡◌, ℕ, ◌≤◌, List, length, Option, Some, None}
+use Rattle.std.specs.Prelude.{◌≡◌, ℕ, ◌+◌, ◌≤◌, List, length, Option, Some, None}
 use Rattle.std.specs.FinMap.{len}
 use Rattle.exchange_core.specs.declared.side.Side as code
 use Rattle.clash_record.specs.declared.side_id.SideId.{SideId}
@@ -16,7 +16,7 @@ use Rattle.clash_record.specs.declared.halves.Uptimes.{Uptimes}
 use Rattle.clash_record.specs.declared.halves.Withdrawal.{Withdrawal}
 use Rattle.cluster.specs.declared.halves.Halves as halves
 use Rattle.cluster.specs.Clusters.{Cluster, at, standing_of}
-use Rattle.cluster.specs.Healing.{Plan, HasGrown, gone_of_side, AreHeld, finished_as, idle_side}
+use Rattle.cluster.specs.Healing.{Plan, HaveGrown, IsNew, HasHeld, gone_of_side, AreHeld, finished_as, idle_side}
 
 abbrev pub halves_of : halves.Halves → Cluster
 halves_of halves = record { a = standing_of halves.a; b = standing_of halves.b }
@@ -35,14 +35,10 @@ pub record AreSides (halves : Cluster) : Type 0 where
   pub b : halves.b.side.id ≡ B
 
 -- the journal of a side loses no call
-abbrev pub Grows : code.Side → code.Side → Type 0
-Grows old new = length (calls old) ≤ length (calls new)
+abbrev pub AddsEvents : code.Side → code.Side → Type 0
+AddsEvents old new = length (calls old) ≤ length (calls new)
 
 -- ---- before the exchange
-
--- a side after abandoning its exchange, if one is open
-abbrev pub rested : Side → Side
-rested side = record side { table = shown_table side; exchange = None }
 
 -- a half after abandoning its exchange, if one was open
 pub record IsRested (was : Side) (now : Side) : Type 0 where
@@ -54,7 +50,13 @@ pub record IsRested (was : Side) (now : Side) : Type 0 where
 pub record AreRested (was now : Cluster) : Type 0 where
   pub a : IsRested was.a.side now.a.side
   pub b : IsRested was.b.side now.b.side
-  pub grown : HasGrown was now
+  pub grown : HaveGrown was now
+
+-- the halves after abandoning: the journal of each has at most one event more
+pub record HaveAbandoned (was now : Cluster) : Type 0 where
+  pub rested : AreRested was now
+  pub few_a : now.a.events ≤ was.a.events + 1
+  pub few_b : now.b.events ≤ was.b.events + 1
 
 -- ---- while it is open
 
@@ -94,6 +96,7 @@ pub record IsTrying (plan : Plan) (was : Cluster) (id : SideId) (names : List Na
   pub same_id : now.id ≡ id
   pub table : now.table ≡ shown_table (at was id).side
   pub latest : now.latest ≡ Some plan.number
+  pub is_new : IsNew plan was id
   pub exchange : Exchange
   pub opened : now.exchange ≡ Some exchange
   pub under_way : IsUnderWay plan was id names exchange
@@ -102,14 +105,15 @@ pub record IsTrying (plan : Plan) (was : Cluster) (id : SideId) (names : List Na
 pub record AreTrying (plan : Plan) (was : Cluster) (gone : List Withdrawal) (now : Cluster) : Type 0 where
   pub a : IsTrying plan was A (gone_of_side A gone) now.a.side
   pub b : IsTrying plan was B (gone_of_side B gone) now.b.side
-  pub grown : HasGrown was now
+  pub grown : HaveGrown was now
 
 -- ---- after it finished
 
 pub record IsMerged (plan : Plan) (was : Cluster) (id : SideId) (finished : Finished) (now : Side) : Type 0 where
   pub is : finished ≡ finished_as plan was finished.rulings finished.table
   pub lawful : IsFinished finished
-  pub held : AreHeld (shown_table (at was id).side) (gone_of_side id plan.gone)
+  pub is_new : IsNew plan was id
+  pub held : HasHeld was id plan.gone
   pub idle : now ≡ idle_side id finished.table (Some plan.number)
 
 -- a half in the rounds: still open, or finished
@@ -120,7 +124,7 @@ IsInRounds plan was id (Some finished) now = IsMerged plan was id finished now
 pub record AreInRounds (plan : Plan) (was : Cluster) (of_a of_b : Option Finished) (now : Cluster) : Type 0 where
   pub a : IsInRounds plan was A of_a now.a.side
   pub b : IsInRounds plan was B of_b now.b.side
-  pub grown : HasGrown was now
+  pub grown : HaveGrown was now
 
 -- ---- after they met
 

@@ -6,7 +6,7 @@ use Rattle.script_text.specs.Lines.{Line, lines_of, EndsLine}
 use Rattle.script_machine.specs.Machines.{Machine, new_machine}
 use Rattle.script_machine.specs.Replies.{Answer, answer_text}
 use Rattle.script_text.specs.Asking.{Asked}
-use Rattle.script_machine.specs.Steps.{Step, Answers}
+use Rattle.script_machine.specs.Steps.{Step, AnswersLine, Answers}
 use Rattle.script_engine.specs.Runs.{Run, text_from, answer_status, status_of}
 
 -- a text is sent after the texts before it
@@ -27,6 +27,12 @@ abbrev pub Serves : {E : Type 0} → Machine → Machine → Line → ℕ → Op
     → Type 0
 Serves old new line number written_old written_new result =
     IsSaid (λ answer. Step old line answer new) number written_old written_new result
+
+-- a line is answered by a machine whose long journals are renewed
+abbrev pub ServesLine : {E : Type 0} → Machine → Machine → Line → ℕ → Option (List ℕ) → Option (List ℕ) → Result ℕ E
+    → Type 0
+ServesLine old new line number written_old written_new result =
+    IsSaid (λ answer. AnswersLine old line answer new) number written_old written_new result
 
 -- the request is answered
 abbrev pub ServesAsked : {E : Type 0} → Machine → Machine → Asked → ℕ → Option (List ℕ) → Option (List ℕ) → Result ℕ E

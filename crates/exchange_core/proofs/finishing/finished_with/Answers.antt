@@ -1,4 +1,5 @@
 use Rattle.std.proofs.Common.{ℕ, List, ap, sym, subst}
+use Rattle.std.specs.Arc.{arc_value}
 use Rattle.std.specs.Option.{option_map}
 use Rattle.clash_record.specs.Name.{Name}
 use Rattle.partition_table.specs.Tables.{Table}
@@ -11,19 +12,19 @@ use Rattle.exchange_core.proofs.finishing.finished_with.Goals as goal
 
 pub invariant_of-result : goal.invariant_of-result
 invariant_of-result c =
-    let rulings = c.args.merged.rulings.items in
+    let rulings = c.args.rulings.items in
     let ready = subst (λ (x : Exchange). IsMergeable c.args.id c.args.own x) (sym c.exchange.view_is)
     c.requires.ready in
     let merged =
-    subst (λ (x : Exchange). IsMergeOf c.args.id c.args.own x rulings c.args.merged.table) (sym c.exchange.view_is)
+    subst (λ (x : Exchange). IsMergeOf c.args.id c.args.own x rulings (arc_value c.args.table)) (sym c.exchange.view_is)
     c.requires.merged in
     subst (λ (p : Table × (ℕ × List Name)). IsFinished
     (finished_by c.args.id c.exchange.inside.number c.exchange.inside.seed
     (record { table = c.args.own; uptime = c.exchange.inside.uptime; gone = p.1.1 })
-    (record { table = p.0; uptime = p.1.0; gone = names_of c.in-Some-Some.other_gone }) rulings c.args.merged.table))
+    (record { table = p.0; uptime = p.1.0; gone = names_of c.in-Some-Some.other_gone }) rulings (arc_value c.args.table)))
     (λ i. (
       sym c.into_table-other.ensures.table i,
       (sym c.into_table-other.ensures.uptime i, sym c.into_names.ensures i),
     ))
-    (finished_so ready rulings c.args.merged.table merged c.in-Some-Some.heard (names_of c.in-Some-Some.other_gone)
+    (finished_so ready rulings (arc_value c.args.table) merged c.in-Some-Some.heard (names_of c.in-Some-Some.other_gone)
     c.in-Some-Some.is-0 (ap (option_map names_of) c.in-Some-Some.is-1))

@@ -1,8 +1,8 @@
 use Rattle.std.proofs.Common.{◌≡◌, ℕ, ◌+◌, ◌<◌, ◌≤◌, List, length, set, Some, slice_get, refl, sym, ap, ◌∙◌, subst, arith}
-use Rattle.std.specs.Prelude.{vec_len, vec_capacity}
 use Rattle.std.specs.Option.{option_map}
 use Rattle.std.proofs.lemmas.Option.{slice_get_within}
 use Rattle.partition_table.specs.declared.judged.Judged.{Judged}
+use Rattle.exchange_core.specs.Journal.{calls_of, max_events}
 use Rattle.exchange_core.specs.model.Settling.{judge_by}
 use Rattle.exchange_core.proofs.Filling.{is_empty, is_held, lack_none, fills, keeps, one_less}
 use Rattle.exchange_core.proofs.settling.fill.Goals as goal
@@ -15,8 +15,8 @@ loop-k-init c = record {
   room = c.requires.room;
 }
 
-pub push_reserved-requires : goal.push_reserved-requires
-push_reserved-requires c =
+pub push-requires : goal.push-requires
+push-requires c =
     let judge = judge_by c.args.course (length c.args.clashes.now) in
     let at : slice_get c.args.clashes.now c.loop-k.k ≡ Some c.in-Some.clash.now =
     sym c.get.ensures ∙ ap (option_map (λ c'. c'.now)) c.in-Some.is in
@@ -24,7 +24,7 @@ push_reserved-requires c =
     let places = c.loop-k.invariant.places in
     let within : c.loop-k.k < length c.loop-k.rulings = omega (arith, inside, places) in
     let less = one_less judge c.args.course.number c.args.clashes.now c.loop-k.rulings c.loop-k.k c.in-Some.clash.now at
-    c.loop-k.journal.items _ _ c.loop-k.invariant.filling (is_empty c.loop-k.rulings c.loop-k.k within c.if-is_none.ensures)
+    (calls_of c.loop-k.journal.past.value) _ _ c.loop-k.invariant.filling (is_empty c.loop-k.rulings c.loop-k.k within c.if-is_none.ensures)
     _ refl in
     let room = c.loop-k.invariant.room in
     omega (arith, less, room)
@@ -46,18 +46,18 @@ loop-k-preserved c =
           let none = is_empty rulings k within w.if-is_none.ensures in
           let judged : w.judge-judged.result ≡ judge k clash =
           w.judge-judged.ensures ∙ ap (λ n. judge_by c.args.course n k clash) c.len-count.ensures.count in
-          let less = one_less judge number all rulings k clash at c.loop-k.journal.items _ _ c.loop-k.invariant.filling
+          let less = one_less judge number all rulings k clash at (calls_of c.loop-k.journal.past.value) _ _ c.loop-k.invariant.filling
           none c.if-is_none.rulings (w.rulings-is ∙ ap (λ j. set rulings k (Some j)) judged) in
           let room = c.loop-k.invariant.room in
-          let len = w.push_reserved.ensures.len in
-          let cap = w.push_reserved.ensures.capacity in
+          let wrote : calls_of c.if-is_none.journal.past.value ≡ _ =
+          ap (λ v. calls_of v.past.value) w.journal-is ∙ w.push.ensures in
+          let len = ap length wrote in
           record {
             places = c.if-is_none.auto.rulings ∙ places;
             filling =
-                fills judge number all rulings k clash at c.loop-k.journal.items _ _ c.loop-k.invariant.filling none
-                w.judge-judged.result judged c.if-is_none.rulings w.rulings-is c.if-is_none.journal.items
-                (ap (λ v. v.items) w.journal-is ∙ w.push_reserved.ensures.items);
-            room = rw w.journal-is (omega (arith, less, room, len, cap));
+                fills judge number all rulings k clash at (calls_of c.loop-k.journal.past.value) _ _ c.loop-k.invariant.filling none
+                w.judge-judged.result judged c.if-is_none.rulings w.rulings-is (calls_of c.if-is_none.journal.past.value) wrote;
+            room = omega (arith, less, room, len);
           }
       | else-is_none w ↦
           let held = is_held rulings k within w.if-is_none.ensures in
@@ -65,11 +65,11 @@ loop-k-preserved c =
           record {
             places = c.if-is_none.auto.rulings ∙ places;
             filling =
-                keeps judge number all rulings k clash at c.loop-k.journal.items _ _ c.loop-k.invariant.filling held.0
-                held.1 c.if-is_none.rulings w.rulings-is c.if-is_none.journal.items (λ i. (w.journal-is i).items);
+                keeps judge number all rulings k clash at (calls_of c.loop-k.journal.past.value) _ _ c.loop-k.invariant.filling held.0
+                held.1 c.if-is_none.rulings w.rulings-is (calls_of c.if-is_none.journal.past.value) (λ i. calls_of (w.journal-is i).past.value);
             room =
                 rw (w.journal-is, w.rulings-is)
-                (subst (λ (l : List (ℕ × Judged)). vec_len c.loop-k.journal + length l ≤ vec_capacity c.loop-k.journal)
+                (subst (λ (l : List (ℕ × Judged)). length (calls_of c.loop-k.journal.past.value) + length l ≤ max_events)
                 same c.loop-k.invariant.room);
           }
     ]

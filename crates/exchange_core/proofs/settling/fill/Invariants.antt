@@ -1,7 +1,7 @@
-use Rattle.std.proofs.Common.{◌≡◌, ◌≤◌, ◌+◌, ◌++◌, length, map, drop}
-use Rattle.std.specs.Prelude.{vec_len, vec_capacity}
+use Rattle.std.proofs.Common.{◌≡◌, ◌≤◌, ◌+◌, ◌++◌, length, drop, reverse}
+use Rattle.exchange_core.specs.Journal.{calls_of, max_events}
 use Rattle.exchange_core.specs.Settling.{filled, lacking}
-use Rattle.exchange_core.specs.model.Settling.{judge_by, take_event}
+use Rattle.exchange_core.specs.model.Settling.{judge_by, take_calls}
 use Rattle.exchange_core.proofs.Filling.{IsFilling}
 use Rattle.exchange_core.proofs.settling.fill.Given as goal
 
@@ -12,9 +12,9 @@ invariant-loop-k l =
     let lacks = lacking judge 0 l.clashes l.fn.rulings in
     record {
       places : length l.rulings ≡ length l.clashes;
-      filling : IsFilling judge l.course.number l.clashes l.rulings l.k l.journal.items
+      filling : IsFilling judge l.course.number l.clashes l.rulings l.k (calls_of l.journal.past.value)
           (filled judge 0 l.clashes l.fn.rulings)
-          (l.fn.journal.items ++ map (take_event l.course.number) lacks);
-      room : vec_len l.journal + length (lacking judge l.k (drop l.k l.clashes) (drop l.k l.rulings))
-          ≤ vec_capacity l.journal;
+          (reverse (take_calls l.course.number lacks) ++ calls_of l.fn.journal.past.value);
+      room : length (calls_of l.journal.past.value) + length (lacking judge l.k (drop l.k l.clashes) (drop l.k l.rulings))
+          ≤ max_events;
     }

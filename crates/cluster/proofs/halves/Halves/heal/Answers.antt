@@ -1,7 +1,7 @@
 use Rattle.cluster.specs.Healing.{plan_of}
 use Rattle.cluster.specs.model.Stages.{halves_of}
 use Rattle.cluster.proofs.Answered.{on_err}
-use Rattle.cluster.proofs.Trying.{nothing_done}
+use Rattle.cluster.proofs.Trying.{nothing_done, rested_fresh}
 use Rattle.cluster.proofs.halves.Halves.heal.Goals as goal
 
 pub returns-in_err-abandon_open-clause-failed : goal.returns-in_err-abandon_open-clause-failed
@@ -12,10 +12,12 @@ returns-in_err-abandon_open-clause-failed g c = on_err c.from_residual.result (�
 
 pub returns-in-Ok-clause-healed : goal.returns-in-Ok-clause-healed
 returns-in-Ok-clause-healed g c =
-    λ sides. c.in-Ok.ensures.healed (halves_of c.args.self.now) sides c.in_ok-abandon_open.ensures.rested
+    λ sides. c.in-Ok.ensures.healed (halves_of c.args.self.now) sides
+    (rested_fresh (halves_of c.args.self.now) _ _ c.in_ok-abandon_open.ensures.rested c.renew_long.ensures)
 
 pub returns-in-Err-clause-failed : goal.returns-in-Err-clause-failed
 returns-in-Err-clause-failed g c = λ sides.
     let was = halves_of c.args.self.now in
     c.give_up.ensures (plan_of c.args.plan.now) was sides
-    (c.in-Err.ensures.failed was sides c.in_ok-abandon_open.ensures.rested)
+    (c.in-Err.ensures.failed was sides
+    (rested_fresh was _ _ c.in_ok-abandon_open.ensures.rested c.renew_long.ensures))

@@ -1,21 +1,18 @@
-use Rattle.std.proofs.Common.{◌++◌, ◌∷◌, [], ap, sym, ◌∙◌}
-use Rattle.exchange_core.specs.declared.journal.Event.TheVariants as event
-use Rattle.exchange_core.specs.Sides.{Withdrawals, hear_list}
+use Rattle.std.proofs.Common.{ap, ◌∷◌, sym, ◌∙◌}
 use Rattle.exchange_core.proofs.Due.{room_hear_list}
-use Rattle.exchange_core.proofs.Journaled.{kept_on, few_on}
+use Rattle.exchange_core.specs.Calls as call
+use Rattle.exchange_core.specs.Shown.{calls}
+use Rattle.exchange_core.proofs.Journaled.{kept_on, has_room}
 use Rattle.exchange_core.proofs.side.Side.hear_list.Goals as goal
 
-pub invariant_of-self-2-clause-replayed : goal.invariant_of-self-2-clause-replayed
-invariant_of-self-2-clause-replayed c =
-    let event = event.HearList c.in_ok-copy.copy in
-    kept_on c.args.self.now.journal.items c.push_reserved.new.self.items event _ _
-    (c.push_reserved.ensures.items ∙ ap (λ l. l ++ event ∷ []) c.in_ok-reserve.ensures.items) c.args.self.now.replayed
-    (ap (λ (l : Withdrawals). hear_list c.args.self.now.state l) c.in_ok-copy.ensures ∙ c.in_ok-hear_list.ensures.done)
+pub push-requires : goal.push-requires
+push-requires c =
+    has_room (calls c.args.self.now) c.is_full.result c.is_full.ensures
+    (room_hear_list c.is_full.result c.args.self.now.state c.args.sent.now (sym c.hear_list_fault.ensures ∙ c.in_default.is))
 
-pub invariant_of-self-2-clause-few : goal.invariant_of-self-2-clause-few
-invariant_of-self-2-clause-few c =
-    let event = event.HearList c.in_ok-copy.copy in
-    few_on c.args.self.now.journal.items c.push_reserved.new.self.items event c.is_full.result
-    (c.push_reserved.ensures.items ∙ ap (λ l. l ++ event ∷ []) c.in_ok-reserve.ensures.items) c.is_full.ensures
-    (room_hear_list c.is_full.result c.args.self.now.state c.args.sent.now (sym c.hear_list_fault.ensures
-    ∙ c.in_default.is))
+pub invariant_of-self-2 : goal.invariant_of-self-2
+invariant_of-self-2 c = record {
+  replayed =
+      kept_on (calls c.args.self.now) _ (call.Hear_list c.args.sent.now) _ _ (c.push.ensures ∙ ap (λ sent. call.Hear_list sent ∷ calls c.args.self.now) c.of.ensures) c.args.self.now.replayed
+      c.in_ok-hear_list.ensures.done;
+}

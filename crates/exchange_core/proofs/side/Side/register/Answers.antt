@@ -1,24 +1,40 @@
+use Rattle.std.proofs.Common.{◌≡◌, List, Option, ◌∷◌, ap, ◌∙◌, option_and_then, rules}
+use Rattle.std.specs.FinMap.{get}
 use Rattle.instruction_set.specs.declared.insn.Insn.{Insn}
-use Rattle.std.proofs.Common.{List, Option, ◌++◌, ◌∷◌, [], ap, ◌∙◌, rules}
-use Rattle.exchange_core.specs.declared.journal.Event.TheVariants as event
-use Rattle.exchange_core.specs.Sides.{register}
-use Rattle.exchange_core.proofs.Journaled.{kept_on, few_on}
+use Rattle.partition_table.specs.Tables.{Row, Table, row_for}
+use Rattle.exchange_core.specs.Calls.{Register}
+use Rattle.exchange_core.specs.Journal.{calls_of}
+use Rattle.exchange_core.specs.Shown.{calls}
+use Rattle.exchange_core.proofs.Journaled.{kept_on, has_room}
+use Rattle.exchange_core.proofs.Registered.{registered_row}
+use Rattle.exchange_core.proofs.side.Side.register.Goals.{After-push}
 use Rattle.exchange_core.proofs.side.Side.register.Goals as goal
 
-pub invariant_of-self-2-clause-replayed : goal.invariant_of-self-2-clause-replayed
-invariant_of-self-2-clause-replayed c =
-    let event = event.Register c.args.name c.args.registration c.in_ok-program.program in
-    kept_on c.args.self.now.journal.items c.push_reserved.new.self.items event _ _
-    (c.push_reserved.ensures.items ∙ ap (λ l. l ++ event ∷ []) c.in_ok-reserve.ensures.items) c.args.self.now.replayed
-    (ap (λ (code : Option (List Insn)). register c.args.self.now.state c.args.name (record {
+-- the table has the row that the store gives
+written : (c : After-push) →
+    calls_of c.push.new.self.past.value
+    ≡ Register c.args.name (row_for c.args.store.now c.args.registration) ∷ calls c.args.self.now
+written c =
+    let name = c.args.name in
+    let row = row_for c.args.store.now c.args.registration in
+    let code : option_and_then (λ (row : Row). row.code) (get c.of-table.result.value name) ≡ row.code =
+    ap (λ (t : Table). option_and_then (λ (row : Row). row.code) (get t name)) (c.of-table.ensures ∙ c.table.ensures)
+    ∙ ap (option_and_then (λ (row : Row). row.code)) (registered_row _ name row _ c.in_ok-register.ensures.done) in
+    c.push.ensures
+    ∙ ap (λ (code : Option (List Insn)). Register name (record {
       registration = c.args.registration;
       code = code;
-    })) c.in_ok-program.ensures
-    ∙ c.in_ok-register.ensures.done)
+    }) ∷ calls c.args.self.now) code
 
-pub invariant_of-self-2-clause-few : goal.invariant_of-self-2-clause-few
-invariant_of-self-2-clause-few c =
-    let event = event.Register c.args.name c.args.registration c.in_ok-program.program in
-    few_on c.args.self.now.journal.items c.push_reserved.new.self.items event c.is_full.result
-    (c.push_reserved.ensures.items ∙ ap (λ l. l ++ event ∷ []) c.in_ok-reserve.ensures.items) c.is_full.ensures
-    (search rules)
+pub push-requires : goal.push-requires
+push-requires c = has_room (calls c.args.self.now) c.is_full.result c.is_full.ensures (search rules)
+
+pub invariant_of-self-2 : goal.invariant_of-self-2
+invariant_of-self-2 c = record {
+  replayed =
+      kept_on (calls c.args.self.now) _ (Register c.args.name (row_for c.args.store.now c.args.registration)) _ _
+      (written c) c.args.self.now.replayed c.in_ok-register.ensures.done;
+}
+
+pub returns-clause-done : goal.returns-clause-done
+returns-clause-done c = record { carried = c.in_ok-register.ensures.done; written = written c.before }

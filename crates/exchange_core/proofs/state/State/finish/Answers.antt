@@ -1,4 +1,5 @@
 use Rattle.std.proofs.Common.{◌≡◌, Some, ap, sym, subst, ◌∙◌}
+use Rattle.std.specs.Arc.{arc_value}
 use Rattle.partition_table.specs.Tables.{Table}
 use Rattle.exchange_core.specs.Sides.{Exchange, Side, finish}
 use Rattle.exchange_core.specs.Finished.{finished_at, finished_from}
@@ -18,17 +19,22 @@ ready c =
     c.requires.ready c.in-Some-take.exchange (opened c)
 
 made : (c : After-replace-own) →
-    IsMergeOf c.self.inside.id c.self.inside.table c.in-Some-take.exchange c.in_ok-merged.merged.rulings.items
-    c.in_ok-merged.merged.table
+    IsMergeOf c.self.inside.id c.self.inside.table c.in-Some-take.exchange c.in_ok-rulings.field-0.rulings.items
+    c.in_ok-rulings.field-0.table
 made c =
     let same : c.in-Some.exchange ≡ c.in-Some-take.exchange = some_inj (sym c.in-Some.is ∙ opened c) in
-    subst (λ (x : Exchange). IsMergeOf c.self.inside.id c.self.inside.table x c.in_ok-merged.merged.rulings.items
-    c.in_ok-merged.merged.table) same c.in_ok-merged.ensures
+    subst (λ (p : Table × Exchange). IsMergeOf c.self.inside.id p.0 p.1 c.in_ok-rulings.field-0.rulings.items
+    c.in_ok-rulings.field-0.table) (λ i. (c.table.ensures i, same i)) c.in_ok-rulings.ensures
+
+-- the merge itself is shared
+shared : (c : After-replace-own) → arc_value c.in_ok-table.table ≡ c.in_ok-rulings.field-0.table
+shared c = c.in_ok-table.ensures.shared ∙ c.new-held.ensures
 
 pub merge_exchange-requires : goal.merge_exchange-requires
 merge_exchange-requires c =
-    subst (λ (s : Side). (x : Exchange) → s.exchange ≡ Some x → IsMergeable s.id s.table x) (sym c.self.view_is)
-    c.requires.ready c.in-Some.exchange c.in-Some.is
+    subst (λ (t : Table). IsMergeable c.self.inside.id t c.in-Some.exchange) (sym c.table.ensures)
+    (subst (λ (s : Side). (x : Exchange) → s.exchange ≡ Some x → IsMergeable s.id s.table x) (sym c.self.view_is)
+    c.requires.ready c.in-Some.exchange c.in-Some.is)
 
 pub finished_with-requires-clause-ready : goal.finished_with-requires-clause-ready
 finished_with-requires-clause-ready c =
@@ -37,15 +43,15 @@ finished_with-requires-clause-ready c =
 
 pub finished_with-requires-clause-merged : goal.finished_with-requires-clause-merged
 finished_with-requires-clause-merged c =
-    subst (λ (t : Table). IsMergeOf c.self.inside.id t c.in-Some-take.exchange c.in_ok-merged.merged.rulings.items
-    c.in_ok-merged.merged.table) (sym c.replace-own.ensures.value) (made c.before)
+    subst (λ (p : Table × Table). IsMergeOf c.self.inside.id p.0 c.in-Some-take.exchange c.in_ok-rulings.field-0.rulings.items p.1)
+    (λ i. (sym c.replace-own.ensures.value i, sym (shared c.before) i)) (made c.before)
 
 pub returns-clause-done : goal.returns-clause-done
 returns-clause-done c =
     let b = c.before.before in
     let m = ready b in
     let merged = made b m.heard m.theirs m.was_heard m.list_heard in
-    let table = c.replace-own.ensures.after ∙ (c.in_ok-table.ensures ∙ merged.1) in
+    let table = c.replace-own.ensures.after ∙ (c.in_ok-table.ensures.same ∙ (c.new-held.ensures ∙ merged.1)) in
     ap finish (sym c.self.view_is)
     ∙ (finishes (state_seen c.self.inside) c.in-Some-take.exchange m (opened b)
     ∙ (λ i. Some (record {
@@ -65,4 +71,4 @@ returns-clause-given c =
     ap finished_from (sym c.self.view_is)
     ∙ (gives (state_seen c.self.inside) x m (opened b)
     ∙ sym (ap Some (c.finished_with.ensures m.heard m.theirs m.was_heard m.list_heard
-    ∙ (λ i. finished_at id (c.replace-own.ensures.value i) x m.heard m.theirs (merged.0 i) (merged.1 i)))))
+    ∙ (λ i. finished_at id (c.replace-own.ensures.value i) x m.heard m.theirs (merged.0 i) ((shared b ∙ merged.1) i)))))
