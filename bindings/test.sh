@@ -1,10 +1,19 @@
 #!/bin/sh
 # Tests the bindings for C, Python, Rust and Erlang. Prints what it skips because a tool is missing.
 #
-# HEAL_OUT is the folder with libheal.a and libheal.so. Unless it is set, this builds them first in bindings/c/out, by
+# HEAL_OUT is the folder with libheal.a, libheal.so and heal.pc. Unless it is set, this builds them first in bindings/c/out, by
 # c/build.sh with these arguments.
 set -e
 cd "$(dirname "$0")"
+version=$(cat ../VERSION)
+
+# Ends the tests unless the file has this line: states FILE LINE.
+states() {
+    grep -qxF "$2" "$1" || { echo "$1 doesn't state the version of the file VERSION: $2" >&2; exit 1; }
+}
+
+states rust/Cargo.toml "version = \"$version\""
+states erlang/src/heal.app.src "  {vsn, \"$version\"},"
 if ! command -v cc > /dev/null; then
     echo "there is no C compiler, so the bindings were not tested"
     exit 0
@@ -34,6 +43,47 @@ checked() {
     fi
 }
 
+# Lists the functions that heal.h declares, one a line.
+declared() {
+    sed -n 's/^[a-z].*[ *]\(heal_[a-z_]*\)(.*/\1/p' c/heal.h | sort
+}
+
+# Checks libheal.so: its soname, the links to it, and that it exports what heal.h declares and nothing else.
+check_shared() {
+    soname=libheal.so.${version%%.*}
+    readelf -d "$HEAL_OUT/libheal.so" | grep -qF "soname: [$soname]" || { echo "libheal.so has another soname" >&2; exit 1; }
+    cmp "$HEAL_OUT/libheal.so" "$HEAL_OUT/$soname"
+    cmp "$HEAL_OUT/libheal.so" "$HEAL_OUT/libheal.so.$version"
+    nm -D --defined-only "$HEAL_OUT/libheal.so" | awk '{ print $3 }' | sort > "$work/exported"
+    declared > "$work/declared"
+    diff "$work/declared" "$work/exported"
+}
+
+# Compiles first.c by pkg-config, and runs it with the shared library.
+check_package() {
+    states "$HEAL_OUT/heal.pc" "Version: $version"
+    export PKG_CONFIG_PATH="$HEAL_OUT"
+    cc $flags c/first.c $(pkg-config --cflags --libs heal) -o "$work/first_shared"
+    LD_LIBRARY_PATH=$HEAL_OUT "$work/first_shared" > "$work/printed"
+    cmp "$work/printed" "$work/first.out"
+    readelf -d "$work/first_shared" | grep -qF "[libheal.so.${version%%.*}]"
+}
+
+# Checks that first.c ends with status 1 if a call is refused, for each of its calls that can be.
+check_first() {
+    cc $flags -c c/first.c -o "$work/first.o"
+    for call in $(grep -ow 'heal_[a-z_]*' c/first.c | sort -u | grep -xFf "$work/declared"); do
+        case $call in *_free | heal_refusal_words) continue ;; esac
+        echo "unsigned __wrap_$call(void) { return 90; }" > "$work/refused.c"
+        cc "$work/first.o" "$work/refused.c" "$HEAL_OUT/libheal.a" "-Wl,--wrap=$call" -lpthread -o "$work/refused"
+        if "$work/refused" > "$work/printed" 2> "$work/errors" || [ $? -ne 1 ]; then
+            echo "first.c doesn't end with status 1 if $call is refused" >&2
+            exit 1
+        fi
+        grep -qx 'refused 90: out of memory' "$work/errors"
+    done
+}
+
 # Succeeds if the Erlang of Debian's erlang-base, erlang-dev and erlang-eunit is installed.
 has_erlang() {
     command -v erl > /dev/null && command -v erlc > /dev/null && command -v make > /dev/null && erl -noshell -eval '
@@ -47,15 +97,32 @@ printf 'db 2.20\ndb 2.20\n' > "$work/first.out"
 compile first first.c
 checked "$work/first" > "$work/printed"
 cmp "$work/printed" "$work/first.out"
+check_shared
+check_first
+if command -v pkg-config > /dev/null; then
+    check_package
+else
+    echo "there is no pkg-config, so heal.pc was not tested"
+fi
 compile example example.c
 checked "$work/example" > "$work/printed"
 cmp "$work/printed" c/example.out
 compile sweep sweep.c -Wl,--wrap=malloc,--wrap=realloc
 checked "$work/sweep"
+compile stated stated.c
+checked "$work/stated"
+compile growth growth.c -Wl,--wrap=malloc,--wrap=realloc,--wrap=free
+"$work/growth"
+if command -v valgrind > /dev/null && command -v python3 > /dev/null; then
+    compile cost cost.c
+    c/cost.py "$work/cost"
+else
+    echo "there is no valgrind or no Python, so no instructions were counted"
+fi
 compile inputs fuzz.c -DFUZZ_FILES
 checked "$work/inputs" c/corpus/*
 if echo 'int main(void){return 0;}' | cc -fsanitize=address,undefined -x c - -o "$work/sane" 2> /dev/null; then
-    for name in example sweep; do
+    for name in example stated sweep; do
         [ $name = sweep ] && wrap=-Wl,--wrap=malloc,--wrap=realloc
         compile sane_$name $name.c -fsanitize=address,undefined -fno-sanitize-recover=all ${wrap-}
         "$work/sane_$name" > /dev/null

@@ -1,5 +1,5 @@
 #!/bin/sh
-# Builds libheal.a, libheal.so and heal.pc in bindings/c/out from the proved crate heal_c. Requires rt, cc and ar.
+# Proves the crate heal_c, and makes libheal.a, libheal.so and heal.pc of it in bindings/c/out (link.sh). Requires rt, cc and ar.
 #
 # With --gate, right after `rt ci`, takes the libraries that `rt ci` has just proved, and proves heal_c alone again.
 # Otherwise rt proves each library that isn't built yet.
@@ -42,22 +42,4 @@ if [ "${1-}" = --gate ] && [ ! -e "$root/crates/exchange_codec/out/rlib/stamp" ]
 else
     (cd "$crate" && rt lib)
 fi
-mkdir -p out
-rm -f out/libheal.a
-# The second archive calls malloc, realloc and free.
-ar -M <<END
-create out/libheal.a
-addlib $crate/out/libheal_c.a
-addlib $kit/c/liblibc_c.a
-save
-end
-END
-cc -shared -o out/libheal.so -Wl,--whole-archive out/libheal.a -Wl,--no-whole-archive
-cat > out/heal.pc <<END
-prefix=$(pwd)
-Name: heal
-Description: The name registry that two halves of a cluster use when they meet again after a network split
-Version: 1.0.0
-Cflags: -I\${prefix}
-Libs: -L\${prefix}/out -lheal
-END
+./link.sh

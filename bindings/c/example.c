@@ -137,7 +137,7 @@ static void heal(heal_side *side, bool second, struct link link, heal_outcome *o
     theirs = receive(link.from, &len);
     must("heal_side_hear", heal_side_hear(side, theirs, len));
     free(theirs);
-    must("heal_side_settle", heal_side_settle(side, 0));
+    must("heal_side_settle", heal_side_settle(side));
     if (!second)
         must("heal_side_withdraw", heal_side_withdraw(side, (const uint8_t *)"mail", 4));
     must("heal_side_close_list", heal_side_close_list(side, &message));

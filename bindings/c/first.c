@@ -2,16 +2,32 @@
 #include "heal.h"
 
 #include <stdio.h>
+#include <stdlib.h>
+
+/* Ends the program if a call is refused. */
+static void must(uint32_t refusal)
+{
+    uint8_t words[128];
+
+    if (refusal == 0)
+        return;
+    fprintf(stderr, "refused %u: %.*s\n", refusal, (int)heal_refusal_words(refusal, words, sizeof words), (char *)words);
+    exit(1);
+}
 
 /* Delivers a message to a half, as a transport would. */
 static void deliver(heal_bytes *message, heal_side *half, uint32_t (*hear)(heal_side *, const uint8_t *, size_t))
 {
-    uint8_t bytes[1024];
-    size_t len = 0;
+    size_t len;
+    uint8_t *bytes;
 
-    heal_bytes_len(message, &len);
-    if (len <= sizeof bytes && heal_bytes_copy(message, bytes, len) == 0)
-        hear(half, bytes, len);
+    must(heal_bytes_len(message, &len));
+    bytes = malloc(len);
+    if (bytes == NULL)
+        must(90);
+    must(heal_bytes_copy(message, bytes, len));
+    must(hear(half, bytes, len));
+    free(bytes);
     heal_bytes_free(message);
 }
 
@@ -23,23 +39,22 @@ int main(void)
     heal_registration found, owned[2] = {{.owner = {1, 10}}, {.owner = {2, 20}}};
 
     for (int i = 0; i < 2; i++) {
-        heal_side_new(i == 1, &half[i]);
-        heal_side_register(&half[i], (const uint8_t *)"db", 2, &owned[i]);
-        heal_side_begin(&half[i], 1, 7, 0, &message[i]);
+        must(heal_side_new(i == 1, &half[i]));
+        must(heal_side_register(&half[i], (const uint8_t *)"db", 2, &owned[i]));
+        must(heal_side_begin(&half[i], 1, 7, 0, &message[i]));
     }
     for (int i = 0; i < 2; i++)
         deliver(&message[1 - i], &half[i], heal_side_hear);
     for (int i = 0; i < 2; i++) {
-        heal_side_settle(&half[i], 0);
-        heal_side_close_list(&half[i], &message[i]);
+        must(heal_side_settle(&half[i]));
+        must(heal_side_close_list(&half[i], &message[i]));
     }
     for (int i = 0; i < 2; i++)
         deliver(&message[1 - i], &half[i], heal_side_hear_list);
-    for (int i = 0; i < 2; i++)
-        heal_side_finish(&half[i], &outcome);
     for (int i = 0; i < 2; i++) {
-        if (heal_side_whereis(&half[i], (const uint8_t *)"db", 2, &found) == 0)
-            printf("db %u.%u\n", found.owner.node, found.owner.serial);
+        must(heal_side_finish(&half[i], &outcome));
+        must(heal_side_whereis(&half[i], (const uint8_t *)"db", 2, &found));
+        printf("db %u.%u\n", found.owner.node, found.owner.serial);
         heal_side_free(&half[i]);
     }
     heal_outcome_free(&outcome);

@@ -82,10 +82,10 @@ static void hear(const uint8_t *data, size_t len)
     number = heal_side_hear(&side, data, len);
     if (number == 0) {
         REQUIRE(events_of(&side) == before + 1);
-        REQUIRE(heal_side_settle(&side, 0) == 0);
+        REQUIRE(heal_side_settle(&side) == 0);
     } else {
         REQUIRE(is_of_message(number) || number == 36 || number == 37 || number == 42 || number == 45 || number == 46);
-        REQUIRE(events_of(&side) == before && heal_side_settle(&side, 0) == 39);
+        REQUIRE(events_of(&side) == before && heal_side_settle(&side) == 39);
     }
     heal_side_free(&side);
 }

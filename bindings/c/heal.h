@@ -2,12 +2,20 @@
  * heal: the name registry that two halves of a cluster use when they meet again after a network split.
  *
  * RESULTS   Every call that can fail returns 0, or the number of its refusal; heal_refusal_words gives the words. Several
- *           refusals may apply: 91 comes first, then 44 and 76 for arguments, then the least number of the call itself.
- *           90, out of memory, may replace any other. A refused call leaves every handle unchanged, also the one that it
- *           would fill, and writes no result; the exception is `slot`.
+ *           refusals may apply: 91 comes first, then 44 and 76 for arguments, then the least number of the call itself;
+ *           heal_side_hear and heal_side_hear_list state their own order. 90, out of memory, may replace any other.
+ *           A refused call leaves every handle unchanged, also the one that it would fill, and writes no result; the
+ *           exception is `slot`.
  * HANDLES   A handle is one word. Start it with `{0}`, which is empty; pass it by its address; never copy it while both
  *           copies are used. A call that fills a handle frees what the handle held. The function ending in `_free` frees
  *           what it holds and leaves it empty; freeing an empty handle does nothing. Calls on an empty handle return 91.
+ * EVENTS    A side counts events, at most 65,536. register, unregister, begin, hear, withdraw, close_list, hear_list, finish
+ *           and abandon add one event each time they return 0, also for a repeated message; settle adds one for each clash
+ *           that it judges; the other calls add none. So an exchange adds five events, and one for each clash, each name
+ *           that the side withdraws, and each repeated message: at most 8,197 without repeated ones. These calls return 40
+ *           when the count is full. heal_side_renew starts a fresh count, but only while no exchange is open: call it
+ *           before each heal_side_begin, and an exchange has room for 53,000 repeated messages. If the count is full while
+ *           an exchange is open, heal_side_give_up closes the exchange and starts a fresh count. An event holds no memory.
  * THREADS   No two concurrent calls on one handle, also of calls that only read. Calls on different handles may run in parallel.
  *           No call starts a thread, waits, or does input or output.
  * YOU OWE   Valid pointers: each argument points to as many readable bytes (results: writable) as its comment states, and
@@ -126,7 +134,7 @@ void heal_side_free(heal_side *side);
 uint32_t heal_side_upload(heal_side *side, const uint8_t *code, size_t len, uint8_t id[32], uint32_t *slot);
 
 /* Registers a name on an idle side. Returns 30 for a registered name, 32 if the table is full, 33 if an exchange is open,
-   40 if the journal is full, 41 for a program that isn't uploaded, 42 if the table has other code under its id. */
+   40 if the count of events is full, 41 for a program that isn't uploaded, 42 if the table has other code under its id. */
 uint32_t heal_side_register(heal_side *side, const uint8_t *name, size_t len, const heal_registration *registration);
 
 /* Unregisters a name on an idle side. Returns 31 for a name that isn't registered, 33, 40. */
@@ -138,24 +146,26 @@ uint32_t heal_side_whereis(heal_side *side, const uint8_t *name, size_t len, hea
 /* Returns the number of names in the side's table; in an open exchange, with the withdrawn ones. */
 uint32_t heal_side_count(heal_side *side, size_t *count);
 
-/* Returns row i of the side's table in the order of names, from 0; in an open exchange, with the withdrawn ones.
-   Returns 92 for an index of `count` or more. */
+/* Returns row i of the side's table in the order of names, from 0; in an open exchange, with the withdrawn ones. Walks the
+   i rows before it, so listing n rows takes n * n / 2 steps. Returns 92 for an index of `count` or more. */
 uint32_t heal_side_row(heal_side *side, size_t i, heal_row *row);
 
 /* Opens an exchange and puts the offer to be sent into `offer`. Until finish or abandon the table doesn't change.
    Both halves use the same number and seed; each gives its own uptime. Returns 33 if an exchange is open, 35 for a number
-   that isn't above every number this side began, 40 if the journal is full. */
+   that isn't above every number this side began, 40. Call heal_side_renew before it: see EVENTS. */
 uint32_t heal_side_begin(heal_side *side, uint64_t number, uint64_t seed, uint64_t uptime, heal_bytes *offer);
 
-/* Hears the other side's offer: the bytes that its heal_side_begin returned. A repeated offer changes nothing but the
-   journal. Rejects bytes that aren't an offer (70 to 82); then returns 34 if no exchange is open, 36 if the seeds differ,
-   37 if both tables have more than 4,096 names together, 40, 42 if the tables have two codes under one id, 45 for another
-   number, 46 for an offer of the side itself. */
+/* Hears the other side's offer: the bytes that its heal_side_begin returned. Once the side has heard an offer of its open
+   number, it ignores every further one of the other side and that number, also a different one: it returns 0 and adds an
+   event. Rejects bytes that aren't an offer (70 to 82) before all else; then returns 34 if no exchange is open. For the
+   other side's first offer of the open number: 36 if the seeds differ, 37 if both tables have more than 4,096 names
+   together, 40, 42 if the tables have two codes under one id. For any other offer: 40, 45 for another number, 46 for an
+   offer of the side itself. */
 uint32_t heal_side_hear(heal_side *side, const uint8_t *offer, size_t len);
 
-/* Judges every clash that has no ruling at its word of this round, 0 to 3. Both halves use the same round. Returns 34, 38
-   for another round, 39 if the other's offer isn't heard, 40 if the journal has no room. */
-uint32_t heal_side_settle(heal_side *side, uint32_t round);
+/* Judges every clash that has no ruling, at the word that the other half judges it at too. Returns 34, 39 if the other's
+   offer isn't heard, 40 if the count of events has no room for one each. Needs no memory. */
+uint32_t heal_side_settle(heal_side *side);
 
 /* Withdraws a name in the open exchange: its owner on this half is gone. Returns 31 for a name that isn't in the table,
    34, 40, 47 for a name that is already withdrawn, 48 if the list is closed. */
@@ -164,8 +174,9 @@ uint32_t heal_side_withdraw(heal_side *side, const uint8_t *name, size_t len);
 /* Closes the list of withdrawn names and puts the list to be sent into `list`. Returns 34, 40, 48 if already closed. */
 uint32_t heal_side_close_list(heal_side *side, heal_bytes *list);
 
-/* Hears the other side's list: the bytes that its heal_side_close_list returned. Rejects bytes that aren't a list (70 to
-   82); then returns 34, 40, 45, 46. */
+/* Hears the other side's list: the bytes that its heal_side_close_list returned. Once the side has heard a list of its open
+   number, it ignores every further one of the other side and that number, also a different one: it returns 0 and adds an
+   event. Rejects bytes that aren't a list (70 to 82) before all else; then returns 34, 40, 45, 46. */
 uint32_t heal_side_hear_list(heal_side *side, const uint8_t *list, size_t len);
 
 /* Replaces the table by the merge, closes the exchange, and puts its outcome into `outcome`. Returns 34, 39 if a part is
@@ -175,12 +186,16 @@ uint32_t heal_side_finish(heal_side *side, heal_outcome *outcome);
 /* Closes the exchange and keeps the table, without the withdrawn names. Returns 34, 40. */
 uint32_t heal_side_abandon(heal_side *side);
 
-/* Returns the number of events in the side's journal, at most 65,536. */
+/* Returns the side's count of events, at most 65,536. */
 uint32_t heal_side_events(heal_side *side, size_t *events);
 
-/* Starts a fresh journal on an idle side: the same names, uploads and greatest number begun, and at most two events more
-   than names. Returns 33 if an exchange is open. */
+/* Starts a fresh count of events on an idle side: as many as it has names, and at most two more. Names, uploads and the
+   greatest number begun stay. Returns 33 if an exchange is open. Needs no memory. */
 uint32_t heal_side_renew(heal_side *side);
+
+/* Closes the open exchange as heal_side_abandon does, if there is one, and starts a fresh count of events, also where the
+   count is full. Only 91 and 90 refuse it, and 90 only a side that withdrew names. */
+uint32_t heal_side_give_up(heal_side *side);
 
 /* ---- A message ---- */
 
@@ -203,7 +218,10 @@ uint32_t heal_outcome_clashes(heal_outcome *outcome, size_t *clashes);
 /* Returns clash i in the order of names, from 0. Returns 92 for an index of `clashes` or more. */
 uint32_t heal_outcome_clash(heal_outcome *outcome, size_t i, heal_clash *clash);
 
-/* Returns notice n, from 0, of clash i. Only built-in resolvers bring notices. Returns 92 for an index that is too big. */
+/* Returns notice n, from 0, of clash i. Only built-in resolvers bring notices. Returns 92 for an index that is too big.
+   Look the name up before you deliver a notice: a withdrawn registration still takes part in its clash, and may win. If the
+   verdict is HEAL_FIRST or HEAL_SECOND and heal_side_whereis returns 31, the winner was withdrawn. Then deliver no notice,
+   and register the other owner again on its half. */
 uint32_t heal_outcome_notice(heal_outcome *outcome, size_t i, size_t n, heal_notice *notice);
 
 void heal_outcome_free(heal_outcome *outcome);

@@ -155,7 +155,7 @@ static void heal(struct state *state, uint64_t number)
         CALL(state, heal_side_begin(&state->sides[i], number, 7, 60, &state->messages[i]));
     for (int i = 0; i < 2; i++) {
         deliver(state, i, heal_side_hear);
-        CALL(state, heal_side_settle(&state->sides[i], 0));
+        CALL(state, heal_side_settle(&state->sides[i]));
     }
     CALL(state, heal_side_withdraw(&state->sides[0], text("gone"), 4));
     for (int i = 0; i < 2; i++)

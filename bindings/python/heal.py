@@ -6,10 +6,15 @@
 
 `bindings/c/heal.h` describes each call. Each raises `Refused`, with the number and words of the refusal, and changes nothing then.
 The library is the file that the environment variable HEAL_LIBRARY names, else `bindings/c/out/libheal.so`.
+
+Threads may share a `Side` or a `Program`. Each has a lock, so calls on one object take turns, and `close` waits for the call
+that runs. `rows` holds the lock for the whole list. Calls release the interpreter lock (GIL), so other threads run while a side
+hears a large offer, and calls on different objects run in parallel.
 """
 
 import ctypes
 import os
+import threading
 from ctypes import POINTER, byref, c_bool, c_size_t, c_uint8, c_uint32, c_uint64, c_void_p
 from dataclasses import dataclass
 from enum import IntEnum
@@ -47,11 +52,14 @@ class Refused(Exception):
     """A refused call. `slot` is set if the refusal concerns a slot of a program."""
 
     def __init__(self, number, slot=None):
+        super().__init__(number, slot)
         self.number = number
         self.slot = slot
         self.words = refusal_words(number)
-        at = "" if slot is None else f" at slot {slot}"
-        super().__init__(f"refused {number}{at}: {self.words}")
+
+    def __str__(self):
+        at = "" if self.slot is None else f" at slot {self.slot}"
+        return f"refused {self.number}{at}: {self.words}"
 
 
 @dataclass(frozen=True, order=True)
@@ -196,7 +204,7 @@ _ARGUMENTS = {
     "heal_side_row": [_HANDLE, c_size_t, POINTER(_Row)],
     "heal_side_begin": [_HANDLE, c_uint64, c_uint64, c_uint64, _HANDLE],
     "heal_side_hear": [_HANDLE, _BYTES, c_size_t],
-    "heal_side_settle": [_HANDLE, c_uint32],
+    "heal_side_settle": [_HANDLE],
     "heal_side_withdraw": _NAMED,
     "heal_side_close_list": [_HANDLE, _HANDLE],
     "heal_side_hear_list": [_HANDLE, _BYTES, c_size_t],
@@ -204,6 +212,7 @@ _ARGUMENTS = {
     "heal_side_abandon": [_HANDLE],
     "heal_side_events": [_HANDLE, POINTER(c_size_t)],
     "heal_side_renew": [_HANDLE],
+    "heal_side_give_up": [_HANDLE],
     "heal_bytes_len": [_HANDLE, POINTER(c_size_t)],
     "heal_bytes_copy": [_HANDLE, _BYTES, c_size_t],
     "heal_outcome_merged": [_HANDLE, POINTER(c_size_t)],
@@ -239,13 +248,25 @@ def _call(name, *arguments):
 
 
 def _in(data):
-    """Returns bytes as an argument: an array, and its length."""
-    return (c_uint8 * len(data)).from_buffer_copy(data) if data else None, len(data)
+    """Returns a copy of a buffer of any item size as an argument, an array of bytes, and the number of these."""
+    view = memoryview(data)
+    size = view.nbytes
+    if not view.c_contiguous:
+        view = view.tobytes()
+    return (c_uint8 * size).from_buffer_copy(view) if size else None, size
+
+
+def _fixed(data, size, what):
+    """Returns a copy of a buffer of this many bytes as an array."""
+    copy, length = _in(data)
+    if length != size:
+        raise ValueError(f"{what} has {size} bytes, not {length}")
+    return copy
 
 
 def _name(name):
     """Returns a name, text or bytes, as two arguments."""
-    return _in(name.encode() if isinstance(name, str) else bytes(name))
+    return _in(name.encode() if isinstance(name, str) else name)
 
 
 def _number(value, bits):
@@ -261,21 +282,17 @@ def _owner(owner):
 
 def _to_c(registration):
     """Returns a registration as the library reads it."""
-    if len(registration.extra) != 16:
-        raise ValueError("extra has 16 bytes")
     made = _Registration(
         owner=_owner(registration.owner),
         stamp=_number(registration.stamp, 64),
         weight=_number(registration.weight, 64),
-        extra=(c_uint8 * 16)(*registration.extra),
+        extra=_fixed(registration.extra, 16, "extra"),
     )
-    if isinstance(registration.resolver, bytes):
-        if len(registration.resolver) != ID_LEN:
-            raise ValueError("the id of a program has 32 bytes")
-        made.resolver = 3
-        made.program = (c_uint8 * ID_LEN)(*registration.resolver)
+    if isinstance(registration.resolver, int):
+        made.resolver = _number(registration.resolver, 32)
     else:
-        made.resolver = int(registration.resolver)
+        made.resolver = 3
+        made.program = _fixed(registration.resolver, ID_LEN, "the id of a program")
     return made
 
 
@@ -317,11 +334,15 @@ class _Owned:
     _kind = ""
 
     def __init__(self):
+        # The library takes the object out of its handle during a call, so only one thread may call at once. The lock is one
+        # that its own thread may take again: a signal handler may call between two steps of `rows`.
+        self._lock = threading.RLock()
         self._handle = _Handle()
 
     def close(self):
-        """Frees the object. Later calls raise `Refused` with number 91."""
-        getattr(_LIBRARY, f"heal_{self._kind}_free")(byref(self._handle))
+        """Frees the object, after the call that another thread makes. Later calls raise `Refused` with number 91."""
+        with self._lock:
+            getattr(_LIBRARY, f"heal_{self._kind}_free")(byref(self._handle))
 
     def __enter__(self):
         return self
@@ -334,7 +355,8 @@ class _Owned:
             self.close()
 
     def _call(self, name, *arguments):
-        _call(f"heal_{self._kind}_{name}", byref(self._handle), *arguments)
+        with self._lock:
+            _call(f"heal_{self._kind}_{name}", byref(self._handle), *arguments)
 
     def _number(self, name):
         """Calls a function that returns a number."""
@@ -364,10 +386,8 @@ class Program(_Owned):
 
     def judge(self, of_clash):
         """Runs the program on the record of a clash."""
-        if len(of_clash) != RECORD_LEN:
-            raise ValueError("a record has 160 bytes")
         ended = _Ended()
-        self._call("judge", _in(of_clash)[0], byref(ended))
+        self._call("judge", _fixed(of_clash, RECORD_LEN, "a record"), byref(ended))
         return Ended(ended.r0, ended.steps)
 
 
@@ -425,7 +445,8 @@ class Side(_Owned):
         """Verifies and keeps a program, and returns its id."""
         found = (c_uint8 * ID_LEN)()
         slot = c_uint32()
-        number = _LIBRARY.heal_side_upload(byref(self._handle), *_in(code), found, byref(slot))
+        with self._lock:
+            number = _LIBRARY.heal_side_upload(byref(self._handle), *_in(code), found, byref(slot))
         if number != 0:
             raise Refused(number, slot.value if 4 <= number <= 26 else None)
         return bytes(found)
@@ -453,9 +474,14 @@ class Side(_Owned):
         """Returns the number of names in the table."""
         return self._number("count")
 
+    def __bool__(self):
+        """A side is true, also without names."""
+        return True
+
     def rows(self):
-        """Returns the names and registrations of the table, in the order of names."""
-        return [self._row(i) for i in range(len(self))]
+        """Returns the names and registrations of the table, in the order of names. Listing n rows takes n²/2 steps."""
+        with self._lock:
+            return [self._row(i) for i in range(len(self))]
 
     def _row(self, i):
         found = _Row()
@@ -473,9 +499,9 @@ class Side(_Owned):
         """Hears the other side's offer."""
         self._call("hear", *_in(offer))
 
-    def settle(self, round_=0):
-        """Judges every clash that has no ruling at its word of this round."""
-        self._call("settle", _number(round_, 32))
+    def settle(self):
+        """Judges every clash that has no ruling, at the word that the other half judges it at too."""
+        self._call("settle")
 
     def withdraw(self, name):
         """Withdraws a name in the open exchange."""
@@ -509,3 +535,7 @@ class Side(_Owned):
     def renew(self):
         """Starts a fresh journal on an idle side."""
         self._call("renew")
+
+    def give_up(self):
+        """Closes the open exchange, if there is one, and starts a fresh journal, also of a full side."""
+        self._call("give_up")

@@ -1,7 +1,12 @@
 """Tests of heal.py: python3 -m unittest, with the library built (../c/build.sh)."""
 
+import array
+import copy
 import gc
+import pickle
 import struct
+import threading
+import time
 import unittest
 
 from heal import (
@@ -73,6 +78,34 @@ class Programs(unittest.TestCase):
                 Program(code)
             self.assertEqual((caught.exception.number, caught.exception.slot), (number, slot))
 
+    def test_refusals_are_pickled(self):
+        for made in Refused(91), Refused(15, 3):
+            for read in pickle.loads(pickle.dumps(made)), copy.copy(made):
+                with self.subTest(made=str(made)):
+                    self.assertIs(type(read), Refused)
+                    self.assertEqual((read.number, read.slot, read.words), (made.number, made.slot, made.words))
+                    self.assertEqual(str(read), str(made))
+        self.assertEqual(str(Refused(15, 3)), f"refused 15 at slot 3: {refusal_words(15)}")
+
+    def test_buffers_of_any_item_size(self):
+        numbers = array.array("H", struct.unpack(f"={len(LATER_STAMP) // 2}H", LATER_STAMP))
+        rows = memoryview(LATER_STAMP).cast("B", [6, 8])
+        every_other = memoryview(bytes(it for byte in LATER_STAMP for it in (byte, 0)))[::2]
+        for code in (bytearray(LATER_STAMP), memoryview(LATER_STAMP).cast("I"), numbers, rows, every_other):
+            with self.subTest(code=code), Program(code) as program, Side("a") as side:
+                self.assertEqual(program.id, side.upload(code))
+                self.assertEqual(program.judge(memoryview(bytes(160)).cast("Q")), Ended(1, 5))
+        with self.assertRaises(ValueError):
+            record("db", Registration(Owner(1, 1), extra=array.array("H", range(16))), self.SECOND, 0, Facts(0, 0), Facts(0, 0))
+
+    def test_other_types_are_rejected(self):
+        for code in ("95", None, [0x95], 8):
+            with self.subTest(code=code), self.assertRaises(TypeError):
+                Program(code)
+        for name in (None, ["a"], 8):
+            with self.subTest(name=name), Side("a") as side, self.assertRaises(TypeError):
+                side.whereis(name)
+
     def test_closed(self):
         program = Program(LATER_STAMP)
         program.close()
@@ -86,8 +119,9 @@ class Programs(unittest.TestCase):
             program.judge(bytes(159))
         with self.assertRaises(ValueError):
             record("db", Registration(Owner(1, 1), extra=b"x"), self.SECOND, 0, Facts(0, 0), Facts(0, 0))
-        with self.assertRaises(OverflowError):
-            record("db", Registration(Owner(1 << 32, 1)), self.SECOND, 0, Facts(0, 0), Facts(0, 0))
+        for other in (Registration(Owner(1 << 32, 1)), Registration(Owner(1, 1), resolver=1 << 32)):
+            with self.assertRaises(OverflowError):
+                record("db", other, self.SECOND, 0, Facts(0, 0), Facts(0, 0))
 
 
 class Words(unittest.TestCase):
@@ -202,7 +236,6 @@ class Sides(unittest.TestCase):
             self.refused(39, a.settle)
             a.hear(offer_b)
             a.hear(offer_b)
-            self.refused(38, a.settle, 4)
             self.refused(71, a.hear_list, offer_b)
             self.refused(31, a.withdraw, "none")
             self.refused(39, a.finish)
@@ -228,6 +261,18 @@ class Sides(unittest.TestCase):
             self.refused(35, side.begin, 5, 0, 0)
             side.begin(6, 0, 0)
 
+    def test_given_up(self):
+        with Side("a") as side:
+            side.register("db", Registration(Owner(1, 1)))
+            side.register("web", Registration(Owner(1, 2)))
+            side.begin(5, 0, 0)
+            side.withdraw("db")
+            side.give_up()
+            self.refused(34, side.abandon)
+            self.assertEqual(([name for name, _ in side.rows()], side.events), ([b"web"], 3))
+            side.give_up()
+            self.refused(35, side.begin, 5, 0, 0)
+
     def test_freed_with_the_object(self):
         for _ in range(1000):
             Side("a").register("db", Registration(Owner(1, 1)))
@@ -239,6 +284,103 @@ class Sides(unittest.TestCase):
         self.refused(91, len, side)
         with self.assertRaises(ValueError):
             Side("c")
+
+    def test_a_side_without_names_is_true(self):
+        with Side("a") as side:
+            self.assertTrue(side)
+            self.assertEqual(len(side), 0)
+
+
+def run_threads(count, work):
+    """Runs `work(i)` in each of this many threads. Returns what they raised."""
+    raised = []
+
+    def guarded(i):
+        try:
+            work(i)
+        except Exception as error:
+            raised.append(error)
+
+    threads = [threading.Thread(target=guarded, args=[i]) for i in range(count)]
+    for thread in threads:
+        thread.start()
+    for thread in threads:
+        thread.join()
+    return raised
+
+
+class Threads(unittest.TestCase):
+    SECONDS = 1.0
+    NAMES = [f"name{i}" for i in range(50)]
+
+    def setUp(self):
+        self.side = Side("a")
+        for i, name in enumerate(self.NAMES):
+            self.side.register(name, Registration(Owner(1, i)))
+
+    def tearDown(self):
+        self.side.close()
+
+    def use_side(self, i):
+        """Thread 0 edits names of its own and renews the journal, thread 1 lists, and the others look names up."""
+        end = time.monotonic() + self.SECONDS
+        while time.monotonic() < end:
+            if i == 0:
+                self.side.register("own", Registration(Owner(1, 1000)))
+                self.side.unregister("own")
+                self.side.renew()
+            elif i == 1:
+                self.assertIn(len(self.side.rows()), (50, 51))
+            else:
+                for serial, name in enumerate(self.NAMES):
+                    self.assertEqual(self.side.whereis(name).owner, Owner(1, serial))
+
+    def test_eight_threads_share_a_side(self):
+        self.assertEqual(run_threads(8, self.use_side), [])
+        self.assertEqual([name for name, _ in self.side.rows()], sorted(name.encode() for name in self.NAMES))
+
+    def test_eight_threads_share_a_program(self):
+        with Program(LATER_STAMP) as program:
+
+            def judge(_):
+                end = time.monotonic() + self.SECONDS / 2
+                while time.monotonic() < end:
+                    self.assertEqual(program.judge(bytes(160)), Ended(1, 5))
+
+            self.assertEqual(run_threads(8, judge), [])
+
+    def test_a_side_is_closed_during_calls(self):
+        """Until `close` begins, each call succeeds; once it has returned, each is refused."""
+        looking = threading.Barrier(8)
+        closing, closed = threading.Event(), threading.Event()
+
+        def close():
+            try:
+                for _ in range(20):
+                    self.side.whereis("name1")
+                closing.set()
+                self.side.close()
+            finally:
+                closed.set()
+
+        def look_up(i):
+            looking.wait()
+            if i == 0:
+                close()
+            while True:
+                was_closed = closed.is_set()
+                try:
+                    self.side.whereis("name1")
+                except Refused as refused:
+                    self.assertEqual((refused.number, closing.is_set()), (91, True))
+                    return
+                self.assertFalse(was_closed)
+
+        for _ in range(50):
+            closing.clear()
+            closed.clear()
+            self.assertEqual(run_threads(8, look_up), [])
+            self.setUp()
 
 
 if __name__ == "__main__":

@@ -9,8 +9,8 @@ fn main() -> Result<(), Refused> {
     let (of_a, of_b) = (a.begin(1, 7, 0)?, b.begin(1, 7, 0)?);
     a.hear(&of_b)?;
     b.hear(&of_a)?;
-    a.settle(0)?;
-    b.settle(0)?;
+    a.settle()?;
+    b.settle()?;
     let (of_a, of_b) = (a.close_list()?, b.close_list()?);
     a.hear_list(&of_b)?;
     b.hear_list(&of_a)?;

@@ -97,7 +97,7 @@ extern "C" {
     pub fn heal_side_row(side: *mut Handle, i: usize, row: *mut Row) -> u32;
     pub fn heal_side_begin(side: *mut Handle, number: u64, seed: u64, uptime: u64, offer: *mut Handle) -> u32;
     pub fn heal_side_hear(side: *mut Handle, offer: *const u8, len: usize) -> u32;
-    pub fn heal_side_settle(side: *mut Handle, round: u32) -> u32;
+    pub fn heal_side_settle(side: *mut Handle) -> u32;
     pub fn heal_side_withdraw(side: *mut Handle, name: *const u8, len: usize) -> u32;
     pub fn heal_side_close_list(side: *mut Handle, list: *mut Handle) -> u32;
     pub fn heal_side_hear_list(side: *mut Handle, list: *const u8, len: usize) -> u32;
@@ -105,6 +105,7 @@ extern "C" {
     pub fn heal_side_abandon(side: *mut Handle) -> u32;
     pub fn heal_side_events(side: *mut Handle, events: *mut usize) -> u32;
     pub fn heal_side_renew(side: *mut Handle) -> u32;
+    pub fn heal_side_give_up(side: *mut Handle) -> u32;
     pub fn heal_bytes_len(bytes: *mut Handle, len: *mut usize) -> u32;
     pub fn heal_bytes_copy(bytes: *mut Handle, to: *mut u8, len: usize) -> u32;
     pub fn heal_bytes_free(bytes: *mut Handle);

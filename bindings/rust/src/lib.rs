@@ -217,9 +217,9 @@ impl Side {
         answer(unsafe { ffi::heal_side_hear(self.held.at(), offer.as_ptr(), offer.len()) })
     }
 
-    /// Judges every clash that has no ruling at its word of this round.
-    pub fn settle(&mut self, round: u32) -> Result<(), Refused> {
-        answer(unsafe { ffi::heal_side_settle(self.held.at(), round) })
+    /// Judges every clash that has no ruling, at the word that both halves judge it at.
+    pub fn settle(&mut self) -> Result<(), Refused> {
+        answer(unsafe { ffi::heal_side_settle(self.held.at()) })
     }
 
     /// Withdraws a name in the open exchange.
@@ -261,5 +261,10 @@ impl Side {
     /// Starts a fresh journal on an idle side.
     pub fn renew(&mut self) -> Result<(), Refused> {
         answer(unsafe { ffi::heal_side_renew(self.held.at()) })
+    }
+
+    /// Gives the open exchange up, if there is one, and starts a fresh journal, also of a full side.
+    pub fn give_up(&mut self) -> Result<(), Refused> {
+        answer(unsafe { ffi::heal_side_give_up(self.held.at()) })
     }
 }

@@ -47,8 +47,8 @@ fn heal([a, b]: &mut [Side; 2], number: u64) -> Result<[Outcome; 2], Refused> {
     let (offer_a, offer_b) = (a.begin(number, 0, 10)?, b.begin(number, 0, 20)?);
     a.hear(&offer_b)?;
     b.hear(&offer_a)?;
-    a.settle(0)?;
-    b.settle(0)?;
+    a.settle()?;
+    b.settle()?;
     a.withdraw(b"mail")?;
     let (list_a, list_b) = (a.close_list()?, b.close_list()?);
     a.hear_list(&list_b)?;
@@ -105,7 +105,7 @@ fn refusals_have_numbers_and_words() -> Result<(), Refused> {
     let mut side = Side::new(SideId::A)?;
     assert_eq!(refused(side.register(b"", owned(1, 1, 1))), 44);
     assert_eq!(refused(side.unregister(b"db")), 31);
-    assert_eq!(refused(side.settle(0)), 34);
+    assert_eq!(refused(side.settle()), 34);
     assert_eq!(refused(side.finish()), 34);
     assert_eq!(refused(side.upload(&[])), 1);
     let offer = side.begin(1, 0, 0)?;
@@ -116,6 +116,20 @@ fn refusals_have_numbers_and_words() -> Result<(), Refused> {
     side.renew()?;
     assert_eq!(refused(side.begin(1, 0, 0)), 35);
     assert!(side.rows()?.is_empty() && side.events()? <= 2);
+    Ok(())
+}
+
+#[test]
+fn a_side_gives_up() -> Result<(), Refused> {
+    let [mut side, _] = split()?;
+    side.begin(1, 0, 0)?;
+    side.withdraw(b"mail")?;
+    side.give_up()?;
+    assert_eq!(refused(side.abandon()), 34);
+    assert_eq!((side.rows()?.len(), side.whereis(b"mail")?), (2, None));
+    assert_eq!(side.events()?, 4);
+    side.give_up()?;
+    assert_eq!((side.rows()?.len(), refused(side.begin(1, 0, 0))), (2, 35));
     Ok(())
 }
 

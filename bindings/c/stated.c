@@ -1,0 +1,471 @@
+/*
+ * Checks what heal.h states, against the library: the layout of structs, the events that each call adds, a side whose journal is
+ * full, the order of refusals, repeated messages, and a winner that was withdrawn.
+ */
+#include "heal.h"
+
+#include <stdio.h>
+#include <stdlib.h>
+#include <string.h>
+
+#define REQUIRE(condition)                                          \
+    do {                                                            \
+        if (!(condition)) {                                         \
+            fprintf(stderr, "line %d: %s\n", __LINE__, #condition); \
+            abort();                                                \
+        }                                                           \
+    } while (0)
+
+/* The call returns this number. */
+#define RETURNS(number, call)                                                          \
+    do {                                                                               \
+        uint32_t got_ = (call);                                                        \
+        if (got_ != (number)) {                                                        \
+            fprintf(stderr, "line %d: %u from %s\n", __LINE__, (unsigned)got_, #call); \
+            abort();                                                                   \
+        }                                                                              \
+    } while (0)
+
+/* The call returns this number and adds this many events. */
+#define ADDS(events, number, side, call)                    \
+    do {                                                    \
+        size_t before_ = events_of(side);                   \
+        RETURNS(number, call);                              \
+        REQUIRE(events_of(side) == before_ + (events)); \
+    } while (0)
+
+#define AT(type, field, offset) \
+    _Static_assert(offsetof(type, field) == (offset), #type "." #field " is elsewhere")
+#define SIZE(type, size) \
+    _Static_assert(sizeof(type) == (size), #type " has another size")
+
+SIZE(heal_program, sizeof(void *));
+SIZE(heal_side, sizeof(void *));
+SIZE(heal_bytes, sizeof(void *));
+SIZE(heal_outcome, sizeof(void *));
+SIZE(heal_owner, 8);
+AT(heal_owner, serial, 4);
+SIZE(heal_registration, 80);
+AT(heal_registration, stamp, 8);
+AT(heal_registration, weight, 16);
+AT(heal_registration, extra, 24);
+AT(heal_registration, resolver, 40);
+AT(heal_registration, program, 44);
+SIZE(heal_name, 36);
+AT(heal_name, bytes, 4);
+SIZE(heal_row, 120);
+AT(heal_row, registration, 40);
+SIZE(heal_facts, 16);
+AT(heal_facts, uptime, 8);
+SIZE(heal_ended, 16);
+AT(heal_ended, steps, 8);
+SIZE(heal_clash, 216);
+AT(heal_clash, first, 40);
+AT(heal_clash, second, 120);
+AT(heal_clash, word, 200);
+AT(heal_clash, verdict, 208);
+AT(heal_clash, notices, 212);
+SIZE(heal_notice, 20);
+AT(heal_notice, to, 4);
+AT(heal_notice, other, 12);
+
+/* A message in memory of this program. */
+struct message {
+    uint8_t *bytes;
+    size_t len;
+};
+
+static size_t events_of(heal_side *side)
+{
+    size_t events = 0;
+
+    RETURNS(0, heal_side_events(side, &events));
+    return events;
+}
+
+static const uint8_t *text(const char *name)
+{
+    return (const uint8_t *)name;
+}
+
+static uint32_t add(heal_side *side, const char *name, heal_owner owner)
+{
+    heal_registration registration = {.owner = owner};
+
+    return heal_side_register(side, text(name), strlen(name), &registration);
+}
+
+static uint32_t find(heal_side *side, const char *name)
+{
+    heal_registration found;
+
+    return heal_side_whereis(side, text(name), strlen(name), &found);
+}
+
+/* Creates a side with `db`, owned by 1.1 on side A and by 2.1 on side B. */
+static heal_side side_with_db(bool second)
+{
+    heal_side side = {0};
+
+    RETURNS(0, heal_side_new(second, &side));
+    RETURNS(0, add(&side, "db", (heal_owner){second ? 2 : 1, 1}));
+    return side;
+}
+
+/* Copies a message and frees it. */
+static struct message taken(heal_bytes *sent)
+{
+    struct message message = {NULL, 0};
+
+    RETURNS(0, heal_bytes_len(sent, &message.len));
+    message.bytes = malloc(message.len);
+    REQUIRE(message.bytes != NULL);
+    RETURNS(0, heal_bytes_copy(sent, message.bytes, message.len));
+    heal_bytes_free(sent);
+    return message;
+}
+
+static struct message begun(heal_side *side, uint64_t number, uint64_t seed)
+{
+    heal_bytes offer = {0};
+
+    RETURNS(0, heal_side_begin(side, number, seed, 0, &offer));
+    return taken(&offer);
+}
+
+static struct message closed(heal_side *side)
+{
+    heal_bytes list = {0};
+
+    RETURNS(0, heal_side_close_list(side, &list));
+    return taken(&list);
+}
+
+static uint32_t hear(heal_side *side, struct message offer)
+{
+    return heal_side_hear(side, offer.bytes, offer.len);
+}
+
+static uint32_t hear_list(heal_side *side, struct message list)
+{
+    return heal_side_hear_list(side, list.bytes, list.len);
+}
+
+static void discard(struct message *messages, size_t count)
+{
+    for (size_t i = 0; i < count; i++)
+        free(messages[i].bytes);
+}
+
+/* Returns the offer of another side, with `count` names. */
+static struct message offer_of(bool second, uint64_t number, uint64_t seed, unsigned count)
+{
+    heal_side side = {0};
+    struct message offer;
+    char name[16];
+
+    RETURNS(0, heal_side_new(second, &side));
+    for (unsigned i = 0; i < count; i++) {
+        snprintf(name, sizeof name, "n%u", i);
+        RETURNS(0, add(&side, name, (heal_owner){9, i}));
+    }
+    offer = begun(&side, number, seed);
+    heal_side_free(&side);
+    return offer;
+}
+
+/* Returns the list of another side that withdraws its only name, `db`, or nothing. */
+static struct message list_of(bool second, uint64_t number, bool withdraws)
+{
+    heal_side side = side_with_db(second);
+    struct message list;
+
+    free(begun(&side, number, 0).bytes);
+    if (withdraws)
+        RETURNS(0, heal_side_withdraw(&side, text("db"), 2));
+    list = closed(&side);
+    heal_side_free(&side);
+    return list;
+}
+
+/* Registers and unregisters a name until the side has this many events. */
+static void fill(heal_side *side, size_t events)
+{
+    if ((events - events_of(side)) % 2 == 1)
+        RETURNS(0, add(side, "odd", (heal_owner){7, 7}));
+    while (events_of(side) < events) {
+        RETURNS(0, add(side, "even", (heal_owner){8, 8}));
+        RETURNS(0, heal_side_unregister(side, text("even"), 4));
+    }
+}
+
+/* Each call adds one event; calls that read, `upload`, and refused calls add none. */
+static void check_events(void)
+{
+    static const uint8_t first[] = {0xb7, 0, 0, 0, 1, 0, 0, 0, 0x95, 0, 0, 0, 0, 0, 0, 0};
+    heal_side side = side_with_db(false);
+    heal_bytes message = {0};
+    heal_outcome outcome = {0};
+    struct message sent[] = {offer_of(true, 1, 0, 0), list_of(true, 1, false)};
+    uint8_t id[HEAL_ID_LEN];
+    uint32_t slot;
+
+    REQUIRE(events_of(&side) == 1);
+    ADDS(0, 0, &side, heal_side_upload(&side, first, sizeof first, id, &slot));
+    ADDS(1, 0, &side, add(&side, "x", (heal_owner){1, 2}));
+    ADDS(0, 30, &side, add(&side, "x", (heal_owner){1, 2}));
+    ADDS(1, 0, &side, heal_side_unregister(&side, text("x"), 1));
+    ADDS(1, 0, &side, heal_side_begin(&side, 1, 0, 0, &message));
+    ADDS(1, 0, &side, hear(&side, sent[0]));
+    ADDS(1, 0, &side, hear(&side, sent[0]));
+    ADDS(1, 0, &side, heal_side_withdraw(&side, text("db"), 2));
+    ADDS(1, 0, &side, heal_side_close_list(&side, &message));
+    ADDS(1, 0, &side, hear_list(&side, sent[1]));
+    ADDS(1, 0, &side, heal_side_finish(&side, &outcome));
+    RETURNS(0, heal_side_renew(&side));
+    REQUIRE(events_of(&side) <= 2);
+    heal_side_free(&side);
+    heal_bytes_free(&message);
+    heal_outcome_free(&outcome);
+    discard(sent, 2);
+}
+
+/* `settle` adds one event for each clash that it judges. */
+static void check_events_of_settle(void)
+{
+    heal_side side = side_with_db(false), other = side_with_db(true);
+    struct message sent = begun(&other, 1, 0);
+
+    free(begun(&side, 1, 0).bytes);
+    RETURNS(0, hear(&side, sent));
+    ADDS(1, 0, &side, heal_side_settle(&side));
+    ADDS(0, 0, &side, heal_side_settle(&side));
+    ADDS(1, 0, &side, heal_side_abandon(&side));
+    RETURNS(0, heal_side_renew(&side));
+    REQUIRE(events_of(&side) <= 3);
+    heal_side_free(&side);
+    heal_side_free(&other);
+    free(sent.bytes);
+}
+
+/* An idle side whose count of events is full can be renewed. */
+static void check_full_and_idle(void)
+{
+    heal_side side = side_with_db(false);
+    heal_bytes message = {0};
+
+    fill(&side, HEAL_MAX_EVENTS);
+    RETURNS(40, add(&side, "x", (heal_owner){1, 2}));
+    RETURNS(40, heal_side_unregister(&side, text("db"), 2));
+    RETURNS(40, heal_side_begin(&side, 1, 0, 0, &message));
+    RETURNS(0, heal_side_renew(&side));
+    RETURNS(0, add(&side, "x", (heal_owner){1, 2}));
+    heal_side_free(&side);
+}
+
+/* An exchange that fills the count can only be given up. The side's rows can be read. */
+static void check_full_and_open(void)
+{
+    heal_side side = side_with_db(false);
+    heal_bytes message = {0};
+    heal_outcome outcome = {0};
+    struct message sent[] = {offer_of(true, 1, 0, 1), offer_of(true, 1, 5, 1), offer_of(true, 2, 0, 1), offer_of(false, 1, 0, 1),
+                             list_of(true, 1, false)};
+    heal_row row;
+
+    fill(&side, HEAL_MAX_EVENTS - 1);
+    free(begun(&side, 1, 0).bytes);
+    RETURNS(40, hear(&side, sent[0]));
+    RETURNS(36, hear(&side, sent[1]));
+    RETURNS(40, hear(&side, sent[2]));
+    RETURNS(40, hear(&side, sent[3]));
+    RETURNS(40, hear_list(&side, sent[4]));
+    RETURNS(40, heal_side_withdraw(&side, text("db"), 2));
+    RETURNS(40, heal_side_close_list(&side, &message));
+    RETURNS(39, heal_side_settle(&side));
+    RETURNS(39, heal_side_finish(&side, &outcome));
+    RETURNS(40, heal_side_abandon(&side));
+    RETURNS(33, heal_side_renew(&side));
+    RETURNS(33, add(&side, "x", (heal_owner){1, 2}));
+    RETURNS(33, heal_side_begin(&side, 2, 0, 0, &message));
+    RETURNS(0, find(&side, "db"));
+    RETURNS(0, heal_side_row(&side, 0, &row));
+    RETURNS(0, heal_side_give_up(&side));
+    RETURNS(34, heal_side_abandon(&side));
+    RETURNS(35, heal_side_begin(&side, 1, 0, 0, &message));
+    RETURNS(0, add(&side, "x", (heal_owner){1, 2}));
+    RETURNS(0, find(&side, "db"));
+    heal_side_free(&side);
+    discard(sent, 5);
+}
+
+/* `settle` returns 40 if the count has no room for its rulings, and `finish` if it has none for one event. */
+static void check_no_room(void)
+{
+    heal_side side = side_with_db(false), other = side_with_db(true);
+    heal_outcome outcome = {0};
+    struct message sent[] = {begun(&other, 1, 0), list_of(true, 1, false)};
+
+    fill(&side, HEAL_MAX_EVENTS - 2);
+    free(begun(&side, 1, 0).bytes);
+    RETURNS(0, hear(&side, sent[0]));
+    RETURNS(40, heal_side_settle(&side));
+    heal_side_free(&side);
+    side = side_with_db(false);
+    fill(&side, HEAL_MAX_EVENTS - 5);
+    free(begun(&side, 1, 0).bytes);
+    RETURNS(0, hear(&side, sent[0]));
+    RETURNS(0, heal_side_settle(&side));
+    free(closed(&side).bytes);
+    RETURNS(0, hear_list(&side, sent[1]));
+    RETURNS(40, heal_side_finish(&side, &outcome));
+    RETURNS(40, heal_side_abandon(&side));
+    RETURNS(33, heal_side_renew(&side));
+    RETURNS(0, heal_side_give_up(&side));
+    REQUIRE(events_of(&side) <= 3);
+    heal_side_free(&side);
+    heal_side_free(&other);
+    discard(sent, 2);
+}
+
+/* The bytes come first, then 34. 36, 37 and 42 are for the other side's first offer of the open number alone. */
+static void check_order_of_hear(void)
+{
+    enum { VALID, SEED_AND_SIZE, SIZE, NUMBER, NUMBER_AND_OWN, OWN, KINDS };
+    heal_side side = side_with_db(false);
+    struct message sent[KINDS] = {
+        [VALID] = offer_of(true, 1, 0, 1),
+        [SEED_AND_SIZE] = offer_of(true, 1, 5, HEAL_MAX_NAMES),
+        [SIZE] = offer_of(true, 1, 0, HEAL_MAX_NAMES),
+        [NUMBER] = offer_of(true, 2, 5, HEAL_MAX_NAMES),
+        [NUMBER_AND_OWN] = offer_of(false, 2, 5, HEAL_MAX_NAMES),
+        [OWN] = offer_of(false, 1, 5, HEAL_MAX_NAMES),
+    };
+
+    RETURNS(70, heal_side_hear(&side, NULL, 0));
+    RETURNS(34, hear(&side, sent[VALID]));
+    free(begun(&side, 1, 0).bytes);
+    RETURNS(70, heal_side_hear(&side, NULL, 0));
+    RETURNS(45, hear(&side, sent[NUMBER]));
+    RETURNS(45, hear(&side, sent[NUMBER_AND_OWN]));
+    RETURNS(46, hear(&side, sent[OWN]));
+    RETURNS(36, hear(&side, sent[SEED_AND_SIZE]));
+    RETURNS(37, hear(&side, sent[SIZE]));
+    RETURNS(0, hear(&side, sent[VALID]));
+    RETURNS(0, hear(&side, sent[SEED_AND_SIZE]));
+    RETURNS(45, hear(&side, sent[NUMBER]));
+    RETURNS(46, hear(&side, sent[OWN]));
+    heal_side_free(&side);
+    discard(sent, KINDS);
+}
+
+/* The bytes come first, then 34, 45 and 46. The list may come before the offer. */
+static void check_order_of_hear_list(void)
+{
+    enum { VALID, NUMBER, NUMBER_AND_OWN, OWN, KINDS };
+    heal_side side = side_with_db(false);
+    struct message sent[KINDS] = {
+        [VALID] = list_of(true, 1, false),
+        [NUMBER] = list_of(true, 2, false),
+        [NUMBER_AND_OWN] = list_of(false, 2, false),
+        [OWN] = list_of(false, 1, false),
+    };
+
+    RETURNS(70, heal_side_hear_list(&side, NULL, 0));
+    RETURNS(34, hear_list(&side, sent[VALID]));
+    free(begun(&side, 1, 0).bytes);
+    RETURNS(70, heal_side_hear_list(&side, NULL, 0));
+    RETURNS(45, hear_list(&side, sent[NUMBER]));
+    RETURNS(45, hear_list(&side, sent[NUMBER_AND_OWN]));
+    RETURNS(46, hear_list(&side, sent[OWN]));
+    RETURNS(0, hear_list(&side, sent[VALID]));
+    heal_side_free(&side);
+    discard(sent, KINDS);
+}
+
+/* After the first offer and the first list of the number, other ones are ignored. */
+static void check_second_messages(void)
+{
+    heal_side side = side_with_db(false);
+    heal_outcome outcome = {0};
+    struct message sent[] = {offer_of(true, 1, 0, 2), offer_of(true, 1, 9, 5), list_of(true, 1, false), list_of(true, 1, true)};
+    size_t merged = 0;
+
+    free(begun(&side, 1, 0).bytes);
+    RETURNS(0, hear(&side, sent[0]));
+    RETURNS(0, hear(&side, sent[1]));
+    RETURNS(0, heal_side_settle(&side));
+    free(closed(&side).bytes);
+    RETURNS(0, hear_list(&side, sent[2]));
+    RETURNS(0, hear_list(&side, sent[3]));
+    RETURNS(0, heal_side_finish(&side, &outcome));
+    RETURNS(0, heal_outcome_merged(&outcome, &merged));
+    REQUIRE(merged == 3);
+    RETURNS(0, find(&side, "db"));
+    RETURNS(0, find(&side, "n1"));
+    RETURNS(31, find(&side, "n2"));
+    heal_side_free(&side);
+    heal_outcome_free(&outcome);
+    discard(sent, 4);
+}
+
+/* Side A withdraws `db` or not, and both heal at word 0, at which `exit` keeps the first. */
+static void heal(heal_side side[2], heal_outcome outcome[2], bool withdraws)
+{
+    struct message offer[2], list[2];
+
+    for (int i = 0; i < 2; i++) {
+        side[i] = side_with_db(i == 1);
+        offer[i] = begun(&side[i], 1, 0);
+    }
+    for (int i = 0; i < 2; i++) {
+        RETURNS(0, hear(&side[i], offer[1 - i]));
+        RETURNS(0, heal_side_settle(&side[i]));
+    }
+    if (withdraws)
+        RETURNS(0, heal_side_withdraw(&side[0], text("db"), 2));
+    for (int i = 0; i < 2; i++)
+        list[i] = closed(&side[i]);
+    for (int i = 0; i < 2; i++) {
+        RETURNS(0, hear_list(&side[i], list[1 - i]));
+        RETURNS(0, heal_side_finish(&side[i], &outcome[i]));
+    }
+    discard(offer, 2);
+    discard(list, 2);
+}
+
+/* A withdrawn registration takes part in its clash. If it wins, nobody has the name, and the outcome has the loser's notice. */
+static void check_withdrawn_winner(bool withdraws)
+{
+    heal_side side[2] = {{0}, {0}};
+    heal_outcome outcome[2] = {{0}, {0}};
+    heal_clash clash;
+    heal_notice notice;
+
+    heal(side, outcome, withdraws);
+    for (int i = 0; i < 2; i++) {
+        RETURNS(0, heal_outcome_clash(&outcome[i], 0, &clash));
+        REQUIRE(clash.verdict == HEAL_FIRST && clash.first.owner.node == 1 && clash.notices == 1);
+        RETURNS(0, heal_outcome_notice(&outcome[i], 0, 0, &notice));
+        REQUIRE(notice.kind == HEAL_NOTICE_EXIT && notice.to.node == 2);
+        RETURNS(withdraws ? 31 : 0, find(&side[i], "db"));
+        RETURNS(withdraws ? 0 : 30, add(&side[i], "db", (heal_owner){2, 1}));
+        heal_side_free(&side[i]);
+        heal_outcome_free(&outcome[i]);
+    }
+}
+
+int main(void)
+{
+    check_events();
+    check_events_of_settle();
+    check_full_and_idle();
+    check_full_and_open();
+    check_no_room();
+    check_order_of_hear();
+    check_order_of_hear_list();
+    check_second_messages();
+    check_withdrawn_winner(false);
+    check_withdrawn_winner(true);
+    return 0;
+}
