@@ -22,17 +22,25 @@ static size_t name_of(uint32_t i, uint8_t name[16])
     return (size_t)snprintf((char *)name, 16, "name%u", i);
 }
 
-/* Registers, or unregisters, and looks up every name. */
-static void edit(heal_side *half, uint32_t node, bool is_new)
+/* Registers every name that isn't registered. */
+static void register_all(heal_side *half, uint32_t node)
 {
     heal_registration owned = {.owner = {node, 1}, .resolver = HEAL_NOTIFY}, found;
     uint8_t name[16];
 
     for (uint32_t i = 0; i < names; i++) {
         size_t len = name_of(i, name);
-        REQUIRE((is_new ? heal_side_register(half, name, len, &owned) : heal_side_unregister(half, name, len)) == 0);
-        REQUIRE(heal_side_whereis(half, name, len, &found) == (is_new ? 0 : 31));
+        if (heal_side_whereis(half, name, len, &found) != 0)
+            REQUIRE(heal_side_register(half, name, len, &owned) == 0);
     }
+}
+
+static void unregister_all(heal_side *half)
+{
+    uint8_t name[16];
+
+    for (uint32_t i = 0; i < names; i++)
+        REQUIRE(heal_side_unregister(half, name, name_of(i, name)) == 0);
 }
 
 /* Lets a half hear the message, and frees it. */
@@ -81,13 +89,12 @@ int main(int argc, char **argv)
     names = (uint32_t)strtoul(argv[1], NULL, 10);
     for (int i = 0; i < 2; i++) {
         REQUIRE(heal_side_new(i == 1, &half[i]) == 0);
-        edit(&half[i], 1 + (uint32_t)i, true);
+        register_all(&half[i], 1 + (uint32_t)i);
     }
     open(half, message, 1);
     REQUIRE(heal_side_abandon(&half[0]) == 0 && heal_side_give_up(&half[1]) == 0);
     for (int i = 0; i < 2; i++)
-        REQUIRE(heal_side_register(&half[i], (const uint8_t *)"name7", 5,
-            &(heal_registration){.owner = {1 + (uint32_t)i, 1}, .resolver = HEAL_NOTIFY}) == 0);
+        register_all(&half[i], 1 + (uint32_t)i);
     open(half, message, 2);
     finish(half, message, &outcome);
     for (uint32_t i = 0; i < names; i++)
@@ -95,6 +102,8 @@ int main(int argc, char **argv)
     heal_outcome_free(&outcome);
     for (int i = 0; i < 2; i++) {
         REQUIRE(heal_side_renew(&half[i]) == 0);
+        register_all(&half[i], 1 + (uint32_t)i);
+        unregister_all(&half[i]);
         heal_side_free(&half[i]);
     }
     return 0;

@@ -1,8 +1,8 @@
 #!/usr/bin/env python3
 """cost.py PROGRAM: checks that no call of a side takes more than its share with more names.
 
-Counts, by callgrind, the instructions that the built cost.c spends in each call with 1,024, 2,048 and 4,096 names. Twice the
-names must take at most 2.5 times the instructions. Needs valgrind.
+Counts, by callgrind, the instructions that the built cost.c spends in all calls of each function with 1,024, 2,048 and 4,096
+names. Twice the names must take at most 2.5 times the instructions. Needs valgrind.
 """
 
 import os
@@ -13,9 +13,7 @@ import tempfile
 
 COUNTS = [1024, 2048, 4096]
 MOST = 2.5
-CALLS = (
-    "register whereis begin hear withdraw settle close_list hear_list finish abandon give_up renew".split()
-)
+CALLS = "register unregister whereis begin hear withdraw settle close_list hear_list finish abandon give_up renew".split()
 
 
 def instructions(program, names, work):
@@ -25,7 +23,10 @@ def instructions(program, names, work):
         ["valgrind", "-q", "--tool=callgrind", f"--callgrind-out-file={counted}", program, str(names)], check=True
     )
     listing = subprocess.run(
-        ["callgrind_annotate", "--inclusive=yes", "--threshold=100", counted], check=True, capture_output=True, text=True
+        ["callgrind_annotate", "--auto=no", "--inclusive=yes", "--threshold=100", counted],
+        check=True,
+        capture_output=True,
+        text=True,
     ).stdout
     rows = re.findall(r"^ *([\d,]+) .*?:heal_side_(\w+)(?: |$)", listing, re.MULTILINE)
     return {call: int(count.replace(",", "")) for count, call in rows}
