@@ -56,7 +56,7 @@ fn heal_rows(
     store: &UploadStore,
     on_a: &[(&str, Registration)],
     on_b: &[(&str, Registration)],
-) -> Result<Table, Fail> {
+) -> Result<Arc<Table>, Fail> {
     let mut a = Side::new(alloc, SideId::A);
     let mut b = Side::new(alloc, SideId::B);
     register_rows(&mut a, on_a, store)?;
