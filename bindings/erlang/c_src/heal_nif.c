@@ -1,9 +1,13 @@
 /*
  * The NIF of the module heal, over the C library libheal.
  *
- * Programs, sides and outcomes are resources: the garbage collector frees them. Each has a lock, since calls of libheal on one
- * handle must not overlap. A short call that finds the lock taken runs again on a dirty scheduler, so that no normal scheduler
- * waits. Calls whose time grows with a table, a message or a program always run on dirty schedulers.
+ * Programs, sides and outcomes are resources: the garbage collector frees them. Calls whose time grows with a table, a message
+ * or a program run on dirty schedulers.
+ *
+ * Calls of libheal on one handle must not overlap. A call that finds the handle taken returns `busy` at once, and the module
+ * heal makes it again a moment later: the process waits, and no scheduler does. The first process that finds a handle taken
+ * has the next turn, so a process that calls again and again can't keep the others away. The turn is lost after a while, in
+ * case its process is dead.
  */
 #include <erl_nif.h>
 #include <stdbool.h>
@@ -12,16 +16,21 @@
 #include "heal.h"
 
 typedef ERL_NIF_TERM term;
-typedef term nif(ErlNifEnv *env, int argc, const term argv[]);
 
 enum { ID_LEN = HEAL_ID_LEN, EXTRA_LEN = HEAL_EXTRA_LEN, RECORD_LEN = HEAL_RECORD_LEN };
 enum { NO_SUCH_NAME = 31, OUT_OF_MEMORY = 90 };
 /* The refusals that name a slot. */
 enum { FIRST_WITH_SLOT = 4, LAST_WITH_SLOT = 26 };
 
-/* A resource: a lock and one handle. All handles of libheal are one word. */
+/* How long a process keeps the next turn since its last call, in milliseconds. */
+enum { TURN = 50 };
+
+/* A resource: whose turn it is, and one handle. All handles of libheal are one word. */
 typedef struct {
-    ErlNifMutex *lock;
+    ErlNifMutex *lock; /* of the next three fields; held for a few instructions only */
+    bool taken;
+    ErlNifPid next;
+    ErlNifTime next_until;
     union {
         heal_program program;
         heal_side side;
@@ -34,7 +43,7 @@ static ErlNifResourceType *program_type, *side_type, *outcome_type;
 #define ATOMS(X) \
     X(ok) X(error) X(a) X(b) X(owner) X(stamp) X(weight) X(extra) X(resolver) X(exit) X(notify) X(notify_all) \
     X(program) X(size) X(uptime) X(name) X(first) X(second) X(neither) X(word) X(verdict) X(notices) X(conflict) \
-    X(conflict_with)
+    X(conflict_with) X(busy)
 
 #define DECLARE(NAME) static term atom_##NAME;
 ATOMS(DECLARE)
@@ -99,7 +108,8 @@ static resource *new_resource(ErlNifResourceType *type)
     resource *made = enif_alloc_resource(type, sizeof *made);
     if (made == NULL)
         return NULL;
-    memset(&made->handle, 0, sizeof made->handle);
+    memset(made, 0, sizeof *made);
+    made->next_until = enif_monotonic_time(ERL_NIF_MSEC);
     made->lock = enif_mutex_create("heal");
     if (made->lock != NULL)
         return made;
@@ -144,26 +154,53 @@ static void free_outcome(ErlNifEnv *env, void *held)
 
 typedef term body(ErlNifEnv *env, resource *held, const term argv[]);
 
-/* Runs a call under the lock of its first argument. */
-static term locked(ErlNifEnv *env, int argc, const term argv[], ErlNifResourceType *type, const char *name, nif *again, body *run)
+/* Takes the resource unless a call runs on it or another process has the next turn. If not, the caller gets the next turn,
+   unless another process has it. */
+static bool enter(ErlNifEnv *env, resource *held)
+{
+    ErlNifPid self;
+    enif_self(env, &self);
+    ErlNifTime now = enif_monotonic_time(ERL_NIF_MSEC);
+    enif_mutex_lock(held->lock);
+    bool may = now >= held->next_until || enif_compare_pids(&held->next, &self) == 0;
+    bool enters = may && !held->taken;
+    if (enters) {
+        held->taken = true;
+        held->next_until = now;
+    } else if (may) {
+        held->next = self;
+        held->next_until = now + TURN;
+    }
+    enif_mutex_unlock(held->lock);
+    return enters;
+}
+
+static void leave(resource *held)
+{
+    enif_mutex_lock(held->lock);
+    held->taken = false;
+    enif_mutex_unlock(held->lock);
+}
+
+/* Runs a call on its first argument, or returns `busy`. */
+static term in_turn(ErlNifEnv *env, const term argv[], ErlNifResourceType *type, body *run)
 {
     resource *held;
     if (!enif_get_resource(env, argv[0], type, (void **)&held))
         return enif_make_badarg(env);
-    if (enif_thread_type() != ERL_NIF_THR_NORMAL_SCHEDULER)
-        enif_mutex_lock(held->lock);
-    else if (enif_mutex_trylock(held->lock) != 0)
-        return enif_schedule_nif(env, name, ERL_NIF_DIRTY_JOB_CPU_BOUND, again, argc, argv);
+    if (!enter(env, held))
+        return atom_busy;
     term result = run(env, held, argv);
-    enif_mutex_unlock(held->lock);
+    leave(held);
     return result;
 }
 
 /* Defines the NIF `NAME`, whose first argument is a resource, from `NAME_body`. */
-#define LOCKED(NAME, TYPE) \
+#define IN_TURN(NAME, TYPE) \
     static term NAME(ErlNifEnv *env, int argc, const term argv[]) \
     { \
-        return locked(env, argc, argv, TYPE, #NAME, NAME, NAME##_body); \
+        (void)argc; \
+        return in_turn(env, argv, TYPE, NAME##_body); \
     }
 
 /* ---- Arguments ---- */
@@ -346,7 +383,7 @@ static term judge_body(ErlNifEnv *env, resource *held, const term argv[])
         return refused(env, number);
     return enif_make_tuple3(env, atom_ok, enif_make_uint64(env, ended.r0), enif_make_uint(env, ended.steps));
 }
-LOCKED(judge, program_type)
+IN_TURN(judge, program_type)
 
 static term program_id_body(ErlNifEnv *env, resource *held, const term argv[])
 {
@@ -355,7 +392,7 @@ static term program_id_body(ErlNifEnv *env, resource *held, const term argv[])
     uint32_t number = heal_program_id(&held->handle.program, id);
     return number == 0 ? ok(env, copy_of(env, id, ID_LEN)) : refused(env, number);
 }
-LOCKED(program_id, program_type)
+IN_TURN(program_id, program_type)
 
 static term record(ErlNifEnv *env, int argc, const term argv[])
 {
@@ -407,7 +444,7 @@ static term upload_body(ErlNifEnv *env, resource *held, const term argv[])
     uint32_t number = heal_side_upload(&held->handle.side, code.data, code.size, id, &slot);
     return number == 0 ? ok(env, copy_of(env, id, ID_LEN)) : refused_at(env, number, slot);
 }
-LOCKED(upload, side_type)
+IN_TURN(upload, side_type)
 
 static term register_name_body(ErlNifEnv *env, resource *held, const term argv[])
 {
@@ -417,7 +454,7 @@ static term register_name_body(ErlNifEnv *env, resource *held, const term argv[]
         return enif_make_badarg(env);
     return done(env, heal_side_register(&held->handle.side, name.data, name.size, &registration));
 }
-LOCKED(register_name, side_type)
+IN_TURN(register_name, side_type)
 
 static term unregister_name_body(ErlNifEnv *env, resource *held, const term argv[])
 {
@@ -426,7 +463,7 @@ static term unregister_name_body(ErlNifEnv *env, resource *held, const term argv
         return enif_make_badarg(env);
     return done(env, heal_side_unregister(&held->handle.side, name.data, name.size));
 }
-LOCKED(unregister_name, side_type)
+IN_TURN(unregister_name, side_type)
 
 static term whereis_name_body(ErlNifEnv *env, resource *held, const term argv[])
 {
@@ -437,7 +474,7 @@ static term whereis_name_body(ErlNifEnv *env, resource *held, const term argv[])
     uint32_t number = heal_side_whereis(&held->handle.side, name.data, name.size, &found);
     return number == 0 ? ok(env, registration_term(env, &found)) : refused(env, number);
 }
-LOCKED(whereis_name, side_type)
+IN_TURN(whereis_name, side_type)
 
 static term count_body(ErlNifEnv *env, resource *held, const term argv[])
 {
@@ -446,7 +483,7 @@ static term count_body(ErlNifEnv *env, resource *held, const term argv[])
     uint32_t number = heal_side_count(&held->handle.side, &count);
     return number == 0 ? ok(env, enif_make_uint64(env, count)) : refused(env, number);
 }
-LOCKED(count, side_type)
+IN_TURN(count, side_type)
 
 static term rows_body(ErlNifEnv *env, resource *held, const term argv[])
 {
@@ -464,7 +501,7 @@ static term rows_body(ErlNifEnv *env, resource *held, const term argv[])
     }
     return number == 0 ? ok(env, rows) : refused(env, number);
 }
-LOCKED(rows, side_type)
+IN_TURN(rows, side_type)
 
 /* Looks many names up: a row of libheal costs time that grows with its index, and a name doesn't. */
 static term owners_body(ErlNifEnv *env, resource *held, const term argv[])
@@ -483,7 +520,7 @@ static term owners_body(ErlNifEnv *env, resource *held, const term argv[])
     }
     return enif_is_empty_list(env, rest) ? ok(env, owners) : enif_make_badarg(env);
 }
-LOCKED(owners, side_type)
+IN_TURN(owners, side_type)
 
 static term begin_body(ErlNifEnv *env, resource *held, const term argv[])
 {
@@ -493,7 +530,7 @@ static term begin_body(ErlNifEnv *env, resource *held, const term argv[])
         return enif_make_badarg(env);
     return message(env, heal_side_begin(&held->handle.side, number, seed, uptime, &offer), &offer);
 }
-LOCKED(begin, side_type)
+IN_TURN(begin, side_type)
 
 static term hear_body(ErlNifEnv *env, resource *held, const term argv[])
 {
@@ -502,16 +539,14 @@ static term hear_body(ErlNifEnv *env, resource *held, const term argv[])
         return enif_make_badarg(env);
     return done(env, heal_side_hear(&held->handle.side, offer.data, offer.size));
 }
-LOCKED(hear, side_type)
+IN_TURN(hear, side_type)
 
 static term settle_body(ErlNifEnv *env, resource *held, const term argv[])
 {
-    uint32_t round;
-    if (!get_u32(env, argv[1], &round))
-        return enif_make_badarg(env);
-    return done(env, heal_side_settle(&held->handle.side, round));
+    (void)argv;
+    return done(env, heal_side_settle(&held->handle.side));
 }
-LOCKED(settle, side_type)
+IN_TURN(settle, side_type)
 
 static term withdraw_body(ErlNifEnv *env, resource *held, const term argv[])
 {
@@ -520,7 +555,7 @@ static term withdraw_body(ErlNifEnv *env, resource *held, const term argv[])
         return enif_make_badarg(env);
     return done(env, heal_side_withdraw(&held->handle.side, name.data, name.size));
 }
-LOCKED(withdraw, side_type)
+IN_TURN(withdraw, side_type)
 
 static term close_list_body(ErlNifEnv *env, resource *held, const term argv[])
 {
@@ -528,7 +563,7 @@ static term close_list_body(ErlNifEnv *env, resource *held, const term argv[])
     (void)argv;
     return message(env, heal_side_close_list(&held->handle.side, &list), &list);
 }
-LOCKED(close_list, side_type)
+IN_TURN(close_list, side_type)
 
 static term hear_list_body(ErlNifEnv *env, resource *held, const term argv[])
 {
@@ -537,7 +572,7 @@ static term hear_list_body(ErlNifEnv *env, resource *held, const term argv[])
         return enif_make_badarg(env);
     return done(env, heal_side_hear_list(&held->handle.side, list.data, list.size));
 }
-LOCKED(hear_list, side_type)
+IN_TURN(hear_list, side_type)
 
 static term finish_body(ErlNifEnv *env, resource *held, const term argv[])
 {
@@ -547,14 +582,14 @@ static term finish_body(ErlNifEnv *env, resource *held, const term argv[])
         return refused(env, OUT_OF_MEMORY);
     return handed(env, heal_side_finish(&held->handle.side, &made->handle.outcome), 0, made);
 }
-LOCKED(finish, side_type)
+IN_TURN(finish, side_type)
 
 static term abandon_body(ErlNifEnv *env, resource *held, const term argv[])
 {
     (void)argv;
     return done(env, heal_side_abandon(&held->handle.side));
 }
-LOCKED(abandon, side_type)
+IN_TURN(abandon, side_type)
 
 static term events_body(ErlNifEnv *env, resource *held, const term argv[])
 {
@@ -563,14 +598,21 @@ static term events_body(ErlNifEnv *env, resource *held, const term argv[])
     uint32_t number = heal_side_events(&held->handle.side, &events);
     return number == 0 ? ok(env, enif_make_uint64(env, events)) : refused(env, number);
 }
-LOCKED(events, side_type)
+IN_TURN(events, side_type)
 
 static term renew_body(ErlNifEnv *env, resource *held, const term argv[])
 {
     (void)argv;
     return done(env, heal_side_renew(&held->handle.side));
 }
-LOCKED(renew, side_type)
+IN_TURN(renew, side_type)
+
+static term give_up_body(ErlNifEnv *env, resource *held, const term argv[])
+{
+    (void)argv;
+    return done(env, heal_side_give_up(&held->handle.side));
+}
+IN_TURN(give_up, side_type)
 
 /* ---- Outcomes ---- */
 
@@ -581,7 +623,7 @@ static term merged_body(ErlNifEnv *env, resource *held, const term argv[])
     uint32_t number = heal_outcome_merged(&held->handle.outcome, &names);
     return number == 0 ? ok(env, enif_make_uint64(env, names)) : refused(env, number);
 }
-LOCKED(merged, outcome_type)
+IN_TURN(merged, outcome_type)
 
 static uint32_t notices_of(ErlNifEnv *env, heal_outcome *outcome, size_t i, uint32_t count, term *notices)
 {
@@ -625,9 +667,16 @@ static term clashes_body(ErlNifEnv *env, resource *held, const term argv[])
     }
     return number == 0 ? ok(env, clashes) : refused(env, number);
 }
-LOCKED(clashes, outcome_type)
+IN_TURN(clashes, outcome_type)
 
 /* ---- Loading ---- */
+
+/* Creates the type, or takes it over from the version of the module that is loaded: its resources stay valid. */
+static bool open_type(ErlNifEnv *env, const char *name, ErlNifResourceDtor *dtor, ErlNifResourceType **type)
+{
+    *type = enif_open_resource_type(env, NULL, name, dtor, ERL_NIF_RT_CREATE | ERL_NIF_RT_TAKEOVER, NULL);
+    return *type != NULL;
+}
 
 static int on_load(ErlNifEnv *env, void **private, term info)
 {
@@ -635,40 +684,45 @@ static int on_load(ErlNifEnv *env, void **private, term info)
     (void)info;
 #define MAKE(NAME) atom_##NAME = enif_make_atom(env, #NAME);
     ATOMS(MAKE)
-    program_type = enif_open_resource_type(env, NULL, "heal_program", free_program, ERL_NIF_RT_CREATE, NULL);
-    side_type = enif_open_resource_type(env, NULL, "heal_side", free_side, ERL_NIF_RT_CREATE, NULL);
-    outcome_type = enif_open_resource_type(env, NULL, "heal_outcome", free_outcome, ERL_NIF_RT_CREATE, NULL);
-    return program_type != NULL && side_type != NULL && outcome_type != NULL ? 0 : 1;
+    return open_type(env, "heal_program", free_program, &program_type) && open_type(env, "heal_side", free_side, &side_type)
+        && open_type(env, "heal_outcome", free_outcome, &outcome_type) ? 0 : 1;
+}
+
+static int on_upgrade(ErlNifEnv *env, void **private, void **old, term info)
+{
+    (void)old;
+    return on_load(env, private, info);
 }
 
 #define DIRTY ERL_NIF_DIRTY_JOB_CPU_BOUND
 
 static ErlNifFunc functions[] = {
     {"load", 1, load, DIRTY},
-    {"judge", 2, judge, 0},
-    {"program_id", 1, program_id, DIRTY},
+    {"judge_in_turn", 2, judge, 0},
+    {"program_id_in_turn", 1, program_id, DIRTY},
     {"record", 6, record, 0},
     {"refusal_words", 1, refusal_words, 0},
     {"side", 1, side, 0},
-    {"upload", 2, upload, DIRTY},
-    {"register", 3, register_name, 0},
-    {"unregister", 2, unregister_name, 0},
-    {"whereis", 2, whereis_name, 0},
-    {"count", 1, count, 0},
-    {"rows", 1, rows, DIRTY},
-    {"owners", 2, owners, DIRTY},
-    {"begin_exchange", 4, begin, DIRTY},
-    {"hear", 2, hear, DIRTY},
-    {"settle", 2, settle, DIRTY},
-    {"withdraw", 2, withdraw, 0},
-    {"close_list", 1, close_list, DIRTY},
-    {"hear_list", 2, hear_list, DIRTY},
-    {"finish", 1, finish, DIRTY},
-    {"abandon", 1, abandon, DIRTY},
-    {"events", 1, events, 0},
-    {"renew", 1, renew, DIRTY},
-    {"merged", 1, merged, 0},
-    {"clashes", 1, clashes, DIRTY},
+    {"upload_in_turn", 2, upload, DIRTY},
+    {"register_in_turn", 3, register_name, 0},
+    {"unregister_in_turn", 2, unregister_name, 0},
+    {"whereis_in_turn", 2, whereis_name, 0},
+    {"count_in_turn", 1, count, 0},
+    {"rows_in_turn", 1, rows, DIRTY},
+    {"owners_in_turn", 2, owners, DIRTY},
+    {"begin_exchange_in_turn", 4, begin, DIRTY},
+    {"hear_in_turn", 2, hear, DIRTY},
+    {"settle_in_turn", 1, settle, DIRTY},
+    {"withdraw_in_turn", 2, withdraw, 0},
+    {"close_list_in_turn", 1, close_list, DIRTY},
+    {"hear_list_in_turn", 2, hear_list, DIRTY},
+    {"finish_in_turn", 1, finish, DIRTY},
+    {"abandon_in_turn", 1, abandon, DIRTY},
+    {"events_in_turn", 1, events, 0},
+    {"renew_in_turn", 1, renew, DIRTY},
+    {"give_up_in_turn", 1, give_up, DIRTY},
+    {"merged_in_turn", 1, merged, 0},
+    {"clashes_in_turn", 1, clashes, DIRTY},
 };
 
-ERL_NIF_INIT(heal, functions, on_load, NULL, NULL, NULL)
+ERL_NIF_INIT(heal, functions, on_load, NULL, on_upgrade, NULL)

@@ -1,26 +1,31 @@
 %% @doc The calls of libheal: programs, sides of exchanges, and their outcomes.
 %%
 %% A program, a side and an outcome are references that the garbage collector frees. Every process may use them; calls on one
-%% of them run one after another. A call returns what its type shows, or `{error, {Number, Words}}' with the number of a
+%% of them take turns. A call returns what its type shows, or `{error, {Number, Words}}' with the number of a
 %% refusal and its words; docs/REFUSALS.md lists them. A refused call changes nothing. A term of another type is a `badarg'.
 %%
 %% Two halves that meet carry out an exchange. One is side `a', the other side `b':
 %%
 %% 1. {@link begin_exchange/4} returns the offer for the other half.
-%% 2. {@link hear/2} takes the other's offer, and {@link settle/2} judges every clash.
+%% 2. {@link hear/2} takes the other's offer, and {@link settle/1} judges every clash.
 %% 3. {@link withdraw/2} withdraws a name whose owner is gone; {@link close_list/1} returns the list for the other half.
 %% 4. {@link hear_list/2} takes the other's list, and {@link finish/1} replaces the table by the merge.
 %%
-%% {@link abandon/1} ends an exchange without a merge.
+%% {@link abandon/1} ends an exchange without a merge, and {@link give_up/1} does so on any side.
 -module(heal).
 
 -export([load/1, judge/2, program_id/1, record/6, refusal_words/1]).
--export([side/1, upload/2, register/3, unregister/2, whereis/2, count/1, rows/1, owners/2, events/1, renew/1]).
--export([begin_exchange/4, hear/2, settle/2, withdraw/2, close_list/1, hear_list/2, finish/1, abandon/1]).
+-export([side/1, upload/2, register/3, unregister/2, whereis/2, count/1, rows/1, owners/2, events/1, renew/1, give_up/1]).
+-export([begin_exchange/4, hear/2, settle/1, withdraw/2, close_list/1, hear_list/2, finish/1, abandon/1]).
 -export([merged/1, clashes/1]).
+-export([serials/0]).
 -export_type([program/0, side/0, outcome/0, name/0, owner/0, resolver/0, registration/0, facts/0, clash/0, notice/0, refusal/0]).
 
 -on_load(init/0).
+
+-define(SERIALS, {?MODULE, serials}).
+%% A short call of another process ends while this one yields a few times.
+-define(YIELDS, 4).
 
 -compile({no_auto_import, [register/2, unregister/1, whereis/1]}).
 
@@ -49,7 +54,12 @@
 -type result() :: ok | {error, refusal()}.
 -type result(Value) :: {ok, Value} | {error, refusal()}.
 
+%% Runs when the module is loaded, never concurrently. A later version of the module goes on with the counter.
 init() ->
+    case persistent_term:get(?SERIALS, none) of
+        none -> persistent_term:put(?SERIALS, atomics:new(1, [{signed, false}]));
+        _ -> ok
+    end,
     erlang:load_nif(filename:join(priv_dir(), "heal_nif"), 0).
 
 priv_dir() ->
@@ -64,11 +74,11 @@ load(_Code) -> missing().
 
 %% @doc Runs the program on the record of a clash. It ends after at most as many steps as it has instructions.
 -spec judge(program(), Record :: <<_:1280>>) -> {ok, R0 :: word(), Steps :: non_neg_integer()} | {error, refusal()}.
-judge(_Program, _Record) -> missing().
+judge(Program, Record) -> turn(fun() -> judge_in_turn(Program, Record) end).
 
 %% @doc Returns the program's id: the SHA-256 digest of its bytes.
 -spec program_id(program()) -> result(id()).
-program_id(_Program) -> missing().
+program_id(Program) -> turn(fun() -> program_id_in_turn(Program) end).
 
 %% @doc Builds the record of a clash of two registrations of a name at a word.
 -spec record(name(), First :: registration(), Second :: registration(), word(), OfFirst :: facts(), OfSecond :: facts()) ->
@@ -85,79 +95,124 @@ side(_Id) -> missing().
 
 %% @doc Verifies a program, keeps it for registrations of this side, and returns its id.
 -spec upload(side(), Code :: binary()) -> result(id()).
-upload(_Side, _Code) -> missing().
+upload(Side, Code) -> turn(fun() -> upload_in_turn(Side, Code) end).
 
 %% @doc Registers a name on an idle side.
 -spec register(side(), name(), registration()) -> result().
-register(_Side, _Name, _Registration) -> missing().
+register(Side, Name, Registration) -> turn(fun() -> register_in_turn(Side, Name, Registration) end).
 
 %% @doc Unregisters a name on an idle side.
 -spec unregister(side(), name()) -> result().
-unregister(_Side, _Name) -> missing().
+unregister(Side, Name) -> turn(fun() -> unregister_in_turn(Side, Name) end).
 
 %% @doc Looks a name up.
 -spec whereis(side(), name()) -> result(registration()).
-whereis(_Side, _Name) -> missing().
+whereis(Side, Name) -> turn(fun() -> whereis_in_turn(Side, Name) end).
 
 %% @doc Returns the number of names in the side's table.
 -spec count(side()) -> result(non_neg_integer()).
-count(_Side) -> missing().
+count(Side) -> turn(fun() -> count_in_turn(Side) end).
 
 %% @doc Returns the side's table in the order of names. Its time grows with the square of the number of names, so far.
 -spec rows(side()) -> result([{name(), registration()}]).
-rows(_Side) -> missing().
+rows(Side) -> turn(fun() -> rows_in_turn(Side) end).
 
 %% @doc Returns those of the names that are registered, each with its owner, in no order.
 -spec owners(side(), [name()]) -> result([{name(), owner()}]).
-owners(_Side, _Names) -> missing().
+owners(Side, Names) -> turn(fun() -> owners_in_turn(Side, Names) end).
 
 %% @doc Opens an exchange and returns the offer for the other half. Both halves use the same number and seed.
 -spec begin_exchange(side(), Number :: word(), Seed :: word(), Uptime :: word()) -> result(Offer :: binary()).
-begin_exchange(_Side, _Number, _Seed, _Uptime) -> missing().
+begin_exchange(Side, Number, Seed, Uptime) -> turn(fun() -> begin_exchange_in_turn(Side, Number, Seed, Uptime) end).
 
 %% @doc Hears the offer of the other half.
 -spec hear(side(), Offer :: binary()) -> result().
-hear(_Side, _Offer) -> missing().
+hear(Side, Offer) -> turn(fun() -> hear_in_turn(Side, Offer) end).
 
-%% @doc Judges every clash that has no ruling at its word of this round. Both halves use the same round.
--spec settle(side(), Round :: 0..3) -> result().
-settle(_Side, _Round) -> missing().
+%% @doc Judges every clash that has no ruling, at the word that the other half judges it at too.
+-spec settle(side()) -> result().
+settle(Side) -> turn(fun() -> settle_in_turn(Side) end).
 
 %% @doc Withdraws a name in the open exchange.
 -spec withdraw(side(), name()) -> result().
-withdraw(_Side, _Name) -> missing().
+withdraw(Side, Name) -> turn(fun() -> withdraw_in_turn(Side, Name) end).
 
 %% @doc Closes the list of withdrawn names and returns the list for the other half.
 -spec close_list(side()) -> result(List :: binary()).
-close_list(_Side) -> missing().
+close_list(Side) -> turn(fun() -> close_list_in_turn(Side) end).
 
 %% @doc Hears the list of the other half.
 -spec hear_list(side(), List :: binary()) -> result().
-hear_list(_Side, _List) -> missing().
+hear_list(Side, List) -> turn(fun() -> hear_list_in_turn(Side, List) end).
 
 %% @doc Replaces the table by the merge and closes the exchange.
 -spec finish(side()) -> result(outcome()).
-finish(_Side) -> missing().
+finish(Side) -> turn(fun() -> finish_in_turn(Side) end).
 
 %% @doc Closes the exchange and keeps the table, without the withdrawn names.
 -spec abandon(side()) -> result().
-abandon(_Side) -> missing().
+abandon(Side) -> turn(fun() -> abandon_in_turn(Side) end).
 
 %% @doc Returns the number of events in the side's journal, at most 65,536.
 -spec events(side()) -> result(non_neg_integer()).
-events(_Side) -> missing().
+events(Side) -> turn(fun() -> events_in_turn(Side) end).
 
 %% @doc Starts a fresh journal on an idle side.
 -spec renew(side()) -> result().
-renew(_Side) -> missing().
+renew(Side) -> turn(fun() -> renew_in_turn(Side) end).
+
+%% @doc Closes the open exchange as {@link abandon/1} does, if there is one, and starts a fresh journal, also of a full side.
+-spec give_up(side()) -> result().
+give_up(Side) -> turn(fun() -> give_up_in_turn(Side) end).
 
 %% @doc Returns the number of names in the merged table.
 -spec merged(outcome()) -> result(non_neg_integer()).
-merged(_Outcome) -> missing().
+merged(Outcome) -> turn(fun() -> merged_in_turn(Outcome) end).
 
 %% @doc Returns the clashes in the order of names, each with its verdict and its notices.
 -spec clashes(outcome()) -> result([clash()]).
-clashes(_Outcome) -> missing().
+clashes(Outcome) -> turn(fun() -> clashes_in_turn(Outcome) end).
+
+%% @private Returns the counter of heal_names:serial/0.
+-spec serials() -> atomics:atomics_ref().
+serials() ->
+    persistent_term:get(?SERIALS).
+
+%% Makes a call on a program, a side or an outcome. While a call of another process runs on it, this one waits: it lets other
+%% processes run, and then sleeps.
+turn(Call) ->
+    turn(Call, ?YIELDS).
+
+turn(Call, Yields) ->
+    case Call() of
+        busy when Yields > 0 -> erlang:yield(), turn(Call, Yields - 1);
+        busy -> receive after 1 -> turn(Call, 0) end;
+        Answer -> Answer
+    end.
+
+%% The functions of the NIF that return `busy' while another call runs on their first argument.
+judge_in_turn(_Program, _Record) -> missing().
+program_id_in_turn(_Program) -> missing().
+upload_in_turn(_Side, _Code) -> missing().
+register_in_turn(_Side, _Name, _Registration) -> missing().
+unregister_in_turn(_Side, _Name) -> missing().
+whereis_in_turn(_Side, _Name) -> missing().
+count_in_turn(_Side) -> missing().
+rows_in_turn(_Side) -> missing().
+owners_in_turn(_Side, _Names) -> missing().
+begin_exchange_in_turn(_Side, _Number, _Seed, _Uptime) -> missing().
+hear_in_turn(_Side, _Offer) -> missing().
+settle_in_turn(_Side) -> missing().
+withdraw_in_turn(_Side, _Name) -> missing().
+close_list_in_turn(_Side) -> missing().
+hear_list_in_turn(_Side, _List) -> missing().
+finish_in_turn(_Side) -> missing().
+abandon_in_turn(_Side) -> missing().
+events_in_turn(_Side) -> missing().
+renew_in_turn(_Side) -> missing().
+give_up_in_turn(_Side) -> missing().
+merged_in_turn(_Outcome) -> missing().
+clashes_in_turn(_Outcome) -> missing().
 
 missing() ->
     erlang:nif_error(nif_not_loaded).

@@ -2,6 +2,9 @@
 -module(heal_names).
 
 -export([bytes/1, options/1, registration/3, serial/0, seed/0, uptime/0, notices/1, deliver/3]).
+-export_type([notice/0]).
+
+-type notice() :: {exit | conflict | conflict_with, first | second}.
 
 -define(NOTHING, <<0:128>>).
 
@@ -28,13 +31,16 @@ valid(Bytes) when byte_size(Bytes) >= 1, byte_size(Bytes) =< 32 ->
 valid(_Bytes) ->
     error.
 
-%% Returns the options of a registration. Raises `badarg' for others.
+%% Returns the options of a registration with all of stamp, weight, extra and resolver. Raises `badarg' for a bad option, and
+%% `{bad_setting, resolver, Value}' if the application's setting `resolver' isn't a resolver.
 -spec options(map()) -> map().
-options(Options) ->
+options(Options) when is_map(Options) ->
     case lists:all(fun is_option/1, maps:to_list(Options)) of
-        true -> Options;
+        true -> maps:merge(#{stamp => erlang:system_time(millisecond), weight => 0, extra => ?NOTHING}, resolved(Options));
         false -> error(badarg, [Options])
-    end.
+    end;
+options(Options) ->
+    error(badarg, [Options]).
 
 is_option({Key, Word}) when Key =:= stamp; Key =:= weight -> is_integer(Word) andalso Word >= 0 andalso Word < 1 bsl 64;
 is_option({extra, <<_:128>>}) -> true;
@@ -42,17 +48,24 @@ is_option({resolver, Builtin}) when is_atom(Builtin) -> lists:member(Builtin, [e
 is_option({resolver, {program, <<_:256>>}}) -> true;
 is_option(_Other) -> false.
 
-%% Makes the registration of an owner. Options may give stamp, weight, extra bytes and resolver.
+resolved(Options) when is_map_key(resolver, Options) ->
+    Options;
+resolved(Options) ->
+    Resolver = application:get_env(heal, resolver, exit),
+    case is_option({resolver, Resolver}) of
+        true -> Options#{resolver => Resolver};
+        false -> error({bad_setting, resolver, Resolver}, [Options])
+    end.
+
+%% Makes the registration of an owner. The options are as `options/1' returns them.
 -spec registration(Node :: non_neg_integer(), Serial :: non_neg_integer(), map()) -> heal:registration().
 registration(Node, Serial, Options) ->
-    Resolver = application:get_env(heal, resolver, exit),
-    Usual = #{stamp => erlang:system_time(millisecond), weight => 0, extra => ?NOTHING, resolver => Resolver},
-    maps:merge(Usual#{owner => {Node, Serial}}, Options).
+    Options#{owner => {Node, Serial}}.
 
 %% Returns a number that this run of the node gave to no other owner, until 2^32 are used.
 -spec serial() -> 1..16#ffffffff.
 serial() ->
-    case erlang:unique_integer([positive, monotonic]) band 16#ffffffff of
+    case atomics:add_get(heal:serials(), 1, 1) band 16#ffffffff of
         0 -> serial();
         Serial -> Serial
     end.
@@ -64,29 +77,37 @@ seed() ->
 %% Returns how long this node is up, in milliseconds.
 -spec uptime() -> non_neg_integer().
 uptime() ->
-    {Milliseconds, _} = erlang:statistics(wall_clock),
-    Milliseconds.
+    erlang:convert_time_unit(erlang:monotonic_time() - erlang:system_info(start_time), native, millisecond).
 
-%% Returns the notices of a clash. libheal has none for a program's verdict: its losers are notified as `notify' and
-%% `notify_all' do it.
--spec notices(heal:clash()) -> [heal:notice()].
-notices(#{first := #{resolver := {program, _}, owner := First}, second := #{owner := Second}, verdict := Verdict}) ->
-    case Verdict of
-        first -> [{conflict, Second}];
-        second -> [{conflict, First}];
-        neither -> [{conflict_with, First, Second}, {conflict_with, Second, First}]
-    end;
-notices(#{notices := Notices}) ->
-    Notices.
+%% Returns the notices of a clash, each with the position of the owner that receives it. Two owners may be equal by mistake,
+%% so the verdict gives the positions. libheal has no notices for a program's verdict: its losers are notified as by `notify'
+%% and `notify_all'.
+-spec notices(heal:clash()) -> [notice()].
+notices(Clash = #{verdict := Verdict}) ->
+    [{kind(Clash), Position} || Position <- losers(Verdict)].
 
-%% Delivers a notice as the resolvers of `global' do. `PidOf' returns the process of an owner, or `undefined' for an owner
-%% that isn't notified from here.
--spec deliver(Name :: term(), heal:notice(), fun((heal:owner()) -> pid() | undefined)) -> ok.
-deliver(Name, Notice, PidOf) ->
-    case {PidOf(element(2, Notice)), Notice} of
-        {undefined, _} -> ok;
-        {Pid, {exit, _}} -> exit(Pid, kill);
-        {Pid, {conflict, _}} -> Pid ! {global_name_conflict, Name};
-        {Pid, {conflict_with, _, Other}} -> Pid ! {global_name_conflict, Name, PidOf(Other)}
-    end,
+losers(first) -> [second];
+losers(second) -> [first];
+losers(neither) -> [first, second].
+
+kind(#{notices := [Notice | _]}) -> element(1, Notice);
+kind(#{verdict := neither}) -> conflict_with;
+kind(_ByProgram) -> conflict.
+
+%% Delivers a notice as the resolvers of `global' do. A process that is `undefined' isn't notified.
+-spec deliver(Name :: term(), notice(), {First :: pid() | undefined, Second :: pid() | undefined}) -> ok.
+deliver(Name, {Kind, first}, {Pid, Other}) -> notify(Kind, Name, Pid, Other);
+deliver(Name, {Kind, second}, {Other, Pid}) -> notify(Kind, Name, Pid, Other).
+
+notify(_Kind, _Name, undefined, _Other) ->
+    ok;
+notify(exit, Name, Pid, _Other) ->
+    logger:info("heal: Name conflict terminating ~tw", [{Name, Pid}]),
+    exit(Pid, kill),
+    ok;
+notify(conflict, Name, Pid, _Other) ->
+    Pid ! {global_name_conflict, Name},
+    ok;
+notify(conflict_with, Name, Pid, Other) ->
+    Pid ! {global_name_conflict, Name, Other},
     ok.

@@ -2,47 +2,97 @@
 %%
 %% ```
 %% {ok, Id} = heal_resolver:upload(Code),
-%% yes = heal_resolver:register_name(db, self(), #{weight => 7, resolver => {program, Id}}).
+%% ok = heal_resolver:register(db, self(), #{weight => 7, resolver => {program, Id}}).
 %% '''
-%% The server of each node keeps its uploaded programs and what was registered there. When `global' finds a name with two
-%% owners, it calls {@link resolve/3} on one node, which queries the nodes of both owners for their registrations. The
-%% registration with the smaller owner, by node number and then by serial number, is the first one, and its resolver decides.
+%% It is also a module for `{via, heal_resolver, Name}'. Start the application `heal' on each node first.
+%%
+%% The servers of connected nodes send each other their registrations and programs, and keep them when a node disappears:
+%% when `global' finds a name with two owners and calls {@link resolve/3} on one node, that node can decide by itself.
+%% (`global' replicates the function with the name, and the function could carry the registration; but it calls the function
+%% of one of the two owners and has no place for what the other's carries.)
 -module(heal_resolver).
 
 -behaviour(gen_server).
 
--export([start_link/0, upload/1, register_name/2, register_name/3, unregister_name/1, resolve/3]).
--export([known/2, code/1]).
+-export([start_link/0, upload/1, register/3, register_name/2, register_name/3, unregister_name/1, whereis_name/1, send/2]).
+-export([resolve/3]).
 -export([init/1, handle_call/3, handle_cast/2, handle_info/2]).
+-export_type([reason/0]).
 
--define(KNOWN, heal_resolver_known).
--define(PROGRAMS, heal_resolver_programs).
--define(ASK_MILLISECONDS, 5000).
+-compile({no_auto_import, [register/2]}).
+
+%% How long a call of a server may take, in milliseconds.
+-define(CALL, 5000).
+%% How often names are compared with those of `global', how long a call may take before it counts as ended, and how long the
+%% registrations of a node that is gone are kept, in milliseconds. `global' forgets the names of a node as soon as it is gone,
+%% but another node may resolve them just then.
+-define(SWEEP, 5000).
+-define(CALL_ENDS, 60000).
+-define(NODE_KEPT, 600000).
+%% How many registrations a message has.
+-define(CHUNK, 1000).
+-define(TAKEN, 30).
+-define(NO_PROGRAM, 41).
+
+-record(state, {
+    %% The monitor and the names of each process of this node that has a registration, or is getting one.
+    owners = #{} :: #{pid() => {reference(), #{Name :: term() => []}}},
+    %% For each connected node the process that sends to its server, and that server when it has sent `hello'.
+    peers = #{} :: #{node() => {Sender :: pid(), Server :: pid() | unknown}},
+    %% Nodes whose number is the one of this node.
+    namesakes = [] :: [node()]
+}).
+
+-type reason() :: heal:refusal() | refused_by_global | {no_answer, node()}.
+
+%% ---- Calls ----
 
 %% @private
 start_link() ->
     gen_server:start_link({local, ?MODULE}, ?MODULE, [], []).
 
-%% @doc Verifies a program and keeps it on this node. Returns its id.
--spec upload(Code :: binary()) -> {ok, Id :: binary()} | {error, heal:refusal()}.
+%% @doc Verifies a program and keeps it on all connected nodes. Returns its id.
+-spec upload(Code :: binary()) -> {ok, Id :: binary()} | {error, heal:refusal() | {no_answer, node()}}.
+upload(Code) when is_binary(Code) ->
+    case heal:load(Code) of
+        {ok, Program} ->
+            {ok, Id} = heal:program_id(Program),
+            call(node(), {keep, Id, Code, Program});
+        Refused ->
+            Refused
+    end;
 upload(Code) ->
-    gen_server:call(?MODULE, {upload, Code}, infinity).
+    error(badarg, [Code]).
+
+%% @doc Registers a name of `global'. Options are `stamp', `weight', `extra' and `resolver' of {@link heal:registration()}; a
+%% stamp that isn't given is the time in milliseconds. `refused_by_global' means that the process has another name; see
+%% `global_multi_name_action' of kernel.
+-spec register(Name :: term(), pid(), Options :: map()) -> ok | {error, reason()}.
+register(Name, Pid, Options) when is_pid(Pid) ->
+    All = #{resolver := Resolver} = heal_names:options(Options),
+    case {global:whereis_name(Name), has_program(Resolver, node(Pid))} of
+        {undefined, true} -> named(Name, Pid, call(node(Pid), {remember, Name, Pid, All}));
+        {undefined, false} -> refused(?NO_PROGRAM);
+        _ -> refused(?TAKEN)
+    end;
+register(Name, Pid, Options) ->
+    error(badarg, [Name, Pid, Options]).
 
 %% @doc Registers a name of `global' with the resolver of the application's configuration.
 -spec register_name(Name :: term(), pid()) -> yes | no.
 register_name(Name, Pid) ->
     register_name(Name, Pid, #{}).
 
-%% @doc Registers a name of `global'. Options are `stamp', `weight', `extra' and `resolver' of
-%% {@link heal:registration()}; a stamp that isn't given is the time in milliseconds.
+%% @doc Like {@link register/3}. Logs why a name can't be registered, unless it is registered already.
 -spec register_name(Name :: term(), pid(), Options :: map()) -> yes | no.
 register_name(Name, Pid, Options) ->
-    ok = gen_server:call(?MODULE, {remember, Name, Pid, heal_names:options(Options)}, infinity),
-    case global:register_name(Name, Pid, fun ?MODULE:resolve/3) of
-        yes ->
+    case register(Name, Pid, Options) of
+        ok ->
             yes;
-        no ->
-            ok = gen_server:call(?MODULE, {forget, Name, Pid}, infinity),
+        {error, {?TAKEN, _}} ->
+            no;
+        {error, Reason} ->
+            logger:warning("heal_resolver: ~tw isn't registered for ~w: ~p", [Name, Pid, Reason]),
             no
     end.
 
@@ -50,171 +100,262 @@ register_name(Name, Pid, Options) ->
 -spec unregister_name(Name :: term()) -> ok.
 unregister_name(Name) ->
     Pid = global:whereis_name(Name),
-    global:unregister_name(Name),
-    gen_server:call(?MODULE, {forget, Name, Pid}, infinity).
+    _ = global:unregister_name(Name),
+    _ = [call(node(Pid), {forget, Name, Pid}) || is_pid(Pid)],
+    ok.
+
+%% @doc Returns the process of a name of `global'.
+-spec whereis_name(Name :: term()) -> pid() | undefined.
+whereis_name(Name) ->
+    global:whereis_name(Name).
+
+%% @doc Sends a message to the process of a name of `global'.
+-spec send(Name :: term(), Message :: term()) -> pid().
+send(Name, Message) ->
+    global:send(Name, Message).
 
 %% @doc Returns the owner that keeps the name, or `none', and delivers the notices to those that lose it.
 -spec resolve(Name :: term(), pid(), pid()) -> pid() | none.
 resolve(Name, Pid1, Pid2) ->
-    Owners = lists:sort([{maps:get(owner, Registration), Pid, Registration, Facts}
-                         || Pid <- [Pid1, Pid2], {Registration, Facts} <- [registered(Name, Pid)]]),
-    [{FirstOwner, FirstPid, First, FirstFacts}, {SecondOwner, SecondPid, Second, SecondFacts}] = Owners,
-    Clash = judged(Name, {First, FirstFacts}, {Second, SecondFacts}, node(FirstPid)),
-    Pids = #{FirstOwner => FirstPid, SecondOwner => SecondPid},
-    [heal_names:deliver(Name, Notice, fun(Owner) -> maps:get(Owner, Pids) end) || Notice <- heal_names:notices(Clash)],
-    case Clash of
-        #{verdict := first} -> FirstPid;
-        #{verdict := second} -> SecondPid;
-        #{verdict := neither} -> none
-    end.
+    heal_verdict:resolve(Name, Pid1, Pid2).
 
-%% Asks the owner's node. A process that wasn't registered through this module, or whose node doesn't answer, has serial 0
-%% and stamp 0.
-registered(Name, Pid) ->
-    case ask(node(Pid), known, [Name, Pid]) of
-        {ok, Registration, Facts} -> {Registration, Facts};
-        error -> {heal_names:registration(number_of(node(Pid)), 0, #{stamp => 0}), #{size => 0, uptime => 0}}
-    end.
-
-ask(Node, Function, Args) when Node =:= node() ->
-    apply(?MODULE, Function, Args);
-ask(Node, Function, Args) ->
+%% The registration is with the server of the process's node, which notices the end of the process.
+call(Node, Request) ->
     try
-        erpc:call(Node, ?MODULE, Function, Args, ?ASK_MILLISECONDS)
+        gen_server:call({?MODULE, Node}, Request, ?CALL)
     catch
-        _:_ -> error
+        exit:{noproc, _} when Node =:= node() -> error({not_started, heal});
+        exit:_ -> {error, {no_answer, Node}}
     end.
 
-%% @private Returns what was registered under a name for a process of this node, and this node's facts.
-known(Name, Pid) ->
-    case ets:lookup(?KNOWN, {Name, Pid}) of
-        [{_, Registration, _}] ->
-            {ok, Registration, #{size => ets:info(?KNOWN, size), uptime => heal_names:uptime()}};
-        [] ->
-            error
-    end.
-
-%% @private Returns the code of a program that was uploaded on this node.
-code(Id) ->
-    case ets:lookup(?PROGRAMS, Id) of
-        [{_, Code, _}] -> {ok, Code};
-        [] -> error
-    end.
-
-%% Returns the clash with its verdict. A program that neither this node nor the first owner's has counts as `exit'.
-judged(Name, {First = #{resolver := {program, Id}}, FirstFacts}, Other = {Second, SecondFacts}, Node) ->
-    case program(Id, Node) of
-        {ok, Program} ->
-            {ok, Record} = heal:record(record_name(Name), First, Second, heal_names:seed(), FirstFacts, SecondFacts),
-            {ok, Answer, _Steps} = heal:judge(Program, Record),
-            #{first => First, second => Second, verdict => verdict(Answer)};
-        error ->
-            logger:warning("heal_resolver: the program of ~p is missing, so the resolver is exit", [Name]),
-            judged(Name, {First#{resolver := exit}, FirstFacts}, Other, Node)
+%% Does a node have the program, or can it load it from another one? If it doesn't answer, the next call shows that.
+has_program({program, Id}, Node) when Node =:= node() ->
+    whereis(heal_facts) =/= undefined orelse error({not_started, heal}),
+    heal_facts:program(Id) =/= error;
+has_program({program, Id}, Node) ->
+    try
+        erpc:call(Node, heal_facts, program, [Id], ?CALL) =/= error
+    catch
+        _:_ -> true
     end;
-judged(Name, {First, _}, {Second, _}, _Node) ->
-    by_builtin(record_name(Name), First, Second#{resolver := maps:get(resolver, First)}).
+has_program(_Builtin, _Node) ->
+    true.
 
-verdict(1) -> first;
-verdict(2) -> second;
-verdict(_Answer) -> neither.
-
-%% Carries out an exchange of two sides that have this one name.
-by_builtin(Name, First, Second) ->
-    {ok, A} = heal:side(a),
-    {ok, B} = heal:side(b),
-    ok = heal:register(A, Name, First),
-    ok = heal:register(B, Name, Second),
-    Seed = heal_names:seed(),
-    {ok, OfA} = heal:begin_exchange(A, 1, Seed, 0),
-    {ok, OfB} = heal:begin_exchange(B, 1, Seed, 0),
-    ok = heal:hear(A, OfB),
-    ok = heal:hear(B, OfA),
-    ok = heal:settle(A, 0),
-    {ok, List} = heal:close_list(B),
-    {ok, _} = heal:close_list(A),
-    ok = heal:hear_list(A, List),
-    {ok, Outcome} = heal:finish(A),
-    {ok, [Clash]} = heal:clashes(Outcome),
-    Clash.
-
-%% A name that heal can't hold is its digest in the record, in 32 hex digits.
-record_name(Name) ->
-    case heal_names:bytes(Name) of
-        {ok, Bytes} -> Bytes;
-        error -> binary:encode_hex(erlang:md5(term_to_binary(Name)))
-    end.
-
-%% Returns a program of this node, or loads the one that another node keeps.
-program(Id, Node) ->
-    case ets:lookup(?PROGRAMS, Id) of
-        [{_, _, Program}] ->
-            {ok, Program};
-        [] ->
-            case ask(Node, code, [Id]) of
-                {ok, Code} -> loaded(Id, Code);
-                error -> error
+named(Name, Pid, {ok, Registration}) ->
+    case global:register_name(Name, Pid, fun ?MODULE:resolve/3) of
+        yes ->
+            _ = call(node(Pid), {registered, Name, Pid, Registration}),
+            ok;
+        no ->
+            _ = call(node(Pid), {failed, Name, Pid, Registration}),
+            case global:whereis_name(Name) of
+                undefined -> {error, refused_by_global};
+                _ -> refused(?TAKEN)
             end
-    end.
+    end;
+named(_Name, _Pid, Refused) ->
+    Refused.
 
-%% Loads code that another node sent, if it is the code of this id.
-loaded(Id, Code) ->
-    case heal:load(Code) of
-        {ok, Program} ->
-            case heal:program_id(Program) of
-                {ok, Id} -> {ok, Program};
-                _ -> error
-            end;
-        {error, _} ->
-            error
-    end.
+refused(Number) ->
+    {error, {Number, heal:refusal_words(Number)}}.
 
-%% The number of a node: of the configuration, or computed from its name.
-number_of(Node) ->
-    Numbers = application:get_env(heal, node_numbers, #{}),
-    maps:get(Node, Numbers, erlang:phash2(Node, 1 bsl 32)).
+%% ---- The server ----
 
 %% @private
 init([]) ->
-    ets:new(?KNOWN, [named_table, {read_concurrency, true}]),
-    ets:new(?PROGRAMS, [named_table, {read_concurrency, true}]),
-    {ok, none}.
+    ok = net_kernel:monitor_nodes(true),
+    ok = heal_facts:outdate(),
+    true = heal_facts:node_up(node(), heal_facts:number(node()), heal_names:uptime()),
+    Own = heal_facts:names_of(node()) ++ [{Name, Pid} || {{Name, Pid, _}, _} <- heal_facts:calls()],
+    Watching = lists:foldl(fun({Name, Pid}, State) -> watch(Name, Pid, State) end, #state{}, Own),
+    {ok, _} = timer:send_interval(?SWEEP, sweep),
+    {ok, lists:foldl(fun meet/2, Watching, nodes())}.
 
 %% @private
-handle_call({upload, Code}, _From, State) ->
-    {reply, uploaded(Code), State};
-handle_call({remember, Name, Pid, Options}, _From, State) ->
-    forget(Name, Pid),
-    Registration = heal_names:registration(number_of(node()), heal_names:serial(), Options),
-    ets:insert(?KNOWN, {{Name, Pid}, Registration, monitor(process, Pid)}),
-    {reply, ok, State};
-handle_call({forget, Name, Pid}, _From, State) ->
-    forget(Name, Pid),
-    {reply, ok, State}.
+handle_call({keep, Id, Code, Program}, _From, State) ->
+    heal_facts:keep_program(Id, Code, Program),
+    {reply, {ok, Id}, send_all({program, Code}, State)};
+handle_call({remember, Name, Pid, Options}, _From, State) when node(Pid) =:= node(), is_map(Options) ->
+    {reply, remember(Name, Pid, Options), watch(Name, Pid, State)};
+handle_call({registered, Name, Pid, Registration}, _From, State) when node(Pid) =:= node() ->
+    {reply, ok, registered(Name, Pid, Registration, State)};
+handle_call({failed, Name, Pid, Registration}, _From, State) when node(Pid) =:= node() ->
+    heal_facts:end_call(Name, Pid, Registration),
+    {reply, ok, unwatch(Name, Pid, State)};
+handle_call({forget, Name, Pid}, _From, State) when node(Pid) =:= node() ->
+    {reply, ok, forget(Name, Pid, State)};
+handle_call(_Request, _From, State) ->
+    {reply, {error, unknown_call}, State}.
 
 %% @private
 handle_cast(_Message, State) ->
     {noreply, State}.
 
 %% @private
+handle_info({nodeup, Node}, State) ->
+    {noreply, meet(Node, State)};
+handle_info({nodedown, Node}, State) ->
+    {noreply, part(Node, State)};
+handle_info({?MODULE, Node, Message}, State = #state{peers = Peers}) when is_map_key(Node, Peers) ->
+    heal_facts:answers(Node),
+    {noreply, heard(Message, Node, State)};
 handle_info({'DOWN', _, process, Pid, _}, State) ->
-    ets:match_delete(?KNOWN, {{'_', Pid}, '_', '_'}),
-    {noreply, State};
+    {noreply, ended(Pid, State)};
+handle_info(sweep, State) ->
+    {noreply, sweep(State)};
 handle_info(_Message, State) ->
     {noreply, State}.
 
-uploaded(Code) ->
+%% ---- Registrations of this node ----
+
+remember(Name, Pid, Options) ->
+    Registration = heal_names:registration(heal_facts:number(node()), heal_names:serial(), Options),
+    heal_facts:begin_call(Name, Pid, Registration),
+    {ok, Registration}.
+
+registered(Name, Pid, Registration, State) ->
+    heal_facts:add(Name, Pid, Registration),
+    heal_facts:end_call(Name, Pid, Registration),
+    send_all({add, [{Name, Pid, Registration}]}, watch(Name, Pid, State)).
+
+forget(Name, Pid, State) ->
+    case heal_facts:drop(Name, Pid) of
+        true -> send_all({drop, Name, Pid}, unwatch(Name, Pid, State));
+        false -> State
+    end.
+
+watch(Name, Pid, State = #state{owners = Owners}) ->
+    {Monitor, Names} = case Owners of #{Pid := Watched} -> Watched; _ -> {monitor(process, Pid), #{}} end,
+    State#state{owners = Owners#{Pid => {Monitor, Names#{Name => []}}}}.
+
+unwatch(Name, Pid, State = #state{owners = Owners}) ->
+    case {heal_facts:has(Name, Pid), Owners} of
+        {false, #{Pid := {Monitor, Names}}} ->
+            unwatched(Pid, Monitor, maps:remove(Name, Names), State);
+        _ ->
+            State
+    end.
+
+unwatched(Pid, Monitor, Names, State = #state{owners = Owners}) when Names =:= #{} ->
+    demonitor(Monitor, [flush]),
+    State#state{owners = maps:remove(Pid, Owners)};
+unwatched(Pid, Monitor, Names, State = #state{owners = Owners}) ->
+    State#state{owners = Owners#{Pid := {Monitor, Names}}}.
+
+ended(Pid, State = #state{owners = Owners}) ->
+    case maps:take(Pid, Owners) of
+        {{_, Names}, Others} ->
+            [heal_facts:drop_calls(Name, Pid) || Name <- maps:keys(Names)],
+            lists:foldl(fun(Name, Rest) -> forget(Name, Pid, Rest) end, State#state{owners = Others}, maps:keys(Names));
+        error ->
+            State
+    end.
+
+%% Forgets what `global' doesn't have, and ends calls whose caller hasn't done so.
+sweep(State) ->
+    Late = [Row || {Row, Age} <- heal_facts:calls(), Age > ?CALL_ENDS],
+    Ended = lists:foldl(fun end_call/2, State, Late),
+    Gone = [Owned || Owned = {Name, Pid} <- heal_facts:names_of(node()), global:whereis_name(Name) =/= Pid],
+    [heal_facts:drop_node(Node) || {Node, Age} <- heal_facts:nodes_down(), Age > ?NODE_KEPT],
+    lists:foldl(fun({Name, Pid}, Rest) -> forget(Name, Pid, Rest) end, Ended, Gone).
+
+end_call({Name, Pid, Registration}, State) ->
+    case global:whereis_name(Name) of
+        Pid ->
+            registered(Name, Pid, Registration, State);
+        _ ->
+            heal_facts:end_call(Name, Pid, Registration),
+            unwatch(Name, Pid, State)
+    end.
+
+%% ---- Other nodes ----
+
+%% A process sends to each node, since sending to a node that hangs may block.
+meet(Node, State = #state{peers = Peers}) when is_map_key(Node, Peers); Node =:= node() ->
+    State;
+meet(Node, State = #state{peers = Peers}) ->
+    Sender = spawn_link(fun() -> sender(Node) end),
+    Sender ! {send, {hello, self(), answer}},
+    State#state{peers = Peers#{Node => {Sender, unknown}}}.
+
+part(Node, State = #state{peers = Peers}) ->
+    heal_facts:node_down(Node),
+    case maps:take(Node, Peers) of
+        {{Sender, _}, Others} -> unlink(Sender), exit(Sender, kill), State#state{peers = Others};
+        error -> State
+    end.
+
+send_all(Message, State = #state{peers = Peers}) ->
+    maps:foreach(fun(_, {Sender, _}) -> Sender ! {send, Message} end, Peers),
+    State.
+
+sender(Node) ->
+    receive
+        {send, Message} -> send_to(Node, Message);
+        snapshot -> send_snapshot(Node)
+    end,
+    sender(Node).
+
+send_to(Node, Message) ->
+    erlang:send({?MODULE, Node}, {?MODULE, node(), Message}, [noconnect]).
+
+%% Sends all that this node has. A change that is sent later may be in it already, which does no harm.
+send_snapshot(Node) ->
+    send_to(Node, {snapshot, heal_facts:number(node()), heal_names:uptime(), heal_facts:codes()}),
+    send_rows(Node, heal_facts:rows_of(node())).
+
+send_rows(_Node, []) ->
+    ok;
+send_rows(Node, Rows) when length(Rows) =< ?CHUNK ->
+    send_to(Node, {add, Rows});
+send_rows(Node, Rows) ->
+    {Chunk, Rest} = lists:split(?CHUNK, Rows),
+    send_to(Node, {add, Chunk}),
+    send_rows(Node, Rest).
+
+%% A server sends `hello' when it starts and when nodes connect. It receives a snapshot, and `hello' if its own may have come
+%% before the other server started.
+heard({hello, Server, Answer}, Node, State = #state{peers = Peers}) ->
+    case Peers of
+        #{Node := {_, Server}} ->
+            State;
+        #{Node := {Sender, _}} ->
+            [Sender ! {send, {hello, self(), no_answer}} || Answer =:= answer],
+            Sender ! snapshot,
+            State#state{peers = Peers#{Node := {Sender, Server}}}
+    end;
+heard({snapshot, Number, Uptime, Codes}, Node, State) ->
+    heal_facts:drop_node(Node),
+    heal_facts:node_up(Node, Number, Uptime),
+    lists:foreach(fun keep/1, Codes),
+    compare_numbers(Node, Number, State);
+heard({add, Rows}, _Node, State) ->
+    lists:foreach(fun({Name, Pid, Registration}) -> heal_facts:add(Name, Pid, Registration) end, Rows),
+    State;
+heard({drop, Name, Pid}, _Node, State) ->
+    heal_facts:drop(Name, Pid),
+    State;
+heard({program, Code}, _Node, State) ->
+    keep(Code),
+    State;
+heard(_OfALaterVersion, _Node, State) ->
+    State.
+
+keep(Code) ->
     case heal:load(Code) of
         {ok, Program} ->
             {ok, Id} = heal:program_id(Program),
-            ets:insert(?PROGRAMS, {Id, Code, Program}),
-            {ok, Id};
+            heal_facts:keep_program(Id, Code, Program);
         {error, Refusal} ->
-            {error, Refusal}
+            logger:warning("heal_resolver: another node's program is refused: ~p", [Refusal])
     end.
 
-forget(Name, Pid) ->
-    case ets:take(?KNOWN, {Name, Pid}) of
-        [{_, _, Monitor}] -> demonitor(Monitor, [flush]), ok;
-        [] -> ok
+compare_numbers(Node, Number, State = #state{namesakes = Namesakes}) ->
+    case Number =:= heal_facts:number(node()) andalso not lists:member(Node, Namesakes) of
+        true ->
+            logger:error("heal_resolver: ~w and ~w both have the node number ~w, so resolvers can't order their registrations "
+                         "by number. Set node_numbers of the application heal alike on all nodes.", [node(), Node, Number]),
+            State#state{namesakes = [Node | Namesakes]};
+        false ->
+            State
     end.

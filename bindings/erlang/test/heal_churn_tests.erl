@@ -18,7 +18,7 @@ pair(Plan) ->
         fun() ->
             Nodes = [heal_cluster:start(Letter) || Letter <- [a, b]],
             [begin
-                 heal_cluster:start_registry(It, Nodes, #{timeout => 1000, send => fun heal_faults:send/2}),
+                 heal_cluster:start_registry(It, Nodes, #{exchange_timeout => 1000, send => fun heal_faults:send/2}),
                  ok = heal_cluster:call(It, heal_faults, plan, [Plan])
              end || It <- Nodes],
             Nodes

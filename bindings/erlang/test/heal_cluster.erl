@@ -4,25 +4,30 @@
 %% connects them.
 -module(heal_cluster).
 
--export([start/1, start_again/1, stop/1, node_of/1, call/4, connect/2, split/2, eventually/1]).
--export([start_registry/3, status/1, table/1, own/4, own_each/4, mail/2, kill/2, joined/2, alike/2, apart/2]).
--export([serve/1, owners/3, mail_here/1, table_here/0, registry/2]).
+-export([start/1, start/2, start_again/1, stop/1, node_of/1, call/4, connect/2, split/2, freeze/1, thaw/1, eventually/1]).
+-export([pair/2, pair/3, halves/2, start_registry/3, kill_registry/1, start_application/3]).
+-export([status/1, link_of/1, table/1, own/4, own_each/4, mail/2, kill/2, joined/2, alike/2, apart/2]).
+-export([serve/1, owners/3, mail_here/1, table_here/0, registry/2, parent/0]).
 
 -define(PATIENCE, 15000).
 -define(POLL, 5).
+-define(PARENT, heal_cluster_parent).
 
 %% ---- Nodes ----
 
 %% Starts a node whose name begins with this letter.
 start(Letter) ->
-    run(lists:concat([Letter, "_heal_", os:getpid(), "_", erlang:unique_integer([positive])])).
+    start(Letter, []).
+
+start(Letter, Args) ->
+    run(lists:concat([Letter, "_heal_", os:getpid(), "_", erlang:unique_integer([positive])]), Args).
 
 %% Starts a node of the same name as one that ended.
 start_again({_, Node}) ->
     [Name, _] = string:split(atom_to_list(Node), "@"),
-    run(Name).
+    run(Name, []).
 
-run(Name) ->
+run(Name, Args) ->
     Path = [filename:absname(Dir) || Dir <- ["ebin", "out"]],
     Kernel = ["-kernel", "dist_auto_connect", "never", "-kernel", "inet_dist_use_interface", "{127,0,0,1}",
               "-kernel", "logger_level", "error"],
@@ -32,7 +37,7 @@ run(Name) ->
         longnames => true,
         connection => standard_io,
         wait_boot => 20000,
-        args => ["-setcookie", "heal_tests", "-pa"] ++ Path ++ Kernel,
+        args => ["-setcookie", "heal_tests", "-pa"] ++ Path ++ Kernel ++ Args,
         env => [{"ERL_EPMD_ADDRESS", "127.0.0.1"}]
     }),
     {Peer, Node}.
@@ -55,6 +60,22 @@ split(One, Other) ->
     Sees = fun(It, Node) -> lists:member(Node, call(It, erlang, nodes, [])) end,
     eventually(fun() -> not Sees(One, node_of(Other)) andalso not Sees(Other, node_of(One)) end).
 
+%% Stops the operating system's process of a node, as if its machine hung. On a busy machine its threads stop a while later.
+freeze(Of) ->
+    Pid = call(Of, os, getpid, []),
+    "" = os:cmd("kill -STOP " ++ Pid),
+    eventually(fun() -> lists:all(fun is_stopped/1, filelib:wildcard("/proc/" ++ Pid ++ "/task/*/stat")) end),
+    Pid.
+
+is_stopped(File) ->
+    case file:read_file(File) of
+        {ok, Stat} -> binary:match(Stat, <<") T ">>) =/= nomatch;
+        {error, _} -> true
+    end.
+
+thaw(Pid) ->
+    "" = os:cmd("kill -CONT " ++ Pid).
+
 %% Waits until the condition holds: polls it, for a bounded time.
 eventually(Condition) ->
     eventually(Condition, erlang:monotonic_time(millisecond) + ?PATIENCE).
@@ -68,22 +89,68 @@ eventually(Condition, End) ->
 
 %% ---- Registries ----
 
-%% Starts the registry of a node, supervised by nobody. Options as of heal_registry:start_link/1.
+%% Runs a test on two nodes, a and b, with registries that are joined.
+pair(Options, Test) ->
+    pair(Options, [], Test).
+
+pair(Options, Args, Test) ->
+    two(Options, Args, fun(A, B) -> connect(A, B), joined(A, B) end, Test).
+
+%% Runs a test on two nodes, a and b, with registries that are apart. Each message is sent as heal_faults prescribes.
+halves(Options, Test) ->
+    two(Options#{send => fun heal_faults:send/2}, [], fun(_, _) -> apart end, Test).
+
+two(Options, Args, Before, Test) ->
+    {setup,
+        fun() ->
+            Nodes = [start(Letter, Args) || Letter <- [a, b]],
+            [start_registry(It, Nodes, Options) || It <- Nodes],
+            Nodes
+        end,
+        fun(Nodes) -> [stop(It) || It <- Nodes] end,
+        fun([A, B]) -> {title(Test), {timeout, 60, fun() -> Before(A, B), Test(A, B) end}} end}.
+
+%% The name of the function that the test is.
+title(Test) ->
+    {name, Name} = erlang:fun_info(Test, name),
+    atom_to_list(Name).
+
+%% Starts the registry of a node, or starts it again. Options as of heal_registry:start_link/1. A process that outlives it, as a
+%% supervisor does, starts it.
 start_registry(Of, Nodes, Options) ->
     _ = call(Of, application, load, [heal]),
     ok = call(Of, ?MODULE, registry, [[node_of(It) || It <- Nodes], Options]).
 
 registry(Nodes, Options) ->
-    Self = self(),
-    spawn(fun() ->
-        {ok, _} = heal_registry:start_link(Options#{nodes => Nodes}),
-        Self ! started,
-        receive never -> ok end
-    end),
+    _ = whereis(?PARENT) =/= undefined orelse register(?PARENT, spawn(?MODULE, parent, [])),
+    ?PARENT ! {start, self(), Options#{nodes => Nodes}},
     receive started -> ok end.
+
+parent() ->
+    process_flag(trap_exit, true),
+    receive
+        {start, From, Options} -> {ok, _} = heal_registry:start_link(Options), From ! started;
+        {'EXIT', _, _} -> ended
+    end,
+    parent().
+
+%% Kills the registry of a node.
+kill_registry(Of) ->
+    kill(Of, call(Of, erlang, whereis, [heal_registry])).
+
+%% Starts the application with these nodes, and with these settings.
+start_application(Of, Nodes, Settings) ->
+    _ = call(Of, application, load, [heal]),
+    All = [{nodes, [node_of(It) || It <- Nodes]} | Settings],
+    [ok = call(Of, application, set_env, [heal, Key, Value]) || {Key, Value} <- All],
+    {ok, _} = call(Of, application, ensure_all_started, [heal]),
+    ok.
 
 status(Of) ->
     call(Of, heal_registry, status, []).
+
+link_of(Of) ->
+    maps:get(link, status(Of)).
 
 %% Every name with its process, as this node answers.
 table(Of) ->
@@ -101,7 +168,7 @@ joined(One, Other) ->
     end).
 
 apart(One, Other) ->
-    eventually(fun() -> [maps:get(link, status(It)) || It <- [One, Other]] =:= [apart, apart] end).
+    eventually(fun() -> [link_of(It) || It <- [One, Other]] =:= [apart, apart] end).
 
 %% Waits until both nodes are joined and answer alike for every name, all of which have a live process. Returns the table.
 alike(One, Other) ->
@@ -113,7 +180,7 @@ alike(One, Other) ->
     table(One).
 
 dead(Table, Nodes) ->
-    [Pid || Of <- Nodes, Pid <- [Pid || {_, Pid} <- Table, node(Pid) =:= node_of(Of)], not call(Of, erlang, is_process_alive, [Pid])].
+    [Pid || Of <- Nodes, {_, Pid} <- Table, node(Pid) =:= node_of(Of), not call(Of, erlang, is_process_alive, [Pid])].
 
 %% ---- Owners ----
 

@@ -3,13 +3,16 @@
 
 -export([send/2, plan/1, held/0, release/0]).
 
-%% `none'; `twice': every message is sent twice; `{hold, Kind}': messages of this kind wait for release/0;
-%% `{lose, Kind}'; `{halt, Kind, before | later}': the node ends when it sends this kind.
+%% `none'; `twice': every message is sent twice; `{hold, Kind}': messages of this kind wait for release/0; `{hold_from, Kind}':
+%% those that follow wait too, as on a slow connection;
+%% `{lose, Kind}'; `{halt, Kind, before | later}': the node ends when it sends this kind; `{replace, Kind, Body}': this body is
+%% sent; `{full, Kind}': the connection takes no message of this kind.
 plan(Plan) ->
     persistent_term:put(?MODULE, Plan).
 
-send(Node, Message = {heal_registry, _, Body}) ->
-    act(persistent_term:get(?MODULE, none), kind(Body), Node, Message).
+%% The body is the last element of a message.
+send(Node, Message) ->
+    act(persistent_term:get(?MODULE, none), kind(element(tuple_size(Message), Message)), Node, Message).
 
 kind(Body) when is_tuple(Body) -> element(1, Body);
 kind(Body) -> Body.
@@ -18,8 +21,17 @@ act(twice, _Kind, Node, Message) ->
     [deliver(Node, Message) || _ <- [1, 2]];
 act({hold, Kind}, Kind, Node, Message) ->
     persistent_term:put({?MODULE, held}, held() ++ [{Node, Message}]);
+act({hold_from, Kind}, Kind, Node, Message) ->
+    plan(hold_all),
+    act(hold_all, Kind, Node, Message);
+act(hold_all, _Kind, Node, Message) ->
+    persistent_term:put({?MODULE, held}, held() ++ [{Node, Message}]);
 act({lose, Kind}, Kind, _Node, _Message) ->
     lost;
+act({full, Kind}, Kind, _Node, _Message) ->
+    nosuspend;
+act({replace, Kind, Body}, Kind, Node, Message) ->
+    deliver(Node, setelement(tuple_size(Message), Message, Body));
 act({halt, Kind, before}, Kind, _Node, _Message) ->
     erlang:halt(0, [{flush, false}]);
 act({halt, Kind, later}, Kind, Node, Message) ->

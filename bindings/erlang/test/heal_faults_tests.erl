@@ -11,7 +11,7 @@
 -define(LONG, 20000).
 
 start_registry(It, Nodes, Timeout) ->
-    heal_cluster:start_registry(It, Nodes, #{send => fun heal_faults:send/2, timeout => Timeout}).
+    heal_cluster:start_registry(It, Nodes, #{send => fun heal_faults:send/2, exchange_timeout => Timeout}).
 
 %% Runs a test on two nodes that are apart, have registries, and one clashing name, `db', and a name each, `a' and `b'.
 halves(Timeout, Test) ->
@@ -41,9 +41,14 @@ holds(It) ->
 healed(A, B, #{a := OnA, b := OnB, db_of_a := DbA, db_of_b := DbB}) ->
     Table = [{a, OnA}, {b, OnB}, {db, Db}] = heal_cluster:alike(A, B),
     ?assert(lists:member(Db, [DbA, DbB])),
-    Mail = [length(heal_cluster:mail(It, Pid)) || {It, Pid} <- [{A, DbA}, {B, DbB}]],
-    ?assertEqual(case Db of DbA -> [0, 1]; DbB -> [1, 0] end, Mail),
+    Loser = case Db of DbA -> {B, DbB}; DbB -> {A, DbA} end,
+    heal_cluster:eventually(fun() -> mail(Loser) =/= [] end),
+    ?assertEqual([{global_name_conflict, db}], mail(Loser)),
+    ?assertEqual([[], [{global_name_conflict, db}]], lists:sort([mail({It, Pid}) || {It, Pid} <- [{A, DbA}, {B, DbB}]])),
     Table.
+
+mail({It, Pid}) ->
+    heal_cluster:mail(It, Pid).
 
 %% ---- Repeated messages ----
 
@@ -56,8 +61,7 @@ repeated(A, B, Owners) ->
     heal_cluster:connect(A, B),
     Table = healed(A, B, Owners),
     #{number := Number} = heal_cluster:status(A),
-    Twice = [{{It, N}, heal_cluster:own(It, ?REGISTER, Name, #{})} || {N, It, Name} <- [{1, A, c}, {2, B, d}, {3, A, e}, {4, B, f}]],
-    [OnC, OnD, OnE, OnF] = [Pid || {_, Pid} <- Twice],
+    [OnC, OnD, OnE, OnF] = [heal_cluster:own(It, ?REGISTER, Name, #{}) || {It, Name} <- [{A, c}, {B, d}, {A, e}, {B, f}]],
     ok = heal_cluster:call(B, heal_registry, unregister_name, [c]),
     ok = heal_cluster:call(A, heal_registry, unregister_name, [d]),
     heal_cluster:kill(B, OnF),
@@ -82,14 +86,11 @@ lost(Sender, Kind, A, B, Owners) ->
     ?assertEqual(OnA, heal_cluster:call(A, heal_registry, whereis_name, [a])),
     ?assertEqual(OnB, heal_cluster:call(B, heal_registry, whereis_name, [b])),
     [plan(It, none) || It <- [A, B]],
-    case {Sender, Kind} of
-        %% B finished and A didn't, more than once: B's owner of db may have had several notices.
-        {b, list} -> heal_cluster:alike(A, B);
-        _ -> healed(A, B, Owners)
-    end.
+    healed(A, B, Owners).
 
 delayed_test_() ->
-    {inparallel, 3, [{lists:concat([Sender, " ", Kind]), halves(?SOON, fun(A, B, Owners) -> delayed(Sender, Kind, A, B, Owners) end)}
+    Test = fun(Sender, Kind) -> halves(?SOON, fun(A, B, Owners) -> delayed(Sender, Kind, A, B, Owners) end) end,
+    {inparallel, 3, [{lists:concat([Sender, " ", Kind]), Test(Sender, Kind)}
      || {Sender, Kind} <- [{a, ask}, {b, hello}, {a, offer}, {b, offer}, {a, list}]]}.
 
 %% Messages of abandoned exchanges arrive after a later exchange healed: they change nothing.
@@ -146,10 +147,12 @@ during(A, B, Owners = #{a := OnA, b := OnB, db_of_a := DbA, db_of_b := DbB}) ->
 %% ---- A node that ends ----
 
 ends_test_() ->
+    Steps = [{a, ask}, {b, hello}, {a, offer}, {b, offer}, {a, list}, {b, list}],
+    Ends = [{Who, Kind, When} || {Who, Kind} <- Steps, When <- [before, later]] ++ [{a, finished, before}, {b, finished, before}],
     {inparallel, 3, [{lists:concat([Who, " at ", Kind, " ", When]), {timeout, 30, fun() -> ends(Who, Kind, When) end}}
-     || {Who, Kind} <- [{a, ask}, {b, hello}, {a, offer}, {b, offer}, {a, list}, {b, list}], When <- [before, later]]}.
+     || {Who, Kind, When} <- Ends]}.
 
-%% A node ends when it sends this message. The other keeps its own table, and heals with the node's next run.
+%% A node ends when it sends this message. The other has its own table, also after the merge, and heals with the node's next run.
 ends(Who, Kind, When) ->
     Nodes = [A, B] = [heal_cluster:start(Letter) || Letter <- [a, b]],
     [start_registry(It, Nodes, ?LONG) || It <- Nodes],
@@ -164,18 +167,13 @@ ends(Who, Kind, When) ->
         heal_cluster:call(Stays, erlang, nodes, []) =:= [] andalso maps:get(link, heal_cluster:status(Stays)) =:= apart
     end),
     heal_cluster:stop(Ends),
-    %% Where the merge was done before, the owner of db on the node that ended may have won, and its name went with it.
-    Kept = heal_cluster:table(Stays),
-    case {Who, Kind} of
-        {b, list} when When =:= later -> ?assertMatch([{a, OnA} | _], Kept);
-        {a, list} when When =:= later -> ?assertMatch([{b, OnB} | _], Kept);
-        _ -> ?assertEqual(Own, Kept)
-    end,
+    heal_cluster:eventually(fun() -> heal_cluster:table(Stays) =:= Own end),
+    ?assertEqual([], heal_cluster:mail(Stays, proplists:get_value(db, Own))),
     Again = heal_cluster:start_again(Ends),
     start_registry(Again, Nodes, ?LONG),
     New = heal_cluster:own(Again, ?REGISTER, new, #{}),
     heal_cluster:connect(Again, Stays),
-    ?assertEqual(lists:sort([{new, New} | Kept]), heal_cluster:alike(Again, Stays)),
+    ?assertEqual(lists:sort([{new, New} | Own]), heal_cluster:alike(Again, Stays)),
     [heal_cluster:stop(It) || It <- [Again, Stays]].
 
 %% ---- Too many names ----

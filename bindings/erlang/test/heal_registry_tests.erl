@@ -6,21 +6,8 @@
 -define(REGISTER, {heal_registry, register}).
 -define(LATER, "79126000000000007911380000000000b700000002000000ad21010000000000b7000000010000009500000000000000").
 
-%% Runs a test on two connected nodes with registries.
 pair(Test) ->
-    pair(#{}, Test).
-
-pair(Options, Test) ->
-    {setup,
-        fun() ->
-            Nodes = [A, B] = [heal_cluster:start(Letter) || Letter <- [a, b]],
-            [heal_cluster:start_registry(It, Nodes, Options) || It <- Nodes],
-            heal_cluster:connect(A, B),
-            heal_cluster:joined(A, B),
-            {A, B}
-        end,
-        fun({A, B}) -> [heal_cluster:stop(It) || It <- [A, B]] end,
-        fun({A, B}) -> {timeout, 60, fun() -> Test(A, B) end} end}.
+    heal_cluster:pair(#{}, Test).
 
 register_on(Of, Name, Options) ->
     heal_cluster:own(Of, ?REGISTER, Name, Options).
@@ -38,7 +25,8 @@ alone_test_() ->
     {setup,
         fun() -> {ok, Pid} = heal_registry:start_link(#{nodes => [node()]}), Pid end,
         fun(Pid) -> unlink(Pid), gen_server:stop(Pid) end,
-        [{timeout, 30, Test} || Test <- [fun alone/0, fun via/0, fun restarts_at_once/0, fun bad_arguments/0, fun long_journal/0]]}.
+        [{timeout, 30, Test}
+         || Test <- [fun alone/0, fun via/0, fun restarts_at_once/0, fun bad_arguments/0, fun long_journal/0]]}.
 
 alone() ->
     Pid = spawn(heal_cluster, serve, [[]]),
@@ -52,7 +40,7 @@ alone() ->
     ?assertEqual(yes, heal_registry:register_name(db, Pid)),
     exit(Pid, kill),
     heal_cluster:eventually(fun() -> heal_registry:names() =:= [] end),
-    ?assertEqual(#{link => apart, number => 0, names => 0}, heal_registry:status()).
+    ?assertEqual(#{link => apart, number => 0, names => 0, problems => #{}}, heal_registry:status()).
 
 via() ->
     Name = {via, heal_registry, counter},
@@ -71,7 +59,8 @@ restarts_at_once() ->
     ?assertEqual([normal], lists:usort([Take() || _ <- lists:seq(1, 300)])).
 
 bad_arguments() ->
-    [?assertError(badarg, heal_registry:register_name(Name, self())) || Name <- ["", <<"a b">>, {a}, 7, binary:copy(<<"x">>, 33)]],
+    [?assertError(badarg, heal_registry:register_name(Name, self()))
+     || Name <- ["", <<"a b">>, {a}, 7, binary:copy(<<"x">>, 33)]],
     [?assertError(badarg, heal_registry:register(db, self(), Options))
      || Options <- [#{stamp => -1}, #{weight => x}, #{extra => <<>>}, #{resolver => later}, #{owner => {1, 1}}]],
     ?assertMatch({error, {41, _}}, heal_registry:register(db, self(), #{resolver => {program, <<0:256>>}})),
@@ -123,7 +112,8 @@ split(A, B) ->
     heal_cluster:alike(A, B),
     heal_cluster:split(A, B),
     heal_cluster:apart(A, B),
-    heal_cluster:eventually(fun() -> {heal_cluster:table(A), heal_cluster:table(B)} =:= {[{kept, Kept}], [{dropped, Dropped}]} end),
+    Tables = {[{kept, Kept}], [{dropped, Dropped}]},
+    heal_cluster:eventually(fun() -> {heal_cluster:table(A), heal_cluster:table(B)} =:= Tables end),
     ok = heal_cluster:call(B, heal_registry, unregister_name, [dropped]),
     Own = fun(It, Stamp) ->
         [register_on(It, Name, #{stamp => Stamp, resolver => Resolver})
@@ -135,13 +125,20 @@ split(A, B) ->
     Table = maps:from_list(heal(A, B)),
     ?assertEqual([exits, kept, notifies, only, program], lists:sort(maps:keys(Table))),
     ?assertMatch(#{kept := Kept, only := OnlyB, program := ProgramB}, Table),
+    Mails = fun(Owners) -> [heal_cluster:mail(It, Pid) || {It, Pid} <- Owners] end,
+    heal_cluster:eventually(fun() ->
+        %% Each of these has a notice, or in each pair one.
+        not lists:member([], Mails([{A, ProgramA}, {A, AllA}, {B, AllB}]))
+            andalso Mails([{A, NotifyA}, {B, NotifyB}]) =/= [[], []] andalso Mails([{A, ExitA}, {B, ExitB}]) =/= [[], []]
+    end),
     ?assertEqual([{global_name_conflict, program}], heal_cluster:mail(A, ProgramA)),
     ?assertEqual([], heal_cluster:mail(B, ProgramB)),
     ?assertEqual([{global_name_conflict, neither, AllB}], heal_cluster:mail(A, AllA)),
     ?assertEqual([{global_name_conflict, neither, AllA}], heal_cluster:mail(B, AllB)),
     #{exits := Alive, notifies := Holder} = Table,
-    Mail = [{ExitA, heal_cluster:mail(A, ExitA)}, {ExitB, heal_cluster:mail(B, ExitB)}],
-    ?assertEqual([dead, []], [element(2, lists:keyfind(Pid, 1, Mail)) || Pid <- lists:sort(fun(_, Y) -> Y =:= Alive end, [ExitA, ExitB])]),
+    Mail = #{ExitA => heal_cluster:mail(A, ExitA), ExitB => heal_cluster:mail(B, ExitB)},
+    [Killed] = [ExitA, ExitB] -- [Alive],
+    ?assertEqual({[], dead}, {maps:get(Alive, Mail), maps:get(Killed, Mail)}),
     [?assertEqual(case Pid of Holder -> []; _ -> [{global_name_conflict, notifies}] end, heal_cluster:mail(It, Pid))
      || {It, Pid} <- [{A, NotifyA}, {B, NotifyB}]].
 
@@ -155,11 +152,14 @@ thousand(A, B) ->
     [OnA, OnB] = [heal_cluster:own_each(It, ?REGISTER, Names, #{resolver => notify}) || It <- [A, B]],
     Table = maps:from_list(heal(A, B)),
     ?assertEqual(lists:sort(Names), lists:sort(maps:keys(Table))),
-    Lost = fun(It, Pids) -> [{Name, heal_cluster:mail(It, Pid)} || {Name, Pid} <- lists:zip(Names, Pids), map_get(Name, Table) =/= Pid] end,
+    Lost = fun(It, Pids) -> [{It, Name, Pid} || {Name, Pid} <- lists:zip(Names, Pids), map_get(Name, Table) =/= Pid] end,
     Losers = Lost(A, OnA) ++ Lost(B, OnB),
     ?assertEqual(1000, length(Losers)),
-    ?assertEqual([], [Loser || Loser = {Name, Mail} <- Losers, Mail =/= [{global_name_conflict, Name}]]),
-    ?assertEqual([[]], lists:usort([heal_cluster:mail(A, Pid) || {Name, Pid} <- lists:zip(Names, OnA), map_get(Name, Table) =:= Pid])).
+    Mails = fun() -> [{Name, heal_cluster:mail(It, Pid)} || {It, Name, Pid} <- Losers] end,
+    heal_cluster:eventually(fun() -> not lists:keymember([], 2, Mails()) end),
+    ?assertEqual([], [Loser || Loser = {Name, Mail} <- Mails(), Mail =/= [{global_name_conflict, Name}]]),
+    Winners = [Pid || {Name, Pid} <- lists:zip(Names, OnA), map_get(Name, Table) =:= Pid],
+    ?assertEqual([[]], lists:usort([heal_cluster:mail(A, Pid) || Pid <- Winners])).
 
 exits_test_() ->
     pair(fun exits/2).
@@ -178,31 +178,40 @@ exits(A, B) ->
 restart_of_a_registry_test_() ->
     pair(fun restart_of_a_registry/2).
 
-%% A registry that ends loses its half, but not the names that the other node knows.
+%% A registry that ends loses no name.
 restart_of_a_registry(A, B) ->
     Table = lists:sort([{Name, register_on(It, Name, #{})} || {It, Name} <- [{A, one}, {B, two}]]),
     ?assertEqual(Table, heal_cluster:alike(A, B)),
     [begin
-         Pid = heal_cluster:call(It, erlang, whereis, [heal_registry]),
-         heal_cluster:kill(It, Pid),
+         heal_cluster:kill_registry(It),
          heal_cluster:start_registry(It, [A, B], #{}),
          ?assertEqual(Table, heal_cluster:alike(A, B))
      end || It <- [B, A]].
 
 application_test_() ->
-    {setup, fun() -> [heal_cluster:start(Letter) || Letter <- [a, b]] end, fun(Nodes) -> [heal_cluster:stop(It) || It <- Nodes] end,
+    {setup,
+        fun() -> [heal_cluster:start(Letter) || Letter <- [a, b]] end,
+        fun(Nodes) -> [heal_cluster:stop(It) || It <- Nodes] end,
         fun([A, B]) -> {timeout, 30, fun() -> application(A, B) end} end}.
 
 %% The application starts the registry of the configuration, and its supervisor starts it again.
 application(A, B) ->
-    [begin
-         ok = heal_cluster:call(It, application, load, [heal]),
-         ok = heal_cluster:call(It, application, set_env, [heal, nodes, [heal_cluster:node_of(Of) || Of <- [A, B]]]),
-         {ok, _} = heal_cluster:call(It, application, ensure_all_started, [heal])
-     end || It <- [A, B]],
+    [heal_cluster:start_application(It, [A, B], []) || It <- [A, B]],
     heal_cluster:connect(A, B),
     heal_cluster:joined(A, B),
     Pid = register_on(B, one, #{}),
-    true = heal_cluster:call(B, erlang, exit, [heal_cluster:call(B, erlang, whereis, [heal_registry]), kill]),
-    heal_cluster:eventually(fun() -> is_pid(heal_cluster:call(B, erlang, whereis, [heal_registry])) end),
-    ?assertEqual([{one, Pid}], heal_cluster:alike(A, B)).
+    Registry = heal_cluster:call(B, erlang, whereis, [heal_registry]),
+    true = heal_cluster:call(B, erlang, exit, [Registry, kill]),
+    heal_cluster:eventually(fun() ->
+        Now = heal_cluster:call(B, erlang, whereis, [heal_registry]),
+        is_pid(Now) andalso Now =/= Registry
+    end),
+    ?assertEqual([{one, Pid}], heal_cluster:alike(A, B)),
+    %% An application that is stopped ends the names of its node, on both nodes.
+    OnA = register_on(A, two, #{}),
+    ?assertEqual([{one, Pid}, {two, OnA}], heal_cluster:alike(A, B)),
+    ok = heal_cluster:call(B, application, stop, [heal]),
+    heal_cluster:eventually(fun() -> heal_cluster:table(A) =:= [{two, OnA}] end),
+    ?assertExit({not_running, heal_registry}, heal_cluster:call(B, heal_registry, names, [])),
+    ok = heal_cluster:call(B, application, start, [heal]),
+    ?assertEqual([{two, OnA}], heal_cluster:alike(A, B)).

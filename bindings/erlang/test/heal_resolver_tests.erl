@@ -1,98 +1,225 @@
-%% heal_resolver: what it decides, and `global' with it on two real nodes.
+%% heal_resolver's calls on one node, and `global' with it on two real nodes.
 -module(heal_resolver_tests).
 
 -include_lib("eunit/include/eunit.hrl").
 
+-export([code/1, quiet/0, loud/1, catch_log/2, log/2]).
+
 -define(RESOLVERS, "../../resolvers").
--define(REGISTER, {heal_resolver, register_name}).
+-define(REGISTER, {heal_resolver, register}).
 
 %% The code of a resolver in C, compiled here if there is a compiler for BPF, or else from the file of hex digits.
-compiled(Name) ->
-    Tools = [hd([Found || Tool <- Tools, Found <- [os:find_executable(Tool)], Found =/= false] ++ [none])
-             || Tools <- [["clang-19", "clang"], ["llvm-objcopy-19", "llvm-objcopy"]]],
-    case lists:member(none, Tools) of
-        true -> hex(Name);
-        false -> compiled(Name, Tools)
-    end.
-
-compiled(Name, [Clang, Objcopy]) ->
-    Object = filename:join("out", Name ++ ".o"),
-    Flags = " -O2 -ffreestanding -mllvm -enable-tail-merge=0 -target bpfel -mcpu=v2 -fno-jump-tables -c ",
-    "" = os:cmd(Clang ++ Flags ++ filename:join(?RESOLVERS, Name ++ ".c") ++ " -o " ++ Object),
-    "" = os:cmd(Objcopy ++ " -O binary --only-section=.text " ++ Object ++ " " ++ Object ++ ".text"),
-    {ok, Code} = file:read_file(Object ++ ".text"),
-    Code.
-
-hex(Name) ->
-    {ok, Digits} = file:read_file(filename:join(?RESOLVERS, Name ++ ".hex")),
+code(Name) ->
+    Source = filename:join(?RESOLVERS, Name),
+    Digits = case os:find_executable("clang-19") of
+        false -> element(2, {ok, _} = file:read_file(Source ++ ".hex"));
+        _ -> list_to_binary(os:cmd(filename:join(?RESOLVERS, "compile.sh") ++ " " ++ Source ++ ".c"))
+    end,
     binary:decode_hex(string:trim(Digits)).
+
+%% compile.sh finds record.h for a file in another folder. The compiler here only copies what it reads.
+compile_elsewhere_test() ->
+    Folder = filename:absname("out/a folder"),
+    ok = filelib:ensure_path(Folder),
+    Tools = [{"clang-19", "while [ $# -gt 0 ]; do case $1 in -I) dir=$2; shift;; -c) source=$2; shift;; -o) out=$2; shift;; "
+                          "esac; shift; done; cc -E -I \"$dir\" \"$source\" > \"$out\""},
+             {"llvm-objcopy-19", "cp \"$4\" \"$5\""}],
+    [begin
+         ok = file:write_file(filename:join(Folder, Tool), ["#!/bin/sh\n", Script, "\n"]),
+         ok = file:change_mode(filename:join(Folder, Tool), 8#755)
+     end || {Tool, Script} <- Tools],
+    {ok, _} = file:copy(filename:join(?RESOLVERS, "later_stamp.c"), filename:join(Folder, "-later.c")),
+    Compile = "PATH='" ++ Folder ++ "':$PATH " ++ filename:absname(filename:join(?RESOLVERS, "compile.sh")) ++ " ",
+    [begin
+         Text = binary:decode_hex(string:trim(list_to_binary(os:cmd("cd " ++ In ++ " && " ++ Compile ++ File)))),
+         ?assertMatch([{_, _}, {_, _}], [binary:match(Text, Words) || Words <- [<<"struct registration {">>, <<"resolve(">>]])
+     end || {In, File} <- [{"/", "'" ++ Folder ++ "/-later.c'"}, {"'" ++ Folder ++ "'", "-later.c"}]].
+
+%% ---- Logs ----
+
+%% Keeps the warnings that a test provokes from the console. `loud/1' ends that.
+quiet() ->
+    #{level := Level} = logger:get_primary_config(),
+    ok = logger:set_primary_config(level, critical),
+    Level.
+
+loud(Level) ->
+    ok = logger:set_primary_config(level, Level).
+
+%% Sends what this node logs from a level on to a process, as `{logged, Text}'.
+catch_log(Level, Pid) ->
+    ok = logger:set_primary_config(level, Level),
+    ok = logger:add_handler(?MODULE, ?MODULE, #{config => Pid}).
+
+log(#{msg := {report, _}}, _Config) ->
+    ok;
+log(#{msg := {Format, Args}}, #{config := Pid}) ->
+    Pid ! {logged, lists:flatten(io_lib:format(Format, Args))}.
 
 %% ---- One node ----
 
+not_started_test() ->
+    ?assertEqual(undefined, whereis(heal_resolver)),
+    Program = #{resolver => {program, <<1:256>>}},
+    [?assertError({not_started, heal}, heal_resolver:register(db, self(), Options)) || Options <- [#{}, Program]],
+    ?assertError({not_started, heal}, heal_resolver:upload(code("coin"))).
+
 alone_test_() ->
     {setup,
-        fun() -> {ok, Pid} = heal_resolver:start_link(), Pid end,
-        fun(Pid) -> unlink(Pid), gen_server:stop(Pid) end,
-        [fun built_in/0, fun programs/0, fun unknown_process/0, fun forgotten/0]}.
+        fun() ->
+            Level = quiet(),
+            {ok, _} = application:ensure_all_started(heal),
+            application:set_env(kernel, global_multi_name_action, allow),
+            Level
+        end,
+        fun(Level) ->
+            ok = application:stop(heal),
+            loud(Level)
+        end,
+        [fun registered_twice/0, fun forgotten/0, fun by_global/0, fun via/0, fun uploads/0, fun unknown_program/0,
+         fun bad_calls/0, {timeout, 30, fun crash/0}, {timeout, 60, fun many_ends/0}, {timeout, 30, fun no_answer/0},
+         fun logged/0]}.
 
 owner() ->
     spawn(heal_cluster, serve, [[]]).
 
-%% Makes two processes known under a name, as if two nodes had registered it.
-known(Name, Options) ->
-    [begin
-         Pid = owner(),
-         ok = gen_server:call(heal_resolver, {remember, Name, Pid, It}),
-         Pid
-     end || It <- Options].
+known(Name, Pid) ->
+    case heal_facts:known(Name, Pid) of
+        {ok, #{resolver := Resolver}, _} -> Resolver;
+        error -> error
+    end.
 
-mail(Pid) ->
-    heal_cluster:mail_here(Pid).
+size() ->
+    Name = make_ref(),
+    Pid = owner(),
+    ok = heal_resolver:register(Name, Pid, #{}),
+    {ok, _, #{size := Size}} = heal_facts:known(Name, Pid),
+    exit(Pid, kill),
+    heal_cluster:eventually(fun() -> known(Name, Pid) =:= error end),
+    Size - 1.
 
-built_in() ->
-    Exits = [begin
-                 [One, Other] = known(db, [#{}, #{}]),
-                 Kept = heal_resolver:resolve(db, One, Other),
-                 [Lost] = [One, Other] -- [Kept],
-                 ?assertEqual({[], dead}, {mail(Kept), mail(Lost)}),
-                 Kept =:= One
-             end || _ <- lists:seq(1, 64)],
-    ?assertEqual([false, true], lists:usort(Exits)),
-    [Told, Other] = known(db, [#{resolver => notify}, #{resolver => exit}]),
-    Kept = heal_resolver:resolve(db, Other, Told),
-    [Lost] = [Told, Other] -- [Kept],
-    ?assertEqual({[], [{global_name_conflict, db}]}, {mail(Kept), mail(Lost)}),
-    [One, Two] = known({any, "term"}, [#{resolver => notify_all}, #{}]),
-    ?assertEqual(none, heal_resolver:resolve({any, "term"}, Two, One)),
-    ?assertEqual({[{global_name_conflict, {any, "term"}, Two}], [{global_name_conflict, {any, "term"}, One}]}, {mail(One), mail(Two)}).
-
-%% The program decides by the record: stamps, and the facts of the nodes.
-programs() ->
-    {ok, Id} = heal_resolver:upload(compiled("later_stamp")),
-    [begin
-         [One, Other] = known(db, [#{stamp => Stamp, resolver => {program, Id}}, #{stamp => 9}]),
-         Kept = element(First, {One, Other}),
-         ?assertEqual({Kept, Kept}, {heal_resolver:resolve(db, One, Other), heal_resolver:resolve(db, Other, One)}),
-         [Lost] = [One, Other] -- [Kept],
-         ?assertEqual({[], lists:duplicate(2, {global_name_conflict, db})}, {mail(Kept), mail(Lost)})
-     end || {Stamp, First} <- [{8, 2}, {9, 1}, {10, 1}]],
-    ?assertMatch({error, {10, <<"a backward jump at slot 0">>}}, heal_resolver:upload(<<16#0500ffff00000000:64, 16#9500000000000000:64>>)).
-
-%% A process that was registered otherwise has serial 0 and stamp 0.
-unknown_process() ->
-    {ok, Id} = heal_resolver:upload(hex("later_stamp")),
-    [Known] = known(db, [#{stamp => 1, resolver => {program, Id}}]),
-    Unknown = owner(),
-    ok = application:set_env(heal, resolver, {program, Id}),
-    ?assertEqual(Known, heal_resolver:resolve(db, Known, Unknown)),
-    application:unset_env(heal, resolver).
+%% The second call is refused, and the first one's registration stays.
+registered_twice() ->
+    Pid = owner(),
+    ?assertEqual(ok, heal_resolver:register(twice, Pid, #{resolver => notify})),
+    ?assertMatch({error, {30, _}}, heal_resolver:register(twice, Pid, #{resolver => exit})),
+    ?assertEqual(no, heal_resolver:register_name(twice, Pid, #{})),
+    ?assertMatch({error, {30, _}}, heal_resolver:register(twice, owner(), #{})),
+    ?assertEqual(notify, known(twice, Pid)),
+    ?assertEqual([], [Row || {Row = {twice, _, _}, _} <- heal_facts:calls()]),
+    ok = heal_resolver:unregister_name(twice),
+    ?assertEqual(error, known(twice, Pid)),
+    ?assertEqual(ok, heal_resolver:register(twice, Pid, #{resolver => notify_all})),
+    ?assertEqual(notify_all, known(twice, Pid)),
+    exit(Pid, kill).
 
 forgotten() ->
-    [Pid] = known(db, [#{}]),
-    ?assertMatch({ok, _, _}, heal_resolver:known(db, Pid)),
+    Pid = owner(),
+    ok = heal_resolver:register(forgotten, Pid, #{}),
+    ?assertEqual(exit, known(forgotten, Pid)),
     exit(Pid, kill),
-    heal_cluster:eventually(fun() -> heal_resolver:known(db, Pid) =:= error end),
-    ?assertError(badarg, heal_resolver:register_name(db, self(), #{stamp => x})).
+    heal_cluster:eventually(fun() -> known(forgotten, Pid) =:= error end),
+    ?assertError(badarg, heal_resolver:register(forgotten, self(), #{stamp => x})),
+    ?assertError(badarg, heal_resolver:register(forgotten, self(), none)).
+
+%% Names that were unregistered or registered again with `global' itself don't count.
+by_global() ->
+    Before = size(),
+    [One, Two] = [owner(), owner()],
+    [ok = heal_resolver:register(Name, Pid, #{}) || {Name, Pid} <- [{given_up, One}, {given_away, Two}]],
+    ?assertEqual(Before + 2, size()),
+    global:unregister_name(given_up),
+    global:re_register_name(given_away, self()),
+    heal_resolver ! sweep,
+    ?assertEqual(Before, size()),
+    global:unregister_name(given_away).
+
+via() ->
+    Name = {via, heal_resolver, via},
+    {ok, Pid} = gen_event:start(Name),
+    ?assertEqual([Pid, Pid], [heal_resolver:whereis_name(via), global:whereis_name(via)]),
+    ?assertEqual({error, {already_started, Pid}}, gen_event:start(Name)),
+    ?assertEqual([], gen_event:which_handlers(Name)),
+    ?assertEqual(Pid, heal_resolver:send(via, hello)),
+    ok = gen_event:stop(Name),
+    ?assertEqual(undefined, heal_resolver:whereis_name(via)),
+    ?assertExit({badarg, {via, hello}}, heal_resolver:send(via, hello)).
+
+uploads() ->
+    {ok, Id} = heal_resolver:upload(code("later_stamp")),
+    ?assertEqual(32, byte_size(Id)),
+    Pid = owner(),
+    ?assertEqual(yes, heal_resolver:register_name(uploads, Pid, #{resolver => {program, Id}})),
+    Backward = <<16#0500ffff00000000:64, 16#9500000000000000:64>>,
+    ?assertMatch({error, {10, <<"a backward jump at slot 0">>}}, heal_resolver:upload(Backward)),
+    exit(Pid, kill).
+
+unknown_program() ->
+    Unknown = #{resolver => {program, <<1:256>>}},
+    ?assertEqual({error, {41, heal:refusal_words(41)}}, heal_resolver:register(unknown, self(), Unknown)),
+    ?assertEqual(no, heal_resolver:register_name(unknown, self(), Unknown)),
+    ?assertEqual(undefined, heal_resolver:whereis_name(unknown)).
+
+%% The server survives what it doesn't know, and what the caller refuses.
+bad_calls() ->
+    Server = whereis(heal_resolver),
+    ?assertError(badarg, heal_resolver:upload("text")),
+    ?assertError(badarg, heal_resolver:register(bad, not_a_pid, #{})),
+    [?assertEqual({error, unknown_call}, gen_server:call(heal_resolver, Call))
+     || Call <- [{upload, "text"}, {remember, bad, not_a_pid, #{}}, {remember, bad, self(), none}, {forget, bad, none}, what]],
+    heal_resolver ! what,
+    gen_server:cast(heal_resolver, what),
+    ?assertEqual({error, unknown_call}, gen_server:call(heal_facts, what)),
+    ?assertEqual(Server, whereis(heal_resolver)).
+
+%% The server's next start knows registrations and programs, and notices the end of processes.
+crash() ->
+    {ok, Id} = heal_resolver:upload(code("coin")),
+    Pids = [Live, Ends] = [owner(), owner()],
+    [ok = heal_resolver:register({crash, Pid}, Pid, #{resolver => {program, Id}}) || Pid <- Pids],
+    Server = whereis(heal_resolver),
+    exit(Server, kill),
+    exit(Ends, kill),
+    heal_cluster:eventually(fun() -> not lists:member(whereis(heal_resolver), [undefined, Server]) end),
+    ?assertEqual({program, Id}, known({crash, Live}, Live)),
+    ?assertMatch({ok, _}, heal_facts:program(Id)),
+    heal_cluster:eventually(fun() -> known({crash, Ends}, Ends) =:= error end),
+    exit(Live, kill),
+    heal_cluster:eventually(fun() -> known({crash, Live}, Live) =:= error end).
+
+%% The time of an end doesn't grow with the number of processes.
+many_ends() ->
+    Pids = [owner() || _ <- lists:seq(1, 10000)],
+    [{ok, _} = gen_server:call(heal_resolver, {remember, Pid, Pid, heal_names:options(#{})}) || Pid <- Pids],
+    ?assertEqual(10000, length(heal_facts:calls())),
+    {Time, ok} = timer:tc(fun() ->
+        [exit(Pid, kill) || Pid <- Pids],
+        heal_cluster:eventually(fun() -> heal_facts:calls() =:= [] end)
+    end),
+    ?assert(Time < 3000000).
+
+%% A server that hangs gives an error.
+no_answer() ->
+    sys:suspend(heal_resolver),
+    ?assertEqual({error, {no_answer, node()}}, heal_resolver:register(no_answer, self(), #{})),
+    sys:resume(heal_resolver),
+    ?assertEqual(undefined, heal_resolver:whereis_name(no_answer)).
+
+%% Verdicts and kills are logged as those of `global'.
+logged() ->
+    Level = quiet(),
+    ok = logger:set_handler_config(default, level, notice),
+    catch_log(info, self()),
+    Pids = [owner(), owner()],
+    [heal_facts:add(logged, Pid, heal_names:registration(1, heal_names:serial(), heal_names:options(#{}))) || Pid <- Pids],
+    Kept = heal_resolver:resolve(logged, hd(Pids), lists:last(Pids)),
+    [Lost] = Pids -- [Kept],
+    Killed = lists:flatten(io_lib:format("heal: Name conflict terminating ~w", [{logged, Lost}])),
+    [?assert(receive {logged, Text} -> string:find(Text, Expected) =/= nomatch end)
+     || Expected <- ["heal_resolver: Name conflict {logged,", Killed]],
+    ok = logger:remove_handler(?MODULE),
+    ok = logger:set_handler_config(default, level, all),
+    loud(Level).
 
 %% ---- Two nodes ----
 
@@ -113,9 +240,8 @@ global_test_() ->
 
 %% Each node registers the names, and then they meet: `global' keeps the owner that the resolver chose, on both nodes.
 global(A, B) ->
-    Code = compiled("later_stamp"),
-    %% Only A has the program: B fetches it if it is the one to judge.
-    {ok, Id} = heal_cluster:call(A, heal_resolver, upload, [Code]),
+    %% Only A has the program until the nodes meet. Afterwards B has it too.
+    {ok, Id} = heal_cluster:call(A, heal_resolver, upload, [code("later_stamp")]),
     Own = fun(It, Name, Stamp, Resolver) -> heal_cluster:own(It, ?REGISTER, Name, #{stamp => Stamp, resolver => Resolver}) end,
     [LosesB, KeepsB, KeepsA, LosesA] = [Own(It, Name, Stamp, case It of A -> {program, Id}; B -> exit end)
                                         || {It, Name, Stamp} <- [{A, of_b, 5}, {B, of_b, 9}, {A, of_a, 9}, {B, of_a, 5}]],
@@ -136,8 +262,6 @@ global(A, B) ->
     ?assert(lists:member(Kept, [ExitA, ExitB])),
     ?assertEqual([case Pid of Kept -> []; _ -> dead end || Pid <- [ExitA, ExitB]],
                  [heal_cluster:mail(It, Pid) || {It, Pid} <- [{A, ExitA}, {B, ExitB}]]),
-    %% B judges by A's program.
-    ?assertEqual(KeepsB, heal_cluster:call(B, heal_resolver, resolve, [of_b, LosesB, KeepsB])),
-    ?assertEqual(lists:duplicate(2, {global_name_conflict, of_b}), heal_cluster:mail(A, LosesB)),
+    ?assertEqual({ok, code("later_stamp")}, heal_cluster:call(B, heal_facts, code, [Id])),
     ok = heal_cluster:call(A, heal_resolver, unregister_name, [of_a]),
     heal_cluster:eventually(fun() -> heal_cluster:call(B, global, whereis_name, [of_a]) =:= undefined end).

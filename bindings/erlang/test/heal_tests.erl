@@ -23,7 +23,7 @@ side(Id, Rows) ->
 healed(A, B, Number, GoneOnA) ->
     {ok, OfA} = heal:begin_exchange(A, Number, 4, 100),
     {ok, OfB} = heal:begin_exchange(B, Number, 4, 200),
-    [?assertEqual(ok, Call) || Call <- [heal:hear(A, OfB), heal:hear(B, OfA), heal:settle(A, 0), heal:settle(B, 0)]],
+    [?assertEqual(ok, Call) || Call <- [heal:hear(A, OfB), heal:hear(B, OfA), heal:settle(A), heal:settle(B)]],
     [?assertEqual(ok, heal:withdraw(A, Name)) || Name <- GoneOnA],
     {ok, ListA} = heal:close_list(A),
     {ok, ListB} = heal:close_list(B),
@@ -75,7 +75,7 @@ refusals_test() ->
     Expected = [{30, heal:register(Side, <<"x">>, Row)}, {31, heal:unregister(Side, <<"y">>)}, {31, heal:whereis(Side, <<"y">>)},
                 {44, heal:register(Side, <<>>, Row)}, {44, heal:register(Side, <<"a b">>, Row)},
                 {41, heal:register(Side, <<"y">>, registration(1, 2, 1, {program, <<0:256>>}))},
-                {34, heal:settle(Side, 0)}, {34, heal:finish(Side)}, {34, heal:abandon(Side)}, {34, heal:close_list(Side)},
+                {34, heal:settle(Side)}, {34, heal:finish(Side)}, {34, heal:abandon(Side)}, {34, heal:close_list(Side)},
                 {34, heal:withdraw(Side, <<"x">>)}, {70, heal:hear(Side, <<>>)}, {70, heal:hear_list(Side, <<>>)},
                 {3, heal:load(<<1, 2, 3>>)}, {1, heal:upload(Side, <<>>)}],
     [?assertMatch({Number, {error, {Number, _}}}, {Number, Answer}) || {Number, Answer} <- Expected],
@@ -88,7 +88,7 @@ refusals_of_an_exchange_test() ->
     {ok, Offer} = heal:begin_exchange(A, 5, 1, 0),
     ?assertMatch({error, {33, _}}, heal:begin_exchange(A, 6, 1, 0)),
     ?assertMatch({error, {33, _}}, heal:register(A, <<"y">>, registration(1, 2, 1, exit))),
-    ?assertMatch({error, {39, _}}, heal:settle(A, 0)),
+    ?assertMatch({error, {39, _}}, heal:settle(A)),
     ?assertMatch({error, {39, _}}, heal:finish(A)),
     ?assertMatch({error, {46, _}}, heal:hear(A, Offer)),
     ?assertEqual(ok, heal:withdraw(A, <<"x">>)),
@@ -132,7 +132,7 @@ badarg_test() ->
              {register, [Side, <<"x">>, Row#{owner := {1}}]}, {register, [Side, <<"x">>, Row#{owner := {-1, 1}}]},
              {register, [Side, <<"x">>, Row#{stamp := 1 bsl 64}]}, {register, [Side, <<"x">>, Row#{extra => <<1>>}]},
              {register, [Side, <<"x">>, Row#{resolver := later}]}, {register, [Side, <<"x">>, Row#{resolver := {program, <<1>>}}]},
-             {begin_exchange, [Side, -1, 0, 0]}, {settle, [Side, x]}, {hear, [Side, "x"]},
+             {begin_exchange, [Side, -1, 0, 0]}, {settle, [x]}, {hear, [Side, "x"]},
              {owners, [Side, x]}, {owners, [Side, [<<"x">> | <<"y">>]]}, {owners, [Side, [x]]}, {refusal_words, [-1]}],
     [?assertError(badarg, apply(heal, Function, Args)) || {Function, Args} <- Calls],
     ?assertEqual({ok, 0}, heal:count(Side)).
@@ -174,6 +174,78 @@ shared_side_test_() ->
         ?assertEqual({ok, 800}, heal:count(Side))
     end}.
 
+%% A side with this many names, whose rows take long to read.
+big_side(Count) ->
+    side(a, [{integer_to_binary(N), registration(1, N, 1, exit)} || N <- lists:seq(1, Count)]).
+
+%% Calls that wait for a side occupy no scheduler: a call on another side is served before them.
+waiting_calls_test_() ->
+    {timeout, 60, fun() ->
+        Side = big_side(4000),
+        Other = side(b, []),
+        Self = self(),
+        Calls = 10 * erlang:system_info(dirty_cpu_schedulers_online),
+        [spawn_link(fun() -> {ok, _} = heal:rows(Side), Self ! done end) || _ <- lists:seq(1, Calls)],
+        receive done -> ok end,
+        ?assertEqual({ok, []}, heal:rows(Other)),
+        {message_queue_len, Done} = process_info(self(), message_queue_len),
+        ?assert(Done < Calls div 2),
+        [receive done -> ok end || _ <- lists:seq(2, Calls)]
+    end}.
+
+%% Processes that call again and again leave each other one a turn, after at most a few rounds of theirs.
+turns_test_() ->
+    {timeout, 60, fun() ->
+        Side = big_side(4000),
+        Self = self(),
+        Rounds = counters:new(1, []),
+        Busy = [spawn_link(fun() -> read_rows(Side, Rounds, Self) end) || _ <- lists:seq(1, 4)],
+        [begin
+             Before = counters:get(Rounds, 1),
+             heal_cluster:eventually(fun() -> counters:get(Rounds, 1) > Before end),
+             ?assertEqual({ok, 4000}, heal:count(Side)),
+             ?assert(counters:get(Rounds, 1) - Before < 50)
+         end || _ <- lists:seq(1, 10)],
+        [begin Pid ! stop, receive {stopped, Pid} -> ok end end || Pid <- Busy]
+    end}.
+
+read_rows(Side, Rounds, From) ->
+    receive
+        stop -> From ! {stopped, self()}
+    after 0 ->
+        {ok, _} = heal:rows(Side),
+        counters:add(Rounds, 1, 1),
+        read_rows(Side, Rounds, From)
+    end.
+
+%% A process that was waiting for its turn and is dead doesn't keep the others away.
+dead_caller_test() ->
+    Side = big_side(4000),
+    [begin
+         Callers = [spawn(fun() -> heal:rows(Side) end) || _ <- lists:seq(1, 4)],
+         [exit(Caller, kill) || Caller <- Callers]
+     end || _ <- lists:seq(1, 10)],
+    ?assertEqual({ok, 4000}, heal:count(Side)).
+
+%% A new version of the module goes on with the programs, sides and outcomes of the old one.
+upgrade_test() ->
+    {ok, Program} = heal:load(later()),
+    {ok, Id} = heal:program_id(Program),
+    A = side(a, [{<<"x">>, registration(1, 1, 1, exit)}]),
+    B = side(b, [{<<"x">>, registration(2, 1, 1, exit)}]),
+    {Outcome, _} = healed(side(a, []), side(b, []), 1, []),
+    [begin
+         code:purge(heal),
+         ?assertEqual({module, heal}, code:load_file(heal)),
+         ?assertEqual({ok, Id}, heal:program_id(Program)),
+         ?assertEqual({ok, 0}, heal:merged(Outcome)),
+         ?assertMatch({ok, #{owner := {1, 1}}}, heal:whereis(A, <<"x">>)),
+         ?assertEqual({ok, 0}, heal:count(side(a, [])))
+     end || _ <- [1, 2, 3]],
+    {OfA, OfB} = healed(A, B, 1, []),
+    ?assertMatch({ok, [#{name := <<"x">>}]}, heal:clashes(OfA)),
+    ?assertEqual(heal:clashes(OfA), heal:clashes(OfB)).
+
 %% Sides, programs and outcomes that nobody refers to are freed.
 freed_test_() ->
     {timeout, 60, fun() ->
@@ -214,3 +286,15 @@ renewed_test() ->
     ?assert(Fewer =< 3),
     ?assertMatch({error, {35, _}}, heal:begin_exchange(A, 9, 1, 1)),
     ?assertMatch({ok, [{<<"x">>, _}]}, heal:rows(A)).
+
+%% A side gives up an open exchange, without the names that it withdrew, and an idle side only starts a fresh journal.
+given_up_test() ->
+    A = side(a, [{Name, registration(1, N, 1, exit)} || {N, Name} <- [{1, <<"x">>}, {2, <<"y">>}]]),
+    {ok, _} = heal:begin_exchange(A, 9, 1, 1),
+    ok = heal:withdraw(A, <<"x">>),
+    ?assertEqual(ok, heal:give_up(A)),
+    ?assertMatch({error, {34, _}}, heal:abandon(A)),
+    ?assertMatch({ok, [{<<"y">>, _}]}, heal:rows(A)),
+    ?assertEqual({ok, 3}, heal:events(A)),
+    ?assertEqual(ok, heal:give_up(A)),
+    ?assertMatch({error, {35, _}}, heal:begin_exchange(A, 9, 1, 1)).

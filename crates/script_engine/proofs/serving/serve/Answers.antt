@@ -3,7 +3,9 @@ use Rattle.script_machine.specs.Machines.{machine_of}
 use Rattle.script_engine.proofs.serving.serve.Goals as goal
 
 pub answer-requires : goal.answer-requires
-answer-requires g c = subst (λ (n : ℕ). n < 2 ^ 64 - 1) (sym c.renew_long.ensures.latest) c.requires
+answer-requires g c =
+    let early = subst (λ (n : ℕ). n < 2 ^ 64 - 1) (sym c.renew_long.ensures.latest) c.requires in
+    (c.type_bounds.sync-T, (c.type_bounds.sync-G, early))
 
 pub returns : goal.returns
 returns g c =

@@ -1,0 +1,137 @@
+%% heal_registry when the other node hangs, reads slowly, is hidden, or isn't connected.
+-module(heal_hang_tests).
+
+-include_lib("eunit/include/eunit.hrl").
+
+-export([churn_here/2]).
+
+-define(REGISTER, {heal_registry, register}).
+-define(EDIT, 400).
+
+own(It, Name) ->
+    heal_cluster:own(It, ?REGISTER, Name, #{}).
+
+pid_on(Of) ->
+    heal_cluster:call(Of, erlang, spawn, [heal_cluster, serve, [[]]]).
+
+register_on(It, Name) ->
+    heal_cluster:call(It, heal_registry, register, [Name, pid_on(It), #{}]).
+
+plan(It, Plan) ->
+    ok = heal_cluster:call(It, heal_faults, plan, [Plan]).
+
+release(It) ->
+    plan(It, none),
+    heal_cluster:call(It, heal_faults, release, []).
+
+%% Runs the function while the operating system's process of a node is stopped.
+frozen(It, Call) ->
+    Pid = heal_cluster:freeze(It),
+    try
+        Call()
+    after
+        heal_cluster:thaw(Pid)
+    end.
+
+soon(Call) ->
+    {Time, Answer} = timer:tc(Call),
+    ?assert(Time < 4_000_000),
+    Answer.
+
+hang_test_() ->
+    {inparallel, 3, [
+        heal_cluster:pair(#{edit_timeout => ?EDIT}, fun leader_hangs/2),
+        heal_cluster:pair(#{edit_timeout => ?EDIT, exchange_timeout => 1000}, fun other_hangs/2),
+        heal_cluster:halves(#{edit_timeout => ?EDIT, exchange_timeout => 20000}, fun not_made/2),
+        heal_cluster:halves(#{edit_timeout => ?EDIT, exchange_timeout => 500}, fun silent_leader/2),
+        heal_cluster:halves(#{edit_timeout => ?EDIT, exchange_timeout => 500}, fun full_connection/2),
+        heal_cluster:pair(#{}, ["-hidden"], fun hidden/2),
+        heal_cluster:halves(#{reconnect_interval => 100}, fun reconnects/2)
+    ]}.
+
+%% The leader hangs: the other node's edits are answered in time, and it isn't known whether they are made.
+leader_hangs(A, B) ->
+    One = own(B, one),
+    OnA = pid_on(A),
+    frozen(A, fun() ->
+        Call = fun(Function, Args) -> soon(fun() -> heal_cluster:call(B, heal_registry, Function, Args) end) end,
+        ?assertEqual({error, {timeout, unknown}}, Call(register, [two, pid_on(B), #{}])),
+        ?assertEqual(no, Call(register_name, [three, pid_on(B)])),
+        ?assertEqual({error, {timeout, unknown}}, Call(unregister_name, [none])),
+        ?assertEqual({error, {timeout, unknown}}, Call(register, [four, OnA, #{}])),
+        ?assertMatch(#{link := joined}, Call(status, [])),
+        ?assertEqual(One, heal_cluster:call(B, heal_registry, whereis_name, [one]))
+    end),
+    Five = own(B, five),
+    Table = heal_cluster:alike(A, B),
+    ?assertEqual([{five, Five}, {one, One}], [Entry || Entry = {Name, _} <- Table, lists:member(Name, [one, five])]),
+    ?assert(is_map_key(two, maps:from_list(Table))).
+
+%% The other node hangs: the leader's edits go on, also when the connection takes no more messages.
+other_hangs(A, B) ->
+    One = own(A, one),
+    Churn = frozen(B, fun() -> soon(fun() -> heal_cluster:call(A, ?MODULE, churn_here, [busy, 40000]) end) end),
+    ?assertEqual([ok], Churn),
+    Two = own(A, two),
+    ?assertEqual([{one, One}, {two, Two}], heal_cluster:alike(A, B)).
+
+churn_here(Name, Count) ->
+    Pid = spawn(heal_cluster, serve, [[]]),
+    lists:usort([Answer || _ <- lists:seq(1, Count),
+                           Answer <- [heal_registry:register(Name, Pid, #{}), heal_registry:unregister_name(Name)]]).
+
+%% An edit that is answered with `not_made' never happens later.
+not_made(A, B) ->
+    plan(B, {hold, offer}),
+    heal_cluster:connect(A, B),
+    heal_cluster:eventually(fun() -> heal_cluster:call(B, heal_faults, held, []) =/= [] end),
+    [?assertEqual({error, {timeout, not_made}}, soon(fun() -> register_on(It, db) end)) || It <- [A, B]],
+    ?assertEqual({error, {timeout, not_made}}, soon(fun() -> heal_cluster:call(A, heal_registry, unregister_name, [db]) end)),
+    release(B),
+    Pid = own(A, other),
+    ?assertEqual([{other, Pid}], heal_cluster:alike(A, B)).
+
+%% A leader that doesn't answer at all doesn't hold up the other node's edits for long.
+silent_leader(A, B) ->
+    plan(A, {lose, ask}),
+    heal_cluster:connect(A, B),
+    heal_cluster:eventually(fun() -> register_on(B, one) =/= {error, {timeout, not_made}} end),
+    ?assertMatch([{one, _}], heal_cluster:table(B)),
+    [heal_cluster:eventually(fun() -> is_map_key(silent, maps:get(problems, heal_cluster:status(It))) end) || It <- [A, B]],
+    plan(A, none),
+    ?assertMatch([{one, _}], heal_cluster:alike(A, B)),
+    [?assertMatch(#{problems := Problems} when Problems =:= #{}, heal_cluster:status(It)) || It <- [A, B]].
+
+%% Messages that the connection doesn't take aren't sent, and the nodes heal when it does.
+full_connection(A, B) ->
+    heal_cluster:connect(A, B),
+    heal_cluster:joined(A, B),
+    #{number := Number} = heal_cluster:status(A),
+    plan(A, {full, edit}),
+    One = own(A, one),
+    heal_cluster:eventually(fun() -> maps:get(number, heal_cluster:status(A)) > Number end),
+    ?assertEqual([{one, One}], heal_cluster:alike(A, B)),
+    plan(A, none),
+    plan(B, {full, request}),
+    Two = own(B, two),
+    plan(B, none),
+    heal_cluster:eventually(fun() -> heal_cluster:table(A) =:= [{one, One}, {two, Two}] end),
+    ?assertMatch([{one, One}, {two, Two}], heal_cluster:alike(A, B)).
+
+%% A hidden node is a node.
+hidden(A, B) ->
+    OnB = own(B, one),
+    ?assertEqual([{one, OnB}], heal_cluster:alike(A, B)),
+    heal_cluster:split(A, B),
+    heal_cluster:eventually(fun() -> heal_cluster:table(A) =:= [] end),
+    heal_cluster:connect(A, B),
+    ?assertEqual([{one, OnB}], heal_cluster:alike(A, B)).
+
+%% Nobody connects the nodes: they connect by themselves, and again after a break.
+reconnects(A, B) ->
+    Pid = own(A, one),
+    ?assertEqual([{one, Pid}], heal_cluster:alike(A, B)),
+    #{number := Number} = heal_cluster:status(A),
+    heal_cluster:call(A, erlang, disconnect_node, [heal_cluster:node_of(B)]),
+    heal_cluster:eventually(fun() -> maps:get(number, heal_cluster:status(A)) > Number end),
+    ?assertEqual([{one, Pid}], heal_cluster:alike(A, B)).

@@ -1,0 +1,136 @@
+%% heal_registry with calls, settings and messages that aren't valid, with a full table, and when it isn't running.
+-module(heal_input_tests).
+
+-include_lib("eunit/include/eunit.hrl").
+
+-define(REGISTER, {heal_registry, register}).
+
+registry(Of) ->
+    heal_cluster:call(Of, erlang, whereis, [heal_registry]).
+
+register_on(Of, Args) ->
+    heal_cluster:call(Of, heal_registry, register, Args).
+
+pid_on(Of) ->
+    heal_cluster:call(Of, erlang, spawn, [heal_cluster, serve, [[]]]).
+
+%% Runs a test on two joined nodes whose registries must not end, nor lose the names `one' and `two'.
+lasting({Title, Test}) ->
+    {Title, heal_cluster:pair(#{send => fun heal_faults:send/2}, fun(A, B) ->
+        Names = [{Name, heal_cluster:own(It, ?REGISTER, Name, #{})} || {It, Name} <- [{A, one}, {B, two}]],
+        Registries = [registry(It) || It <- [A, B]],
+        #{number := Number} = heal_cluster:status(A),
+        Test(A, B),
+        ?assertEqual(Registries, [registry(It) || It <- [A, B]]),
+        ?assertEqual(Names, heal_cluster:alike(A, B)),
+        ?assertMatch(#{number := Number}, heal_cluster:status(A))
+    end)}.
+
+all_test_() ->
+    {inparallel, 3, lists:map(fun lasting/1, [
+        {"unknown calls", fun unknown_calls/2},
+        {"bad setting", fun bad_setting/2},
+        {"bad processes", fun bad_processes/2},
+        {"bad requests", fun bad_requests/2},
+        {"bad messages", fun bad_messages/2},
+        {"full table", fun full_table/2}
+    ])}.
+
+unknown_calls(A, B) ->
+    [?assertEqual({error, unknown_call}, heal_cluster:call(It, gen_server, call, [heal_registry, Call]))
+     || It <- [A, B], Call <- [hello, {register, 1, 2}, {upload, x}, {stop}, 7]],
+    [?assertEqual({error, bad_edit}, heal_cluster:call(It, gen_server, call, [heal_registry, {edit, Edit}]))
+     || It <- [A, B], Edit <- [hello, {unregister, 7, any}, {adopt, <<"x">>, x, #{}, self()}, {upload, x}]],
+    [begin
+         ok = heal_cluster:call(It, gen_server, cast, [heal_registry, Message]),
+         Message = heal_cluster:call(It, erlang, send, [heal_registry, Message])
+     end || It <- [A, B], Message <- [hello, {edit, x}, {timeout, make_ref(), edits}, {'DOWN', make_ref(), process, self(), x}]].
+
+%% The application's setting is checked in the caller.
+bad_setting(A, B) ->
+    [ok = heal_cluster:call(It, application, set_env, [heal, resolver, later]) || It <- [A, B]],
+    [?assertError({bad_setting, resolver, later}, heal_cluster:call(It, heal_registry, register_name, [x, pid_on(It)]))
+     || It <- [A, B]],
+    ?assertEqual(ok, register_on(B, [x, pid_on(B), #{resolver => notify}])),
+    ok = heal_cluster:call(A, heal_registry, unregister_name, [x]).
+
+bad_processes(A, B) ->
+    Dead = heal_cluster:call(A, erlang, list_to_pid, ["<0.30000.0>"]),
+    [?assertEqual({error, noproc}, register_on(It, [x, Dead, #{}])) || It <- [A, B]],
+    ?assertEqual(no, heal_cluster:call(A, heal_registry, register_name, [x, Dead])),
+    Port = heal_cluster:call(A, erlang, hd, [heal_cluster:call(A, erlang, ports, [])]),
+    [?assertError(badarg, register_on(A, [x, Pid, #{}])) || Pid <- [Port, none, 7, make_ref()]],
+    [?assertError(badarg, register_on(A, [x, pid_on(A), Options]))
+     || Options <- [x, [], [{weight, 1}], #{1 => 2}, #{stamp => 1.0}]],
+    [?assertError(badarg, heal_cluster:call(A, heal_registry, Call, [[$a | b]])) || Call <- [whereis_name, unregister_name]].
+
+%% A node of another version, or a broken one, sends requests that the leader can't carry out.
+bad_requests(A, B) ->
+    Pid = pid_on(B),
+    Registration = #{owner => {2, 1}, stamp => 0, weight => 0, extra => <<0:128>>, resolver => exit},
+    Edits = [{register, <<"x">>, x, Registration#{resolver := later}, Pid}, {register, <<"x y">>, x, Registration, Pid},
+             {register, <<"x">>, x, maps:remove(stamp, Registration), Pid}, {register, <<"x">>, x, Registration, none},
+             {register, <<"x">>, x, #{owner => {-1, 0}}, Pid}, {upload, none}, {unregister, none, any}, hello],
+    #{number := Number} = heal_cluster:status(A),
+    [begin
+         ok = heal_cluster:call(B, heal_faults, plan, [{replace, request, {request, Number, Request, Edit}}]),
+         ?assertEqual({error, bad_edit}, register_on(B, [x, Pid, #{}]))
+     end || {Request, Edit} <- lists:zip(lists:seq(2, length(Edits) + 1), Edits)],
+    ok = heal_cluster:call(B, heal_faults, plan, [none]).
+
+bad_messages(A, B) ->
+    Bodies = [hello, {ask}, {ask, x, y}, {hello, x}, {started, 7}, {offer, 1}, {offer, 1, 2, 3}, {offer, 99, 1, {x, #{}, []}},
+              {offer, 99, 1, {<<>>, #{<<"x">> => y}, []}}, {hello, [], make_ref(), 1 bsl 63}, {list, 1, 2},
+              {list, -1, {<<>>, []}}, {abandon, x, none}, {finished, x}, {edit, 1, 2, 3, 4}, {edit, x, 1, none, x, ok},
+              {request, x, y, z}, {answer, 1, x, ok}, [a | b], 7],
+    Send = fun(From, To, Body) ->
+        Message = {heal_registry, 2, heal_cluster:node_of(From), Body},
+        heal_cluster:call(From, erlang, send, [{heal_registry, heal_cluster:node_of(To)}, Message])
+    end,
+    [Send(From, To, Body) || {From, To} <- [{A, B}, {B, A}], Body <- Bodies].
+
+%% 4,096 names are in the table, and one more is refused. The log has the reason of a `no'.
+full_table(A, B) ->
+    Names = ["full" ++ integer_to_list(N) || N <- lists:seq(1, 4094)],
+    Pid = pid_on(A),
+    lists:foreach(fun(Name) -> ok = register_on(A, [Name, Pid, #{}]) end, Names),
+    heal_logs:collect(A),
+    [?assertMatch({error, {32, <<_/binary>>}}, register_on(It, [more, pid_on(It), #{}])) || It <- [A, B]],
+    ?assertEqual(no, heal_cluster:call(A, heal_registry, register_name, [more, Pid])),
+    ?assertEqual(no, heal_cluster:call(A, heal_registry, register_name, [one, Pid])),
+    ?assertMatch([_], [Text || Text <- heal_logs:texts(A), string:find(Text, "more isn't registered") =/= nomatch]),
+    heal_cluster:kill(A, Pid).
+
+%% ---- Not running ----
+
+not_running_test() ->
+    Keeper = whereis(heal_keeper),
+    is_pid(Keeper) andalso exit(Keeper, kill),
+    heal_cluster:eventually(fun() -> whereis(heal_keeper) =:= undefined end),
+    [?assertExit({not_running, heal_registry}, Call())
+     || Call <- [fun() -> apply(heal_registry, Function, Args) end
+                 || {Function, Args} <- [{names, []}, {whereis_name, [db]}, {status, []}, {register_name, [db, self()]},
+                                         {register, [db, self(), #{}]}, {unregister_name, [db]}, {send, [db, x]},
+                                         {upload, [<<1>>]}, {sync, []}]]].
+
+%% ---- The journal ----
+
+journal_test_() ->
+    heal_cluster:pair(#{}, fun journal/2).
+
+%% An exchange begins with a fresh journal.
+journal(A, B) ->
+    heal_cluster:split(A, B),
+    heal_cluster:apart(A, B),
+    [[begin
+          ok = register_on(It, [busy, pid_on(It), #{}]),
+          ok = heal_cluster:call(It, heal_registry, unregister_name, [busy])
+      end || _ <- lists:seq(1, 100)] || It <- [A, B]],
+    heal_cluster:connect(A, B),
+    heal_cluster:alike(A, B),
+    Events = fun(It) ->
+        Side = heal_cluster:call(It, heal_table, side, [element(2, heal_cluster:call(It, sys, get_state, [heal_registry]))]),
+        {ok, Count} = heal_cluster:call(It, heal, events, [Side]),
+        Count
+    end,
+    [?assert(Events(It) < 20) || It <- [A, B]].
