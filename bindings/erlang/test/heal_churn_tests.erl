@@ -24,7 +24,7 @@ pair(Plan) ->
             Nodes
         end,
         fun(Nodes) -> [heal_cluster:stop(It) || It <- Nodes] end,
-        fun([A, B]) -> {atom_to_list(Plan), {timeout, 90, fun() -> churn(A, B) end}} end}.
+        fun([A, B]) -> {atom_to_list(Plan), {timeout, 360, fun() -> churn(A, B) end}} end}.
 
 %% After every healing both nodes answer alike for every name, whether the edits stopped before it or during it.
 churn(A, B) ->

@@ -9,7 +9,7 @@
 -export([status/1, link_of/1, table/1, own/4, own_each/4, mail/2, kill/2, joined/2, alike/2, apart/2]).
 -export([serve/1, owners/3, mail_here/1, table_here/0, registry/2, parent/0]).
 
--define(PATIENCE, 15000).
+-define(PATIENCE, 60000).
 -define(POLL, 5).
 -define(PARENT, heal_cluster_parent).
 
@@ -36,7 +36,7 @@ run(Name, Args) ->
         host => "127.0.0.1",
         longnames => true,
         connection => standard_io,
-        wait_boot => 20000,
+        wait_boot => 60000,
         args => ["-setcookie", "heal_tests", "-pa"] ++ Path ++ Kernel ++ Args,
         env => [{"ERL_EPMD_ADDRESS", "127.0.0.1"}]
     }),
@@ -50,7 +50,7 @@ node_of({_, Node}) ->
     Node.
 
 call({Peer, _}, Module, Function, Args) ->
-    peer:call(Peer, Module, Function, Args, 30000).
+    peer:call(Peer, Module, Function, Args, 120000).
 
 connect(One, Other) ->
     true = call(One, net_kernel, connect_node, [node_of(Other)]).
@@ -108,7 +108,7 @@ two(Options, Args, Before, Test) ->
             Nodes
         end,
         fun(Nodes) -> [stop(It) || It <- Nodes] end,
-        fun([A, B]) -> {title(Test), {timeout, 60, fun() -> Before(A, B), Test(A, B) end}} end}.
+        fun([A, B]) -> {title(Test), {timeout, 240, fun() -> Before(A, B), Test(A, B) end}} end}.
 
 %% The name of the function that the test is.
 title(Test) ->

@@ -22,7 +22,7 @@ halves(Timeout, Test) ->
             Nodes
         end,
         fun(Nodes) -> [heal_cluster:stop(It) || It <- Nodes] end,
-        fun([A, B]) -> {timeout, 60, fun() -> Test(A, B, owners(A, B)) end} end}.
+        fun([A, B]) -> {timeout, 240, fun() -> Test(A, B, owners(A, B)) end} end}.
 
 owners(A, B) ->
     Own = fun(It, Name) -> heal_cluster:own(It, ?REGISTER, Name, #{resolver => notify}) end,
@@ -149,7 +149,7 @@ during(A, B, Owners = #{a := OnA, b := OnB, db_of_a := DbA, db_of_b := DbB}) ->
 ends_test_() ->
     Steps = [{a, ask}, {b, hello}, {a, offer}, {b, offer}, {a, list}, {b, list}],
     Ends = [{Who, Kind, When} || {Who, Kind} <- Steps, When <- [before, later]] ++ [{a, finished, before}, {b, finished, before}],
-    {inparallel, 3, [{lists:concat([Who, " at ", Kind, " ", When]), {timeout, 30, fun() -> ends(Who, Kind, When) end}}
+    {inparallel, 3, [{lists:concat([Who, " at ", Kind, " ", When]), {timeout, 120, fun() -> ends(Who, Kind, When) end}}
      || {Who, Kind, When} <- Ends]}.
 
 %% A node ends when it sends this message. The other has its own table, also after the merge, and heals with the node's next run.

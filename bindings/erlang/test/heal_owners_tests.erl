@@ -41,8 +41,8 @@ later(It) ->
 %% ---- Whose a process is ----
 
 nodes_test_() ->
-    {inparallel, 3, [heal_cluster:pair(#{}, fun other_nodes_process/2), {timeout, 60, fun third_node/0},
-                     {timeout, 30, fun other_setting/0}, {timeout, 30, fun both_first/0}, {timeout, 30, fun other_version/0}]}.
+    {inparallel, 3, [heal_cluster:pair(#{}, fun other_nodes_process/2), {timeout, 240, fun third_node/0},
+                     {timeout, 120, fun other_setting/0}, {timeout, 120, fun both_first/0}, {timeout, 120, fun other_version/0}]}.
 
 %% A process that is registered through the other node belongs to its own: it has its name while the nodes are apart.
 other_nodes_process(A, B) ->

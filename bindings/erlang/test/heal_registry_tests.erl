@@ -25,7 +25,7 @@ alone_test_() ->
     {setup,
         fun() -> {ok, Pid} = heal_registry:start_link(#{nodes => [node()]}), Pid end,
         fun(Pid) -> unlink(Pid), gen_server:stop(Pid) end,
-        [{timeout, 30, Test}
+        [{timeout, 120, Test}
          || Test <- [fun alone/0, fun via/0, fun restarts_at_once/0, fun bad_arguments/0, fun long_journal/0]]}.
 
 alone() ->
@@ -192,7 +192,7 @@ application_test_() ->
     {setup,
         fun() -> [heal_cluster:start(Letter) || Letter <- [a, b]] end,
         fun(Nodes) -> [heal_cluster:stop(It) || It <- Nodes] end,
-        fun([A, B]) -> {timeout, 30, fun() -> application(A, B) end} end}.
+        fun([A, B]) -> {timeout, 120, fun() -> application(A, B) end} end}.
 
 %% The application starts the registry of the configuration, and its supervisor starts it again.
 application(A, B) ->

@@ -33,7 +33,7 @@ numbered(Numbers, Test) ->
             [{It, heal_cluster:call(It, os, getpid, [])} || It <- Nodes]
         end,
         fun(Nodes) -> [begin _ = os:cmd("kill -KILL " ++ Os), heal_cluster:stop(It) end || {It, Os} <- Nodes] end,
-        fun(Nodes) -> {timeout, 60, fun() -> Test([It || {It, _} <- Nodes]) end} end}.
+        fun(Nodes) -> {timeout, 240, fun() -> Test([It || {It, _} <- Nodes]) end} end}.
 
 start(It, Numbers) ->
     _ = heal_cluster:call(It, application, load, [heal]),

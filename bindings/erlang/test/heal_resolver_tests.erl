@@ -76,9 +76,9 @@ alone_test_() ->
             ok = application:stop(heal),
             loud(Level)
         end,
-        [fun registered_twice/0, fun forgotten/0, fun by_global/0, fun via/0, fun uploads/0, fun unknown_program/0,
-         fun bad_calls/0, {timeout, 30, fun crash/0}, {timeout, 60, fun many_ends/0}, {timeout, 30, fun no_answer/0},
-         fun logged/0]}.
+        [{timeout, 240, Test} || Test <- [fun registered_twice/0, fun forgotten/0, fun by_global/0, fun via/0, fun uploads/0,
+                                          fun unknown_program/0, fun bad_calls/0, fun crash/0, fun many_ends/0,
+                                          fun no_answer/0, fun logged/0]]}.
 
 owner() ->
     spawn(heal_cluster, serve, [[]]).
@@ -236,7 +236,7 @@ global_test_() ->
             Nodes
         end,
         fun(Nodes) -> [heal_cluster:stop(It) || It <- Nodes] end,
-        fun([A, B]) -> {timeout, 60, fun() -> global(A, B) end} end}.
+        fun([A, B]) -> {timeout, 240, fun() -> global(A, B) end} end}.
 
 %% Each node registers the names, and then they meet: `global' keeps the owner that the resolver chose, on both nodes.
 global(A, B) ->

@@ -209,7 +209,7 @@ applications(Test) ->
             Nodes
         end,
         fun(Nodes) -> [heal_cluster:stop(It) || It <- Nodes] end,
-        fun([A, B]) -> {timeout, 60, fun() -> Test(A, B) end} end}.
+        fun([A, B]) -> {timeout, 240, fun() -> Test(A, B) end} end}.
 
 %% The keeper of the table ends, and then the registry: no name is lost.
 keeper_ends(A, B) ->
@@ -269,8 +269,8 @@ stop(Pid) ->
 %% ---- A node that starts ----
 
 starts_test_() ->
-    {inparallel, 3, [{timeout, 60, fun starts/0}, {timeout, 30, fun first_node/0}, {timeout, 30, fun sync/0},
-                     {timeout, 30, fun connects_first/0}, {timeout, 30, fun alone_first/0}]}.
+    {inparallel, 3, [{timeout, 240, fun starts/0}, {timeout, 120, fun first_node/0}, {timeout, 120, fun sync/0},
+                     {timeout, 120, fun connects_first/0}, {timeout, 120, fun alone_first/0}]}.
 
 %% A registry that starts next to another one doesn't register names that the other has, nor are their owners killed.
 starts() ->

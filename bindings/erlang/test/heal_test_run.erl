@@ -3,7 +3,16 @@
 
 -export([main/1]).
 
+%% How long a test without a time of its own may take. EUnit's 5 seconds are too few on a busy machine.
+-define(SECONDS, 120).
+
 main(Modules) ->
-    {Time, Result} = timer:tc(fun() -> eunit:test(Modules) end),
+    Tests = [{atom_to_list(Module), tests(Module)} || Module <- Modules],
+    {Time, Result} = timer:tc(fun() -> eunit:test(Tests) end),
     io:format("~p in ~.1f s with OTP ~s~n", [Result, Time / 1.0e6, erlang:system_info(otp_release)]),
     halt(case Result of ok -> 0; error -> 1 end).
+
+tests(Module) ->
+    Functions = [{atom_to_list(Function), Function} || {Function, 0} <- Module:module_info(exports)],
+    [{timeout, ?SECONDS, {test, Module, Function}} || {Name, Function} <- Functions, lists:suffix("_test", Name)]
+        ++ [{generator, Module, Function} || {Name, Function} <- Functions, lists:suffix("_test_", Name)].

@@ -159,7 +159,7 @@ changed(Bytes, At, Value) ->
 
 %% Processes that share a side take turns.
 shared_side_test_() ->
-    {timeout, 30, fun() ->
+    {timeout, 120, fun() ->
         {ok, Side} = heal:side(a),
         Self = self(),
         Register = fun(Node) ->
@@ -180,7 +180,7 @@ big_side(Count) ->
 
 %% Calls that wait for a side occupy no scheduler: a call on another side is served before them.
 waiting_calls_test_() ->
-    {timeout, 60, fun() ->
+    {timeout, 240, fun() ->
         Side = big_side(4000),
         Other = side(b, []),
         Self = self(),
@@ -195,7 +195,7 @@ waiting_calls_test_() ->
 
 %% Processes that call again and again leave each other one a turn, after at most a few rounds of theirs.
 turns_test_() ->
-    {timeout, 60, fun() ->
+    {timeout, 240, fun() ->
         Side = big_side(4000),
         Self = self(),
         Rounds = counters:new(1, []),
@@ -248,7 +248,7 @@ upgrade_test() ->
 
 %% Sides, programs and outcomes that nobody refers to are freed.
 freed_test_() ->
-    {timeout, 60, fun() ->
+    {timeout, 240, fun() ->
         Rows = [{integer_to_binary(N), registration(1, N, 1, exit)} || N <- lists:seq(1, 500)],
         Round = fun() ->
             {Pid, Monitor} = spawn_monitor(fun() ->

@@ -7,8 +7,8 @@ verdict_test_() ->
     {setup,
         fun() -> {ok, Pid} = heal_facts:start_link(), {Pid, heal_resolver_tests:quiet()} end,
         fun({Pid, Level}) -> unlink(Pid), gen_server:stop(Pid), heal_resolver_tests:loud(Level) end,
-        [fun built_in/0, fun programs/0, fun facts/0, fun one_owner/0, fun unknown_owner/0, fun unknown_owners/0,
-         fun unknown_program/0, fun crash/0]}.
+        [{timeout, 120, Test} || Test <- [fun built_in/0, fun programs/0, fun facts/0, fun one_owner/0, fun unknown_owner/0,
+                                          fun unknown_owners/0, fun unknown_program/0, fun crash/0]]}.
 
 owner() ->
     spawn(heal_cluster, serve, [[]]).
