@@ -35,7 +35,7 @@ frozen(It, Call) ->
 
 soon(Call) ->
     {Time, Answer} = timer:tc(Call),
-    ?assert(Time < 4_000_000),
+    ?assert(Time < 10_000_000),
     Answer.
 
 hang_test_() ->
