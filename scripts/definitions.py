@@ -21,6 +21,7 @@ BEGIN, END = "<!-- definitions: begin -->", "<!-- definitions: end -->"
 # Each promise with the public functions whose contracts carry it.
 PROMISES = [
     ("accepted code is safe, and `run` is its meaning", ["verifier::Verified::code", "interpreter::run"]),
+    ("an instruction has the effect of its form", ["execution::execute"]),
     ("bytes are decoded and encoded as the standard defines", ["insn_codec::decode", "insn_codec::encode"]),
     ("the verifier is exact", ["verifier::verify", "program::read_program"]),
     ("`verify` holds few states", ["verifier::verify_peak"]),
@@ -35,16 +36,20 @@ PROMISES = [
         ("register", "unregister", "begin", "hear", "take", "withdraw", "close_list", "hear_list", "finish", "abandon",
          "whereis", "rows", "events")]),
     ("a side settles, is renewed, and gives up", ["exchange_core::Side::" + name for name in ("settle", "renew", "give_up")]),
+    ("two processes whose halves settle have one outcome", ["exchange_core::two_halves_theorem"]),
     ("two sides that settled alike hold one table", ["exchange_core::one_round_theorem"]),
     ("messages have one spelling, and are decoded exactly", [
         "exchange_codec::" + name for name in
         ("encode_offer", "decode_offer", "encode_withdrawals", "decode_withdrawals", "one_message_theorem")]),
     ("what a board shows", ["verdict_board::Board::" + name for name in ("draw", "draw_row", "post", "read", "gather")]
      + ["registry_lock::seen_theorem"]),
+    ("workers draw each clash of their round", ["judge_pool::work", "judge_pool::heal_round"]),
     ("two sides that meet have one table", ["registry_lock::meet", "registry_lock::tell_round"]),
     ("a cluster heals", ["cluster::Cluster::heal"]),
     ("a cluster is renewed", ["cluster::Cluster::" + name for name in ("renew", "renew_long")]),
     ("notices of a verdict", ["builtin_resolvers::notices"]),
+    ("each function of the C library makes the call that it wraps", ["heal_c"]),
+    ("two processes that use the C library have one outcome", ["heal_c::two_processes_theorem"]),
     ("answers to questions", ["QUESTIONS::reply_to"]),
     ("what a script reads and writes", ["script_engine::run_script"]),
     ("the whole program `heal`", ["heal_main::answer"]),
@@ -106,7 +111,7 @@ class Source:
     """The contracts and the views of one file of src/."""
 
     def __init__(self, text):
-        self.imports, self.aliases, self.functions, self.views = {}, {}, {}, {}
+        self.imports, self.aliases, self.functions, self.views, self.exports = {}, {}, {}, {}, []
         lines = text.split("\n")
         read_imports(lines, "ghost use", self)
         owner, at = None, 0
@@ -121,7 +126,7 @@ class Source:
                         l for l in lines[at:end] if "ghost use" not in l and "invariant" not in l)
             elif line == "}":
                 owner = None
-            function = re.match(r"\s*pub(?:\(crate\))? fn (\w+)", line) or re.match(r"\s*fn (\w+)", line)
+            function = re.match(r'\s*(?:pub(?:\(crate\))? )?(?:extern "C" )?fn (\w+)', line)
             if function:
                 name = function.group(1) if owner is None or not line.startswith(" ") else owner + "::" + function.group(1)
                 end = at
@@ -129,6 +134,8 @@ class Source:
                     end += 1
                 text = [l for l in lines[at:end + 1] if not l.strip().startswith("//")]
                 self.functions[name] = "\n".join(text)
+                if 'extern "C"' in line:
+                    self.exports.append(name)
                 at = end
             at += 1
 
@@ -220,9 +227,19 @@ def is_of_kit(module):
     return not os.path.isdir(os.path.join(TOP, "crates", crate))
 
 
+def functions_of(paths):
+    """The functions of a promise: all exports of a crate where it is a crate's name."""
+    for path in paths:
+        if "::" in path:
+            yield path
+        else:
+            yield from sorted(path + "::" + name for source in SOURCES[path] for name in source.exports)
+
+
 def table():
     rows = ["| promise | contracts | definitions | lines | of the toolchain |", "|---|---|---|---|---|"]
     for promise, paths in PROMISES:
+        paths = list(functions_of(paths))
         inside, outside = reach(root for path in paths for root in contract(path))
         kit = sum(1 for module, _ in outside if is_of_kit(module))
         calls = f"`{paths[0]}`" + (f" and {len(paths) - 1} more" if len(paths) > 1 else "")
@@ -235,7 +252,7 @@ def list_promise(word):
     for promise, paths in PROMISES:
         if word not in promise:
             continue
-        inside, _ = reach(root for path in paths for root in contract(path))
+        inside, _ = reach(root for path in functions_of(paths) for root in contract(path))
         by_module = collections.defaultdict(list)
         for module, name in inside:
             by_module[module].append(name)

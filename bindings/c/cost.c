@@ -43,6 +43,17 @@ static void unregister_all(heal_side *half)
         REQUIRE(heal_side_unregister(half, name, name_of(i, name)) == 0);
 }
 
+/* Walks over the rows. */
+static void list_all(heal_side *half)
+{
+    heal_row row;
+    uint32_t number = heal_side_row(half, 0, &row), count = 0;
+
+    for (; number == 0; count++)
+        number = heal_side_row_after(half, row.name.bytes, row.name.len, &row);
+    REQUIRE(number == HEAL_NO_ROW && count == names);
+}
+
 /* Lets a half hear the message, and frees it. */
 static void deliver(heal_bytes *message, heal_side *half, uint32_t (*hear)(heal_side *, const uint8_t *, size_t))
 {
@@ -103,6 +114,7 @@ int main(int argc, char **argv)
     for (int i = 0; i < 2; i++) {
         REQUIRE(heal_side_renew(&half[i]) == 0);
         register_all(&half[i], 1 + (uint32_t)i);
+        list_all(&half[i]);
         unregister_all(&half[i]);
         heal_side_free(&half[i]);
     }

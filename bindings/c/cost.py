@@ -13,7 +13,7 @@ import tempfile
 
 COUNTS = [1024, 2048, 4096]
 MOST = 2.5
-CALLS = "register unregister whereis begin hear withdraw settle close_list hear_list finish abandon give_up renew".split()
+CALLS = "register unregister whereis row_after begin hear withdraw settle close_list hear_list finish abandon give_up renew".split()
 
 
 def instructions(program, names, work):

@@ -177,14 +177,16 @@ static void print_names(heal_side *side, const char *half)
 {
     heal_row row;
     size_t count = 0;
+    uint32_t number;
 
     must("heal_side_count", heal_side_count(side, &count));
     printf("half %s has %zu names:\n", half, count);
-    for (size_t i = 0; i < count; i++) {
-        must("heal_side_row", heal_side_row(side, i, &row));
+    for (number = heal_side_row(side, 0, &row); number == 0;
+         number = heal_side_row_after(side, row.name.bytes, row.name.len, &row))
         printf("  %.*s %u.%u\n", (int)row.name.len, (const char *)row.name.bytes, row.registration.owner.node,
                row.registration.owner.serial);
-    }
+    if (number != HEAL_NO_ROW)
+        must("heal_side_row_after", number);
 }
 
 /* Half A, in the child: prints the clashes and its names. */

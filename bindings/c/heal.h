@@ -43,6 +43,8 @@ enum { HEAL_EXIT = 0, HEAL_NOTIFY = 1, HEAL_NOTIFY_ALL = 2, HEAL_PROGRAM = 3 };
 enum { HEAL_NEITHER = 0, HEAL_FIRST = 1, HEAL_SECOND = 2 };
 /* Kinds of notices. */
 enum { HEAL_NOTICE_EXIT = 0, HEAL_NOTICE_CONFLICT = 1, HEAL_NOTICE_CONFLICT_WITH = 2 };
+/* What heal_side_row and heal_side_row_after return where there is no such row. */
+enum { HEAL_NO_ROW = 92 };
 
 typedef struct { void *at; } heal_program; /* a verified program */
 typedef struct { void *at; } heal_side;    /* one half's side of exchanges, with its table and its uploads */
@@ -147,8 +149,13 @@ uint32_t heal_side_whereis(heal_side *side, const uint8_t *name, size_t len, hea
 uint32_t heal_side_count(heal_side *side, size_t *count);
 
 /* Returns row i of the side's table in the order of names, from 0; in an open exchange, with the withdrawn ones. Walks the
-   i rows before it, so listing n rows takes n * n / 2 steps. Returns 92 for an index of `count` or more. */
+   i rows before it: to list rows use heal_side_row_after. Returns 92 for an index of `count` or more. */
 uint32_t heal_side_row(heal_side *side, size_t i, heal_row *row);
+
+/* Returns the first row of the side's table whose name is above this one, in the order of names; in an open exchange, also
+   a withdrawn one. Names are in the order of their bytes, so row 0 and then the row after each name list the table. Takes
+   logarithmic time. Returns 44 for an invalid name, 92 if no name is above it. */
+uint32_t heal_side_row_after(heal_side *side, const uint8_t *name, size_t len, heal_row *row);
 
 /* Opens an exchange and puts the offer to be sent into `offer`. Until finish or abandon the table doesn't change.
    Both halves use the same number and seed; each gives its own uptime. Returns 33 if an exchange is open, 35 for a number

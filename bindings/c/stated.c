@@ -299,6 +299,28 @@ static void check_full_and_open(void)
     discard(sent, 5);
 }
 
+/* The row after a name is the first above it, whether or not the name has a row. */
+static void check_rows(void)
+{
+    heal_side side = side_with_db(false), none = {0};
+    heal_row first, row;
+
+    RETURNS(0, add(&side, "a", (heal_owner){1, 2}));
+    RETURNS(0, add(&side, "dba", (heal_owner){1, 3}));
+    RETURNS(0, heal_side_row(&side, 0, &first));
+    RETURNS(0, heal_side_row_after(&side, first.name.bytes, first.name.len, &row));
+    REQUIRE(row.name.len == 2 && memcmp(row.name.bytes, "db", 2) == 0);
+    RETURNS(0, heal_side_row_after(&side, text("db"), 2, &row));
+    REQUIRE(row.name.len == 3 && row.registration.owner.serial == 3);
+    RETURNS(0, heal_side_row_after(&side, text("c"), 1, &row));
+    REQUIRE(row.name.len == 2);
+    RETURNS(HEAL_NO_ROW, heal_side_row_after(&side, text("dba"), 3, &row));
+    RETURNS(44, heal_side_row_after(&side, text(""), 0, &row));
+    RETURNS(91, heal_side_row_after(&none, text("a"), 1, &row));
+    REQUIRE(row.name.len == 2);
+    heal_side_free(&side);
+}
+
 /* `settle` returns 40 if the count has no room for its rulings, and `finish` if it has none for one event. */
 static void check_no_room(void)
 {
@@ -461,6 +483,7 @@ int main(void)
     check_events_of_settle();
     check_full_and_idle();
     check_full_and_open();
+    check_rows();
     check_no_room();
     check_order_of_hear();
     check_order_of_hear_list();

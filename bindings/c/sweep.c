@@ -65,15 +65,15 @@ static uint64_t mix_registration(uint64_t hash, const heal_registration *it)
 static uint64_t rows_of(heal_side *side)
 {
     heal_row row;
-    size_t count = 0;
     uint64_t hash = 0xcbf29ce484222325u;
+    uint32_t number = heal_side_row(side, 0, &row);
 
-    REQUIRE(heal_side_count(side, &count) == 0);
-    for (size_t i = 0; i < count; i++) {
-        REQUIRE(heal_side_row(side, i, &row) == 0);
+    while (number == 0) {
         hash = mix(hash, row.name.bytes, sizeof row.name.bytes);
         hash = mix_registration(hash, &row.registration);
+        number = heal_side_row_after(side, row.name.bytes, row.name.len, &row);
     }
+    REQUIRE(number == HEAL_NO_ROW);
     return hash;
 }
 

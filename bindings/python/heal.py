@@ -22,6 +22,8 @@ from enum import IntEnum
 RECORD_LEN = 160
 ID_LEN = 32
 MAX_NAMES = 4096
+# What a walk over rows returns after the last one.
+_NO_ROW = 92
 
 
 class Builtin(IntEnum):
@@ -202,6 +204,7 @@ _ARGUMENTS = {
     "heal_side_whereis": [*_NAMED, POINTER(_Registration)],
     "heal_side_count": [_HANDLE, POINTER(c_size_t)],
     "heal_side_row": [_HANDLE, c_size_t, POINTER(_Row)],
+    "heal_side_row_after": [*_NAMED, POINTER(_Row)],
     "heal_side_begin": [_HANDLE, c_uint64, c_uint64, c_uint64, _HANDLE],
     "heal_side_hear": [_HANDLE, _BYTES, c_size_t],
     "heal_side_settle": [_HANDLE],
@@ -479,14 +482,20 @@ class Side(_Owned):
         return True
 
     def rows(self):
-        """Returns the names and registrations of the table, in the order of names. Listing n rows takes n²/2 steps."""
-        with self._lock:
-            return [self._row(i) for i in range(len(self))]
-
-    def _row(self, i):
+        """Returns the names and registrations of the table, in the order of names."""
+        rows = []
         found = _Row()
-        self._call("row", i, byref(found))
-        return _text(found.name), _from_c(found.registration)
+        with self._lock:
+            try:
+                self._call("row", 0, byref(found))
+                while True:
+                    name = _text(found.name)
+                    rows.append((name, _from_c(found.registration)))
+                    self._call("row_after", *_in(name), byref(found))
+            except Refused as refused:
+                if refused.number != _NO_ROW:
+                    raise
+        return rows
 
     def begin(self, number, seed, uptime):
         """Opens an exchange, and returns the offer to be sent."""

@@ -487,19 +487,18 @@ IN_TURN(count, side_type)
 
 static term rows_body(ErlNifEnv *env, resource *held, const term argv[])
 {
-    size_t count = 0;
     heal_row row;
-    term rows = enif_make_list(env, 0);
+    term reversed = enif_make_list(env, 0), rows;
+    uint32_t number = heal_side_row(&held->handle.side, 0, &row);
     (void)argv;
-    uint32_t number = heal_side_count(&held->handle.side, &count);
-    while (number == 0 && count > 0) {
-        number = heal_side_row(&held->handle.side, --count, &row);
-        if (number == 0) {
-            term pair = enif_make_tuple2(env, name_term(env, &row.name), registration_term(env, &row.registration));
-            rows = enif_make_list_cell(env, pair, rows);
-        }
+    while (number == 0) {
+        term pair = enif_make_tuple2(env, name_term(env, &row.name), registration_term(env, &row.registration));
+        reversed = enif_make_list_cell(env, pair, reversed);
+        number = heal_side_row_after(&held->handle.side, row.name.bytes, row.name.len, &row);
     }
-    return number == 0 ? ok(env, rows) : refused(env, number);
+    if (number != HEAL_NO_ROW || !enif_make_reverse_list(env, reversed, &rows))
+        return refused(env, number);
+    return ok(env, rows);
 }
 IN_TURN(rows, side_type)
 

@@ -95,6 +95,7 @@ extern "C" {
     pub fn heal_side_whereis(side: *mut Handle, name: *const u8, len: usize, registration: *mut Registration) -> u32;
     pub fn heal_side_count(side: *mut Handle, count: *mut usize) -> u32;
     pub fn heal_side_row(side: *mut Handle, i: usize, row: *mut Row) -> u32;
+    pub fn heal_side_row_after(side: *mut Handle, name: *const u8, len: usize, row: *mut Row) -> u32;
     pub fn heal_side_begin(side: *mut Handle, number: u64, seed: u64, uptime: u64, offer: *mut Handle) -> u32;
     pub fn heal_side_hear(side: *mut Handle, offer: *const u8, len: usize) -> u32;
     pub fn heal_side_settle(side: *mut Handle) -> u32;

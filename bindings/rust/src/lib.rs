@@ -15,6 +15,9 @@ pub use types::{
 /// The length of a clash record in bytes.
 pub const RECORD_LEN: usize = 160;
 
+/// What a walk over rows returns after the last one.
+const NO_ROW: u32 = 92;
+
 /// A refused call: its number, and the slot if the refusal concerns a slot of a program.
 #[derive(Clone, Copy, Debug, PartialEq, Eq)]
 pub struct Refused {
@@ -194,15 +197,18 @@ impl Side {
 
     /// Returns the names and registrations of the table, in the order of names.
     pub fn rows(&mut self) -> Result<Vec<(Vec<u8>, Registration)>, Refused> {
-        let mut count = 0;
-        answer(unsafe { ffi::heal_side_count(self.held.at(), &mut count) })?;
-        (0..count).map(|i| self.row(i)).collect()
-    }
-
-    fn row(&mut self, i: usize) -> Result<(Vec<u8>, Registration), Refused> {
+        let mut rows = Vec::new();
         let mut row = ffi::Row::default();
-        answer(unsafe { ffi::heal_side_row(self.held.at(), i, &mut row) })?;
-        Ok((types::bytes_of(&row.name), row.registration.into()))
+        let mut number = unsafe { ffi::heal_side_row(self.held.at(), 0, &mut row) };
+        while number != NO_ROW {
+            answer(number)?;
+            let name = types::bytes_of(&row.name);
+            number = unsafe {
+                ffi::heal_side_row_after(self.held.at(), name.as_ptr(), name.len(), &mut row)
+            };
+            rows.push((name, row.registration.into()));
+        }
+        Ok(rows)
     }
 
     /// Opens an exchange, and returns the offer to be sent.

@@ -49,7 +49,7 @@ handed : {X : Type 0} (by : SideId) (f : X → Call) (o : Option X) →
 handed by f None = refl
 handed by f (Some x) = refl
 
-event_leaves : (w : World) (event : Event) (id : SideId) →
+pub event_leaves : (w : World) (event : Event) (id : SideId) →
     side_of (happens w event) id ≡ after_call (call_at w event) id (side_of w id)
 event_leaves w (Does by call) id = by_test (takes_message call)
   where

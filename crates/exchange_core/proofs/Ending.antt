@@ -32,7 +32,7 @@ length-held [] full = refl
 length-held (None ∷ rulings) full = cc
 length-held (Some judged ∷ rulings) full = ap suc (length-held rulings full)
 
-held_at : (rulings : List (Option Judged)) → list_all is_some rulings ≡ true → (k : ℕ) (judged : Judged) →
+pub held_at : (rulings : List (Option Judged)) → list_all is_some rulings ≡ true → (k : ℕ) (judged : Judged) →
     slice_get (all_held rulings) k ≡ Some judged → slice_get rulings k ≡ Some (Some judged)
 held_at [] full k judged e = cc
 held_at (None ∷ rulings) full k judged e = cc

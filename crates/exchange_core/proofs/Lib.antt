@@ -1,4 +1,4 @@
-mod Calling
+pub mod Calling
 pub mod Carried
 pub mod Due
 pub mod Ending
@@ -18,9 +18,12 @@ pub mod Replays
 pub mod Rulings
 pub mod Sent
 pub mod Settled
+pub mod Settles
 pub mod Showing
 pub mod Steps
 pub mod Taking
 pub mod Theorem
 pub mod Told
+pub mod TwoHalves
+pub mod Witness
 pub mod Words

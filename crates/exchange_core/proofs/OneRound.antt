@@ -43,23 +43,24 @@ one_ruling all seed k x y p q words =
     let answers : x.answer ≡ y.answer = f.2 ∙ (λ i. answer (same i) (words i)) ∙ sym g.2 in
     λ i. record { word = words i; answer = answers i }
 
-pub one_round : (f g : Finished) (round : ℕ) → IsFinished f → IsFinished g → f.seed ≡ g.seed → f.a ≡ g.a →
-    f.uptime_a ≡ g.uptime_a → f.b ≡ g.b → f.uptime_b ≡ g.uptime_b → f.gone ≡ g.gone →
-    IsOfRound round f → IsOfRound round g → f.table ≡ g.table
-one_round f g round is_f is_g seeds a uptime_a b uptime_b gone of_f of_g =
-    is_f.merged
-    ∙ (λ i. merge (a i) (b i) (answers (rulings i)) (gone i))
-    ∙ sym is_g.merged
-  where
-    all : clashes_merged f ≡ clashes_merged g
-    all = λ i. clashes (a i) (uptime_a i) (b i) (uptime_b i)
+module _ (f g : Finished) (round : ℕ) (is_f : IsFinished f) (is_g : IsFinished g) (seeds : f.seed ≡ g.seed)
+    (a : f.a ≡ g.a) (uptime_a : f.uptime_a ≡ g.uptime_a) (b : f.b ≡ g.b) (uptime_b : f.uptime_b ≡ g.uptime_b)
+    (of_f : IsOfRound round f) (of_g : IsOfRound round g) where
+  all : clashes_merged f ≡ clashes_merged g
+  all = λ i. clashes (a i) (uptime_a i) (b i) (uptime_b i)
 
-    at_place : (k : ℕ) (x y : Judged) → slice_get f.rulings k ≡ Some x → slice_get g.rulings k ≡ Some y → x ≡ y
-    at_place k x y p q =
-        one_ruling (clashes_merged g) g.seed k x y
-        (subst (λ (s : List Clash × ℕ). is_lawful s.0 s.1 k x ≡ true) (λ i. (all i, seeds i)) (is_f.lawful k x p))
-        (is_g.lawful k y q)
-        (of_f k x p ∙ (λ i. word_of (seeds i) round (length (all i)) k) ∙ sym (of_g k y q))
+  at_place : (k : ℕ) (x y : Judged) → slice_get f.rulings k ≡ Some x → slice_get g.rulings k ≡ Some y → x ≡ y
+  at_place k x y p q =
+      one_ruling (clashes_merged g) g.seed k x y
+      (subst (λ (s : List Clash × ℕ). is_lawful s.0 s.1 k x ≡ true) (λ i. (all i, seeds i)) (is_f.lawful k x p))
+      (is_g.lawful k y q)
+      (of_f k x p ∙ (λ i. word_of (seeds i) round (length (all i)) k) ∙ sym (of_g k y q))
 
-    rulings : f.rulings ≡ g.rulings
-    rulings = same_lists f.rulings g.rulings (is_f.one_each ∙ ap length all ∙ sym is_g.one_each) at_place
+  pub one_rulings : f.rulings ≡ g.rulings
+  one_rulings = same_lists f.rulings g.rulings (is_f.one_each ∙ ap length all ∙ sym is_g.one_each) at_place
+
+  pub one_round : f.gone ≡ g.gone → f.table ≡ g.table
+  one_round gone =
+      is_f.merged
+      ∙ (λ i. merge (a i) (b i) (answers (one_rulings i)) (gone i))
+      ∙ sym is_g.merged

@@ -15,7 +15,7 @@ use Rattle.exchange_core.proofs.Journaled.{led_on}
 use Rattle.exchange_core.proofs.Replays.{Holds}
 use Rattle.exchange_core.proofs.Rulings.{lawful_passes, clashes_are}
 
-length-seam : {X : Type 0} (xs : List X) (x : X) → length (xs ++ x ∷ []) ≡ suc (length xs)
+pub length-seam : {X : Type 0} (xs : List X) (x : X) → length (xs ++ x ∷ []) ≡ suc (length xs)
 length-seam [] x = refl
 length-seam (y ∷ xs) x = ap suc (length-seam xs x)
 
@@ -38,7 +38,7 @@ module _ (side : Side) (x : Exchange) (heard : Heard) (round : ℕ) (early : rou
   abbrev judge : ℕ → Clash → Judged
   judge = judged_in x.seed round (length (clashes_heard side x heard))
 
-  take_next : (front rest : List (Option Judged)) (c : Clash) → slice_get (clashes_heard side x heard) (length front) ≡ Some c →
+  pub take_next : (front rest : List (Option Judged)) (c : Clash) → slice_get (clashes_heard side x heard) (length front) ≡ Some c →
       take (held (front ++ None ∷ rest)) x.number (length front) (judge (length front) c)
       ≡ Some (held (front ++ Some (judge (length front) c) ∷ rest))
   take_next front rest c at =

@@ -15,16 +15,16 @@ use Rattle.exchange_core.proofs.Steps.{Made, judge_cases, at_more, found_key, st
 use Rattle.exchange_core.proofs.Places.{only_judge}
 
 -- a ruling is lawful, of clash k of two offers of its number with one seed
-record RulingFits (number k : ℕ) (ruling : Ruling) (past : Past) : Type 0 where
-  seed : ℕ
-  a : Table
-  uptime_a : ℕ
-  b : Table
-  uptime_b : ℕ
-  made_a : Has past.offers (made A number seed uptime_a a)
-  made_b : Has past.offers (made B number seed uptime_b b)
-  of_clash : slice_get (clashes a uptime_a b uptime_b) k ≡ Some ruling.clash
-  lawful : is_lawful (clashes a uptime_a b uptime_b) seed k ruling.judged ≡ true
+pub record RulingFits (number k : ℕ) (ruling : Ruling) (past : Past) : Type 0 where
+  pub seed : ℕ
+  pub a : Table
+  pub uptime_a : ℕ
+  pub b : Table
+  pub uptime_b : ℕ
+  pub made_a : Has past.offers (made A number seed uptime_a a)
+  pub made_b : Has past.offers (made B number seed uptime_b b)
+  pub of_clash : slice_get (clashes a uptime_a b uptime_b) k ≡ Some ruling.clash
+  pub lawful : is_lawful (clashes a uptime_a b uptime_b) seed k ruling.judged ≡ true
 
 fits_on : {number k : ℕ} {ruling : Ruling} {past more : Past} → Grows past more → RulingFits number k ruling past →
     RulingFits number k ruling more
@@ -40,7 +40,7 @@ fits_on g f = record {
   lawful = f.lawful;
 }
 
-offer_key : (id : SideId) (number : ℕ) (offers : List Offer) (offer : Offer) → offer_by id number offers ≡ Some offer →
+pub offer_key : (id : SideId) (number : ℕ) (offers : List Offer) (offer : Offer) → offer_by id number offers ≡ Some offer →
     Has offers (made id number offer.seed offer.uptime offer.table)
 offer_key id number [] offer e = cc
 offer_key id number (o ∷ os) offer e =
@@ -83,7 +83,7 @@ new_fits past number k round r none e = ⊎_elim
     (at_more n.ruling past.rulings number k r (subst (λ l. ruling_at number k l ≡ Some r) n.rulings_are e)))
     (judge_cases past number k round)
 
-ruling_fits : (history : List Event) (number k : ℕ) (r : Ruling) →
+pub ruling_fits : (history : List Event) (number k : ℕ) (r : Ruling) →
     ruling_at number k (world_after history).past.rulings ≡ Some r → RulingFits number k r (world_after history).past
 ruling_fits [] number k r e = cc
 ruling_fits (step ∷ earlier) number k r e =
@@ -103,7 +103,7 @@ ruling_fits (step ∷ earlier) number k r e =
 
 module _ {past : Past} (one : OneEach past) (number k : ℕ) (r : Ruling) (fits : RulingFits number k r past) where
   -- the offers of the number are those that an open side made and heard
-  same_clashes : (id : SideId) (seed uptime other_uptime : ℕ) (own others : Table) →
+  pub same_clashes : (id : SideId) (seed uptime other_uptime : ℕ) (own others : Table) →
       Has past.offers (made id number seed uptime own) →
       Has past.offers (made (other id) number seed other_uptime others) →
       (clashes_for id own uptime others other_uptime ≡ clashes fits.a fits.uptime_a fits.b fits.uptime_b) ×

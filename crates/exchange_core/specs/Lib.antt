@@ -2,6 +2,7 @@ pub mod Calls
 pub mod Codings
 pub mod Faults
 pub mod Finished
+pub mod Halves
 pub mod History
 pub mod Journal
 pub mod Lists

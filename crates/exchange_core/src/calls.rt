@@ -211,6 +211,13 @@ impl Side {
         Ok(offer)
     }
 
+    /// Returns the refusal that is due to `begin` with this number, if any. Allocates nothing.
+    pub fn begin_refusal(&self, number: u64) -> Option<SideFault>
+        ensures { result ≡ due.begin_fault (is_full self.now) (shown self.now) number }
+    {
+        self.state.begin_fault(self.is_full(), number)
+    }
+
     /// Hears the other side's offer. One that comes after the first, of the open number, changes nothing but the
     /// journal.
     ///
@@ -349,6 +356,13 @@ impl Side {
         Ok(list)
     }
 
+    /// Returns the refusal that is due to `close_list`, if any. Allocates nothing.
+    pub fn close_list_refusal(&self) -> Option<SideFault>
+        ensures { result ≡ due.close_list_fault (is_full self.now) (shown self.now) }
+    {
+        self.state.close_list_fault(self.is_full())
+    }
+
     /// Hears the other side's list of withdrawn names. One that comes after the first changes nothing but the journal.
     ///
     /// Returns 34 if no exchange is open, 40 if the journal is full, 45 for another number, and 46 for a list of this
@@ -364,6 +378,13 @@ impl Side {
         self.state.hear_list(sent)?;
         self.journal.push(Event::HearList(Snapshot::of(sent)));
         Ok(())
+    }
+
+    /// Returns the refusal that is due to `finish`, if any. Allocates nothing.
+    pub fn finish_refusal(&self) -> Option<SideFault>
+        ensures { result ≡ due.finish_fault (is_full self.now) (shown self.now) }
+    {
+        self.state.finish_fault(self.is_full())
     }
 
     /// Replaces the table by the merge of the two under the rulings taken, and closes the exchange.

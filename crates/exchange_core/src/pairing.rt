@@ -10,7 +10,8 @@ ghost use Rattle.exchange_core.specs.model.Pairing.{fit_fault_for};
 use builtin_resolvers::Verdict3;
 use clash_record::Name;
 use partition_table::{
-    ClashList, Table, TableFault, clashes, clashes_theorem, fit, fit_theorem, merge, merge_theorem,
+    ClashList, Table, TableFault, clashes, clashes_theorem, fit, fit_theorem, merge_fitting,
+    merge_theorem,
 };
 use std::alloc::{AllocError, Global};
 
@@ -55,8 +56,5 @@ pub(crate) fn merge_own(
     own.rows();
     other.rows();
     merge_theorem();
-    match merge(alloc, own, other, answers, own_gone, other_gone) {
-        Ok(table) => Ok(table),
-        Err(_) => Err(AllocError),
-    }
+    merge_fitting(alloc, own, other, answers, own_gone, other_gone)
 }

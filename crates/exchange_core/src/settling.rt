@@ -11,6 +11,7 @@ use crate::exchange::Exchange;
 use crate::fault::{MissingPart, SideFault};
 use crate::journal::{Event, Journal};
 use crate::state::State;
+use interpreter::Scratch;
 use partition_table::{Clash, ClashList, Judged, Verdict, word};
 
 // The numbers of an exchange that rulings are made of.
@@ -100,23 +101,24 @@ pub(crate) fn fill(
         ++ calls_of journal.old.past.value }
 {
     let count = clashes.len() as u32;
+    let mut scratch = Scratch::new();
     for k in 0..count {
         let Some(clash) = clashes.get(k) else {
             unreachable!()
         };
         if rulings[k as usize].is_none() {
-            let judged = judge(course, count, k, clash);
+            let judged = judge(&mut scratch, course, count, k, clash);
             rulings[k as usize] = Some(judged);
             journal.push(Event::Take(course.number, k, judged));
         }
     }
 }
 
-// Judges clash `k` of `count`.
-fn judge(course: Course, count: u32, k: u32, clash: &Clash) -> Judged
+// Judges clash `k` of `count`. A program runs in the scratch memory.
+fn judge(scratch: &mut Scratch, course: Course, count: u32, k: u32, clash: &Clash) -> Judged
     ensures { result ≡ judge_by course count k clash.now }
 {
-    let verdict = Verdict::judged(clash, word(course.seed, course.round, count, k));
+    let verdict = Verdict::judged_in(scratch, clash, word(course.seed, course.round, count, k));
     Judged {
         word: verdict.word(),
         answer: verdict.answer(),

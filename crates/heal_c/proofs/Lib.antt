@@ -6,5 +6,6 @@ pub mod Hearing
 pub mod Loading
 pub mod MessageWords
 pub mod OutcomeWords
+pub mod Processes
 pub mod ProgramWords
 pub mod Told

@@ -4,6 +4,7 @@ pub mod Exchanges
 pub mod Held
 pub mod Messages
 pub mod Outcomes
+pub mod Processes
 pub mod Programs
 pub mod Records
 pub mod Sides

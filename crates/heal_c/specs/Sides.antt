@@ -11,7 +11,7 @@ use Rattle.clash_record.specs.declared.registrations.Registration.{Registration}
 use Rattle.upload_store.specs.declared.fault.UploadFault.{UploadFault}
 use Rattle.upload_store.specs.Faults.{upload_fault_number, upload_fault_place}
 use Rattle.upload_store.specs.Uploads.{Fits, IsKept, IsUploadFault}
-use Rattle.partition_table.specs.Tables.{row_for, rows_of}
+use Rattle.partition_table.specs.Tables.{row_for, rows_of, rows_above}
 use Rattle.exchange_core.specs.Calls.{Call, Register, Unregister}
 use Rattle.exchange_core.specs.Faults.{side_fault_number}
 use Rattle.exchange_core.specs.Refusals.{register_fault, unregister_fault, renew_fault}
@@ -73,6 +73,11 @@ found_at bytes half = and_then (name_of bytes) (λ name. ok_or
 -- row i of the table, or 92
 abbrev pub row_at : ℕ → Half → Result HealRow ℕ
 row_at i half = ok_or (option_map row_code (slice_get (rows_of (shown half.side).table) i)) 92
+
+-- the first row of the table above this name, or the refusal that is due
+abbrev pub row_after : List ℕ → Half → Result HealRow ℕ
+row_after bytes half = and_then (name_of bytes) (λ name.
+    ok_or (option_map row_code (slice_get (rows_above name (shown half.side).table) 0)) 92)
 
 -- ---- renewing
 

@@ -19,6 +19,7 @@ mod programs;
 mod records;
 mod registry;
 mod sides;
+mod theorem;
 
 pub use codes::{
     HealClash, HealEnded, HealFacts, HealName, HealNotice, HealOwner, HealRegistration, HealRow,
@@ -27,3 +28,4 @@ pub use half_handle::HealSide;
 pub use message_handle::HealBytes;
 pub use outcome_handle::HealOutcome;
 pub use program_handle::HealProgram;
+pub use theorem::two_processes_theorem;

@@ -32,6 +32,9 @@ impl Half {
         ensures { Begins number seed uptime self.old self.new offer.old.message offer.new.message result }
     {
         let side = &self.side;
+        if let Some(fault) = side.begin_refusal(number) {
+            return fault.number();
+        }
         let spelled = spell_offer(alloc, side.id(), number, seed, uptime, side.table());
         let Ok(message) = boxed(alloc, spelled) else {
             return OUT_OF_MEMORY;
@@ -79,6 +82,9 @@ impl Half {
         ensures { Closes self.old self.new list.old.message list.new.message result }
     {
         let side = &self.side;
+        if let Some(fault) = side.close_list_refusal() {
+            return fault.number();
+        }
         let number = side.open_number().unwrap_or(0);
         let spelled = spell_withdrawals(alloc, side.id(), number, side.withdrawn());
         let Ok(message) = boxed(alloc, spelled) else {
@@ -110,6 +116,9 @@ impl Half {
     pub(crate) fn finish(&mut self, alloc: Global, outcome: &mut HealOutcome) -> u32
         ensures { Finishes self.old self.new outcome.old.outcome outcome.new.outcome result }
     {
+        if let Some(fault) = self.side.finish_refusal() {
+            return fault.number();
+        }
         let Ok(mut room) = room_for(alloc, self) else {
             return OUT_OF_MEMORY;
         };

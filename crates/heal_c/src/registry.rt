@@ -2,7 +2,8 @@
 ghost use Rattle.std.specs.Prelude.{◌≡◌, slice_get};
 ghost use Rattle.std.specs.Option.{option_map};
 ghost use Rattle.std.specs.Map.Iter.{deref_pair};
-ghost use Rattle.heal_c.specs.Sides.{IsUpload, id_in, Registers, Unregisters, IsNew, found_at, row_at};
+ghost use Rattle.heal_c.specs.Sides.{IsUpload, id_in, Registers, Unregisters, IsNew, found_at, row_after, row_at};
+ghost use Rattle.heal_c.specs.Codes as code;
 
 use crate::answer::{INDEX_OUT_OF_RANGE, NOT_REGISTERED, number_of, slot_in};
 use crate::codes::{
@@ -85,12 +86,30 @@ impl Half {
         ensures { result ≡ row_at i self.now }
     {
         match nth_row(self.side.table().rows(), i) {
-            Some((name, registration)) => Ok(HealRow {
-                name: name_code(name),
-                registration: registration_code(registration),
-            }),
+            Some((name, registration)) => Ok(row_code(name, registration)),
             None => Err(INDEX_OUT_OF_RANGE),
         }
+    }
+
+    // Returns the first row of the table above the name.
+    pub(crate) fn row_after(&self, bytes: &[u8]) -> Result<HealRow, u32>
+        ensures { result ≡ row_after bytes.now self.now }
+    {
+        let name = name_of(bytes)?;
+        match self.side.table().rows_after(&name).next() {
+            Some((name, registration)) => Ok(row_code(name, registration)),
+            None => Err(INDEX_OUT_OF_RANGE),
+        }
+    }
+}
+
+// Encodes a row.
+fn row_code(name: &Name, registration: &Registration) -> HealRow
+    ensures { result ≡ code.row_code (name.now, registration.now) }
+{
+    HealRow {
+        name: name_code(name),
+        registration: registration_code(registration),
     }
 }
 

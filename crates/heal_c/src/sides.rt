@@ -4,7 +4,7 @@ ghost use Rattle.std.specs.FinMap.{len};
 ghost use Rattle.numbered.specs.Answers.{out_of_memory};
 ghost use Rattle.exchange_core.specs.Shown.{shown, calls};
 ghost use Rattle.heal_c.specs.Answers.{Gives, OnHandle, Reads};
-ghost use Rattle.heal_c.specs.Sides.{side_id, Registers, Unregisters, Renews, GivesUp, IsNew, IsUpload, found_at, row_at};
+ghost use Rattle.heal_c.specs.Sides.{side_id, Registers, Unregisters, Renews, GivesUp, IsNew, IsUpload, found_at, row_after, row_at};
 
 use crate::answer::{EMPTY_HANDLE, give, number_of};
 use crate::codes::{HealRegistration, HealRow};
@@ -169,6 +169,30 @@ pub extern "C" fn heal_side_row(
     match side.take(alloc) {
         Some(half) => {
             let found = half.row(i);
+            side.put(half);
+            give(found, row)
+        }
+        None => EMPTY_HANDLE,
+    }
+}
+
+/// Returns the first row of the side's table whose name is above this one; in an open exchange, also a withdrawn one.
+/// Row 0 and then the row after each name are the table, each in logarithmic time.
+///
+/// Returns 91 for an empty handle, 44 for an invalid name, and 92 if no name is above it.
+#[unsafe(no_mangle)]
+pub extern "C" fn heal_side_row_after(
+    alloc: Global,
+    side: &mut HealSide,
+    name: &[u8],
+    row: &mut HealRow,
+) -> u32
+    ensures { Reads side.old.half side.new.half (λ held. Gives (row_after name.now held) (λ found. row.new ≡ found)
+        (row.new ≡ row.old)) (row.new ≡ row.old) result }
+{
+    match side.take(alloc) {
+        Some(half) => {
+            let found = half.row_after(name);
             side.put(half);
             give(found, row)
         }

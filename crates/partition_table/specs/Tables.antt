@@ -98,6 +98,10 @@ row_for store r = record { registration = r; code = code_for store r.resolver }
 abbrev pub rows_of : Table → List (Name × Registration)
 rows_of table = map (λ e. (e.0, e.1.registration)) (entries table)
 
+-- those of names above this one
+abbrev pub rows_above : Name → Table → List (Name × Registration)
+rows_above name table = filter (λ row. is_lt (name_cmp name row.0)) (rows_of table)
+
 -- ---- clashes
 
 abbrev pub is_name : Name → Name → Bool

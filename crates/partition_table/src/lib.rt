@@ -25,6 +25,6 @@ pub use fitting::fit;
 pub use judged::Judged;
 pub use judging::word;
 pub use laws::{clashes_theorem, fit_theorem, merge_theorem};
-pub use merging::merge;
-pub use table::{MAX_NAMES, Rows, Table};
+pub use merging::{merge, merge_fitting};
+pub use table::{MAX_NAMES, Rows, RowsAfter, Table};
 pub use verdict::{Ruling, Verdict};

@@ -7,7 +7,7 @@ ghost use Rattle.std.specs.BTreeSet.{contains};
 ghost use Rattle.std.specs.Slice.Iter.{iter_rest};
 ghost use Rattle.clash_record.specs.Orders.{name_cmp};
 ghost use Rattle.clash_record.specs.Name.{Name};
-ghost use Rattle.partition_table.specs.Tables.{IsTable, Row, max_names, tables_agree, differ, clash_names, is_in};
+ghost use Rattle.partition_table.specs.Tables.{IsTable, Row, max_names, tables_agree, differ, fit_together, clash_names, is_in};
 ghost use Rattle.partition_table.specs.Tables.{merged_at, unless_gone, with_row, merge};
 ghost use Rattle.numbered.specs.Answers.{IsAnswered};
 ghost use Rattle.partition_table.specs.Faults.{fit_fault, table_fault_number};
@@ -52,6 +52,25 @@ pub fn merge(
         record { of_a = gone_a.now; of_b = gone_b.now }) }
 {
     fit(a, b)?;
+    Ok(merge_fitting(alloc, a, b, answers, gone_a, gone_b)?)
+}
+
+/// Merges two tables as `merge` does. Requires that they fit together, and compares no code.
+///
+/// Returns an error only when out of memory.
+pub fn merge_fitting(
+    alloc: Global,
+    a: &Table,
+    b: &Table,
+    answers: &[Verdict3],
+    gone_a: &[Name],
+    gone_b: &[Name],
+) -> Result<Table, AllocError>
+    requires fit { IsTrue (fit_together a.now b.now) }
+    requires one_each { length answers.now ≡ length (clash_names a.now b.now) }
+    ensures { IfOk result (λ table. table ≡ merge a.now b.now answers.now
+        record { of_a = gone_a.now; of_b = gone_b.now }) }
+{
     let parents = Parents {
         a,
         b,
@@ -61,7 +80,8 @@ pub fn merge(
     let mut merged = TableBuilder::new(alloc);
     parents.put_names_of_a(&mut merged, answers)?;
     parents.put_names_of_b_alone(&mut merged)?;
-    Ok(merged.finish(alloc)?)
+    let table = merged.finish(alloc)?;
+    Ok(table)
 }
 
 // What is merged: two tables, and the names that were withdrawn of each.

@@ -6,7 +6,7 @@ ghost use Rattle.std.specs.FinMap as map;
 ghost use Rattle.std.specs.BTreeMap.{IsFromIterResult, Updates, get};
 ghost use Rattle.clash_record.specs.Orders.{name_cmp};
 ghost use Rattle.clash_record.specs.Name.{Name};
-ghost use Rattle.partition_table.specs.Tables.{IsTable, IsCodeOf, agrees_with, max_names, tables_agree, row_for, rows_of, Row};
+ghost use Rattle.partition_table.specs.Tables.{IsTable, IsCodeOf, agrees_with, max_names, tables_agree, row_for, rows_above, rows_of, Row};
 ghost use Rattle.partition_table.specs.model.Coding.{HasCodesOf};
 ghost use Rattle.partition_table.specs.model.Keeping.{kept_code, IsKept, IsKeptFor};
 ghost use Rattle.partition_table.specs.Views.{table_by};
@@ -23,6 +23,7 @@ use clash_record::{Name, ProgramId, Registration, ResolverId};
 use std::alloc::{AllocError, Global};
 use std::collections::{BTreeMap, btree_map};
 use std::marker::Model;
+use std::ops::Bound;
 use std::sync::Arc;
 use upload_store::UploadStore;
 use verifier::Verified;
@@ -32,6 +33,9 @@ pub const MAX_NAMES: usize = 4096;
 
 /// Iterates over the rows of a table in the order of names.
 pub type Rows<'a> = btree_map::Iter<'a, Name, Registration>;
+
+/// Iterates over the rows of a table that come after a name, in the order of names.
+pub type RowsAfter<'a> = btree_map::Range<'a, Name, Registration>;
 
 /// At most 4,096 names with their registrations, and the programs that the registrations name.
 ///
@@ -108,6 +112,15 @@ impl Table {
         ensures kept { IsTable self.now }
     {
         self.rows.iter()
+    }
+
+    /// Iterates over the rows whose names are above this one, in the order of names. Allocates nothing.
+    ///
+    /// Finds the first of them in logarithmic time.
+    pub fn rows_after(&self, name: &Name) -> RowsAfter<'_>
+        ensures { result ≡ rows_above name.now self.now }
+    {
+        self.rows.range((Bound::Excluded(*name), Bound::Unbounded))
     }
 
     /// Registers the name, and keeps the program that the registration names, as the store has it.
