@@ -502,7 +502,7 @@ static term rows_body(ErlNifEnv *env, resource *held, const term argv[])
 }
 IN_TURN(rows, side_type)
 
-/* Looks many names up: a row of libheal costs time that grows with its index, and a name doesn't. */
+/* Looks many names up in one call. */
 static term owners_body(ErlNifEnv *env, resource *held, const term argv[])
 {
     term head, rest = argv[1], owners = enif_make_list(env, 0);

@@ -1,5 +1,5 @@
 -- A side that is settled is where its journal leads.
-use Rattle.std.proofs.Common.{◌≡◌, ℕ, suc, ◌-◌, ◌<◌, ◌≤◌, Bool, true, false, not, nat_lt, if◌then◌else◌, List, [], ◌∷◌, ◌++◌, length, Option, Some, None, is_some, slice_get, slice_set, unwrap_or, eq-eqb, refl, sym, ap, ◌∙◌, subst, append_assoc, arith, option_map, option_and_then, reverse}
+use Rattle.std.proofs.Common.{◌≡◌, ℕ, suc, ◌-◌, ◌<◌, ◌≤◌, Bool, true, false, nat_lt, if◌then◌else◌, List, [], ◌∷◌, ◌++◌, length, Option, Some, None, is_some, slice_get, slice_set, unwrap_or, eq-eqb, refl, sym, ap, ◌∙◌, subst, append_assoc, arith, option_map, option_and_then, reverse}
 use Rattle.std.proofs.lemmas.Bool.Decides.{nat_tests}
 use Rattle.std.specs.Option.{option_map_or}
 use Rattle.partition_table.specs.Tables.{Clash}

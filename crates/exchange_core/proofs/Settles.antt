@@ -1,20 +1,20 @@
 -- Settling as judgings in round 0 and rulings that are taken.
-use Rattle.std.proofs.Common.{◌≡◌, ◌⊎◌, ℕ, zero, suc, ◌<◌, Bool, true, false, cond, not, ◌&&◌, nat_lt, if◌then◌else◌, List, [], ◌∷◌, ◌++◌, length, Option, Some, None, is_some, is_none, slice_get, eq-eqb, ◌==◌, refl, sym, ap, ◌∙◌, subst, ⊎_elim, append_assoc, arith, option_map, option_and_then}
+use Rattle.std.proofs.Common.{◌≡◌, ℕ, zero, suc, Bool, true, false, cond, not, ◌&&◌, if◌then◌else◌, List, [], ◌∷◌, ◌++◌, length, Option, Some, None, is_none, slice_get, eq-eqb, ◌==◌, refl, sym, ap, ◌∙◌, subst, ⊎_elim, append_assoc, arith, option_map, option_and_then}
 use Rattle.std.specs.List.{list_all}
 use Rattle.clash_record.specs.declared.side_id.SideId.{SideId}
 use Rattle.clash_record.specs.declared.side_id.SideId.TheVariants.{A, B}
 use Rattle.partition_table.specs.Tables.{Table, Clash, answer, word_of, clashes}
-use Rattle.exchange_core.specs.Sides.{Offer, Withdrawals, Judged, Heard, Exchange, Side, is_side, clashes_for, clashes_heard, clashes_of, heard_clashes, has_clash, take}
-use Rattle.exchange_core.specs.Calls.{Call, Take, carried_out}
+use Rattle.exchange_core.specs.Sides.{Offer, Judged, Heard, Exchange, Side, is_side, clashes_for, clashes_heard, heard_clashes, has_clash, take}
+use Rattle.exchange_core.specs.Calls.{Take}
 use Rattle.exchange_core.specs.Worlds.{Ruling, Past, World, Event, Tells, Judges, side_of, with_side, called, called_if, ruling_at, taken_by, offer_by, ruling_of, clashes_between, ruling_on, add_ruling, judge, happens, world_after}
 use Rattle.exchange_core.specs.Settling.{judged_in, filled, settled, the_round}
-use Rattle.exchange_core.specs.Halves.{IsRuledInRound, is_settling, IsSettling, SettlesByEvents}
+use Rattle.exchange_core.specs.Halves.{is_settling, IsSettling, SettlesByEvents}
 use Rattle.exchange_core.specs.laws.Carried.{some_inj}
-use Rattle.exchange_core.proofs.Rulings.{Lawful, lawful, has_clash_passes}
-use Rattle.exchange_core.proofs.Kept.{Has, other, made, OneEach, SideFits, OpenFits, HeardFits, other_side}
-use Rattle.exchange_core.proofs.Steps.{Made, NewRuling, judge_cases, at_more, found_key, past_is, sound}
+use Rattle.exchange_core.proofs.Rulings.{lawful, has_clash_passes}
+use Rattle.exchange_core.proofs.Kept.{Has, other, made, OneEach}
+use Rattle.exchange_core.proofs.Steps.{Made, judge_cases, at_more, found_key, past_is, sound}
 use Rattle.exchange_core.proofs.Places.{side_now}
-use Rattle.exchange_core.proofs.Told.{RulingFits, offer_key, ruling_fits, same_clashes}
+use Rattle.exchange_core.proofs.Told.{offer_key, ruling_fits, same_clashes}
 use Rattle.exchange_core.proofs.Calling.{judgings_add}
 use Rattle.exchange_core.proofs.Settled.{length-seam, take_next, unheard}
 use Rattle.exchange_core.proofs.Filling.{at_seam}

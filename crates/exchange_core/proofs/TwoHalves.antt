@@ -1,5 +1,5 @@
 -- Two halves that settle, each in its own process, are the sides of a history in which all is judged in round 0.
-use Rattle.std.proofs.Common.{◌≡◌, ℕ, zero, suc, Bool, true, false, not, ◌&&◌, if◌then◌else◌, List, [], ◌∷◌, ◌++◌, length, map, Option, Some, None, is_some, slice_get, eqb-true, ◌==◌, refl, sym, ap, ◌∙◌, subst, ⊎_elim, append_assoc, option_map, option_and_then}
+use Rattle.std.proofs.Common.{◌≡◌, ℕ, Bool, true, false, not, if◌then◌else◌, List, [], ◌∷◌, ◌++◌, length, Option, Some, None, slice_get, eqb-true, ◌==◌, refl, sym, ap, ◌∙◌, subst, ⊎_elim, append_assoc, option_map, option_and_then}
 use Rattle.std.proofs.lemmas.Bool.{and_parts, and_from}
 use Rattle.std.specs.List.{list_all}
 use Rattle.clash_record.specs.declared.side_id.SideId.{SideId}
@@ -7,22 +7,21 @@ use Rattle.clash_record.specs.declared.side_id.SideId.TheVariants.{A, B}
 use Rattle.builtin_resolvers.specs.declared.verdicts.Verdict3.{Verdict3}
 use Rattle.clash_record.specs.Name.{Name}
 use Rattle.partition_table.specs.Tables.{Table, Clash, word_of}
-use Rattle.exchange_core.specs.Sides.{Offer, Withdrawals, Judged, Heard, Exchange, Side, is_side, clashes_for, clashes_heard, heard_clashes, merge_for, merged_table, finish}
+use Rattle.exchange_core.specs.Sides.{Offer, Withdrawals, Judged, Heard, Exchange, Side, is_side, clashes_for, clashes_heard, merge_for, merged_table, finish}
 use Rattle.exchange_core.specs.Calls.{Call, Register, Unregister, Begin, Hear, Take, Withdraw, Close_list, Hear_list, Finish, Abandon, carried_out, takes_message}
 use Rattle.exchange_core.specs.Worlds.{Ruling, Past, World, Event, Does, Hears, Hears_list, Tells, Judges, side_of, past_after, with_side, called, called_if, ruling_at, offer_by, clashes_between, happens, world_after}
-use Rattle.exchange_core.specs.Steps.{call_at, after_call}
 use Rattle.exchange_core.specs.Finished.{Finished, IsFinished, all_held, finished_at, finished_of, finished_in, finished_from}
 use Rattle.exchange_core.specs.Settling.{IsOfRound, settled, the_round}
-use Rattle.exchange_core.specs.Halves.{IsRuledInRound, is_settling, IsSettling, Act, Happens, Settles, is_own, after_act, halves_after, ActsAreCalls, FinishesWith, IsSettledMerge}
+use Rattle.exchange_core.specs.Halves.{IsRuledInRound, is_settling, Act, Happens, Settles, is_own, halves_after, ActsAreCalls, FinishesWith, IsSettledMerge}
 use Rattle.exchange_core.specs.model.Finishing.{IsMergeable}
-use Rattle.exchange_core.specs.laws.Carried.{some_inj, Found, found}
-use Rattle.exchange_core.proofs.Kept.{Has, other, made, made_list, OneEach, Grows, HeardFits, our_offer}
+use Rattle.exchange_core.specs.laws.Carried.{some_inj, found}
+use Rattle.exchange_core.proofs.Kept.{Has, other, made, made_list, Grows, our_offer}
 use Rattle.exchange_core.proofs.Steps.{Made, judge_cases, at_more, step_grows, grows_on, sound}
 use Rattle.exchange_core.proofs.Places.{judged_at}
 use Rattle.exchange_core.proofs.Told.{offer_key}
 use Rattle.exchange_core.proofs.Calling.{event_leaves}
 use Rattle.exchange_core.proofs.Replays.{Holds, replay_holds, led}
-use Rattle.exchange_core.proofs.Ending.{answers, held_answers, held_at, merged_so, finished_so}
+use Rattle.exchange_core.proofs.Ending.{held_answers, held_at, merged_so, finished_so}
 use Rattle.exchange_core.proofs.OneRound.{one_rulings, one_round}
 use Rattle.exchange_core.proofs.Settles.{BothOffers, both_offers, offers, settles}
 

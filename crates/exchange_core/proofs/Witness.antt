@@ -1,5 +1,5 @@
 -- Two halves without names that finish an exchange.
-use Rattle.std.proofs.Common.{◌≡◌, ℕ, ◌+◌, Bool, true, not, nat_le, ◌&&◌, if◌then◌else◌, List, [], ◌∷◌, length, map, filter, replicate, Option, Some, None, refl, ap, ◌∙◌, option_map, arith}
+use Rattle.std.proofs.Common.{◌≡◌, ◌+◌, Bool, true, not, nat_le, ◌&&◌, if◌then◌else◌, List, [], ◌∷◌, length, map, filter, replicate, Option, Some, None, refl, ap, ◌∙◌, option_map, arith}
 use Rattle.std.proofs.lemmas.List.{nil_from_length}
 use Rattle.std.specs.List.{list_all, filter_map}
 use Rattle.std.specs.FinMap.{empty, get, entries, contains_key, len-entries, len-empty}
@@ -8,7 +8,7 @@ use Rattle.clash_record.specs.declared.side_id.SideId.{SideId}
 use Rattle.clash_record.specs.declared.side_id.SideId.TheVariants.{A, B}
 use Rattle.clash_record.specs.Name.{Name}
 use Rattle.partition_table.specs.Tables.{Row, Table, Clash, clash_at, clashes, facts_of, merge, fit_together, agrees_with, max_names}
-use Rattle.exchange_core.specs.Sides.{Offer, Judged, Heard, Exchange, Side, new_exchange, hear, finish}
+use Rattle.exchange_core.specs.Sides.{Offer, Judged, Exchange, Side, new_exchange, hear, finish}
 use Rattle.exchange_core.specs.Calls.{Begin, Close_list, Finish}
 use Rattle.exchange_core.specs.Worlds.{World, Past, Does, Hears, Hears_list, side_of, with_side}
 use Rattle.exchange_core.specs.Finished.{finished_from}

@@ -1,5 +1,5 @@
 -- Halves that settle: what settling is in a history of events, and two processes in which each half settles by itself.
-use Rattle.std.specs.Prelude.{◌≡◌, ℕ, Bool, true, false, not, ◌==◌, IsTrue, if◌then◌else◌, List, [], ◌∷◌, ◌++◌, length, Option, Some, None, slice_get}
+use Rattle.std.specs.Prelude.{◌≡◌, ℕ, Bool, true, false, not, ◌==◌, IsTrue, if◌then◌else◌, List, [], ◌∷◌, ◌++◌, length, Some, slice_get}
 use Rattle.std.specs.List.{list_all}
 use Rattle.partition_table.specs.Tables.{Clash, word_of}
 use Rattle.clash_record.specs.declared.side_id.SideId.{SideId}
