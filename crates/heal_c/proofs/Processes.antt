@@ -23,7 +23,7 @@ use Rattle.heal_c.specs.Answers.{unless, IsAnswer, Gives}
 use Rattle.heal_c.specs.Exchanges.{allowed, withdrawing}
 use Rattle.heal_c.specs.Sides.{CarriesOut, IsRenewed, Stays, registering, unregistering}
 use Rattle.heal_c.specs.Processes.{Processes, half_of, with_half, IsCall, AreNew, IsRun}
-use Rattle.heal_c.specs.Processes.IsCall as call
+use Rattle.heal_c.specs.Processes as call
 
 -- ---- answers of calls that returned 0
 
@@ -52,13 +52,13 @@ positive fault.ListClosed e = cc
 positive fault.OutOfMemory e = cc
 
 -- nothing refused it, so it is done
-done : (o : Option SideFault) {D : Unit {0} → Type 0} {S : Type 0} → IsAnswer (allowed o) D S 0 → D tt
-done None h = ⊎_elim (λ h. h.1) (λ h. let e = h.0 in absurd (cc)) h
-done (Some f) h = ⊎_elim (λ e. absurd (positive f e)) (λ e. absurd (cc)) h.0
+done : (o : Option SideFault) (D : Unit {0} → Type 0) (S : Type 0) → IsAnswer (allowed o) D S 0 → D tt
+done None D S h = ⊎_elim (λ h. h.1) (λ h. let e = h.0 in absurd (cc)) h
+done (Some f) D S h = ⊎_elim (λ e. absurd (positive f e)) (λ e. absurd (cc)) h.0
 
-settled_so : (o : Option SideFault) {D : Unit {0} → Type 0} {S : Type 0} → Gives (allowed o) D S 0 → D tt
-settled_so None h = h.1
-settled_so (Some f) h = absurd (positive f h.0)
+settled_so : (o : Option SideFault) (D : Unit {0} → Type 0) (S : Type 0) → Gives (allowed o) D S 0 → D tt
+settled_so None D S h = h.1
+settled_so (Some f) D S h = absurd (positive f h.0)
 
 -- it is done, or everything stays
 either : {X : Type 0} (r : Result X ℕ) {D : X → Type 0} {S : Type 0} → IsAnswer r D S 0 → ((x : X) × D x) ⊎ S
@@ -67,15 +67,15 @@ either (Err m) h = inr h.1
 
 -- ---- the processes as halves of acts
 
-record Like (p : Processes) : Type 0 where
-  acts : List Act
-  a : shown p.a.side ≡ (halves_after acts).a
-  b : shown p.b.side ≡ (halves_after acts).b
-  offers : (which : ℕ) (bytes : List ℕ) → slice_get p.offers which ≡ Some bytes →
+pub record Like (p : Processes) : Type 0 where
+  pub acts : List Act
+  pub a : shown p.a.side ≡ (halves_after acts).a
+  pub b : shown p.b.side ≡ (halves_after acts).b
+  pub offers : (which : ℕ) (bytes : List ℕ) → slice_get p.offers which ≡ Some bytes →
       (o : Offer) × ((slice_get (halves_after acts).past.offers which ≡ Some o) × SpellsOffer bytes o)
-  lists : (which : ℕ) (bytes : List ℕ) → slice_get p.lists which ≡ Some bytes →
+  pub lists : (which : ℕ) (bytes : List ℕ) → slice_get p.lists which ≡ Some bytes →
       (l : Withdrawals) × ((slice_get (halves_after acts).past.lists which ≡ Some l) × SpellsWithdrawals bytes l)
-  outcomes : (which : ℕ) (f : Finished) → slice_get p.outcomes which ≡ Some f →
+  pub outcomes : (which : ℕ) (f : Finished) → slice_get p.outcomes which ≡ Some f →
       (id : SideId) × ((new : Side) × FinishesWith acts id f new)
 
 -- what is true of an element of a list that grew by one
@@ -210,10 +210,10 @@ idle_rested side e = by_open side.exchange e
     by_open (Some x) e = cc
 
 -- a half that is renewed is as before
-renewed : (o : Option SideFault) {old new : Half} → Gives (unless side_fault_number o (tt {0})) (λ _. IsRenewed old new) (Stays old new) 0 →
+renewed : (o : Option SideFault) (old new : Half) → Gives (unless side_fault_number o (tt {0})) (λ _. IsRenewed old new) (Stays old new) 0 →
     shown new.side ≡ shown old.side
-renewed None h = h.1.same
-renewed (Some f) h = h.1.side.state
+renewed None old new h = h.1.same
+renewed (Some f) old new h = h.1.side.state
 
 module _ {p : Processes} (l : Like p) (id : SideId) (new : Half) where
   heard : (offer : Offer) (which : ℕ) → slice_get (halves_after l.acts).past.offers which ≡ Some offer →
@@ -272,7 +272,7 @@ module _ {p : Processes} (l : Like p) (id : SideId) (new : Half) where
       Like (record (with_half p id new) { outcomes = f ∷ p.outcomes })
   finished f c given = by_side id (like_after l id new (Happens (Does id Finish)) (halves_after l.acts).past
       (does l id new Finish c) p.offers p.lists (f ∷ p.outcomes) l.offers l.lists
-      (grown (λ which f. (id : SideId) × ((new : Side) × FinishesWith (Happens (Does id Finish) ∷ l.acts) id f new)) f
+      (grown (λ which f. (j : SideId) × ((new : Side) × FinishesWith (Happens (Does id Finish) ∷ l.acts) j f new)) f
       p.outcomes (
         id,
         (
@@ -317,12 +317,12 @@ step p after id l (call.unregisters new name r e) = subst Like (sym e)
     (⊎_elim (λ d. like_quiet l id new (Happens (Does id (Unregister d.0))) (does l id new (Unregister d.0) d.1))
     (stays l id new) (either (unregistering name (half_of p id)) r))
 step p after id l (call.begins new number seed uptime before bytes r e) = subst Like (sym e)
-    (let d = done _ r in began l id new number seed uptime bytes d.0 d.1)
+    (let d = done _ _ _ r in began l id new number seed uptime bytes d.0 d.1)
 step p after id l (call.hears new bytes sent r e) = subst Like (sym e)
     (let h = l.offers sent.0 bytes sent.1 in
-    heard l id new h.0 sent.0 h.1.0 (done _ (r.taken h.0 h.1.1)))
+    heard l id new h.0 sent.0 h.1.0 (done _ _ _ (r.taken h.0 h.1.1)))
 step p after id l (call.settles new r e) = subst Like (sym e)
-    (let d = settled_so _ r in
+    (let d = settled_so _ _ _ r in
     like_quiet l id new (Settles id)
     (ap (λ (s : Side). with_side (halves_after l.acts) id (halves_after l.acts).past (Some s))
     (ap (settled the_round) (sym (side_is l id new)) ∙ sym d.0.state)))
@@ -330,29 +330,30 @@ step p after id l (call.withdraws new name r e) = subst Like (sym e)
     (⊎_elim (λ d. like_quiet l id new (Happens (Does id (Withdraw d.0))) (does l id new (Withdraw d.0) d.1))
     (stays l id new) (either (withdrawing name (half_of p id)) r))
 step p after id l (call.closes new before bytes r e) = subst Like (sym e)
-    (let d = done _ r in closed l id new bytes d.0 d.1)
+    (let d = done _ _ _ r in closed l id new bytes d.0 d.1)
 step p after id l (call.hears_list new bytes sent r e) = subst Like (sym e)
     (let h = l.lists sent.0 bytes sent.1 in
-    heard_list l id new h.0 sent.0 h.1.0 (done _ (r.taken h.0 h.1.1)))
+    heard_list l id new h.0 sent.0 h.1.0 (done _ _ _ (r.taken h.0 h.1.1)))
 step p after id l (call.finishes new before outcome f r given e) = subst Like (sym e)
-    (let d = done _ r in finished l id new f d.0 given)
+    (let d = done _ _ _ r in finished l id new f d.0 given)
 step p after id l (call.abandons new r e) = subst Like (sym e)
-    (like_quiet l id new (Happens (Does id Abandon)) (does l id new Abandon (done _ r)))
+    (like_quiet l id new (Happens (Does id Abandon)) (does l id new Abandon (done _ _ _ r)))
 step p after id l (call.renews new r e) = subst Like (sym e)
-    (like_same l id new (renewed _ r))
+    (like_same l id new (renewed _ _ _ r))
 step p after id l (call.gives_up new r e) = subst Like (sym e)
     (⊎_elim (λ h. gave_up l id new h.1.state) (λ h. let n = h.0 in absurd (cc)) r)
+
+-- no element
+none : {X : Type 0} (xs : List X) (which : ℕ) (x : X) → xs ≡ [] → slice_get xs which ≡ Some x → ⊥
+none {X} xs which x is e = let e' = sym (ap (λ (l : List X). slice_get l which) is) ∙ e in cc
 
 pub like : (p : Processes) (earlier : List Processes) → IsRun (p ∷ earlier) → Like p
 like p [] new = record {
   acts = [];
   a = new.a.state;
   b = new.b.state;
-  offers = λ which bytes e. let n = new.offers in absurd (none new.offers e);
-  lists = λ which bytes e. absurd (none new.lists e);
-  outcomes = λ which f e. absurd (none new.outcomes e);
+  offers = λ which bytes e. absurd (none _ which bytes new.offers e);
+  lists = λ which bytes e. absurd (none _ which bytes new.lists e);
+  outcomes = λ which f e. absurd (none _ which f new.outcomes e);
 }
-  where
-    none : {X : Type 0} {xs : List X} {which : ℕ} {x : X} → xs ≡ [] → slice_get xs which ≡ Some x → ⊥
-    none {X} {xs} {which} is e = let e' = sym (ap (λ (l : List X). slice_get l which) is) ∙ e in cc
 like p (q ∷ earlier) run = step q p run.0.0 (like q earlier run.1) run.0.1

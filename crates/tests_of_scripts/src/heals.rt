@@ -28,9 +28,9 @@ pub(crate) const SCRIPTS: &[Said] = &[
     ),
     // `notify-all` tells both.
     (
-        "register a m 1.10 5 0 - notify-all\nregister b m 2.20 9 0 - notify-all\nheal 3\n",
+        "register a m 1.1 0 0 - notify-all\nregister b m 2.2 0 0 - notify-all\nheal 3\n",
         0,
-        "yes\nyes\nm none word 3\nconflict m to 1.10 other 2.20\nconflict m to 2.20 other 1.10\nhealed 0 names\n",
+        "yes\nyes\nm none word 3\nconflict m to 1.1 other 2.2\nconflict m to 2.2 other 1.1\nhealed 0 names\n",
     ),
     // Owners go while the exchange is open: the winner's name goes too, the loser's stays.
     (

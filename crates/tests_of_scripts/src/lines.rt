@@ -8,9 +8,9 @@ const SCRIPTS: &[Said] = &[
     ("whereis a db", 0, "undefined\n"),
     ("# \t\n\n   \n  whereis  a db  \n", 0, "undefined\n"),
     (
-        "upload gt 79123800000000007913600000000000b7000000010000003d32010000000000b7000000020000009500000000000000\nregister a db 1.10 5 0 - gt\nregister b db 2.20 9 0 - gt\nheal 0\nshow b\n",
+        "upload gt 79123800000000007913600000000000b7000000010000003d32010000000000b7000000020000009500000000000000\nregister a db 1.10 5 0 - gt\nregister b db 2.20 9 0 - gt\nregister b web 2.21 1 0 - notify-all\nheal 0\nshow a\nshow b\n",
         0,
-        "uploaded gt 6 instructions\nyes\nyes\ndb second word 0\nhealed 1 names\ndb 2.20 9 0 gt\nend\n",
+        "uploaded gt 6 instructions\nyes\nyes\nyes\ndb second word 0\nhealed 2 names\ndb 2.20 9 0 gt\nweb 2.21 1 0 notify-all\nend\ndb 2.20 9 0 gt\nweb 2.21 1 0 notify-all\nend\n",
     ),
     (
         "upload big 79128000000000007913900000000000b7000000010000003d32010000000000b7000000020000009500000000000000\nregister a db 1.10 5 0 - big\nregister b db 2.20 9 0 - big\nregister b web 2.21 1 0 - notify-all\nheal 0\n",
