@@ -1,1 +1,2 @@
-pub mod model
+pub mod Flat
+pub mod Effects

@@ -1,8 +1,7 @@
 -- Messages that are encoded before a call, and messages that are decoded.
-use Rattle.std.proofs.Common.{◌≡◌, ◌⊎◌, List, ℕ, inl, inr, refl, ap, sym, subst}
+use Rattle.std.proofs.Common.{◌≡◌, List, ℕ, inl, inr, sym, subst}
 use Rattle.std.specs.Prelude.{Result, Ok, Err, IfOk, IsOkAnd}
 use Rattle.numbered.specs.Answers.{ReturnsOrRunsOut}
-use Rattle.clash_record.specs.Name.{Name}
 use Rattle.exchange_core.specs.Sides as sides
 use Rattle.exchange_core.specs.Lists.{IsNameList}
 use Rattle.exchange_codec.specs.declared.fault.MessageFault.{MessageFault}

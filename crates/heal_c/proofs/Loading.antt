@@ -1,6 +1,6 @@
 -- Loads and uploads, by the results of the calls that they wrap.
 use Rattle.std.proofs.Common.{◌≡◌, ◌⊎◌, inl, inr, refl, ap, sym, subst, true≢false}
-use Rattle.std.specs.Prelude.{ℕ, ◌==◌, if◌then◌else◌, List, Option, Some, None, Result, Ok, Err, IsOk, IfOk, IfErr, OnErr}
+use Rattle.std.specs.Prelude.{ℕ, List, Option, Result, Ok, Err, IsOk, IfOk, IfErr, OnErr}
 use Rattle.numbered.specs.Answers.{HasCause, ReturnsOrRunsOut, RanOut, out_of_memory}
 use Rattle.numbered.specs.declared.place.Place.{Place}
 use Rattle.instruction_set.specs.declared.insn.Insn.{Insn}

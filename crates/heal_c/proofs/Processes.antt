@@ -1,5 +1,5 @@
 -- The calls of two processes are acts of their halves.
-use Rattle.std.proofs.Common.{◌≡◌, ◌⊎◌, ℕ, zero, suc, Bool, true, false, if◌then◌else◌, List, [], ◌∷◌, ◌++◌, Option, Some, None, Result, Ok, Err, slice_get, refl, sym, ap, ◌∙◌, subst, ⊎_elim, inl, inr, option_map}
+use Rattle.std.proofs.Common.{◌≡◌, ◌⊎◌, ℕ, zero, suc, List, [], ◌∷◌, Option, Some, None, Result, Ok, Err, slice_get, refl, sym, ap, ◌∙◌, subst, ⊎_elim, inl, inr, option_map}
 use Rattle.clash_record.specs.declared.side_id.SideId.{SideId}
 use Rattle.clash_record.specs.declared.side_id.SideId.TheVariants.{A, B}
 use Rattle.partition_table.specs.declared.fault.TableFault.{TableFault}
@@ -8,9 +8,9 @@ use Rattle.partition_table.specs.Faults.{table_fault_number}
 use Rattle.exchange_core.specs.declared.fault.SideFault.{SideFault}
 use Rattle.exchange_core.specs.declared.fault.SideFault.TheVariants as fault
 use Rattle.exchange_core.specs.Faults.{side_fault_number}
-use Rattle.exchange_core.specs.Sides.{Offer, Withdrawals, Exchange, Side, rested, finish, abandon}
+use Rattle.exchange_core.specs.Sides.{Offer, Withdrawals, Exchange, Side, rested, abandon}
 use Rattle.exchange_core.specs.Calls.{Call, Register, Unregister, Begin, Hear, Withdraw, Close_list, Hear_list, Finish, Abandon, carried_out}
-use Rattle.exchange_core.specs.Worlds.{Past, World, Does, Hears, Hears_list, side_of, with_side, called, called_if, past_after, offer_of, list_of}
+use Rattle.exchange_core.specs.Worlds.{Past, World, Does, Hears, Hears_list, side_of, with_side, called_if, past_after, offer_of, list_of}
 use Rattle.exchange_core.specs.Finished.{Finished, finished_from}
 use Rattle.exchange_core.specs.Settling.{settled, the_round}
 use Rattle.exchange_core.specs.Shown.{shown}

@@ -1,9 +1,9 @@
 -- The calls of a half in an exchange: what is due to each, and what it leaves.
-use Rattle.std.specs.Prelude.{◌≡◌, ◌⊎◌, ℕ, List, length, Option, Some, None, IsSomeAnd, Result, Ok, Err}
+use Rattle.std.specs.Prelude.{◌≡◌, ◌⊎◌, ℕ, List, length, Option, Some, IsSomeAnd, Result, Ok, Err}
 use Rattle.numbered.specs.Answers.{out_of_memory}
 use Rattle.clash_record.specs.Name.{Name}
 use Rattle.exchange_core.specs.Sides as sides
-use Rattle.exchange_core.specs.Calls.{Call, Begin, Hear, Withdraw, Close_list, Hear_list, Finish, Abandon}
+use Rattle.exchange_core.specs.Calls.{Begin, Hear, Withdraw, Close_list, Hear_list, Finish, Abandon}
 use Rattle.exchange_core.specs.declared.fault.SideFault.{SideFault}
 use Rattle.exchange_core.specs.Faults.{side_fault_number}
 use Rattle.exchange_core.specs.Finished.{Finished, finished_from}

@@ -1,5 +1,5 @@
 -- The outcome of a finished exchange.
-use Rattle.std.specs.Prelude.{◌≡◌, ℕ, List, [], length, map, Option, Some, None, Result, slice_get}
+use Rattle.std.specs.Prelude.{◌≡◌, ℕ, List, [], length, map, Option, Result, slice_get}
 use Rattle.std.specs.Option.{option_map, option_and_then, ok_or}
 use Rattle.std.specs.FinMap.{len}
 use Rattle.clash_record.specs.declared.registrations.ResolverId.{ResolverId}
@@ -14,7 +14,6 @@ use Rattle.heal_c.specs.declared.codes.HealClash.{HealClash}
 use Rattle.heal_c.specs.declared.codes.HealNotice.{HealNotice}
 use Rattle.heal_c.specs.declared.outcome.Outcome.{Outcome}
 use Rattle.heal_c.specs.declared.outcome.Pair.{Pair}
-use Rattle.heal_c.specs.Answers.{and_then}
 use Rattle.heal_c.specs.Codes.{name_code, registration_code, verdict_code, notice_code}
 
 -- what an outcome keeps of a clash

@@ -1,14 +1,12 @@
 -- Two processes that use the library, each with its half.
-use Rattle.std.specs.Prelude.{◌≡◌, ℕ, List, [], ◌∷◌, Option, Some, None, slice_get}
+use Rattle.std.specs.Prelude.{◌≡◌, ℕ, List, [], ◌∷◌, Option, Some, slice_get}
 use Rattle.clash_record.specs.declared.side_id.SideId.{SideId}
 use Rattle.clash_record.specs.declared.side_id.SideId.TheVariants.{A, B}
-use Rattle.exchange_core.specs.Finished.{Finished, IsFinished, finished_from}
-use Rattle.exchange_core.specs.Settling.{IsOfRound, the_round}
+use Rattle.exchange_core.specs.Finished.{Finished, finished_from}
 use Rattle.exchange_core.specs.Shown.{shown}
 use Rattle.heal_c.specs.declared.codes.HealRegistration.{HealRegistration}
 use Rattle.heal_c.specs.declared.half.Half.{Half}
 use Rattle.heal_c.specs.declared.outcome.Outcome.{Outcome}
-use Rattle.heal_c.specs.Outcomes.{IsOutcome}
 use Rattle.heal_c.specs.Exchanges.{Begins, Hears, Settles, Withdraws, Closes, HearsList, Finishes, Abandons}
 use Rattle.heal_c.specs.Sides.{IsNew, IsUpload, Registers, Unregisters, Renews, GivesUp}
 

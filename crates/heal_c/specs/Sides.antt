@@ -1,5 +1,5 @@
 -- The calls of a half on its table and its programs: what is due to each, and what it leaves.
-use Rattle.std.specs.Prelude.{◌≡◌, ◌≢◌, ◌≤◌, ◌+◌, ◌⊎◌, ℕ, Bool, true, false, List, [], length, Option, Some, Result, Ok, Err, slice_get}
+use Rattle.std.specs.Prelude.{◌≡◌, ◌≢◌, ◌≤◌, ◌+◌, ◌⊎◌, ℕ, Bool, true, false, List, [], length, Result, Ok, Err, slice_get}
 use Rattle.std.specs.Option.{option_map, ok_or}
 use Rattle.std.specs.FinMap as map
 use Rattle.numbered.specs.Answers.{out_of_memory}

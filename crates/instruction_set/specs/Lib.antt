@@ -2,6 +2,8 @@ pub mod Operations
 pub mod Machine
 pub mod Opcodes
 pub mod Slots
+pub mod Forms
+pub mod Fronts
 pub mod Roles
 pub mod model
 pub mod laws

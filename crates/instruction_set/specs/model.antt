@@ -1,3 +1,2 @@
 -- Definitions that mirror the code.
-pub mod Forms
 pub mod Layout

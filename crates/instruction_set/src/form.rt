@@ -1,6 +1,6 @@
 //! The forms of instructions: the rows of the opcode table (RFC 9669, sections 4 and 5).
 ghost use Rattle.std.specs.Prelude.{◌≡◌};
-ghost use Rattle.instruction_set.specs.model.Forms.{form_at, alu_form_at, jump_form_at, alu_op_at, end_at, mov_sx_at, test_at, size_at, load_at, memory_form_at, form_roles, insn_of, source_of};
+ghost use Rattle.instruction_set.specs.Forms.{form_at, alu_form_at, jump_form_at, alu_op_at, end_at, mov_sx_at, test_at, size_at, load_at, memory_form_at, form_roles, insn_of, source_of};
 ghost use Rattle.instruction_set.specs.declared.insn.Width.{Width};
 ghost use Rattle.instruction_set.specs.declared.form.Form.TheVariants.{Alu as AluForm};
 

@@ -20,7 +20,7 @@ pub struct Scratch {
 
 impl Model for Scratch {
     ghost use Rattle.std.specs.Prelude.{ℕ, List};
-    ghost use Rattle.execution.specs.model.Flat.{record_in};
+    ghost use Rattle.execution.specs.Flat.{record_in};
 
     ghost Value = { List ℕ };
 

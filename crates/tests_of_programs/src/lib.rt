@@ -14,6 +14,8 @@ mod listings;
 #[cfg(test)]
 mod operations;
 #[cfg(test)]
+mod peaks;
+#[cfg(test)]
 mod ranges;
 #[cfg(test)]
 mod sample_codes;

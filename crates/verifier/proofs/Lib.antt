@@ -12,6 +12,7 @@ pub mod RuleOrder
 pub mod Pass
 pub mod Spans
 pub mod Rulings
+pub mod Peaks
 pub mod Waits
 pub mod OneVerdict
 pub mod LongerRecords

@@ -1,5 +1,5 @@
 -- Code is judged in one way: it fulfils the rules, or one rule is the first that fails.
-use Rattle.std.proofs.Common.{◌≡◌, ℕ, ◌+◌, ◌<◌, ◌≤◌, ◌⊎◌, Bool, true, false, ◌==◌, if◌then◌else◌, inl, inr, refl, ap, sym, subst, ◌∙◌, arith, List, Some}
+use Rattle.std.proofs.Common.{◌≡◌, ℕ, ◌+◌, ◌<◌, ◌≤◌, ◌⊎◌, Bool, true, false, ◌==◌, if◌then◌else◌, inl, inr, refl, ap, sym, subst, ◌∙◌, arith, List, Option, Some, None}
 use Rattle.std.specs.Prelude.{IsTrue}
 use Rattle.std.proofs.Math.Path.{fun_ext}
 use Rattle.std.proofs.lemmas.Bool.Decides.{nat_tests}
@@ -12,8 +12,10 @@ use Rattle.verifier.specs.declared.rule.Rule.TheVariants.{Backward, Outside, Int
 use Rattle.verifier.specs.declared.refusal.Refusal.{Refusal}
 use Rattle.verifier.specs.Structure.{rule_number, MeetsStructure, IsStructured, IsIllStructured}
 use Rattle.instruction_set.specs.Machine.{slot_count}
-use Rattle.verifier.specs.Assignments.{Assignment, Carries, FulfilsBefore, IsTypable, FailsLeast}
+use Rattle.verifier.specs.Assignments.{Assignment, Carries, FulfilsBefore, IsTypable, IsLeast, FailsLeast}
 use Rattle.verifier.specs.Rules.{meets}
+use Rattle.verifier.specs.Peak.{IsPeak}
+use Rattle.verifier.proofs.Peaks.{most_same}
 use Rattle.verifier.specs.Refusals.{IsUnfulfilled, IsRefusedAt}
 use Rattle.instruction_set.specs.laws.Places.{insn_within}
 
@@ -108,6 +110,31 @@ module _ {D : Type 0} {o : Ops D} (laws : Laws o) (code : List Insn) where
     registers = fun_ext (λ r. reg_both laws (s.registers r) (t.registers r) (p.registers r) (q.registers r)) i;
     written = fun_ext (written_both s t p q) i;
   }
+
+  -- ---- one least assignment, and one peak
+
+  alike : (x y : Option (View D)) → ((s : View D) → x ≡ Some s → (t : View D) × (y ≡ Some t) × ViewBelow o s t)
+      → ((t : View D) → y ≡ Some t → (s : View D) × (x ≡ Some s) × ViewBelow o t s) → x ≡ y
+  alike None None h k = refl
+  alike None (Some t) h k = let c = (k t refl).1 in absurd (cc)
+  alike (Some s) None h k = let c = (h s refl).1 in absurd (cc)
+  alike (Some s) (Some t) h k =
+      let a = h s refl in
+      let b = k t refl in
+      let e : a.0 ≡ t = let f = a.1 in cc in
+      let g : b.0 ≡ s = let f = b.1 in cc in
+      ap Some (view_both s t (subst (λ v. ViewBelow o s v) e a.2) (subst (λ v. ViewBelow o t v) g b.2))
+
+  pub same_least : (slot : ℕ) (a b : Assignment D) → IsLeast o code slot a → IsLeast o code slot b → (k : ℕ)
+      → a k ≡ b k
+  same_least slot a b p q k =
+      alike (a k) (b k) (λ s e. p.least b q.fulfils k s e) (λ t e. q.least a p.fulfils k t e)
+
+  pub one_peak : (slot m n : ℕ) → IsPeak o code slot m → IsPeak o code slot n → m ≡ n
+  one_peak slot m n a b =
+      a.is
+      ∙ most_same o code b.states a.states slot (λ k l. same_least slot a.states b.states a.least b.least k)
+      ∙ sym b.is
 
   unfulfilled_later : (s t : ℕ) (r q : Rule) → IsUnfulfilled o code s r → IsUnfulfilled o code t q → s < t → ⊥
   unfulfilled_later s t r q a b less = a.unfulfilled b.fails.states

@@ -220,6 +220,15 @@ module _ {D : Type 0} {o : Ops D} (laws : Laws o) where
 
   -- ---- the steps of the pass
 
+  -- an instruction changes no state up to its own
+  pub passed_same : (n : ℕ) (i : Insn) (states : Assignment D) (s : View D) (k : ℕ) → k < n + 1
+      → flow_edge o (flow o states (n + slots_of i) (fall o i s)) (leads_to n i) (jump o i s) k ≡ states k
+  passed_same n i states s k h =
+      let some = some_slots i in
+      edge_other (flow o states (n + slots_of i) (fall o i s)) (leads_to n i) k (jump o i s)
+      (λ j e. let q = leads_past n j (distance_of i) e in omega arith)
+      ∙ flow_other states (n + slots_of i) k (fall o i s) (omega arith)
+
   -- an instruction that passes
   pub passed : (code : List Insn) (n : ℕ) (i : Insn) (states : Assignment D) (s : View D) → IsCode code
       → IsStructured code → IsLeast o code n states → insn_at code n ≡ Some i → states n ≡ Some s → Passes o i s
@@ -230,14 +239,11 @@ module _ {D : Type 0} {o : Ops D} (laws : Laws o) where
       let after = flow_edge o falling (leads_to n i) (jump o i s) in
       let some = some_slots i in
       let listed : IsListed i = insn_all IsListed code n i is_code.listed at in
-      let past : (j : ℕ) → leads_to n i ≡ Some j → n + 1 ≤ j = λ j e. leads_past n j (distance_of i) e in
       let keeps : (k : ℕ) (t : View D) → Carries o states k t → Carries o after k t =
       λ k t c. edge_keeps falling (leads_to n i) k (jump o i s) t (flow_keeps states next k (fall o i s) t c) in
       let more : (k : ℕ) (t : View D) → Carries o falling k t → Carries o after k t =
       λ k t c. edge_keeps falling (leads_to n i) k (jump o i s) t c in
-      let same : (k : ℕ) → k < n + 1 → after k ≡ states k = λ k h.
-      edge_other falling (leads_to n i) k (jump o i s) (λ j e. let q = past j e in omega arith)
-      ∙ flow_other states next k (fall o i s) (omega arith) in
+      let same : (k : ℕ) → k < n + 1 → after k ≡ states k = passed_same n i states s in
       let falls_to : (u : View D) → fall o i s ≡ Some u → IsSome (insn_at code next) = λ u e.
       insn_next code n i at (structured.meets n i FallsOff at (fall_goes o i s u e)) in
       let jumps_to : (j : ℕ) → leads_to n i ≡ Some j → IsSome (insn_at code j) = λ j e.

@@ -1,6 +1,7 @@
 -- One step of the pass keeps what waits.
-use Rattle.std.proofs.Common.{◌≡◌, ◌≢◌, ℕ, zero, suc, ◌+◌, ◌-◌, ◌<◌, ◌≤◌, max, ◌==◌, ◌&&◌, ◌||◌, Bool, true, false, ◌⊎◌, inl, inr, refl, ap, ◌∙◌, sym, subst, arith, List, Option, Some, None}
+use Rattle.std.proofs.Common.{◌≡◌, ◌≢◌, ℕ, zero, suc, ◌+◌, ◌-◌, ◌<◌, ◌≤◌, max, ◌==◌, ◌&&◌, ◌||◌, cond, Bool, true, false, ◌⊎◌, inl, inr, refl, ap, ◌∙◌, sym, subst, arith, List, Option, Some, None}
 use Rattle.std.specs.Prelude.{IsTrue, IsSome, is_some, nat_lt}
+use Rattle.std.proofs.Math.Path.{fun_ext}
 use Rattle.std.proofs.lemmas.Bool.Decides.{nat_tests}
 use Rattle.instruction_set.specs.Slots.{IsCode}
 use Rattle.instruction_set.specs.Machine.{slots_of, slot_count, insn_at}
@@ -20,9 +21,11 @@ use Rattle.verifier.specs.Rules.{Passes, FailsFirst, fall, jump}
 use Rattle.verifier.specs.Assignments.{Assignment, FailsLeast}
 use Rattle.verifier.specs.Width.{most_below, is_slot, jumps_to, is_target, targets_above, widest}
 use Rattle.verifier.specs.model.Flow.{flow, flow_edge}
+use Rattle.verifier.specs.Peak.{IsPeak, held_at, most_held}
 use Rattle.verifier.specs.model.Pending.{IsDue, IsPending}
 use Rattle.verifier.proofs.Tags.{tells}
-use Rattle.verifier.proofs.Pass.{fall_goes, leads_past, begun, skipped, passed, over_insn}
+use Rattle.verifier.proofs.Pass.{fall_goes, leads_past, begun, skipped, passed, passed_same, over_insn}
+use Rattle.verifier.proofs.Peaks.{edge_is, sent_first, peak_first, sent_skipped, peak_skipped, sent_passed, peak_passed, sent_over, held_is}
 
 -- ---- targets of jumps
 
@@ -236,10 +239,43 @@ pub size_within : {D : Type 0} (p : Pending D) (states : Assignment D) (n most :
 size_within p states n most is_held is_room h =
     subst (λ k. count_held (held p) k ≤ most) (sym is_room) (subst (λ x. count_held x n ≤ most) (sym is_held) h)
 
--- the peak after a state is taken and two are carried
-pub peaks : (old taken one both size_one size_both most : ℕ) → taken ≡ old → one ≤ max taken size_one
-    → both ≤ max one size_both → size_one ≤ most → size_both ≤ most → both ≤ max old most
-peaks old taken one both size_one size_both most h i j k l = omega arith
+-- the number of states held
+pub size_is : {D : Type 0} (p : Pending D) (states : Assignment D) (n : ℕ) → held p ≡ states → room p ≡ n
+    → size p ≡ count_held states n
+size_is p states n is_held is_room = ap (count_held (held p)) is_room ∙ ap (λ x. count_held x n) is_held
+
+-- along an edge no fewer are held
+pub more_carried : {D : Type 0} (o : Ops D) (states : Assignment D) (x : Option ℕ) (t : Option (View D)) (n : ℕ)
+    → count_held states n ≤ count_held (flow_edge o states x t) n
+more_carried o states x t n =
+    let c = count_one_more (λ slot. is_some (states slot)) (λ slot. is_some (flow_edge o states x t slot)) n n
+    (λ slot e. inr (edge_is o states x slot t
+    ∙ or_right (is_slot x slot && is_some t) (is_some (states slot)) e)) in
+    c.1 (omega arith)
+
+-- the peak after a state is taken and two are carried is that of the last count
+pub step_peak : (old taken one both size_one size_both : ℕ) → taken ≡ old → one ≡ max taken size_one
+    → both ≡ max one size_both → size_one ≤ size_both → both ≡ max old size_both
+step_peak old taken one both size_one size_both h i j k = omega arith
+
+-- a slot's state is taken: no more are held
+pub fewer_taken : {D : Type 0} (states : Assignment D) (at n : ℕ)
+    → count_held (put states at None) n ≤ count_held states n
+fewer_taken states at n =
+    let c = count_one_more (λ slot. is_some (put states at None slot)) (λ slot. is_some (states slot)) n n
+    (λ slot e. elim (tells slot at) [
+      | inl p ↦ let f : false ≡ true = rw p.0 at e in absurd (cc)
+      | inr p ↦ inr (rw p.0 at e)
+    ]) in
+    c.1 (omega arith)
+
+-- a slot's state is put back: what was taken doesn't show
+pub put_back : {X : Type 0} (f : ℕ → X) (i : ℕ) (v w : X) → put (put f i v) i w ≡ put f i w
+put_back f i v w =
+    fun_ext (λ k. elim (k == i) as (λ b. cond b w (cond b v (f k)) ≡ cond b w (f k)) [ true ↦ refl | false ↦ refl ])
+
+pub put_here : {X : Type 0} (f : ℕ → X) (i : ℕ) (v : X) → put f i v i ≡ v
+put_here f i v = elim (tells i i) [ inl p ↦ rw p.0 refl | inr p ↦ absurd (p.1 refl) ]
 
 -- at first one slot has a state
 pub one_at_first : {D : Type 0} (o : Ops D) (n : ℕ) → 0 < n → count_held (flow o nothing 0 (Some (entry {D = D}))) n ≡ 1
@@ -254,66 +290,117 @@ one_at_first o n h =
 
 module _ {D : Type 0} {o : Ops D} (laws : Laws o) where
   -- at first the entry state waits for slot 0
-  pub waits_first : (code : List Insn) → IsCode code → IsPending o code 0 (flow o nothing 0 (Some entry))
-  waits_first code is_code = record {
-    whole = flow o nothing 0 (Some entry);
-    least = begun laws code is_code;
-    same = λ slot l. refl;
-    due = due_flow o code 0 nothing 0 (Some entry) (λ slot s e. absurd (cc)) (λ u e. (omega arith, inl refl));
-  }
-
-  -- what is held stands where an instruction begins
-  inside : (code : List Insn) (n : ℕ) (states : Assignment D) → IsPending o code n states → (slot : ℕ) (s : View D)
-      → states slot ≡ Some s → IsSome (insn_at code slot)
-  inside code n states w slot s e = w.least.fulfils.inside slot s (sym (w.same slot (w.due slot s e).0) ∙ e)
-
-  -- an instruction that no state reaches
-  pub waits_skipped : (code : List Insn) (n : ℕ) (i : Insn) (states : Assignment D) → IsPending o code n states
-      → insn_at code n ≡ Some i → states n ≡ None → IsPending o code (n + slots_of i) (put states n None)
-  waits_skipped code n i states w at e =
-      let some = some_slots i in
+  pub waits_first : (code : List Insn) (peak : ℕ) → IsCode code
+      → peak ≡ count_held (flow o nothing 0 (Some entry)) (slot_count code)
+      → IsPending o code 0 (flow o nothing 0 (Some entry)) peak
+  waits_first code peak is_code counted =
+      let first = flow o nothing 0 (Some entry) in
+      let sent = sent_first o code first first
+      (λ slot. elim (tells slot 0) [ inl p ↦ rw p.0 refl | inr p ↦ rw p.0 refl ]) in
       record {
-        whole = w.whole;
-        least = over_insn laws code n i w.whole at
-            (skipped laws code n w.whole w.least (sym (w.same n (omega arith)) ∙ e));
-        same = same_taken n (n + slots_of i) states w.whole (omega arith) w.same;
-        due = due_taken code n i states at w.due (inside code n states w);
+        whole = first;
+        least = begun laws code is_code;
+        same = λ slot l. refl;
+        due = due_flow o code 0 nothing 0 (Some entry) (λ slot s e. absurd (cc)) (λ u e. (omega arith, inl refl));
+        sent = sent;
+        peaked = peak_first o code first first peak sent counted;
       }
 
-  pub fallen_due : (code : List Insn) (n : ℕ) (i : Insn) (states : Assignment D) (s : View D)
-      → IsPending o code n states → insn_at code n ≡ Some i
+  -- what is held stands where an instruction begins
+  inside : (code : List Insn) (n : ℕ) (states : Assignment D) (peak : ℕ) → IsPending o code n states peak
+      → (slot : ℕ) (s : View D) → states slot ≡ Some s → IsSome (insn_at code slot)
+  inside code n states peak w slot s e =
+      w.least.fulfils.inside slot s (sym (w.same slot (w.due slot s e).0) ∙ e)
+
+  -- an instruction that no state reaches
+  pub waits_skipped : (code : List Insn) (n : ℕ) (i : Insn) (states : Assignment D) (peak : ℕ)
+      → IsPending o code n states peak → insn_at code n ≡ Some i → states n ≡ None
+      → IsPending o code (n + slots_of i) (put states n None) peak
+  waits_skipped code n i states peak w at e =
+      let some = some_slots i in
+      let none : w.whole n ≡ None = sym (w.same n (omega arith)) ∙ e in
+      let due = due_taken code n i states at w.due (inside code n states peak w) in
+      record {
+        whole = w.whole;
+        least = over_insn laws code n i w.whole at (skipped laws code n w.whole w.least none);
+        same = same_taken n (n + slots_of i) states w.whole (omega arith) w.same;
+        due = due;
+        sent = sent_over o code n i (put states n None) w.whole at (sent_skipped o code n states w.whole none w.sent);
+        peaked = peak_skipped o code n i states w.whole peak at e none w.sent (λ slot s f. (due slot s f).0) w.peaked;
+      }
+
+  pub fallen_due : (code : List Insn) (n : ℕ) (i : Insn) (states : Assignment D) (s : View D) (peak : ℕ)
+      → IsPending o code n states peak → insn_at code n ≡ Some i
       → AllDue code (n + slots_of i) (flow o (put states n None) (n + slots_of i) (fall o i s))
-  fallen_due code n i states s w at =
+  fallen_due code n i states s peak w at =
       due_flow o code (n + slots_of i) (put states n None) (n + slots_of i) (fall o i s)
-      (due_taken code n i states at w.due (inside code n states w)) (λ u e. (omega arith, inl refl))
+      (due_taken code n i states at w.due (inside code n states peak w)) (λ u e. (omega arith, inl refl))
+
+  pub jumped_due : (code : List Insn) (n : ℕ) (i : Insn) (states : Assignment D) (s : View D) (peak : ℕ)
+      → IsPending o code n states peak → insn_at code n ≡ Some i
+      → AllDue code (n + slots_of i)
+      (flow_edge o (flow o (put states n None) (n + slots_of i) (fall o i s)) (leads_to n i) (jump o i s))
+  jumped_due code n i states s peak w at =
+      due_edge o code (n + slots_of i) (flow o (put states n None) (n + slots_of i) (fall o i s)) (leads_to n i)
+      (jump o i s) (fallen_due code n i states s peak w at) (λ to e. jump_due code n i to at e)
+
+  -- so few are held then
+  pub fallen_few : (code : List Insn) (n : ℕ) (i : Insn) (states : Assignment D) (s : View D) (old : ℕ)
+      (p : Pending D) → IsPending o code n states old → insn_at code n ≡ Some i
+      → held p ≡ flow o (put states n None) (n + slots_of i) (fall o i s) → room p ≡ slot_count code
+      → size p ≤ 1 + widest code
+  fallen_few code n i states s old p w at is_held is_room =
+      let below = flow o (put states n None) (n + slots_of i) (fall o i s) in
+      size_within p below (slot_count code) (1 + widest code) is_held is_room
+      (few_due code n i below at (fallen_due code n i states s old w at))
+
+  pub jumped_few : (code : List Insn) (n : ℕ) (i : Insn) (states : Assignment D) (s : View D) (old : ℕ)
+      (p : Pending D) → IsPending o code n states old → insn_at code n ≡ Some i
+      → held p ≡ flow_edge o (flow o (put states n None) (n + slots_of i) (fall o i s)) (leads_to n i) (jump o i s)
+      → room p ≡ slot_count code → size p ≤ 1 + widest code
+  jumped_few code n i states s old p w at is_held is_room =
+      let jumped = flow_edge o (flow o (put states n None) (n + slots_of i) (fall o i s)) (leads_to n i) (jump o i s) in
+      size_within p jumped (slot_count code) (1 + widest code) is_held is_room
+      (few_due code n i jumped at (jumped_due code n i states s old w at))
 
   -- an instruction that passes: its state is taken, and what comes of it waits
-  pub waits_passed : (code : List Insn) (n : ℕ) (i : Insn) (states : Assignment D) (s : View D) → IsCode code
-      → IsStructured code → IsPending o code n states → insn_at code n ≡ Some i → states n ≡ Some s → Passes o i s
-      → IsPending o code (n + slots_of i)
+  pub waits_passed : (code : List Insn) (n : ℕ) (i : Insn) (states : Assignment D) (s : View D) (old peak : ℕ)
+      → IsCode code → IsStructured code → IsPending o code n states old → insn_at code n ≡ Some i → states n ≡ Some s
+      → Passes o i s
+      → peak ≡ max old (count_held
       (flow_edge o (flow o (put states n None) (n + slots_of i) (fall o i s)) (leads_to n i) (jump o i s))
-  waits_passed code n i states s is_code structured w at is p =
+      (slot_count code))
+      → IsPending o code (n + slots_of i)
+      (flow_edge o (flow o (put states n None) (n + slots_of i) (fall o i s)) (leads_to n i) (jump o i s)) peak
+  waits_passed code n i states s old peak is_code structured w at is p counted =
       let some = some_slots i in
       let next = n + slots_of i in
       let fallen = flow o (put states n None) next (fall o i s) in
+      let jumped = flow_edge o fallen (leads_to n i) (jump o i s) in
       let whole_fallen = flow o w.whole next (fall o i s) in
       let after = flow_edge o whole_fallen (leads_to n i) (jump o i s) in
+      let here : w.whole n ≡ Some s = sym (w.same n (omega arith)) ∙ is in
+      let due = jumped_due code n i states s old w at in
+      let before : (k : ℕ) → k < n + 1 → after k ≡ w.whole k = passed_same laws n i w.whole s in
+      let sent = sent_passed o code n i s states w.whole after at here before w.sent in
       record {
         whole = after;
         least = over_insn laws code n i after at
-            (passed laws code n i w.whole s is_code structured w.least at (sym (w.same n (omega arith)) ∙ is) p);
+            (passed laws code n i w.whole s is_code structured w.least at here p);
         same = same_edge o next fallen whole_fallen (leads_to n i) (jump o i s)
             (same_flow o next (put states n None) w.whole next (fall o i s)
             (same_taken n next states w.whole (omega arith) w.same) (omega arith)) (jump_past n i);
-        due = due_edge o code next fallen (leads_to n i) (jump o i s) (fallen_due code n i states s w at)
-            (λ to e. jump_due code n i to at e);
+        due = due;
+        sent = sent_over o code n i jumped after at sent;
+        peaked = peak_passed o code n i jumped w.whole after old peak at before sent (λ slot t e. (due slot t e).0)
+            w.peaked counted;
       }
 
   -- a refusal of what waits is one of the least assignment
-  pub waits_refused : (code : List Insn) (n : ℕ) (i : Insn) (states : Assignment D) (s : View D) (rule : Rule)
-      → IsStructured code → IsPending o code n states → insn_at code n ≡ Some i → states n ≡ Some s
-      → FailsFirst o i s rule → FailsLeast o code n rule
-  waits_refused code n i states s rule structured w at is f = record {
+  pub waits_refused : (code : List Insn) (n : ℕ) (i : Insn) (states : Assignment D) (s : View D) (peak : ℕ)
+      (rule : Rule) → IsStructured code → IsPending o code n states peak → insn_at code n ≡ Some i
+      → states n ≡ Some s → FailsFirst o i s rule → FailsLeast o code n rule
+  waits_refused code n i states s peak rule structured w at is f = record {
     structured = structured;
     states = w.whole;
     least = w.least;
@@ -323,3 +410,18 @@ module _ {D : Type 0} {o : Ops D} (laws : Laws o) where
     is_state = sym (w.same n (omega arith)) ∙ is;
     fails = f;
   }
+
+  -- and the peak so far is that of the pass
+  pub waits_peak : (code : List Insn) (n : ℕ) (states : Assignment D) (peak : ℕ) → IsPending o code n states peak
+      → IsPeak o code n peak
+  waits_peak code n states peak w = record { states = w.whole; least = w.least; is = w.peaked }
+
+  -- no more is held than the peak
+  pub waits_size : (code : List Insn) (n : ℕ) (states : Assignment D) (peak : ℕ) → IsPending o code n states peak
+      → count_held states (slot_count code) ≤ peak
+  waits_size code n states peak w =
+      let c : count_held states (slot_count code) ≡ held_at o code w.whole n =
+      held_is o code n states w.whole (λ slot s e. (w.due slot s e).0) w.sent in
+      let m : peak ≡ most_held o code w.whole n = w.peaked in
+      let a = most_above (held_at o code w.whole) (n + 1) n (omega arith) in
+      omega arith

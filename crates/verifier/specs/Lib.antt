@@ -4,5 +4,6 @@ pub mod Assignments
 pub mod Refusals
 pub mod Stores
 pub mod Width
+pub mod Peak
 pub mod LongerRecords
 pub mod model

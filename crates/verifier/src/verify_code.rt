@@ -1,5 +1,6 @@
 //! One forward pass over code.
-ghost use Rattle.std.specs.Prelude.{◌≡◌, ℕ, ◌<◌, ◌≤◌, ◌+◌, max, List, Some, None, IfOk, IfErr, OnOk, MatchOption};
+ghost use Rattle.std.specs.Prelude.{◌≡◌, ℕ, ◌<◌, ◌≤◌, ◌+◌, max, List, Some, None, IfOk, IfErr, IfSome, OnOk, OnErr, MatchOption};
+ghost use Rattle.std.specs.Option.{option_map};
 ghost use Rattle.instruction_set.specs.declared.insn.Insn.{Insn};
 ghost use Rattle.instruction_set.specs.Machine.{insn_at, slot_count, slots_of};
 ghost use Rattle.instruction_set.specs.Slots.{IsSelected};
@@ -9,7 +10,8 @@ ghost use Rattle.verifier.specs.Structure.{IsStructured};
 ghost use Rattle.verifier.specs.Rules.{Passes, fall, jump};
 ghost use Rattle.verifier.specs.Assignments.{FailsLeast, IsTypable};
 ghost use Rattle.verifier.specs.Width.{widest};
-ghost use Rattle.verifier.specs.model.Flow.{flow_edge};
+ghost use Rattle.verifier.specs.Peak.{IsPeak, IsPeakAtFault};
+ghost use Rattle.verifier.specs.model.Flow.{flow, flow_edge};
 ghost use Rattle.verifier.specs.model.Pending.{IsPending};
 ghost use Rattle.numbered.specs.Answers.{HasCause};
 ghost use Rattle.verifier.specs.Refusals.{verify_fault_number, IsUnfulfilled, IsRefused, IsRefusedAt};
@@ -25,23 +27,19 @@ use abstract_value::{Domain, Pending, State};
 use instruction_set::{Code, Insn};
 use std::alloc::{AllocError, Global};
 
-// Returns the state that follows a jump, if any, in a new box.
-fn jumping<D: Domain>(
-    alloc: Global,
-    insn: Insn,
-    state: &State<D>,
-) -> Result<Option<Box<State<D>>>, AllocError>
-    ensures { IfOk result (λ jumping. boxed_view jumping ≡ jump D.ops insn (view state.now)) }
+// Returns a copy of the state that follows a jump, if any.
+fn jumping<D: Domain>(insn: Insn, state: &State<D>) -> Option<State<D>>
+    ensures { option_map view result ≡ jump D.ops insn (view state.now) }
 {
     match insn {
         Insn::Jump { .. } | Insn::JumpLong { .. } | Insn::JumpIf { .. } => {}
-        _ => return Ok(None),
+        _ => return None,
     }
-    let mut next = Box::new(alloc, *state)?;
+    let mut next = *state;
     if jump(insn, &mut next) {
-        Ok(Some(next))
+        Some(next)
     } else {
-        Ok(None)
+        None
     }
 }
 
@@ -59,19 +57,63 @@ fn falling<D: Domain>(insn: Insn, state: Box<State<D>>) -> Option<Box<State<D>>>
     }
 }
 
-// Puts a state at the target of an edge, if both exist.
-fn carry<D: Domain>(pending: &mut Pending<D>, to: Option<usize>, state: Option<Box<State<D>>>)
-    requires { (k : ℕ) (s : View D) → to ≡ Some k → boxed_view state ≡ Some s → k < room pending.old }
-    ensures states { held pending.new ≡ flow_edge D.ops (held pending.old) to (boxed_view state) }
+// Puts a state at a slot, if there is one.
+fn carry<D: Domain>(pending: &mut Pending<D>, to: usize, state: Option<Box<State<D>>>)
+    requires place { (s : View D) → boxed_view state ≡ Some s → to < room pending.old }
+    requires few { size pending.old ≤ peak_of pending.old }
+    ensures states { held pending.new ≡ flow D.ops (held pending.old) to (boxed_view state) }
     ensures room { room pending.new ≡ room pending.old }
-    ensures kept { peak_of pending.old ≤ peak_of pending.new }
-    ensures peak { peak_of pending.new ≤ max (peak_of pending.old) (size pending.new) }
+    ensures peak { peak_of pending.new ≡ max (peak_of pending.old) (size pending.new) }
+{
+    if let Some(state) = state {
+        pending.put(to, state);
+    }
+}
+
+// Joins a state to the one that waits at a slot, or puts it there in a new box.
+fn merge<D: Domain>(
+    alloc: Global,
+    pending: &mut Pending<D>,
+    to: usize,
+    state: State<D>,
+) -> Result<(), AllocError>
+    requires place { to < room pending.old }
+    ensures states { OnOk result (held pending.new ≡ flow D.ops (held pending.old) to (Some (view state))) }
+    ensures room { room pending.new ≡ room pending.old }
+    ensures peak { OnOk result (peak_of pending.new ≡ max (peak_of pending.old) (size pending.new)) }
+    ensures kept { OnErr result (peak_of pending.new ≡ peak_of pending.old) }
+{
+    let merged = match pending.take(to) {
+        Some(mut waiting) => {
+            waiting.join(&state);
+            waiting
+        }
+        None => Box::new(alloc, state)?,
+    };
+    pending.put(to, merged);
+    Ok(())
+}
+
+// Merges a state into the target of an edge, if both exist.
+fn carry_over<D: Domain>(
+    alloc: Global,
+    pending: &mut Pending<D>,
+    to: Option<usize>,
+    state: Option<State<D>>,
+) -> Result<(), AllocError>
+    requires place { (k : ℕ) → to ≡ Some k → k < room pending.old }
+    requires few { size pending.old ≤ peak_of pending.old }
+    ensures states { OnOk result (held pending.new ≡ flow_edge D.ops (held pending.old) to (option_map view state)) }
+    ensures room { room pending.new ≡ room pending.old }
+    ensures peak { OnOk result (peak_of pending.new ≡ max (peak_of pending.old) (size pending.new)) }
+    ensures kept { OnErr result (peak_of pending.new ≡ peak_of pending.old) }
 {
     if let Some(to) = to {
         if let Some(state) = state {
-            pending.put(to, state);
+            merge(alloc, pending, to, state)?;
         }
     }
+    Ok(())
 }
 
 // Checks the instruction at a slot in its state, if the slot has one, drops that state, and puts its successors.
@@ -86,10 +128,11 @@ fn visit<D: Domain>(
     requires is_at { insn_at code.now at ≡ Some insn }
     requires structured { IsStructured code.now }
     requires room { room pending.old ≡ slot_count code.now }
-    requires least { IsPending D.ops code.now at (held pending.old) }
+    requires least { IsPending D.ops code.now at (held pending.old) (peak_of pending.old) }
     ensures least { IfOk result (λ failed. MatchOption failed
-        (IsPending D.ops code.now (at + slots_of insn) (held pending.new))
+        (IsPending D.ops code.now (at + slots_of insn) (held pending.new) (peak_of pending.new))
         (λ rule. FailsLeast D.ops code.now at rule)) }
+    ensures stops { IfOk result (λ failed. IfSome failed (λ _. IsPeak D.ops code.now at (peak_of pending.new))) }
     ensures room { room pending.new ≡ room pending.old }
     ensures kept { peak_of pending.old ≤ peak_of pending.new }
     ensures peak { peak_of pending.new ≤ max (peak_of pending.old) (1 + widest code.now) }
@@ -103,9 +146,9 @@ fn visit<D: Domain>(
     if let Some(rule) = check(insn, &state) {
         return Ok(Some(rule));
     }
-    let jumping = jumping(alloc, insn, &state)?;
-    carry(pending, Some(at + insn.slots()), falling(insn, state));
-    carry(pending, leads_to(at, &insn), jumping);
+    let jumping = jumping(insn, &state);
+    carry(pending, at + insn.slots(), falling(insn, state));
+    carry_over(alloc, pending, leads_to(at, &insn), jumping)?;
     Ok(None)
 }
 
@@ -121,6 +164,9 @@ fn pass<D: Domain>(
     requires peak { peak_of pending.old ≡ 0 }
     ensures answer { IfOk result (λ refusal. MatchOption refusal
         (IsTypable D.ops code.now) (λ r. IsUnfulfilled D.ops code.now r.slot r.rule)) }
+    ensures exact { IfOk result (λ refusal. MatchOption refusal
+        (IsPeak D.ops code.now (slot_count code.now) (peak_of pending.new))
+        (λ r. IsPeak D.ops code.now r.slot (peak_of pending.new))) }
     ensures some { OnOk result (1 ≤ peak_of pending.new) }
     ensures peak { peak_of pending.new ≤ 1 + widest code.now }
 {
@@ -152,6 +198,9 @@ pub fn verify_peak<D: Domain>(alloc: Global, code: Code) -> (Result<Verified, Ve
     // Accepted code needs at least one state; the peak is bounded by the code's width.
     ensures held { IfOk result.0 (λ _. 1 ≤ result.1) }
     ensures peak { result.1 ≤ 1 + widest code }
+    // The peak is that of the whole pass, or of the pass up to the refused slot.
+    ensures exact { IfOk result.0 (λ _. IsPeak D.ops code (slot_count code) result.1) }
+    ensures exact_refused { IfErr result.0 (IsPeakAtFault D.ops code result.1) }
 {
     if let Some(refusal) = check_structure(&code) {
         return (Err(VerifyFault::Refused(refusal)), 0);
@@ -187,7 +236,8 @@ pub fn verify<D: Domain>(alloc: Global, code: Code) -> Result<Verified, VerifyFa
     verify_peak::<D>(alloc, code).0
 }
 
-/// States that code either fulfils the rules or fails exactly one rule at one slot. Does nothing at run time.
+/// States that code either fulfils the rules or fails exactly one rule at one slot, and that a pass has one peak. Does
+/// nothing at run time.
 pub fn one_verdict_theorem<D: Domain>()
     // Code that fulfils the rules isn't refused, so `verify` accepts it unless memory runs out.
     ensures either { (code : List Insn) (refusal : Refusal) → IsStructured code → IsTypable D.ops code
@@ -195,4 +245,6 @@ pub fn one_verdict_theorem<D: Domain>()
     // Two refusals of code are equal, so `verify` returns the only one.
     ensures one_refusal { (code : List Insn) (a b : Refusal) → IsRefusedAt D.ops code a.slot a.rule
         → IsRefusedAt D.ops code b.slot b.rule → a ≡ b }
+    // Two peaks up to one slot are equal, so `verify_peak` returns the only one.
+    ensures one_peak { (code : List Insn) (slot m n : ℕ) → IsPeak D.ops code slot m → IsPeak D.ops code slot n → m ≡ n }
 {}

@@ -1,18 +1,23 @@
 -- The pending states of a pass before a slot.
-use Rattle.std.specs.Prelude.{◌≡◌, ℕ, ◌≤◌, ◌⊎◌, IsTrue, Some, List}
+use Rattle.std.specs.Prelude.{◌≡◌, ℕ, ◌≤◌, ◌⊎◌, IsTrue, Some, is_some, List}
 use Rattle.instruction_set.specs.declared.insn.Insn.{Insn}
 use Rattle.abstract_value.specs.Domain.{Ops}
 use Rattle.abstract_value.specs.States.{View}
 use Rattle.verifier.specs.Assignments.{Assignment, IsLeast}
+use Rattle.verifier.specs.Peak.{has_state, most_held}
 use Rattle.verifier.specs.Width.{is_target}
 
 -- before a slot: that slot itself, or one further on that is the target of a jump before
 abbrev pub IsDue : List Insn → ℕ → ℕ → Type 0
 IsDue code at slot = (at ≤ slot) × ((slot ≡ at) ⊎ IsTrue (is_target code at slot))
 
--- the pending states are those of the least assignment from a slot on, at due slots only
-pub record IsPending {D : Type 0} (o : Ops D) (code : List Insn) (at : ℕ) (states : Assignment D) : Type 0 where
+-- the pending states are those of the least assignment from a slot on, at due slots only, each sent from a slot before;
+-- with the peak of the pass so far
+pub record IsPending {D : Type 0} (o : Ops D) (code : List Insn) (at : ℕ) (states : Assignment D) (peak : ℕ)
+    : Type 0 where
   pub whole : Assignment D
   pub least : IsLeast o code at whole
   pub same : (slot : ℕ) → at ≤ slot → states slot ≡ whole slot
   pub due : (slot : ℕ) (s : View D) → states slot ≡ Some s → IsDue code at slot
+  pub sent : (slot : ℕ) → at ≤ slot → is_some (states slot) ≡ has_state o code whole at slot
+  pub peaked : peak ≡ most_held o code whole at

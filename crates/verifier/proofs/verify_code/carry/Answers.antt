@@ -6,5 +6,5 @@ use Rattle.verifier.proofs.verify_code.carry.Goals as goal
 pub put-requires : goal.put-requires
 put-requires g c = (
   g.met.D.Domain.fits,
-  c.requires c.in-Some.to (view c.in-Some-state.state.value) c.in-Some.is (ap boxed_view c.in-Some-state.is),
+  c.requires.place (view c.in-Some.state.value) (ap boxed_view c.in-Some.is),
 )

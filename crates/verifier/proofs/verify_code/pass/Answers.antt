@@ -7,26 +7,29 @@ use Rattle.verifier.specs.model.Flow.{flow}
 use Rattle.verifier.specs.model.Pending.{IsPending}
 use Rattle.verifier.proofs.Pass.{refused}
 use Rattle.verifier.proofs.Places.{insn_here}
-use Rattle.verifier.proofs.Waits.{waits_first, one_at_first}
+use Rattle.verifier.proofs.Waits.{waits_first, size_is, one_at_first}
 use Rattle.verifier.proofs.verify_code.pass.Goals as goal
 
 pub loop-insn-init : goal.loop-insn-init
 loop-insn-init g c =
     let o = g.D.Domain.ops in
-    let e : held c.put.new.self ≡ flow o nothing 0 (Some entry) =
+    let code = c.args.code.now in
+    let first = flow o nothing 0 (Some entry) in
+    let e : held c.put.new.self ≡ first =
     c.put.ensures.states ∙ ap (λ x. flow o x 0 (Some (view c.in_ok-new.field-0.value))) c.requires.none
     ∙ ap (λ s. flow o nothing 0 (Some s)) (ap view c.in_ok-new.ensures.ok ∙ c.entry.ensures) in
-    let some : 1 ≤ slot_count c.args.code.now = c.known.ensures.some in
-    let n : room c.put.new.self ≡ slot_count c.args.code.now = c.put.ensures.room ∙ c.requires.room in
-    let one : size c.put.new.self ≡ 1 =
-    ap (λ x. count_held x (room c.put.new.self)) e ∙ one_at_first o (room c.put.new.self) (omega arith) in
+    let some : 1 ≤ slot_count code = c.known.ensures.some in
+    let n : room c.put.new.self ≡ slot_count code = c.put.ensures.room ∙ c.requires.room in
+    let size_first : size c.put.new.self ≡ count_held first (slot_count code) =
+    size_is c.put.new.self first (slot_count code) e n in
+    let one : count_held first (slot_count code) ≡ 1 = one_at_first o (slot_count code) (omega arith) in
     let old : peak_of c.args.pending.now ≡ 0 = c.requires.peak in
     let p : peak_of c.put.new.self ≡ max (peak_of c.args.pending.now) (size c.put.new.self) = c.put.ensures.peak in
     record {
       place = refl;
       room = n;
-      least = subst (IsPending o c.args.code.now 0) (sym e)
-          (waits_first g.met.D.Domain.laws c.args.code.now c.known.ensures);
+      least = subst (λ x. IsPending o code 0 x (peak_of c.put.new.self)) (sym e)
+          (waits_first g.met.D.Domain.laws code (peak_of c.put.new.self) c.known.ensures (omega arith));
       some = omega arith;
       peak = omega arith;
     }

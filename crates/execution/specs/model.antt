@@ -1,3 +1,0 @@
--- Definitions that mirror the code.
-pub mod Flat
-pub mod Effects
