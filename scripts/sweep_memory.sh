@@ -1,8 +1,8 @@
 #!/bin/bash
 # sweep_memory.sh: runs heal with each request for memory refused in turn: the Nth alone, and all from the Nth on. Each run has
-# to answer as with ample memory, or to end with status 3 and to say `refused 90`, or on standard error that memory ran out while
-# the words were read. Of a script, a line may be refused 90 and then the lines after it are carried out, which may tell that it
-# wasn't; and a `heal` may be refused with another number where no round could start a worker, or print words of a later round.
+# to answer as with ample memory, or to end with status 3 and print `refused 90`, or on standard error that memory ran out while
+# the words were read. Of a script, a line may be refused 90, and then the other lines answer as if it weren't there; a `heal` may
+# be refused with another number where no round could start a worker, or print words of a later round.
 # Then it runs memory_sweep, which has each call of the crates refused in turn, and looks whether each refusal was answered and
 # each answer had none. Needs what `rt ci` builds of both programs, and a C compiler.
 set -e
@@ -12,6 +12,7 @@ heal=$root/crates/heal_main/out/heal_main
 out=$(mktemp -d) && trap 'rm -rf "$out"' EXIT
 cc -O2 -shared -fPIC -o "$out/refuse.so" "$here/refuse_memory.c" -ldl
 runs=0
+declare -A answers
 
 # Runs heal with these settings and words, and keeps its output and its status.
 run() {
@@ -39,6 +40,7 @@ sweep() {
     ample="$status $printed"
     local requests words="$*"
     requests=$(requests_made)
+    [ "$requests" -gt 0 ] || { echo "no request was counted for: ${*:0:200}" >&2; exit 1; }
     for n in $(seq "$requests"); do
         for settings in "REFUSE_ALONE=$n" "REFUSE_FROM=$n"; do
             run "$settings" "$@"
@@ -48,18 +50,38 @@ sweep() {
     echo "$1 $requests requests"
 }
 
-# Succeeds if each line that a script printed is one that it prints with ample memory, or a refusal, or follows from one. Where
-# no line has 90, memory ran out only in the rounds of a `heal`, and then the table keeps every name.
+# Prints what the script prints with ample memory without the lines of these numbers. A refused line changes nothing.
+without() {
+    local key="$1:$2"
+    if [ -z "${answers[$key]+set}" ]; then
+        awk -v left=" $2 " '{ print index(left, " " NR " ") ? "#" : $0 }' "$1" > "$out/fewer"
+        answers[$key]=$("$heal" run "$out/fewer" --workers 2) || true
+    fi
+    printf '%s\n' "${answers[$key]}"
+}
+
+# Succeeds if a script answered as with ample memory, apart from lines that were refused 90, and from words of later rounds, which
+# are $2. The lines that it answered must be answered as if the refused ones weren't there. A `heal` may also be refused by another
+# number if no round could start a worker, and may leave both halves as before, or merged.
 is_right_script() {
+    local script=$1 words=$2 number='refused [0-9]+' refused heal expected=2
     [ "$status $printed" = "$ample" ] && return
     [ "$status" = 3 ] && { [ "$printed" = "refused 90" ] || grep -q 'out of memory' "$out/errors"; } && return
-    local lines='line [0-9]+: refused (39|41|90)|[a-z]+ (first|second|none) word [0-9]+|exit [0-9]+\.[0-9]+'
-    lines="$lines"'|conflict .*|[a-z]+ [0-9]+\.[0-9]+ .*'
-    case "$printed" in
-        *"refused 90"*) [ "$status" = 3 ] || return 1; lines="$lines|healed [0-9]+ names" ;;
-        *) [ "$status" = 2 ] || [ "$status" = 0 ] || return 1 ;;
-    esac
-    ! printf '%s\n' "$printed" | grep -vxF "${ample#* }" | grep -vxE "$lines" | grep -q .
+    refused=$(printf '%s\n' "$printed" | sed -nE 's/^line ([0-9]+): refused 90$/\1/p' | tr '\n' ' ')
+    heal=$(awk '/^heal [0-9]+$/ { print NR }' "$script")
+    [ -n "$refused" ] && expected=3
+    printf '%s\n' "$printed" | grep -q "$number" || expected=0
+    [ "$status" = "$expected" ] || return 1
+    answered() { printf '%s\n' "$printed" | grep -vE '^line [0-9]+: refused 90$' | sed -E "s/ word ($words)\$/ word W/"; }
+    due() { without "$script" "$1" | sed -E "s/ word ($words)\$/ word W/"; }
+    if [ -n "$heal" ] && printf '%s\n' "$printed" | grep -qE "^line $heal: $number"; then
+        local others=${refused/"$heal "/}
+        rest=$(answered | grep -vE "^line $heal: $number")
+        [ "$rest" = "$(due "$others$heal ")" ] && return
+        [ "$rest" = "$(due "$others" | grep -vE '^([a-z]+ (first|second|none) word |exit |conflict |healed )')" ]
+    else
+        [ "$(answered)" = "$(due "$refused")" ]
+    fi
 }
 
 # Reads the output of memory_sweep and of the library, and prints for each call how many requests it makes and how many refused
@@ -101,16 +123,17 @@ sweep_calls() {
     read_sweep < "$out/said"
 }
 
-# Refuses each request that heal makes of this script.
+# Refuses each request that heal makes of this script, whose `heal` judges at these words in its rounds.
 sweep_script() {
     run "REFUSE_COUNT=$out/count" run "$1" --workers 2
     ample="$status $printed"
     local requests lines
     requests=$(requests_made)
+    [ "$requests" -gt 0 ] || { echo "no request was counted for: ${*:0:200}" >&2; exit 1; }
     for n in $(seq "$requests"); do
         for settings in "REFUSE_ALONE=$n" "REFUSE_FROM=$n"; do
             run "$settings" run "$1" --workers 2
-            is_right_script || { echo "$settings of $requests: '$printed', status $status, for: run $1" >&2; exit 1; }
+            is_right_script "$1" "$2" || { echo "$settings of $requests: '$printed', status $status, for: run $1" >&2; exit 1; }
         done
     done
     echo "run ${1##*/} $requests requests"
@@ -145,8 +168,9 @@ show a
 END
 printf '# a comment alone\n' > "$out/comments"
 printf 'greet a\nwhereis a db\nheal 01\n' > "$out/wrong"
-for script in uploaded noticed comments wrong; do
-    sweep_script "$out/$script"
-done
+sweep_script "$out/uploaded" '[0-3]'
+sweep_script "$out/noticed" '[3-6]'
+sweep_script "$out/comments" none
+sweep_script "$out/wrong" none
 echo "$runs runs, none wrong"
 sweep_calls
