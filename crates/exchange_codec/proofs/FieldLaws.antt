@@ -4,6 +4,8 @@ use Rattle.std.specs.Int.{Width, w32, w64, byte_len, from_le_bytes, to_le_bytes}
 use Rattle.std.proofs.lemmas.Bool.{cases_lt, ltb-false, le-ltb, eqb-true}
 use Rattle.std.proofs.lemmas.List.{take_at, drop_at, take-append-drop, length-append, length-take, get_or-drop, get_or-take, get_or_past, nil_from_length}
 use Rattle.std.proofs.Math.Dec.{eqb_refl}
+use Rattle.std.specs.Prelude.{All}
+use Rattle.std.proofs.lemmas.List.Elements.{All-get_or}
 use lib.Dec.{T}
 use Rattle.std.proofs.lemmas.Nat.{le_bytes_4, le_bytes_8, from_le_bytes-to_le_bytes_4, from_le_bytes-to_le_bytes_8}
 use Rattle.exchange_codec.specs.declared.fault.FieldFault.TheVariants.{Cut, Trailing, Count}
@@ -12,6 +14,14 @@ use Rattle.exchange_codec.specs.Reading.{◌>>=◌, wrong, number_at, header_at,
 
 abbrev pub IsBytes : List ℕ → Type 0
 IsBytes bytes = (i : ℕ) → get_or bytes i 0 < 256
+
+-- past the end there is 0
+pub all_bytes : (bytes : List ℕ) → All (λ byte. byte < 256) bytes → IsBytes bytes
+all_bytes bytes h i =
+    elim (cases_lt i (length bytes)) [
+      | inl lt ↦ All-get_or (λ byte. byte < 256) bytes i 0 lt h
+      | inr le ↦ rw (get_or_past bytes i 0 le) (omega arith)
+    ]
 
 pub IsBytes-drop : (n : ℕ) (bytes : List ℕ) → IsBytes bytes → IsBytes (drop n bytes)
 IsBytes-drop n bytes h i = rw get_or-drop (h (n + i))

@@ -3,8 +3,8 @@ pub mod ManyLaws
 pub mod WrittenLaws
 pub mod NameLaws
 pub mod WithdrawalLaws
-pub mod SideLaws
-pub mod ListMirrorLaws
+pub mod EachLaws
+pub mod ListedLaws
 pub mod CodeLaws
 pub mod RowLaws
 pub mod OfferLaws
@@ -14,4 +14,4 @@ pub mod OneOffer
 pub mod OneFault
 pub mod RebuildingLaws
 pub mod OfferAnswers
-pub mod OfferMirrorLaws
+pub mod BuildingLaws

@@ -32,7 +32,7 @@ use Rattle.exchange_codec.specs.Placing.{told_of}
 use Rattle.exchange_codec.specs.Reading.{Fails}
 use Rattle.exchange_codec.specs.Rows.{texts_of}
 use Rattle.exchange_codec.specs.Offers.{OfferText, text_of, offer_bytes, offer_of, IsText, SpellsOffer, IsFirstRowFault, IsOfferFault}
-use Rattle.exchange_codec.specs.model.OfferMirror.{IsOfferOf, IsRowsFault}
+use Rattle.exchange_codec.specs.model.Building.{IsOfferOf, IsRowsFault}
 use Rattle.exchange_codec.proofs.FieldLaws.{IsBytes, ok_is}
 use Rattle.exchange_codec.proofs.OfferLaws.{text_spelled, text_read}
 use Rattle.exchange_codec.proofs.OneOffer.{Readings, same_table}
@@ -95,7 +95,7 @@ module _ (known : Readings) (bytes : List ℕ) where
       (ap (λ (t : OfferText). t.head) text)
       ∙ ap (λ (t : Table). record { side = p.side; number = p.number; seed = p.seed; uptime = p.uptime; table = t }) table
 
-  spelled_fault : (o : Offer) (f : MessageFault) → SpellsOffer bytes o → IsOfferFault bytes f → ⊥
+  pub spelled_fault : (o : Offer) (f : MessageFault) → SpellsOffer bytes o → IsOfferFault bytes f → ⊥
   spelled_fault o (message.Field what at) s h = no_reading _ _ (sym (spelled_text bytes o s) ∙ h.1)
   spelled_fault o (message.Item fault at) s h =
       let rows : h.0.rows ≡ texts_of [] (entries o.table) =
@@ -103,7 +103,7 @@ module _ (known : Readings) (bytes : List ℕ) where
       no_fault known o.table s.kept h.0.rows rows at h.2.text h.2.table h.2.kept h.2.before h.2.there fault h.2.has
   spelled_fault o message.OutOfMemory s h = h
 
-  one_offer_fault : (f g : MessageFault) → IsOfferFault bytes f → IsOfferFault bytes g → f ≡ g
+  pub one_offer_fault : (f g : MessageFault) → IsOfferFault bytes f → IsOfferFault bytes g → f ≡ g
   one_offer_fault (message.Field what at) (message.Field other place) p q =
       let same = err_is _ _ (sym p.1 ∙ q.1) in
       ap (λ (k : ℕ). message.Field what k) (p.2 ∙ ap (λ (x : Fault). length bytes - x.left) same)

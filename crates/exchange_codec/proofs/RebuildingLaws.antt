@@ -1,4 +1,4 @@
--- The rows of an offer, registered one after the other.
+-- The rows of an offer, added one after the other.
 use Rattle.std.proofs.Common.{◌≡◌, ℕ, zero, suc, ◌+◌, ◌-◌, ◌<◌, ◌≤◌, Bool, true, false, List, [], ◌∷◌, ◌++◌, length, take, Some, Result, Ok, Err, refl, sym, ap, subst, ◌∙◌, arith, get_or, length-append, length-take, inl, inr}
 use Rattle.std.specs.Prelude.{◌&&◌, not, slice_get, IfErr}
 use Rattle.std.specs.Result.{IsErr, IsErrAnd}
@@ -14,8 +14,6 @@ use Rattle.clash_record.specs.Name.{Name}
 use Rattle.clash_record.specs.Orders.{name_cmp}
 use Rattle.clash_record.specs.laws.Orders.{names_total}
 use Rattle.partition_table.specs.Tables.{Row, Table, IsTable, max_names}
-use Rattle.exchange_core.specs.declared.side.Side as declared
-use Rattle.exchange_core.specs.Shown.{shown}
 use Rattle.exchange_codec.specs.declared.rows.RowText as lent
 use Rattle.exchange_codec.specs.declared.fault.ItemFault.{ItemFault}
 use Rattle.exchange_codec.specs.declared.fault.ItemFault.TheVariants as item
@@ -26,7 +24,7 @@ use Rattle.numbered.specs.Answers.{HasCause}
 use Rattle.exchange_codec.specs.Rows.{RowText, texts_of}
 use Rattle.exchange_codec.specs.RowsText.{row_view, rows_view}
 use Rattle.exchange_codec.specs.Offers.{is_above, IsRowFault}
-use Rattle.exchange_codec.specs.model.OfferMirror.{Stores, rows_in, IsMirror, HasRow, IsLeastRowFault, IsRebuilt, IsRowsFault}
+use Rattle.exchange_codec.specs.model.Building.{Programs, AreProgramsOf, HasRow, IsLeastRowFault, IsTableOf, IsRowsFault}
 use Rattle.exchange_codec.proofs.IdLaws.{texts_len, no_text}
 use Rattle.exchange_codec.proofs.OneFault.{IsTextOf, row_at_text, above_there, to_true, taken_within}
 
@@ -121,38 +119,36 @@ one_more texts k text e =
     let next : k + 1 ≡ suc k = omega arith in
     ap (λ (n : ℕ). take n texts) next ∙ one_longer texts k text e
 
--- the rows before place k are registered
-pub record IsWalked (start : declared.Side) (texts : List RowText) (k : ℕ) (side : declared.Side) (stores : Stores) : Type 0 where
-  pub mirror : IsMirror side stores
-  pub whose : (shown side).id ≡ (shown start).id
-  pub told : take k texts ≡ texts_of [] (rows_in side)
+-- the table has the rows before place k
+pub record IsWalked (texts : List RowText) (k : ℕ) (table : Table) (programs : Programs) : Type 0 where
+  pub programs_of : AreProgramsOf table programs
+  pub told : take k texts ≡ texts_of [] (entries table)
 
-pub walk_starts : (texts : List RowText) (side : declared.Side) (stores : Stores) → IsMirror side stores → rows_in side ≡ []
-    → IsWalked side texts 0 side stores
-walk_starts texts side stores mirror none =
-    record { mirror = mirror; whose = refl; told = sym no_text ∙ ap (texts_of []) (sym none) }
+pub walk_starts : (texts : List RowText) (table : Table) (programs : Programs) → AreProgramsOf table programs
+    → entries table ≡ [] → IsWalked texts 0 table programs
+walk_starts texts table programs of none =
+    record { programs_of = of; told = sym no_text ∙ ap (texts_of []) (sym none) }
 
-pub walk_on : (start side after : declared.Side) (stores stores_after : Stores) (texts : List RowText) (k : ℕ) (text : RowText)
-    → slice_get texts k ≡ Some text → IsWalked start texts k side stores → HasRow side text after stores_after
-    → IsWalked start texts (k + 1) after stores_after
-walk_on start side after stores stores_after texts k text there w has = record {
-  mirror = has.mirror;
-  whose = has.whose ∙ w.whose;
+pub walk_on : (table after : Table) (programs more : Programs) (texts : List RowText) (k : ℕ) (text : RowText)
+    → slice_get texts k ≡ Some text → IsWalked texts k table programs → HasRow table text after more
+    → IsWalked texts (k + 1) after more
+walk_on table after programs more texts k text there w has = record {
+  programs_of = has.programs_of;
   told = one_more texts k text there ∙ ap (λ (ts : List RowText). ts ++ text ∷ []) w.told ∙ sym has.told;
 }
 
-pub walk_room : (start side : declared.Side) (stores : Stores) (texts : List RowText) (k : ℕ) → k < length texts
-    → length texts ≤ max_names → IsWalked start texts k side stores → len (shown side).table < max_names
-walk_room start side stores texts k lt few w =
-    omega (arith, lt, few, len-entries (shown side).table, texts_len [] (rows_in side), ap length w.told, length-take k texts)
+pub walk_room : (table : Table) (programs : Programs) (texts : List RowText) (k : ℕ) → k < length texts
+    → length texts ≤ max_names → IsWalked texts k table programs → len table < max_names
+walk_room table programs texts k lt few w =
+    omega (arith, lt, few, len-entries table, texts_len [] (entries table), ap length w.told, length-take k texts)
 
 -- the fault of row k is the first
-pub walk_fails : (start side : declared.Side) (stores : Stores) (texts : List RowText) (k : ℕ) (text : RowText) (f : MessageFault)
-    → slice_get texts k ≡ Some text → IsWalked start texts k side stores → IsTable (shown side).table
-    → IsLeastRowFault (rows_in side) text k f → IsRowsFault texts f
-walk_fails start side stores texts k text f there w kept least =
+pub walk_fails : (table : Table) (programs : Programs) (texts : List RowText) (k : ℕ) (text : RowText) (f : MessageFault)
+    → slice_get texts k ≡ Some text → IsWalked texts k table programs → IsTable table
+    → IsLeastRowFault (entries table) text k f → IsRowsFault texts f
+walk_fails table programs texts k text f there w kept least =
     subst (IsRowsFault texts) (sym least.is) (record {
-      table = (shown side).table;
+      table = table;
       kept = kept;
       before = w.told;
       text = text;
@@ -174,19 +170,11 @@ pub misordered : (rows : List Entry) (text : RowText) (k : ℕ) → is_above row
 misordered rows text k h =
     record { what = item.NameOrder; is = refl; has = h; first = none_less rows text }
 
-pub walk_ends : (start side : declared.Side) (stores : Stores) (texts : List RowText) (k : ℕ) → length texts ≤ k
-    → length texts ≤ max_names → IsWalked start texts k side stores → IsRebuilt start texts side
-walk_ends start side stores texts k le few w =
-    let all : texts ≡ texts_of [] (rows_in side) = sym (take_all k texts le) ∙ w.told in
-    record {
-      idle = w.mirror.idle;
-      none_begun = w.mirror.none_begun;
-      events = omega (arith, w.mirror.events, few, ap length all, texts_len [] (rows_in side));
-      whose = w.whose;
-      told = all;
-    }
+pub walk_ends : (table : Table) (programs : Programs) (texts : List RowText) (k : ℕ) → length texts ≤ k
+    → IsWalked texts k table programs → IsTableOf texts table
+walk_ends table programs texts k le w = sym (take_all k texts le) ∙ w.told
 
--- ---- the row after those that are registered
+-- ---- the row after those that are added
 
 text_at : (texts : List RowText) (k : ℕ) → k < length texts → (text : RowText) × (slice_get texts k ≡ Some text)
 text_at [] k h = absurd (omega (arith, h))
@@ -212,8 +200,8 @@ abbrev pub Others : List RowText → ℕ → Bool → Type 0
 Others texts k misplaced = (last next : RowText) → 0 < k → slice_get texts (k - 1) ≡ Some last → slice_get texts k ≡ Some next
     → misplaced ≡ not (is_lt (name_cmp last.name next.name))
 
-module _ (start side : declared.Side) (stores : Stores) (texts : List RowText) (misplaced : Bool) where
-  pub walk_misplaced : (k : ℕ) → k < length texts → IsWalked start texts k side stores → IsTable (shown side).table
+module _ (table : Table) (programs : Programs) (texts : List RowText) (misplaced : Bool) where
+  pub walk_misplaced : (k : ℕ) → k < length texts → IsWalked texts k table programs → IsTable table
       → First k misplaced → Others texts k misplaced → misplaced ≡ true → IsRowsFault texts (message.Item item.NameOrder k)
   walk_misplaced zero lt w kept first others is = absurd (not_both (sym is ∙ first refl))
   walk_misplaced (suc j) lt w kept first others is =
@@ -222,25 +210,25 @@ module _ (start side : declared.Side) (stores : Stores) (texts : List RowText) (
       let before : slice_get texts (suc j - 1) ≡ Some last.0 = ap (slice_get texts) (omega arith) ∙ last.1 in
       let ge : is_lt (name_cmp last.0.name next.0.name) ≡ false =
       flipped _ (sym (others last.0 next.0 (omega arith) before next.1) ∙ is) in
-      walk_fails start side stores texts (suc j) next.0 (message.Item item.NameOrder (suc j)) next.1 w kept
-      (misordered (rows_in side) next.0 (suc j)
-      (row_not_above (shown side).table texts (suc j) last.0 next.0.name (omega arith) (omega (arith, lt)) w.told before ge))
+      walk_fails table programs texts (suc j) next.0 (message.Item item.NameOrder (suc j)) next.1 w kept
+      (misordered (entries table) next.0 (suc j)
+      (row_not_above table texts (suc j) last.0 next.0.name (omega arith) (omega (arith, lt)) w.told before ge))
 
-  pub walk_above : (k : ℕ) (next : RowText) → k < length texts → slice_get texts k ≡ Some next → IsWalked start texts k side stores
-      → First k misplaced → Others texts k misplaced → misplaced ≡ false → is_above (rows_in side) next.name ≡ true
-  walk_above zero next lt there w first others is = first_above (shown side).table texts next.name w.told
+  pub walk_above : (k : ℕ) (next : RowText) → k < length texts → slice_get texts k ≡ Some next → IsWalked texts k table programs
+      → First k misplaced → Others texts k misplaced → misplaced ≡ false → is_above (entries table) next.name ≡ true
+  walk_above zero next lt there w first others is = first_above table texts next.name w.told
   walk_above (suc j) next lt there w first others is =
       let last = text_at texts j (omega (arith, lt)) in
       let before : slice_get texts (suc j - 1) ≡ Some last.0 = ap (slice_get texts) (omega arith) ∙ last.1 in
       let below : is_lt (name_cmp last.0.name next.name) ≡ true =
       unflipped _ (sym (others last.0 next (omega arith) before there) ∙ is) in
-      row_above (shown side).table texts (suc j) last.0 next.name (omega arith) (omega (arith, lt)) w.told before below
+      row_above table texts (suc j) last.0 next.name (omega arith) (omega (arith, lt)) w.told before below
 
   -- the cause of the fault of row k
-  pub walk_cause : (k : ℕ) (text : RowText) (f : MessageFault) → slice_get texts k ≡ Some text → IsWalked start texts k side stores
-      → IsTable (shown side).table → HasCause message_fault_number (IsLeastRowFault (rows_in side) text k) f
+  pub walk_cause : (k : ℕ) (text : RowText) (f : MessageFault) → slice_get texts k ≡ Some text → IsWalked texts k table programs
+      → IsTable table → HasCause message_fault_number (IsLeastRowFault (entries table) text k) f
       → HasCause message_fault_number (IsRowsFault texts) f
-  walk_cause k text f there w kept (inl least) = inl (walk_fails start side stores texts k text f there w kept least)
+  walk_cause k text f there w kept (inl least) = inl (walk_fails table programs texts k text f there w kept least)
   walk_cause k text f there w kept (inr out) = inr out
 
 -- a fault that `?` returns

@@ -12,7 +12,7 @@ use Rattle.partition_table.specs.Tables.{Row, Table, IsTable, rows_of}
 use Rattle.exchange_codec.specs.Rows.{RowText, row_bytes, text_of, ids_after, ids_of, texts_of, AreIds, IsRow}
 use Rattle.std.specs.BTreeSet.{BTreeSet}
 use Rattle.std.specs.List.{AllByRecursion}
-use Rattle.exchange_codec.proofs.SideLaws.{all_more}
+use Rattle.exchange_codec.proofs.EachLaws.{all_more}
 use Rattle.std.specs.Int.{w32, w64, to_le_bytes}
 use Rattle.exchange_core.specs.Sides.{Offer}
 use Rattle.exchange_core.specs.laws.Entries.{has_entry}

@@ -1,9 +1,13 @@
 -- A list that is read is spelled so, and what is spelled so is read.
-use Rattle.std.proofs.Common.{◌≡◌, ℕ, ◌+◌, ◌^◌, ◌<◌, ◌≤◌, Bool, true, false, List, [], ◌∷◌, ◌++◌, length, Option, Some, None, Result, Ok, Err, refl, sym, ap, subst, ◌∙◌, append_assoc, arith, lit<, inl, inr}
-use Rattle.std.specs.Prelude.{IsTrue, IfOk, ◌||◌}
+use Rattle.std.proofs.Common.{◌≡◌, ℕ, zero, suc, ◌+◌, ◌^◌, ◌<◌, ◌≤◌, Bool, true, false, cond, List, [], ◌∷◌, ◌++◌, length, take, drop, Option, Some, None, Result, Ok, Err, refl, sym, ap, subst, ◌∙◌, append_assoc, arith, lit<, inl, inr}
+use Rattle.std.specs.Prelude.{IsTrue, IfOk, ◌||◌, min}
 use Rattle.std.specs.List.{flat_map, AllByRecursion, IsDistinct}
 use Rattle.std.specs.Int.{w32, w64, to_le_bytes}
-use Rattle.std.proofs.lemmas.List.{append-nil}
+use Rattle.std.proofs.Math.Nat.{min-eq_left, min-eq_right}
+use Rattle.std.proofs.lemmas.Bool.{cases_lt}
+use Rattle.std.proofs.lemmas.Grind.{flat_map-append}
+use Rattle.std.proofs.lemmas.List.{append-nil, length-take, length-drop, length-append, take-append-drop}
+use Rattle.std.proofs.lemmas.List.Concat.{flat_map-cons}
 use Rattle.clash_record.specs.Name.{Name, is_name}
 use Rattle.partition_table.specs.Tables.{max_names, is_in}
 use Rattle.partition_table.specs.Tables.{is_name as same_name}
@@ -19,7 +23,7 @@ use Rattle.exchange_codec.specs.Faults.{message_fault_number}
 use Rattle.exchange_codec.specs.Placing.{told_of}
 use Rattle.exchange_codec.specs.Reading.{◌>>=◌, Fails, number_at, header_at, count_at, many_at, ended}
 use Rattle.exchange_codec.specs.Names.{side_byte, name_bytes, side_at, name_at}
-use Rattle.exchange_codec.specs.Withdrawals.{withdrawals_header, withdrawals_bytes, first_again, SpellsWithdrawals, list_at, list_of, list_due, unless_again}
+use Rattle.exchange_codec.specs.Withdrawals.{withdrawals_header, counted_bytes, withdrawals_bytes, names_bytes, first_again, SpellsWithdrawals, list_at, list_of, list_due, unless_again}
 use Rattle.exchange_codec.proofs.FieldLaws.{IsBytes, bind_ok, ok_is, Takes, Takes-then, wide64, number_takes, number_again, header_takes, header_again, count_takes, count_again, ended_ok}
 use Rattle.exchange_codec.proofs.NameLaws.{side_takes, side_again, name_takes, name_again}
 use Rattle.exchange_codec.proofs.ManyLaws.{many_take, many_again}
@@ -57,17 +61,19 @@ list_takes bytes x fits e =
     subst (λ (y : Withdrawals × List ℕ). Takes bytes (withdrawals_bytes y.0) y.1 × IsListText y.0) (ok_is made x m.2)
     (e0, record { number = tn.1; few = few; named = tm.2 })
 
+regrouped : (w : Withdrawals) (rest : List ℕ) → withdrawals_bytes w ++ rest
+    ≡ to_le_bytes w64 withdrawals_header ++ (side_byte w.side ∷ (to_le_bytes w64 w.number ++ (to_le_bytes w32 (length w.names) ++ (flat_map name_bytes w.names ++ rest))))
+regrouped w rest =
+    let names = flat_map name_bytes w.names in
+    let count = to_le_bytes w32 (length w.names) in
+    append_assoc (to_le_bytes w64 withdrawals_header) (side_byte w.side ∷ (to_le_bytes w64 w.number ++ (count ++ names))) rest
+    ∙ ap (λ (x : List ℕ). to_le_bytes w64 withdrawals_header ++ (side_byte w.side ∷ x)) (append_assoc (to_le_bytes w64 w.number) (count ++ names) rest
+    ∙ ap (λ (x : List ℕ). to_le_bytes w64 w.number ++ x) (append_assoc count names rest))
+
 list_again : (w : Withdrawals) (rest : List ℕ) → IsListText w → list_at (withdrawals_bytes w ++ rest) ≡ Ok (w, rest)
 unfolding list_at
 list_again w rest fits =
-    let names = flat_map name_bytes w.names in
-    let count = to_le_bytes w32 (length w.names) in
-    let regrouped : withdrawals_bytes w ++ rest
-    ≡ to_le_bytes w64 withdrawals_header ++ (side_byte w.side ∷ (to_le_bytes w64 w.number ++ (to_le_bytes w32 (length w.names) ++ (flat_map name_bytes w.names ++ rest)))) =
-    append_assoc (to_le_bytes w64 withdrawals_header) (side_byte w.side ∷ (to_le_bytes w64 w.number ++ (count ++ names))) rest
-    ∙ ap (λ (x : List ℕ). to_le_bytes w64 withdrawals_header ++ (side_byte w.side ∷ x)) (append_assoc (to_le_bytes w64 w.number) (count ++ names) rest
-    ∙ ap (λ (x : List ℕ). to_le_bytes w64 w.number ++ x) (append_assoc count names rest)) in
-    ap list_at regrouped
+    ap list_at (regrouped w rest)
     ∙ rw (
       header_again withdrawals_header (side_byte w.side ∷ (to_le_bytes w64 w.number ++ (to_le_bytes w32 (length w.names) ++ (flat_map name_bytes w.names ++ rest)))) (lit< tt),
       side_again w.side (to_le_bytes w64 w.number ++ (to_le_bytes w32 (length w.names) ++ (flat_map name_bytes w.names ++ rest))),
@@ -109,6 +115,22 @@ same_ok w v e = cc
 pub answered_apart : (o : Option ℕ) (w v : Withdrawals) → unless_again o w ≡ Ok v → (o ≡ None) × (w ≡ v)
 answered_apart None w v e = (refl, same_ok w v e)
 answered_apart (Some k) w v e = absurd cc
+
+-- what is due for bytes is the list that they spell, if they spell one
+pub list_is_due : (bytes : List ℕ) (w : Withdrawals) → SpellsWithdrawals bytes w → list_due (length bytes) (list_of bytes) ≡ Ok w
+list_is_due bytes w s =
+    ap (list_due (length bytes)) (list_read bytes w s) ∙ ap (λ (o : Option ℕ). unless_again o w) s.is_list.apart
+
+pub due_is_spelled : (bytes : List ℕ) (w : Withdrawals) → IsBytes bytes → list_due (length bytes) (list_of bytes) ≡ Ok w
+    → SpellsWithdrawals bytes w
+due_is_spelled bytes w fits due = by_reading (list_of bytes) refl due
+  where
+    by_reading : (read : Result Withdrawals Fault) → list_of bytes ≡ read → list_due (length bytes) read ≡ Ok w
+        → SpellsWithdrawals bytes w
+    by_reading (Ok text) e h =
+        let a = answered_apart (first_again [] 0 text.names) text w h in
+        subst (SpellsWithdrawals bytes) a.1 (list_spelled bytes text fits e a.0)
+    by_reading (Err f) e h = absurd cc
 
 -- ---- what is answered, where the text is read and a mirror then answers
 
@@ -190,16 +212,123 @@ none_before [] = tt
 none_before (x ∷ names) = (refl, none_before names)
 
 -- the parts of a list, written one after the other
-pub list_written : (w : Withdrawals) (names : List Name) (n : ℕ) (a b c d e : List ℕ) → names ≡ w.names → n ≡ length names
+pub list_written : (w : Withdrawals) (names : List Name) (n : ℕ) (a b c d e : List ℕ) → names ≡ w.names
+    → n ≡ min (length names) max_names
     → a ≡ to_le_bytes w64 withdrawals_header → b ≡ a ++ side_byte w.side ∷ [] → c ≡ b ++ to_le_bytes w64 w.number
-    → d ≡ c ++ to_le_bytes w32 n → e ≡ d ++ flat_map name_bytes names → w.number < 2 ^ 64 → IsNameList names
-    → AllByRecursion (λ name. IsTrue (is_name name)) names → SpellsWithdrawals e w
-list_written w names n a b c d e is count wrote_a wrote_b wrote_c wrote_d wrote_e number listed named = record {
+    → d ≡ c ++ to_le_bytes w32 n → e ≡ d ++ flat_map name_bytes names → e ≡ names_bytes w
+list_written w names n a b c d e is count wrote_a wrote_b wrote_c wrote_d wrote_e =
+    wrote_e ∙ rw (wrote_d, wrote_c, wrote_b, wrote_a, count, is) refl
+
+few_bytes : (w : Withdrawals) → length w.names ≤ max_names → names_bytes w ≡ withdrawals_bytes w
+few_bytes w few = ap (λ (n : ℕ). counted_bytes n w) (min-eq_left few)
+
+-- distinct names, at most 4,096, are spelled
+pub names_spelled : (w : Withdrawals) (e : List ℕ) → e ≡ names_bytes w → w.number < 2 ^ 64
+    → AllByRecursion (λ name. IsTrue (is_name name)) w.names → IsNameList w.names → SpellsWithdrawals e w
+names_spelled w e wrote number named listed = record {
   is_list = record {
     number = number;
-    few = subst (λ (ns : List Name). length ns ≤ max_names) is listed.few;
-    named = subst (AllByRecursion (λ name. IsTrue (is_name name))) is named;
-    apart = subst (λ (ns : List Name). first_again [] 0 ns ≡ None) is (once [] 0 names (none_before names) listed.distinct);
+    few = listed.few;
+    named = named;
+    apart = once [] 0 w.names (none_before w.names) listed.distinct;
   };
-  spelling = wrote_e ∙ rw (wrote_d, wrote_c, wrote_b, wrote_a, count, is) refl;
+  spelling = wrote ∙ few_bytes w listed.few;
 }
+
+in_front : (y : Name) (before : List Name) (x : Name) → is_in y (before ++ x ∷ []) ≡ false
+    → (is_in y before ≡ false) × (same_name y x ≡ false)
+in_front y [] x h = (refl, (or_false (same_name y x) false h).0)
+in_front y (b ∷ bs) x h =
+    let parts = or_false (same_name y b) (is_in y (bs ++ x ∷ [])) h in
+    let rest = in_front y bs x parts.1 in
+    (rw (parts.0, rest.0) refl, rest.1)
+
+-- names of which none stands twice, apart from those before them
+record AreApart (before names : List Name) : Type 0 where
+  new : AllByRecursion (λ (y : Name). is_in y before ≡ false) names
+  distinct : IsDistinct same_name names
+
+all_new : (before : List Name) (x : Name) (ys : List Name)
+    → AllByRecursion (λ (y : Name). is_in y (before ++ x ∷ []) ≡ false) ys
+    → AllByRecursion (λ (y : Name). is_in y before ≡ false) ys × AllByRecursion (λ (y : Name). same_name x y ≡ false) ys
+all_new before x [] h = (tt, tt)
+all_new before x (y ∷ ys) h =
+    let parts = in_front y before x h.0 in
+    let rest = all_new before x ys h.1 in
+    ((parts.0, rest.0), ((equivalent_by name_decides).symm x y ∙ parts.1, rest.1))
+
+none_again : (b : Bool) (before : List Name) (k : ℕ) (name : Name) (names : List Name) → is_in name before ≡ b
+    → cond b (Some k) (first_again (before ++ name ∷ []) (k + 1) names) ≡ None
+    → (is_in name before ≡ false) × (first_again (before ++ name ∷ []) (k + 1) names ≡ None)
+none_again true before k name names e h = absurd cc
+none_again false before k name names e h = (e, h)
+
+apart_names : (before : List Name) (k : ℕ) (names : List Name) → first_again before k names ≡ None → AreApart before names
+unfolding IsDistinct
+apart_names before k [] h = record { new = tt; distinct = tt }
+apart_names before k (x ∷ names) h =
+    let first = none_again (is_in x before) before k x names refl h in
+    let rest = apart_names (before ++ x ∷ []) (k + 1) names first.1 in
+    let all = all_new before x names rest.new in
+    record { new = (first.0, all.0); distinct = (all.1, rest.distinct) }
+
+-- the first 4,096 of more names
+front_of : Withdrawals → Withdrawals
+front_of w = record { side = w.side; number = w.number; names = take max_names w.names }
+
+name_somewhere : (names : List Name) → 0 < length names → length (flat_map name_bytes names) ≡ 0 → ⊥
+name_somewhere [] some none = omega (arith, some)
+name_somewhere (name ∷ names) some none =
+    omega (
+      arith,
+      none,
+      ap length (flat_map-cons name_bytes name names),
+      length-append (name_bytes name) (flat_map name_bytes names),
+    )
+
+all_front : {A : Type 0} (P : A → Type 0) (n : ℕ) (xs : List A) → AllByRecursion P xs → AllByRecursion P (take n xs)
+all_front P zero xs h = tt
+all_front P (suc n) [] h = tt
+all_front P (suc n) (x ∷ xs) h = (h.0, all_front P n xs h.1)
+
+too_many : (w v : Withdrawals) → max_names < length w.names → w.number < 2 ^ 64
+    → AllByRecursion (λ name. IsTrue (is_name name)) w.names → list_of (names_bytes w) ≡ Ok v → ⊥
+unfolding list_of front_of
+too_many w v many number named read =
+    let rest = flat_map name_bytes (drop max_names w.names) in
+    let count : length (take max_names w.names) ≡ max_names = omega (arith, many, length-take max_names w.names) in
+    let names : flat_map name_bytes w.names ≡ flat_map name_bytes (take max_names w.names) ++ rest =
+    ap (flat_map name_bytes) (sym (take-append-drop max_names w.names))
+    ∙ flat_map-append name_bytes (take max_names w.names) (drop max_names w.names) in
+    let parts : names_bytes w ≡ withdrawals_bytes (front_of w) ++ rest =
+    ap (λ (n : ℕ). counted_bytes n w) (min-eq_right (omega (arith, many)) ∙ sym count)
+    ∙ ap (λ (xs : List ℕ). to_le_bytes w64 withdrawals_header ++ (side_byte w.side ∷ (to_le_bytes w64 w.number
+    ++ (to_le_bytes w32 (length (take max_names w.names)) ++ xs)))) names ∙ sym (regrouped (front_of w) rest) in
+    let text : IsListText (front_of w) = record {
+      number = number;
+      few = omega (arith, count);
+      named = all_front (λ name. IsTrue (is_name name)) max_names w.names named;
+    } in
+    let there : list_at (names_bytes w) ≡ Ok (front_of w, rest) = ap list_at parts ∙ list_again (front_of w) rest text in
+    let whole : ended (front_of w, rest) ≡ Ok v = sym (ap (λ r. r >>= ended) there) ∙ read in
+    let none = ended_ok (front_of w, rest) v whole in
+    name_somewhere (drop max_names w.names) (omega (arith, many, length-drop max_names w.names)) (ap length none.1)
+
+-- other names are not
+pub spelled_names : (w : Withdrawals) (e : List ℕ) → e ≡ names_bytes w → w.number < 2 ^ 64
+    → AllByRecursion (λ name. IsTrue (is_name name)) w.names → (v : Withdrawals) → SpellsWithdrawals e v → IsNameList w.names
+unfolding list_of
+spelled_names w e wrote number named v spells =
+    let read : list_of (names_bytes w) ≡ Ok v = ap list_of (sym wrote) ∙ list_read e v spells in
+    elim (cases_lt max_names (length w.names)) [
+      | inl many ↦ absurd (too_many w v many number named read)
+      | inr few ↦
+          let text : IsListText w = record { number = number; few = few; named = named } in
+          let again : list_at (withdrawals_bytes w) ≡ Ok (w, []) =
+          ap list_at (sym (append-nil (withdrawals_bytes w))) ∙ list_again w [] text in
+          let mine : list_of (names_bytes w) ≡ Ok w = ap list_of (few_bytes w few) ∙ ap (λ r. r >>= ended) again in
+          let same : v ≡ w = ok_is v w (sym read ∙ mine) in
+          let apart : first_again [] 0 w.names ≡ None =
+          subst (λ (u : Withdrawals). first_again [] 0 u.names ≡ None) same spells.is_list.apart in
+          record { few = few; distinct = (apart_names [] 0 w.names apart).distinct }
+    ]

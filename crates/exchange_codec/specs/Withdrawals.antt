@@ -1,10 +1,11 @@
 -- The list of the names that a side withdrew, as bytes.
-use Rattle.std.specs.Prelude.{◌≡◌, ℕ, ◌+◌, ◌<◌, ◌≤◌, ◌^◌, IsTrue, List, [], ◌∷◌, ◌++◌, length, Option, Some, None, Result, Ok, Err, if◌then◌else◌}
+use Rattle.std.specs.Prelude.{◌≡◌, ℕ, ◌<◌, ◌≤◌, ◌^◌, min, IsTrue, List, [], ◌∷◌, ◌++◌, length, Option, Some, None, Result, Ok, Err}
 use Rattle.std.specs.List.{flat_map, AllByRecursion}
 use Rattle.std.specs.Int.{w32, w64, to_le_bytes}
-use Rattle.clash_record.specs.Name.{Name, is_name}
-use Rattle.partition_table.specs.Tables.{max_names, is_in}
+use Rattle.clash_record.specs.Name.{is_name}
+use Rattle.partition_table.specs.Tables.{max_names}
 use Rattle.exchange_core.specs.Sides.{Withdrawals}
+pub use Rattle.exchange_core.specs.Repeats.{first_again}
 use Rattle.exchange_codec.specs.declared.fault.Fault.{Fault}
 use Rattle.exchange_codec.specs.declared.fault.MessageFault.{MessageFault}
 use Rattle.exchange_codec.specs.declared.fault.MessageFault.TheVariants as message
@@ -17,17 +18,19 @@ use Rattle.exchange_codec.specs.Names.{side_byte, name_bytes, side_at, name_at}
 abbrev pub withdrawals_header : ℕ
 withdrawals_header = 0x0201_4358_4C41_4548
 
-abbrev pub withdrawals_bytes : Withdrawals → List ℕ
-withdrawals_bytes w =
+-- a list with this count
+abbrev pub counted_bytes : ℕ → Withdrawals → List ℕ
+counted_bytes count w =
     to_le_bytes w64 withdrawals_header
     ++ (side_byte w.side
-    ∷ (to_le_bytes w64 w.number ++ (to_le_bytes w32 (length w.names) ++ flat_map name_bytes w.names)))
+    ∷ (to_le_bytes w64 w.number ++ (to_le_bytes w32 count ++ flat_map name_bytes w.names)))
 
--- the first place with a name that stands before it, where these stand before the list, which begins at place k
-abbrev pub first_again : List Name → ℕ → List Name → Option ℕ
-first_again before k [] = None
-first_again before k (name ∷ names) =
-    if is_in name before then Some k else first_again (before ++ name ∷ []) (k + 1) names
+abbrev pub withdrawals_bytes : Withdrawals → List ℕ
+withdrawals_bytes w = counted_bytes (length w.names) w
+
+-- any names, with a count of at most 4,096
+abbrev pub names_bytes : Withdrawals → List ℕ
+names_bytes w = counted_bytes (min (length w.names) max_names) w
 
 -- what has a spelling: at most 4,096 names, each once
 pub record IsList (w : Withdrawals) : Type 0 where

@@ -1,2 +1,1 @@
-pub mod ListMirror
-pub mod OfferMirror
+pub mod Building

@@ -1,11 +1,10 @@
 //! The messages of an exchange as bytes: offers and lists of withdrawn names, encoded, and decoded from untrusted bytes.
 #![tactic(auto)]
 
+mod building;
 mod fault;
 mod fields;
-mod list_mirror;
 mod names;
-mod offer_mirror;
 mod offers;
 mod rows;
 mod theorem;

@@ -11,10 +11,10 @@ ghost use Rattle.exchange_codec.specs.Reading.{Gives};
 ghost use Rattle.exchange_codec.specs.Offers.{SpellsOffer, IsOfferFault, IsHead, head_at, offer_at, offer_of, head_bytes};
 ghost use Rattle.exchange_codec.specs.OffersText.{view};
 
+use crate::building::rebuilt;
 use crate::fault::{FieldFault, MessageFault, ReadError};
 use crate::fields::{count_at, header_at, push_u32, push_u64, u64_at};
 use crate::names::{push_side, side_at};
-use crate::offer_mirror::rebuilt;
 use crate::rows::{RowText, all_rows, push_row};
 use clash_record::SideId;
 use exchange_core::Offer;
@@ -111,8 +111,7 @@ fn push_rows(alloc: Global, out: &mut Vec<u8>, table: &Table) -> Result<(), Allo
 
 /// Decodes untrusted bytes as an offer.
 ///
-/// It verifies each program again, computes its id, registers the rows on a fresh side, and lets it begin the number.
-/// That the bytes are those that the other half sent in this exchange is the transport's duty.
+/// It verifies each program again, and computes its id. That the bytes are those that the other half sent in this exchange is the transport's duty.
 ///
 /// Rejects the first invalid field, with its byte: 70 if the bytes end within it, 71 for another message, 72 for extra
 /// bytes, 73 for a count above its limit, 74 for neither side, 75 for an invalid name, 76 for an unknown kind of resolver

@@ -2,6 +2,7 @@
 ghost use Rattle.std.specs.Prelude.{◌≡◌, ◌++◌, List, OnOk};
 ghost use Rattle.std.specs.Option.{option_map};
 ghost use Rattle.std.specs.Arc.{arc_value};
+ghost use Rattle.std.specs.Int.{w64, to_le_bytes};
 ghost use Rattle.clash_record.specs.declared.registrations.ResolverId.TheVariants.{Program};
 ghost use Rattle.clash_record.specs.Orders.{builtin_place};
 ghost use Rattle.clash_record.specs.declared.registrations.ProgramId.{ProgramId};
@@ -10,7 +11,7 @@ ghost use Rattle.exchange_codec.specs.Rows.{owner_at, resolver_at, row_at, row_b
 ghost use Rattle.exchange_codec.specs.RowsText.{row_view, rows_view, resolver_view};
 
 use crate::fault::{FieldFault, ReadError};
-use crate::fields::{bytes_at, count_at, push_u32, push_u64, u32_at, u64_at};
+use crate::fields::{bytes_at, count_at, push_u32, u32_at, u64_at};
 use crate::names::{name_at, push_name};
 use clash_record::{Builtin, Name, Owner, ProgramId, Registration, ResolverId};
 use insn_codec::encode;
@@ -174,20 +175,28 @@ fn push_fields(out: &mut Vec<u8>, registration: Registration) -> Result<(), Allo
     ensures written { OnOk result (out.new.items ≡ out.old.items ++ fields_bytes registration) }
     ensures fits { OnOk result (HasFields registration) }
 {
-    push_owner(out, registration.owner)?;
-    push_u64(out, registration.stamp)?;
-    push_u64(out, registration.weight)?;
-    out.extend_from_slice(&registration.extra)?;
+    let Registration {
+        owner,
+        stamp,
+        weight,
+        extra,
+        resolver: _,
+    } = registration;
+    out.extend_from_slice(&number_bytes(owner, stamp, weight))?;
+    out.extend_from_slice(&extra)?;
     Ok(())
 }
 
-// Writes an owner at the end.
-fn push_owner(out: &mut Vec<u8>, owner: Owner) -> Result<(), AllocError>
-    ensures { OnOk result (out.new.items ≡ out.old.items ++ owner_bytes owner) }
+// Returns an owner, a stamp and a weight as bytes, which are then written at once.
+fn number_bytes(owner: Owner, stamp: u64, weight: u64) -> [u8; 24]
+    ensures { result ≡ owner_bytes owner ++ (to_le_bytes w64 stamp ++ to_le_bytes w64 weight) }
 {
-    push_u32(out, owner.node)?;
-    push_u32(out, owner.serial)?;
-    Ok(())
+    let (n, s) = (owner.node.to_le_bytes(), owner.serial.to_le_bytes());
+    let (t, w) = (stamp.to_le_bytes(), weight.to_le_bytes());
+    [
+        n[0], n[1], n[2], n[3], s[0], s[1], s[2], s[3], t[0], t[1], t[2], t[3], t[4], t[5], t[6],
+        t[7], w[0], w[1], w[2], w[3], w[4], w[5], w[6], w[7],
+    ]
 }
 
 // Writes a resolver at the end.

@@ -1,18 +1,31 @@
-//! One spelling belongs to one message.
-ghost use Rattle.std.specs.Prelude.{◌≡◌, ℕ, List};
+//! Bytes spell one message or have one fault.
+ghost use Rattle.std.specs.Prelude.{◌≡◌, ◌<◌, ℕ, List, Ok, All, length};
 ghost use Rattle.exchange_core.specs.Sides.{Offer, Withdrawals};
-ghost use Rattle.exchange_codec.specs.Withdrawals.{SpellsWithdrawals};
-ghost use Rattle.exchange_codec.specs.Offers.{SpellsOffer};
+ghost use Rattle.exchange_codec.specs.declared.fault.MessageFault.{MessageFault};
+ghost use Rattle.exchange_codec.specs.Withdrawals.{SpellsWithdrawals, list_of, list_due};
+ghost use Rattle.exchange_codec.specs.Offers.{SpellsOffer, IsOfferFault};
 
 use insn_codec::one_reading_theorem;
 use program::Profile;
 use verifier::one_verdict_theorem;
 
-/// One spelling belongs to one message, and a message has one spelling.
+/// States that bytes spell at most one message, that bytes that spell one have no fault, that bytes have at most one fault,
+/// and that a message has one spelling. Does nothing at run time.
 pub fn one_message_theorem()
     ensures offers { (bytes : List ℕ) → (o p : Offer) → SpellsOffer bytes o → SpellsOffer bytes p → o ≡ p }
     ensures lists { (bytes : List ℕ) → (w v : Withdrawals) → SpellsWithdrawals bytes w → SpellsWithdrawals bytes v
         → w ≡ v }
+    // Bytes that spell an offer have no fault.
+    ensures either_offer { (bytes : List ℕ) → (o : Offer) → (f : MessageFault) → SpellsOffer bytes o
+        → IsOfferFault bytes f → ⊥ }
+    // Two faults of the same bytes are equal.
+    ensures one_offer_fault { (bytes : List ℕ) → (f g : MessageFault) → IsOfferFault bytes f → IsOfferFault bytes g
+        → f ≡ g }
+    // `list_due`, which gives bytes a list or one fault, gives a list exactly for bytes that spell it.
+    ensures spelled_list_due { (bytes : List ℕ) → (w : Withdrawals) → SpellsWithdrawals bytes w
+        → list_due (length bytes) (list_of bytes) ≡ Ok w }
+    ensures due_list_spelled { (bytes : List ℕ) → (w : Withdrawals) → All (λ byte. byte < 256) bytes
+        → list_due (length bytes) (list_of bytes) ≡ Ok w → SpellsWithdrawals bytes w }
     ensures one_offer_spelling { (bytes other : List ℕ) → (o : Offer) → SpellsOffer bytes o → SpellsOffer other o
         → bytes ≡ other }
     ensures one_list_spelling { (bytes other : List ℕ) → (w : Withdrawals) → SpellsWithdrawals bytes w

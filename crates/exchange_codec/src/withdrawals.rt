@@ -1,22 +1,22 @@
 //! Lists of withdrawn names as bytes.
-ghost use Rattle.std.specs.Prelude.{◌≡◌, ◌++◌, [], length, IsTrue, Ok, IfOk, OnOk};
+ghost use Rattle.std.specs.Prelude.{◌≡◌, ◌≤◌, ◌++◌, [], length, IsTrue, Ok, IfOk, OnOk};
 ghost use Rattle.std.specs.List.{flat_map, AllByRecursion};
 ghost use Rattle.clash_record.specs.Name.{is_name};
 ghost use Rattle.numbered.specs.Answers.{ReturnsOrRunsOut};
+ghost use Rattle.partition_table.specs.Tables.{max_names};
 ghost use Rattle.exchange_core.specs.Lists.{IsNameList};
 ghost use Rattle.exchange_core.specs.Sides as sides;
 ghost use Rattle.exchange_codec.specs.Faults.{message_fault_number};
 ghost use Rattle.exchange_codec.specs.Reading.{Gives, many_at};
 ghost use Rattle.exchange_codec.specs.Names.{name_at, name_bytes};
-ghost use Rattle.exchange_codec.specs.Withdrawals.{SpellsWithdrawals, list_at, list_of, list_due};
+ghost use Rattle.exchange_codec.specs.Withdrawals.{SpellsWithdrawals, names_bytes, first_again, unless_again, list_at, list_of, list_due};
 ghost use Rattle.exchange_codec.specs.WithdrawalsText.{view};
 
-use crate::fault::{FieldFault, MessageFault, ReadError};
+use crate::fault::{FieldFault, ItemFault, MessageFault, ReadError};
 use crate::fields::{count_at, header_at, push_u32, push_u64, u64_at};
-use crate::list_mirror::rebuilt;
 use crate::names::{name_at, push_name, push_side, side_at};
 use clash_record::{Name, SideId};
-use exchange_core::Withdrawals;
+use exchange_core::{ListFault, Withdrawals};
 use partition_table::MAX_NAMES;
 use std::alloc::{AllocError, Global};
 
@@ -47,9 +47,15 @@ pub fn spell_withdrawals(
     number: u64,
     names: &[Name],
 ) -> Result<Vec<u8>, AllocError>
+    // The bytes, whether or not they spell a list.
+    ensures bytes { IfOk result (λ bytes. bytes.items
+        ≡ names_bytes record { side = side; number = number; names = names.now }) }
     // Distinct names, at most 4,096, have a spelling.
-    ensures { IfOk result (λ bytes. IsNameList names.now
+    ensures spelled { IfOk result (λ bytes. IsNameList names.now
         → SpellsWithdrawals bytes.items record { side = side; number = number; names = names.now }) }
+    // Other names have none.
+    ensures listed { IfOk result (λ bytes. (list : sides.Withdrawals) → SpellsWithdrawals bytes.items list
+        → IsNameList names.now) }
 {
     let mut out = Vec::new(alloc);
     push_u64(&mut out, HEADER)?;
@@ -73,8 +79,7 @@ fn push_names(out: &mut Vec<u8>, names: &[Name]) -> Result<(), AllocError>
 
 /// Decodes untrusted bytes as a list of withdrawn names.
 ///
-/// It registers the names on a fresh side, and withdraws them there. That the bytes are those that the other half sent in
-/// this exchange is the transport's duty.
+/// That the bytes are those that the other half sent in this exchange is the transport's duty.
 ///
 /// Rejects the first invalid field, with its byte: 70 if the bytes end within it, 71 for another message, 72 for extra
 /// bytes, 73 for more than 4,096 names, 74 for neither side, 75 for an invalid name and 82 for another version. If every
@@ -90,8 +95,30 @@ pub fn decode_withdrawals(alloc: Global, bytes: &[u8]) -> Result<Withdrawals, Me
     ensures exact { ReturnsOrRunsOut message_fault_number result (list_due (length bytes.now) (list_of bytes.now)) }
 {
     match all(alloc, bytes) {
-        Ok(text) => rebuilt(alloc, &text),
+        Ok(text) => listed(alloc, text),
         Err(error) => Err(error.told(bytes.len())),
+    }
+}
+
+// Returns the list of the text, or 77 for the first name that it already has.
+fn listed(alloc: Global, text: ListText) -> Result<Withdrawals, MessageFault>
+    requires { length text.names.items ≤ max_names }
+    ensures { ReturnsOrRunsOut message_fault_number result
+        (unless_again (first_again [] 0 text.names.items) (view text)) }
+{
+    let ListText {
+        side,
+        number,
+        names,
+    } = text;
+    match Withdrawals::of_names(alloc, side, number, names) {
+        Ok(list) => Ok(list),
+        Err(ListFault::NameAgain { at }) => Err(MessageFault::Item {
+            fault: ItemFault::NameAgain,
+            at,
+        }),
+        Err(ListFault::OutOfMemory) => Err(MessageFault::OutOfMemory),
+        Err(ListFault::TooMany) => unreachable!(),
     }
 }
 

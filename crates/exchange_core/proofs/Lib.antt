@@ -14,6 +14,7 @@ pub mod Places
 pub mod Ready
 pub mod Registered
 pub mod Renewed
+pub mod Repeated
 pub mod Replays
 pub mod Rulings
 pub mod Sent

@@ -7,6 +7,7 @@ pub mod History
 pub mod Journal
 pub mod Lists
 pub mod Refusals
+pub mod Repeats
 pub mod Rows
 pub mod Settling
 pub mod Shown

@@ -20,6 +20,8 @@ mod settling;
 mod shown_rows;
 mod side;
 mod state;
+mod with_table;
+mod withdrawn_names;
 
 pub use calls::MAX_EVENTS;
 pub use clash_record::SideId;
@@ -32,3 +34,4 @@ pub use partition_table::Judged;
 pub use rounds::one_round_theorem;
 pub use shown_rows::ShownRows;
 pub use side::Side;
+pub use withdrawn_names::ListFault;

@@ -115,8 +115,8 @@ impl Offer {
     }
 }
 
-/// The distinct names that a side withdrew in an exchange, the earliest first; at most 4,096. Only `Side::close_list`
-/// makes one.
+/// The distinct names that a side withdrew in an exchange, the earliest first; at most 4,096. `Side::close_list` makes the
+/// list of a side, `of_names` that of names that came as bytes.
 #[derive(Debug)]
 pub struct Withdrawals {
     side: SideId,

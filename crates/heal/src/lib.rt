@@ -6,10 +6,10 @@
 //! | task | items | crate |
 //! |---|---|---|
 //! | heal a split in one process | `Cluster`, `Plan`, `Healing`, `HealFault`, `Gate`, `OpenGate` | `cluster`, `judge_pool` |
-//! | run one half | `Side`, `Offer`, `Withdrawals`, `Finished`, `Judged`, `SideFault`, `history_theorem`, `two_halves_theorem` | `exchange_core` |
+//! | run one half | `Side`, `Offer`, `Withdrawals`, `ListFault`, `Finished`, `Judged`, `SideFault`, `history_theorem`, `two_halves_theorem` | `exchange_core` |
 //! | send messages | `encode_offer`, `decode_offer`, `encode_withdrawals`, `decode_withdrawals`, `MessageFault` | `exchange_codec` |
 //! | judge clashes | `clashes`, `Clash`, `ClashList`, `word`, `Verdict`, `Ruling` | `partition_table` |
-//! | merge tables | `Table`, `Rows`, `RowsAfter`, `fit`, `merge`, `TableFault` | `partition_table` |
+//! | build and merge tables | `Table`, `TableBuilder`, `Rows`, `RowsAfter`, `fit`, `merge`, `TableFault` | `partition_table` |
 //! | keep uploaded programs | `UploadStore`, `Uploaded`, `UploadFault` | `upload_store` |
 //! | name and register | `name`, `Name`, `Owner`, `Registration`, `ResolverId`, `SideId`, `Withdrawal` | `clash_record` |
 //! | notify owners | `notices`, `Notice`, `Notices`, `Verdict3`, `decide` | `builtin_resolvers` |
@@ -38,16 +38,16 @@ pub use exchange_codec::{
     encode_withdrawals, one_message_theorem,
 };
 pub use exchange_core::{
-    Finished, Judged, MAX_EVENTS, MissingPart, Offer, ShownRows, Side, SideFault, Withdrawals,
-    history_theorem, one_round_theorem, two_halves_theorem,
+    Finished, Judged, ListFault, MAX_EVENTS, MissingPart, Offer, ShownRows, Side, SideFault,
+    Withdrawals, history_theorem, one_round_theorem, two_halves_theorem,
 };
 pub use judge_pool::{Gate, OpenGate};
 pub use numbered::{
     Numbered, NumberedRefusal, OUT_OF_MEMORY, Place, REFUSALS, refusal_of, words_of,
 };
 pub use partition_table::{
-    Clash, ClashList, MAX_NAMES, Rows, RowsAfter, Ruling, Table, TableFault, Verdict, clashes, fit,
-    merge, word,
+    Clash, ClashList, MAX_NAMES, Rows, RowsAfter, Ruling, Table, TableBuilder, TableFault, Verdict,
+    clashes, fit, merge, word,
 };
 pub use registry_lock::MeetFault;
 pub use upload_store::{MAX_PROGRAMS, UploadFault, UploadStore, Uploaded};

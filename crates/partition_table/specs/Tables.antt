@@ -76,6 +76,13 @@ pub record IsTable (table : Table) : Type 0 where
   pub coded : (name : Name) (row : Row) → get table name ≡ Some row → IsCodeOf row.registration.resolver row.code
   pub one_code : IsTrue (tables_agree table table)
 
+-- the row has its code, and may be added to a table under this name
+pub record IsNewRow (table : Table) (name : Name) (row : Row) : Type 0 where
+  pub new : get table name ≡ None
+  pub room : len table < max_names
+  pub coded : IsCodeOf row.registration.resolver row.code
+  pub agrees : IsTrue (agrees_with table row)
+
 -- equal rows, entries and tables
 abbrev pub same_row : Row → Row → Bool
 same_row r s = eq_by_cmp registration_cmp r.registration s.registration && same_code r.code s.code

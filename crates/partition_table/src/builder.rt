@@ -3,7 +3,7 @@ ghost use Rattle.std.specs.Prelude.{◌≡◌, IfOk, OnOk, OnErr};
 ghost use Rattle.std.specs.Option.{option_map};
 ghost use Rattle.std.specs.Arc.{arc_value};
 ghost use Rattle.std.specs.FinMap as map;
-ghost use Rattle.partition_table.specs.model.Keeping.{IsNewRow};
+ghost use Rattle.partition_table.specs.Tables.{IsNewRow, IsTable};
 
 use crate::programs::{Kept, hold_program};
 use crate::table::Table;
@@ -14,11 +14,11 @@ use std::marker::Model;
 use std::sync::Arc;
 use verifier::Verified;
 
-// The rows of a table that is being made, and the programs that these name.
-//
-// A contract sees it as the table that `finish` makes of it. Rows that come in the order of names need no sorting.
+/// Builds a table row by row.
+///
+/// Contracts see it as the table that `finish` makes of it. Rows that come in the order of names need no sorting.
 #[derive(Drop)]
-pub(crate) struct TableBuilder {
+pub struct TableBuilder {
     rows: Vec<(Name, Registration)>,
     programs: BTreeMap<ProgramId, Kept>,
 }
@@ -41,8 +41,8 @@ impl Model for TableBuilder {
 }
 
 impl TableBuilder {
-    // No rows. Allocates nothing.
-    pub(crate) fn new(alloc: Global) -> TableBuilder
+    /// Returns a builder without rows. Allocates nothing.
+    pub fn new(alloc: Global) -> TableBuilder
         ensures { result ≡ map.empty }
     {
         TableBuilder {
@@ -51,8 +51,11 @@ impl TableBuilder {
         }
     }
 
-    // Adds a row under a name that has none.
-    pub(crate) fn push(
+    /// Adds a row under a name that has none, and keeps its program. Doesn't compare code: requires that each row that names
+    /// the program has this code.
+    ///
+    /// Fails only when out of memory, and then leaves the rows as they are.
+    pub fn push(
         &mut self,
         name: Name,
         registration: Registration,
@@ -72,8 +75,16 @@ impl TableBuilder {
         Ok(())
     }
 
-    // The table of the rows. Allocates them, and looks once at each where they came in the order of names.
-    pub(crate) fn finish(self, alloc: Global) -> Result<Table, AllocError>
+    /// States what the type guarantees of the rows. Does nothing at run time.
+    pub fn known(&self)
+        // At most 4,096 names; each row has the program that it names; no id has two codes.
+        ensures { IsTable self.now }
+    {
+        let _ = &self.rows;
+    }
+
+    /// Returns the table of the rows. Allocates them, and looks once at each if they came in the order of names.
+    pub fn finish(self, alloc: Global) -> Result<Table, AllocError>
         ensures { IfOk result (λ table. table ≡ self) }
     {
         let TableBuilder { rows, programs } = self;

@@ -18,6 +18,7 @@ mod programs;
 mod table;
 mod verdict;
 
+pub use builder::TableBuilder;
 pub use clash::{Clash, ClashList};
 pub use clashing::clashes;
 pub use fault::TableFault;

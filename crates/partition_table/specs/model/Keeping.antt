@@ -81,10 +81,3 @@ abbrev pub IsKeptFor : Table → ResolverId → List Insn → Type 0
 IsKeptFor table resolver c =
     (name : Name) × (row : Row) × (get table name ≡ Some row) × (row.registration.resolver ≡ resolver)
     × (row.code ≡ Some c)
-
--- the row has its code, and can be added under this name
-pub record IsNewRow (table : Table) (name : Name) (row : Row) : Type 0 where
-  pub new : get table name ≡ None
-  pub room : len table < max_names
-  pub coded : IsCodeOf row.registration.resolver row.code
-  pub agrees : IsTrue (agrees_with table row)

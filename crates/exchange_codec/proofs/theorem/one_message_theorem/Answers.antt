@@ -1,7 +1,7 @@
 use Rattle.std.proofs.Common.{sym, ◌∙◌}
-use Rattle.exchange_codec.proofs.FieldLaws.{ok_is}
-use Rattle.exchange_codec.proofs.WithdrawalLaws.{list_read}
-use Rattle.exchange_codec.proofs.OfferAnswers.{readings, one_offer}
+use Rattle.exchange_codec.proofs.FieldLaws.{ok_is, all_bytes}
+use Rattle.exchange_codec.proofs.WithdrawalLaws.{list_read, list_is_due, due_is_spelled}
+use Rattle.exchange_codec.proofs.OfferAnswers.{readings, one_offer, spelled_fault, one_offer_fault}
 use Rattle.exchange_codec.proofs.theorem.one_message_theorem.Goals as goal
 
 pub returns : goal.returns
@@ -12,6 +12,10 @@ returns c =
     record {
       offers = λ bytes o p s r. one_offer known bytes o p s r;
       lists = λ bytes w v s r. ok_is w v (sym (list_read bytes w s) ∙ list_read bytes v r);
+      either_offer = λ bytes o f s h. spelled_fault known bytes o f s h;
+      one_offer_fault = λ bytes f g p q. one_offer_fault known bytes f g p q;
+      spelled_list_due = λ bytes w s. list_is_due bytes w s;
+      due_list_spelled = λ bytes w fits h. due_is_spelled bytes w (all_bytes bytes fits) h;
       one_offer_spelling = λ bytes other o s r. s.spelling ∙ sym r.spelling;
       one_list_spelling = λ bytes other w s r. s.spelling ∙ sym r.spelling;
     }

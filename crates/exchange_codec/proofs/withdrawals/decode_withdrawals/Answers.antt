@@ -6,9 +6,9 @@ use Rattle.exchange_codec.proofs.withdrawals.decode_withdrawals.Goals as goal
 
 pub returns-in-Ok : goal.returns-in-Ok
 returns-in-Ok c = record {
-  spelled = is_spelled c.args.bytes.now (view c.in-Ok.text) c.rebuilt.result (λ i. omega (arith, c.type_inv.bytes i)) c.in-Ok.ensures c.rebuilt.ensures;
-  taken = λ w s. is_read c.args.bytes.now (view c.in-Ok.text) c.rebuilt.result w c.in-Ok.ensures c.rebuilt.ensures s;
-  exact = is_exact c.args.bytes.now (view c.in-Ok.text) c.rebuilt.result c.in-Ok.ensures c.rebuilt.ensures;
+  spelled = is_spelled c.args.bytes.now (view c.in-Ok.text) c.listed.result (λ i. omega (arith, c.type_inv.bytes i)) c.in-Ok.ensures c.listed.ensures;
+  taken = λ w s. is_read c.args.bytes.now (view c.in-Ok.text) c.listed.result w c.in-Ok.ensures c.listed.ensures s;
+  exact = is_exact c.args.bytes.now (view c.in-Ok.text) c.listed.result c.in-Ok.ensures c.listed.ensures;
 }
 
 pub returns-in-Err : goal.returns-in-Err
@@ -18,5 +18,5 @@ returns-in-Err c = record {
   exact = rw c.told.ensures (bad_exact (length c.args.bytes.now) c.in-Err.error (list_of c.args.bytes.now) c.in-Err.ensures);
 }
 
-pub rebuilt-requires : goal.rebuilt-requires
-rebuilt-requires c = few_names c.args.bytes.now (view c.in-Ok.text) (λ i. omega (arith, c.type_inv.bytes i)) c.in-Ok.ensures
+pub listed-requires : goal.listed-requires
+listed-requires c = few_names c.args.bytes.now (view c.in-Ok.text) (λ i. omega (arith, c.type_inv.bytes i)) c.in-Ok.ensures
