@@ -33,6 +33,10 @@ pub on_err : {X E P : Type 0} (r : Result X E) → P → OnErr r P
 on_err (Ok x) h = tt
 on_err (Err e) h = h
 
+pub if_refused : {X E P Q : Type 0} (r : Result X E) → (P → Q) → OnErr r P → OnErr r Q
+if_refused (Ok x) f h = tt
+if_refused (Err e) f h = f h
+
 -- the call was carried out, or nothing changed
 pub by_answer : {X : Type 0} (r : Result X SideFault) (old new : code.Side) (call : Call) (P : Side → Type 0) →
     OnOk r (IsDone old call new) → OnErr r (IsUntouched old new) → P (shown old) →

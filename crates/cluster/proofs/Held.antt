@@ -14,11 +14,11 @@ both_hold true true e f = refl
 both_hold true false e f = f
 both_hold false y e f = e
 
-left_holds : (x y : Bool) → x && y ≡ true → x ≡ true
+pub left_holds : (x y : Bool) → x && y ≡ true → x ≡ true
 left_holds true y e = refl
 left_holds false y e = e
 
-right_holds : (x y : Bool) → x && y ≡ true → y ≡ true
+pub right_holds : (x y : Bool) → x && y ≡ true → y ≡ true
 right_holds true y e = e
 right_holds false y e = cc
 

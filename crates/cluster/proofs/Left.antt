@@ -6,9 +6,11 @@ use Rattle.clash_record.specs.declared.side_id.SideId.{SideId}
 use Rattle.exchange_core.specs.Sides.{Exchange, Side, shown_table, without}
 use Rattle.exchange_core.specs.Finished.{Finished, IsFinished}
 use Rattle.cluster.specs.Clusters.{Cluster, at}
-use Rattle.cluster.specs.Healing.{Plan, HasHeld, gone_of_side, idle_side, IsLeft, as_before, merged, left_open, untouched}
+use Rattle.partition_table.specs.declared.judged.Judged.{Judged}
+use Rattle.verdict_board.specs.Boards.{Pass}
+use Rattle.cluster.specs.Healing.{Plan, HasHeld, gone_of_side, idle_side, IsLeft, as_before, left_open, untouched, IsMerged}
 use Rattle.exchange_core.specs.Sides.{rested}
-use Rattle.cluster.specs.model.Stages.{IsRested, IsTrying, IsMerged}
+use Rattle.cluster.specs.model.Stages.{IsRested, IsTrying, HasFinished}
 
 module _ (plan : Plan) (was : Cluster) (id : SideId) (same : (at was id).side.id ≡ id) where
   pub left_rested : (side : Side) → IsRested (at was id).side side → IsLeft plan was id 0 side
@@ -17,9 +19,9 @@ module _ (plan : Plan) (was : Cluster) (id : SideId) (same : (at was id).side.id
       λ i. record { id = (r.id ∙ same) i; table = r.table i; exchange = r.idle i; latest = side.latest } in
       as_before side.latest refl is (inl r.latest)
 
-  pub left_trying : (n : ℕ) (side : Side) → IsTrying plan was id (gone_of_side id (take n plan.gone)) side →
-      IsLeft plan was id n side
-  left_trying n side t = left_open t.is_new t.under_way.held record {
+  pub left_trying : (holds : ℕ → Judged → Type 0) (n : ℕ) (side : Side) →
+      IsTrying plan was holds id (gone_of_side id (take n plan.gone)) side → IsLeft plan was id n side
+  left_trying holds n side t = left_open t.is_new t.under_way.held record {
     exchange = t.exchange;
     is_open = t.opened;
     number = t.under_way.number;
@@ -30,17 +32,36 @@ module _ (plan : Plan) (was : Cluster) (id : SideId) (same : (at was id).side.id
     latest = t.latest;
   }
 
-  pub left_all : (side : Side) → IsTrying plan was id (gone_of_side id plan.gone) side →
-      IsLeft plan was id (length plan.gone) side
-  left_all side t =
-      left_trying (length plan.gone) side
-      (subst (λ gone. IsTrying plan was id (gone_of_side id gone) side)
+  pub left_all : (holds : ℕ → Judged → Type 0) (side : Side) →
+      IsTrying plan was holds id (gone_of_side id plan.gone) side → IsLeft plan was id (length plan.gone) side
+  left_all holds side t =
+      left_trying holds (length plan.gone) side
+      (subst (λ gone. IsTrying plan was holds id (gone_of_side id gone) side)
       (sym (take_all (length plan.gone) plan.gone (omega arith))) t)
 
-  pub left_merged : (finished : Finished) (side : Side) → IsMerged plan was id finished side →
-      IsLeft plan was id (length plan.gone) side
-  left_merged finished side m =
-      merged finished.rulings finished.table (subst IsFinished m.is m.lawful) m.is_new refl m.held m.idle
+  pub is_merged : (pass : Pass) (finished : Finished) (side : Side) → HasFinished plan was pass id finished side →
+      IsMerged plan was id (length plan.gone) side
+  is_merged pass finished side m = record {
+    rulings = finished.rulings;
+    table = finished.table;
+    lawful = subst IsFinished m.is m.lawful;
+    is_new = m.is_new;
+    all = refl;
+    held = m.held;
+    idle = m.idle;
+  }
+
+  -- a merged half has no exchange to abandon
+  pub merged_still : (n : ℕ) (side : Side) → IsMerged plan was id n side → IsMerged plan was id n (rested side)
+  merged_still n side m = record {
+    rulings = m.rulings;
+    table = m.table;
+    lawful = m.lawful;
+    is_new = m.is_new;
+    all = m.all;
+    held = m.held;
+    idle = ap rested m.idle;
+  }
 
   -- an idle half that showed this table, after n withdrawals
   idle_after : ℕ → Option ℕ → Side
@@ -51,8 +72,6 @@ module _ (plan : Plan) (was : Cluster) (id : SideId) (same : (at was id).side.id
   pub left_abandoned : (n : ℕ) (side : Side) → IsLeft plan was id n side → IsLeft plan was id n (rested side)
   unfolding idle_after
   left_abandoned n side (as_before latest held e l) = as_before latest held (ap rested e) l
-  left_abandoned n side (merged rulings table lawful is_new all held e) =
-      merged rulings table lawful is_new all held (ap rested e)
   left_abandoned n side (left_open is_new held o) =
       let names = gone_of_side id (take n plan.gone) in
       let shows : shown_table side ≡ without names (shown_table (at was id).side) =

@@ -1,5 +1,6 @@
 mod Answered
 mod Called
+mod Causes
 mod Held
 mod Left
 mod Listed

@@ -12,7 +12,7 @@ use Rattle.exchange_core.specs.Calls.{Close_list, Hear_list}
 use Rattle.exchange_core.specs.Shown.{shown, IsDone, IsUntouched}
 use Rattle.cluster.specs.Clusters.{Cluster}
 use Rattle.cluster.specs.Healing.{Plan, gone_of_side}
-use Rattle.cluster.specs.model.Stages.{AreTrying}
+use Rattle.cluster.specs.model.Stages.{no_ruling, AreTrying}
 use Rattle.cluster.proofs.Answered.{pair, ok_has}
 use Rattle.cluster.proofs.Steps.{listed}
 use Rattle.cluster.proofs.Trying.{both_close, both_hear_lists}
@@ -30,7 +30,7 @@ both_lists close_a close_b hear_a hear_b of_a of_b old_a old_b mid_a mid_b new_a
     closed_a same_a closed_b same_b heard_a kept_a heard_b kept_b plan was trying =
     both_hear_lists hear_a hear_b of_a of_b mid_a mid_b new_a new_b heard_a kept_a heard_b kept_b plan was
     (ap (λ (l : Withdrawals). l.names) (ok_has (λ l. l ≡ list_of (shown old_a)) close_a of_a is_a list_a)
-    ∙ listed plan was A (gone_of_side A plan.gone) (shown old_a) trying.a)
+    ∙ listed plan was no_ruling A (gone_of_side A plan.gone) (shown old_a) trying.a)
     (ap (λ (l : Withdrawals). l.names) (ok_has (λ l. l ≡ list_of (shown old_b)) close_b of_b is_b list_b)
-    ∙ listed plan was B (gone_of_side B plan.gone) (shown old_b) trying.b)
+    ∙ listed plan was no_ruling B (gone_of_side B plan.gone) (shown old_b) trying.b)
     (both_close close_a close_b old_a old_b mid_a mid_b closed_a same_a closed_b same_b plan was trying)

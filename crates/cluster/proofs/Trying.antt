@@ -1,6 +1,7 @@
 -- Both halves after each stage of an exchange.
-use Rattle.std.proofs.Common.{◌≡◌, ℕ, ◌≤◌, Bool, true, false, ◌&&◌, nat_lt, List, [], ◌∷◌, ◌++◌, take, Some, refl, sym, ap, ◌∙◌, subst, length, get_or, ◌<◌, ◌+◌, arith}
+use Rattle.std.proofs.Common.{◌≡◌, ℕ, ◌≤◌, Bool, true, false, ◌&&◌, nat_lt, List, [], ◌∷◌, ◌++◌, take, drop, append_assoc, Some, refl, sym, ap, ◌∙◌, subst, length, get_or, ◌<◌, ◌+◌, arith}
 use Rattle.std.proofs.lemmas.Grind.{take_at_read}
+use Rattle.std.proofs.lemmas.List.{take-append-drop}
 use Rattle.std.proofs.lemmas.Bool.Decides.{nat_tests}
 use Rattle.std.specs.Bool.{MatchBool}
 use Rattle.std.specs.Prelude.{OnOk, OnErr, IfOk}
@@ -17,12 +18,12 @@ use Rattle.exchange_core.specs.Calls.{Call, Begin, Hear, Withdraw, Close_list, H
 use Rattle.exchange_core.specs.Shown.{shown, IsDone, IsUntouched}
 use Rattle.clash_record.specs.declared.halves.Withdrawal.{Withdrawal}
 use Rattle.cluster.specs.Clusters.{Standing, Cluster, at, half_full, is_long, IsRenewed, IsFresh, AreFresh}
-use Rattle.cluster.specs.Healing.{Plan, Grows, gone_of_side, IsLeft, untouched, IsFailed}
+use Rattle.cluster.specs.Healing.{Plan, Grows, gone_of_side, IsLeft, untouched, IsMerged, AreLeft, none_merged, a_merged, b_merged, IsFailed}
 use Rattle.exchange_core.specs.Sides.{rested}
-use Rattle.cluster.specs.model.Stages.{AreSides, AddsEvents, IsRested, AreRested, HaveAbandoned, AreOffers, IsTrying, AreTrying}
+use Rattle.cluster.specs.model.Stages.{AreSides, AddsEvents, IsRested, AreRested, HaveAbandoned, AreOffers, no_ruling, IsTrying, AreTrying}
 use Rattle.cluster.proofs.Answered.{pair, was_ok, by_answer, done_grows, answer_grows, le_trans, grown_on}
 use Rattle.cluster.proofs.Steps.{begun, hears, withdraws, closes, hears_list}
-use Rattle.cluster.proofs.Left.{left_rested, left_trying, left_all, left_abandoned}
+use Rattle.cluster.proofs.Left.{left_rested, left_trying, left_all, left_abandoned, merged_still}
 
 -- ---- abandoning
 
@@ -38,16 +39,36 @@ left_still (Ok x) plan was id n old new same done kept left =
     subst (IsLeft plan was id n) (sym done) (left_abandoned plan was id same n (shown old) left)
 left_still (Err e) plan was id n old new same done kept left = subst (IsLeft plan was id n) (sym kept) left
 
+merged_too : {X : Type 0} (r : Result X SideFault) (plan : Plan) (was : Cluster) (id : SideId) (n : ℕ)
+    (old new : code.Side) → (at was id).side.id ≡ id → OnOk r (shown new ≡ rested (shown old)) →
+    OnErr r (shown new ≡ shown old) → IsMerged plan was id n (shown old) → IsMerged plan was id n (shown new)
+merged_too (Ok x) plan was id n old new same done kept merged =
+    subst (IsMerged plan was id n) (sym done) (merged_still plan was id same n (shown old) merged)
+merged_too (Err e) plan was id n old new same done kept merged = subst (IsMerged plan was id n) (sym kept) merged
+
 pub both_left : {X Y : Type 0} (first : Result X SideFault) (second : Result Y SideFault)
     (old_a old_b new_a new_b : code.Side) → RestsOrStays first old_a new_a → RestsOrStays second old_b new_b →
     (plan : Plan) (was : Cluster) → AreSides was → IsFailed plan was (pair old_a old_b) →
     IsFailed plan was (pair new_a new_b)
 both_left first second old_a old_b new_a new_b a b plan was sides failed = record {
   count = failed.count;
-  a = left_still first plan was A failed.count old_a new_a sides.a a.0 a.1 failed.a;
-  b = left_still second plan was B failed.count old_b new_b sides.b b.0 b.1 failed.b;
+  left = by failed.left;
   grown = grown_on was old_a old_b new_a new_b failed.grown a.2 b.2;
 }
+  where
+    n : ℕ
+    n = failed.count
+
+    left_a : IsLeft plan was A n (shown old_a) → IsLeft plan was A n (shown new_a)
+    left_a h = left_still first plan was A n old_a new_a sides.a a.0 a.1 h
+
+    left_b : IsLeft plan was B n (shown old_b) → IsLeft plan was B n (shown new_b)
+    left_b h = left_still second plan was B n old_b new_b sides.b b.0 b.1 h
+
+    by : AreLeft plan was n (pair old_a old_b) → AreLeft plan was n (pair new_a new_b)
+    by (none_merged h k) = none_merged (left_a h) (left_b k)
+    by (a_merged h k) = a_merged (merged_too first plan was A n old_a new_a sides.a a.0 a.1 h) (left_b k)
+    by (b_merged h k) = b_merged (left_a h) (merged_too second plan was B n old_b new_b sides.b b.0 b.1 k)
 
 -- ---- beginning
 
@@ -67,8 +88,8 @@ module _ (plan : Plan) (old_a old_b new_a new_b : code.Side) where
       let done_a = was_ok first both.0 oks.0 a in
       let done_b = was_ok second both.1 oks.1 b in
       λ was sides rest. record {
-        a = begun plan was A (shown old_a) (shown new_a) rest.a sides.a done_a.carried;
-        b = begun plan was B (shown old_b) (shown new_b) rest.b sides.b done_b.carried;
+        a = begun plan was no_ruling A (shown old_a) (shown new_a) rest.a sides.a done_a.carried;
+        b = begun plan was no_ruling B (shown old_b) (shown new_b) rest.b sides.b done_b.carried;
         grown =
             grown_on was old_a old_b new_a new_b rest.grown (done_grows old_a new_a call_a done_a)
             (done_grows old_b new_b call_b done_b);
@@ -81,14 +102,13 @@ module _ (plan : Plan) (old_a old_b new_a new_b : code.Side) where
       AreSides was → AreRested was (pair old_a old_b) → IsFailed plan was (pair new_a new_b)
   begun_or_left first second a same_a b same_b was sides rest = record {
     count = 0;
-    a =
-        by_answer first old_a new_a call_a (IsLeft plan was A 0) a same_a
+    left = none_merged
+        (by_answer first old_a new_a call_a (IsLeft plan was A 0) a same_a
         (left_rested plan was A sides.a (shown old_a) rest.a)
-        (λ next e. left_trying plan was A sides.a 0 next (begun plan was A (shown old_a) next rest.a sides.a e));
-    b =
-        by_answer second old_b new_b call_b (IsLeft plan was B 0) b same_b
+        (λ next e. left_trying plan was A sides.a no_ruling 0 next (begun plan was no_ruling A (shown old_a) next rest.a sides.a e)))
+        (by_answer second old_b new_b call_b (IsLeft plan was B 0) b same_b
         (left_rested plan was B sides.b (shown old_b) rest.b)
-        (λ next e. left_trying plan was B sides.b 0 next (begun plan was B (shown old_b) next rest.b sides.b e));
+        (λ next e. left_trying plan was B sides.b no_ruling 0 next (begun plan was no_ruling B (shown old_b) next rest.b sides.b e)));
     grown =
         grown_on was old_a old_b new_a new_b rest.grown (answer_grows first old_a new_a call_a a same_a)
         (answer_grows second old_b new_b call_b b same_b);
@@ -102,15 +122,15 @@ pub both_go_on : {X Y : Type 0} (first : Result X SideFault) (second : Result Y 
     OnOk first (IsDone old_a call_a new_a) → OnErr first (IsUntouched old_a new_a) →
     OnOk second (IsDone old_b call_b new_b) → OnErr second (IsUntouched old_b new_b) →
     AreTrying plan was gone (pair old_a old_b) →
-    ((next : Side) → carried_out (shown old_a) call_a ≡ Some next → IsTrying plan was A (gone_of_side A gone) next) →
-    ((next : Side) → carried_out (shown old_b) call_b ≡ Some next → IsTrying plan was B (gone_of_side B gone) next) →
+    ((next : Side) → carried_out (shown old_a) call_a ≡ Some next → IsTrying plan was no_ruling A (gone_of_side A gone) next) →
+    ((next : Side) → carried_out (shown old_b) call_b ≡ Some next → IsTrying plan was no_ruling B (gone_of_side B gone) next) →
     AreTrying plan was gone (pair new_a new_b)
 both_go_on first second plan was gone old_a old_b new_a new_b call_a call_b a same_a b same_b trying on_a on_b =
     record {
       a =
-          by_answer first old_a new_a call_a (IsTrying plan was A (gone_of_side A gone)) a same_a trying.a on_a;
+          by_answer first old_a new_a call_a (IsTrying plan was no_ruling A (gone_of_side A gone)) a same_a trying.a on_a;
       b =
-          by_answer second old_b new_b call_b (IsTrying plan was B (gone_of_side B gone)) b same_b trying.b on_b;
+          by_answer second old_b new_b call_b (IsTrying plan was no_ruling B (gone_of_side B gone)) b same_b trying.b on_b;
       grown =
           grown_on was old_a old_b new_a new_b trying.grown (answer_grows first old_a new_a call_a a same_a)
           (answer_grows second old_b new_b call_b b same_b);
@@ -123,8 +143,8 @@ pub both_hear : {X Y : Type 0} (first : Result X SideFault) (second : Result Y S
     AreTrying plan was [] (pair old_a old_b) → AreTrying plan was [] (pair new_a new_b)
 both_hear first second of_a of_b old_a old_b new_a new_b a same_a b same_b plan was offers trying =
     both_go_on first second plan was [] old_a old_b new_a new_b (Hear of_b) (Hear of_a) a same_a b same_b trying
-    (λ next e. hears plan was A [] (shown old_a) next of_b offers.b e trying.a)
-    (λ next e. hears plan was B [] (shown old_b) next of_a offers.a e trying.b)
+    (λ next e. hears plan was no_ruling A [] (shown old_a) next of_b offers.b e trying.a)
+    (λ next e. hears plan was no_ruling B [] (shown old_b) next of_a offers.a e trying.b)
 
 pub both_close : {X Y : Type 0} (first : Result X SideFault) (second : Result Y SideFault)
     (old_a old_b new_a new_b : code.Side) → OnOk first (IsDone old_a Close_list new_a) →
@@ -133,8 +153,8 @@ pub both_close : {X Y : Type 0} (first : Result X SideFault) (second : Result Y 
     AreTrying plan was plan.gone (pair old_a old_b) → AreTrying plan was plan.gone (pair new_a new_b)
 both_close first second old_a old_b new_a new_b a same_a b same_b plan was trying =
     both_go_on first second plan was plan.gone old_a old_b new_a new_b Close_list Close_list a same_a b same_b trying
-    (λ next e. closes plan was A (gone_of_side A plan.gone) (shown old_a) next e trying.a)
-    (λ next e. closes plan was B (gone_of_side B plan.gone) (shown old_b) next e trying.b)
+    (λ next e. closes plan was no_ruling A (gone_of_side A plan.gone) (shown old_a) next e trying.a)
+    (λ next e. closes plan was no_ruling B (gone_of_side B plan.gone) (shown old_b) next e trying.b)
 
 pub both_hear_lists : {X Y : Type 0} (first : Result X SideFault) (second : Result Y SideFault)
     (of_a of_b : Withdrawals) (old_a old_b new_a new_b : code.Side) → OnOk first (IsDone old_a (Hear_list of_b) new_a) →
@@ -145,8 +165,8 @@ pub both_hear_lists : {X Y : Type 0} (first : Result X SideFault) (second : Resu
 both_hear_lists first second of_a of_b old_a old_b new_a new_b a same_a b same_b plan was is_a is_b trying =
     both_go_on first second plan was plan.gone old_a old_b new_a new_b (Hear_list of_b) (Hear_list of_a) a same_a b
     same_b trying
-    (λ next e. hears_list plan was A (gone_of_side A plan.gone) (shown old_a) next of_b is_b e trying.a)
-    (λ next e. hears_list plan was B (gone_of_side B plan.gone) (shown old_b) next of_a is_a e trying.b)
+    (λ next e. hears_list plan was no_ruling A (gone_of_side A plan.gone) (shown old_a) next of_b is_b e trying.a)
+    (λ next e. hears_list plan was no_ruling B (gone_of_side B plan.gone) (shown old_b) next of_a is_a e trying.b)
 
 -- ---- withdrawing
 
@@ -176,11 +196,11 @@ pub withdrawn_of_a : {X : Type 0} (r : Result X SideFault) (one : Withdrawal) (o
     AreTrying plan was (gone ++ one ∷ []) (pair new_a b))
 withdrawn_of_a (Ok x) one old_a new_a b is done = λ plan was gone trying. record {
   a =
-      subst (λ names. IsTrying plan was A names (shown new_a))
+      subst (λ names. IsTrying plan was no_ruling A names (shown new_a))
       (gone_more A gone one (one.name ∷ []) (names_of A one A is))
-      (withdraws plan was A (gone_of_side A gone) (shown old_a) (shown new_a) one.name done.carried trying.a);
+      (withdraws plan was no_ruling A (gone_of_side A gone) (shown old_a) (shown new_a) one.name done.carried trying.a);
   b =
-      subst (λ names. IsTrying plan was B names (shown b)) (none_more B gone one (names_of B one A is)) trying.b;
+      subst (λ names. IsTrying plan was no_ruling B names (shown b)) (none_more B gone one (names_of B one A is)) trying.b;
   grown = record {
     a = λ few. le_trans _ _ _ (trying.grown.a few) (done_grows old_a new_a (Withdraw one.name) done);
     b = trying.grown.b;
@@ -194,11 +214,11 @@ pub withdrawn_of_b : {X : Type 0} (r : Result X SideFault) (one : Withdrawal) (a
     AreTrying plan was (gone ++ one ∷ []) (pair a new_b))
 withdrawn_of_b (Ok x) one a old_b new_b is done = λ plan was gone trying. record {
   a =
-      subst (λ names. IsTrying plan was A names (shown a)) (none_more A gone one (names_of A one B is)) trying.a;
+      subst (λ names. IsTrying plan was no_ruling A names (shown a)) (none_more A gone one (names_of A one B is)) trying.a;
   b =
-      subst (λ names. IsTrying plan was B names (shown new_b))
+      subst (λ names. IsTrying plan was no_ruling B names (shown new_b))
       (gone_more B gone one (one.name ∷ []) (names_of B one B is))
-      (withdraws plan was B (gone_of_side B gone) (shown old_b) (shown new_b) one.name done.carried trying.b);
+      (withdraws plan was no_ruling B (gone_of_side B gone) (shown old_b) (shown new_b) one.name done.carried trying.b);
   grown = record {
     a = trying.grown.a;
     b = λ few. le_trans _ _ _ (trying.grown.b few) (done_grows old_b new_b (Withdraw one.name) done);
@@ -211,8 +231,8 @@ pub trying_failed : (plan : Plan) (was : Cluster) (n : ℕ) (now : Cluster) → 
     AreTrying plan was (take n plan.gone) now → IsFailed plan was now
 trying_failed plan was n now sides trying = record {
   count = n;
-  a = left_trying plan was A sides.a n now.a.side trying.a;
-  b = left_trying plan was B sides.b n now.b.side trying.b;
+  left = none_merged (left_trying plan was A sides.a no_ruling n now.a.side trying.a)
+      (left_trying plan was B sides.b no_ruling n now.b.side trying.b);
   grown = trying.grown;
 }
 
@@ -220,8 +240,8 @@ pub all_failed : (plan : Plan) (was now : Cluster) → AreSides was → AreTryin
     IsFailed plan was now
 all_failed plan was now sides trying = record {
   count = length plan.gone;
-  a = left_all plan was A sides.a now.a.side trying.a;
-  b = left_all plan was B sides.b now.b.side trying.b;
+  left = none_merged (left_all plan was A sides.a no_ruling now.a.side trying.a)
+      (left_all plan was B sides.b no_ruling now.b.side trying.b);
   grown = trying.grown;
 }
 
@@ -229,8 +249,7 @@ all_failed plan was now sides trying = record {
 pub nothing_done : (plan : Plan) (was : Cluster) → IsFailed plan was was
 nothing_done plan was = record {
   count = 0;
-  a = untouched refl refl;
-  b = untouched refl refl;
+  left = none_merged (untouched refl refl) (untouched refl refl);
   grown = record { a = λ few. omega arith; b = λ few. omega arith };
 }
 
@@ -238,8 +257,7 @@ nothing_done plan was = record {
 pub rested_failed : (plan : Plan) (was now : Cluster) → AreSides was → AreRested was now → IsFailed plan was now
 rested_failed plan was now sides rest = record {
   count = 0;
-  a = left_rested plan was A sides.a now.a.side rest.a;
-  b = left_rested plan was B sides.b now.b.side rest.b;
+  left = none_merged (left_rested plan was A sides.a now.a.side rest.a) (left_rested plan was B sides.b now.b.side rest.b);
   grown = rest.grown;
 }
 
@@ -254,6 +272,13 @@ pub one_taken : (i : ℕ) (gone : List Withdrawal) (one : Withdrawal) → i < le
     take i gone ++ one ∷ [] ≡ take (i + 1) gone
 one_taken i gone one below is =
     ap (λ (w : Withdrawal). take i gone ++ w ∷ []) is ∙ sym (take_at_read gone i one below).1
+
+pub next_one : (i : ℕ) (gone : List Withdrawal) (one : Withdrawal) → i < length gone → one ≡ get_or gone i one →
+    gone ≡ take i gone ++ one ∷ drop (i + 1) gone
+next_one i gone one below is =
+    sym (take-append-drop (i + 1) gone)
+    ∙ ap (λ (l : List Withdrawal). l ++ drop (i + 1) gone) (sym (one_taken i gone one below is))
+    ∙ append_assoc (take i gone) (one ∷ []) (drop (i + 1) gone)
 
 -- ---- renewing
 

@@ -23,7 +23,7 @@ abbrev pub standing_of : code.Side → Standing
 standing_of side = record { side = shown side; events = length (calls side) }
 
 abbrev pub cluster_of : halves.Cluster → Cluster
-cluster_of halves = record { a = standing_of halves.a; b = standing_of halves.b }
+cluster_of cluster = record { a = standing_of cluster.halves.a; b = standing_of cluster.halves.b }
 
 -- an idle side without names
 abbrev pub new_standing : SideId → Standing

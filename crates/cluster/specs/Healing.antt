@@ -116,22 +116,34 @@ pub record IsOpen (plan : Plan) (old new : Side) (names : List Name) : Type 0 wh
   pub latest : new.latest ≡ Some plan.number
 
 -- A side after an exchange that failed once the first `count` planned names were withdrawn, each held before: idle with
--- the table that it showed, without its names among those; idle with a lawful merge, for which all planned names were
--- withdrawn; left open; or unchanged, where not even its earlier exchange was abandoned and nothing was withdrawn
+-- the table that it showed, without its names among those; left open; or unchanged, where not even its earlier exchange
+-- was abandoned and nothing was withdrawn
 pub data IsLeft (plan : Plan) (old : Cluster) (id : SideId) (count : ℕ) (new : Side) : Type 0 where
   as_before : (latest : Option ℕ) → HasHeld old id (take count plan.gone) →
       new ≡ idle_side id (without (gone_of_side id (take count plan.gone)) (shown_table (at old id).side)) latest →
       IsLatest plan old id new → IsLeft plan old id count new
-  merged : (rulings : List Judged) (table : Table) → IsLawful plan old rulings table → IsNew plan old id →
-      count ≡ length plan.gone → HasHeld old id plan.gone → new ≡ idle_side id table (Some plan.number) →
-      IsLeft plan old id count new
   left_open : IsNew plan old id → HasHeld old id (take count plan.gone) →
       IsOpen plan (at old id).side new (gone_of_side id (take count plan.gone)) → IsLeft plan old id count new
   untouched : count ≡ 0 → new ≡ (at old id).side → IsLeft plan old id count new
 
+-- a side that finished the exchange, for which all planned names were withdrawn: idle with a lawful merge
+pub record IsMerged (plan : Plan) (old : Cluster) (id : SideId) (count : ℕ) (new : Side) : Type 0 where
+  pub rulings : List Judged
+  pub table : Table
+  pub lawful : IsLawful plan old rulings table
+  pub is_new : IsNew plan old id
+  pub all : count ≡ length plan.gone
+  pub held : HasHeld old id plan.gone
+  pub idle : new ≡ idle_side id table (Some plan.number)
+
+-- two halves after a failure: at most one of them merged, since two merged halves are healed
+pub data AreLeft (plan : Plan) (old : Cluster) (count : ℕ) (new : Cluster) : Type 0 where
+  none_merged : IsLeft plan old A count new.a.side → IsLeft plan old B count new.b.side → AreLeft plan old count new
+  a_merged : IsMerged plan old A count new.a.side → IsLeft plan old B count new.b.side → AreLeft plan old count new
+  b_merged : IsLeft plan old A count new.a.side → IsMerged plan old B count new.b.side → AreLeft plan old count new
+
 -- the exchange failed; the names withdrawn of the two halves are the first `count` of the plan
 pub record IsFailed (plan : Plan) (old new : Cluster) : Type 0 where
   pub count : ℕ
-  pub a : IsLeft plan old A count new.a.side
-  pub b : IsLeft plan old B count new.b.side
+  pub left : AreLeft plan old count new
   pub grown : HaveGrown old new

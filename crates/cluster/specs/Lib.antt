@@ -1,3 +1,4 @@
+pub mod Causes
 pub mod Clusters
 pub mod Faults
 pub mod Healing

@@ -3,6 +3,7 @@ ghost use Rattle.std.specs.Prelude.{◌≡◌};
 ghost use Rattle.exchange_core.specs.Shown.{shown};
 ghost use Rattle.clash_record.specs.declared.side_id.SideId.TheVariants.{A, B};
 
+use crate::halves::Halves;
 use clash_record::{Name, Registration, SideId};
 use exchange_core::{Side, SideFault};
 use std::alloc::Global;
@@ -11,10 +12,9 @@ use upload_store::UploadStore;
 /// The two halves of a cluster, as sides A and B of their exchange.
 #[derive(Debug, Drop)]
 pub struct Cluster {
-    pub(crate) a: Side,
-    pub(crate) b: Side,
-    pub ghost first: { (shown a).id ≡ A },
-    pub ghost second: { (shown b).id ≡ B },
+    pub(crate) halves: Halves,
+    pub ghost first: { (shown halves.a).id ≡ A },
+    pub ghost second: { (shown halves.b).id ≡ B },
 }
 
 impl Cluster {
@@ -32,10 +32,11 @@ impl Cluster {
     pub fn new(alloc: Global) -> Cluster
         ensures { cluster_of result ≡ new_cluster }
     {
-        Cluster {
+        let halves = Halves {
             a: Side::new(alloc, SideId::A),
             b: Side::new(alloc, SideId::B),
-        }
+        };
+        Cluster { halves }
     }
 
     /// Returns one of the halves.
@@ -43,8 +44,8 @@ impl Cluster {
         ensures { standing_of result.now ≡ at (cluster_of self.entry.now) id }
     {
         match id {
-            SideId::A => &self.a,
-            SideId::B => &self.b,
+            SideId::A => &self.halves.a,
+            SideId::B => &self.halves.b,
         }
     }
 
@@ -68,8 +69,8 @@ impl Cluster {
         ensures untouched { OnErr result (cluster_of self.new ≡ cluster_of self.old) }
     {
         match id {
-            SideId::A => self.a.register(name, registration, store),
-            SideId::B => self.b.register(name, registration, store),
+            SideId::A => self.halves.a.register(name, registration, store),
+            SideId::B => self.halves.b.register(name, registration, store),
         }
     }
 
@@ -87,8 +88,8 @@ impl Cluster {
         ensures untouched { OnErr result (cluster_of self.new ≡ cluster_of self.old) }
     {
         match id {
-            SideId::A => self.a.unregister(name),
-            SideId::B => self.b.unregister(name),
+            SideId::A => self.halves.a.unregister(name),
+            SideId::B => self.halves.b.unregister(name),
         }
     }
 }

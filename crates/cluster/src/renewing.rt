@@ -21,8 +21,8 @@ impl Cluster {
         ensures untouched { OnErr result (cluster_of self.new ≡ cluster_of self.old) }
     {
         match id {
-            SideId::A => self.a.renew(),
-            SideId::B => self.b.renew(),
+            SideId::A => self.halves.a.renew(),
+            SideId::B => self.halves.b.renew(),
         }
     }
 
@@ -30,8 +30,7 @@ impl Cluster {
     pub fn renew_long(&mut self)
         ensures { AreFresh (cluster_of self.old) (cluster_of self.new) }
     {
-        renew_long(&mut self.a);
-        renew_long(&mut self.b);
+        self.halves.renew_long();
     }
 }
 

@@ -1,16 +1,15 @@
 //! The rounds of an exchange, and the meeting of the two halves.
-ghost use Rattle.std.specs.Prelude.{◌≡◌, ◌<◌, ◌≤◌, All, Some, OnOk, OnErr, IfOk};
-ghost use Rattle.partition_table.specs.Tables as tables;
-ghost use Rattle.exchange_core.specs.Sides.{shown_table};
-ghost use Rattle.verdict_board.specs.Boards.{Pass};
+ghost use Rattle.std.specs.Prelude.{◌≡◌, ◌<◌, ◌≤◌, [], All, Some, OnErr, IfOk, IfErr, length, vec_capacity};
 ghost use Rattle.registry_lock.specs.Meeting as meeting;
 ghost use Rattle.registry_lock.specs.Telling.{IsTold};
 ghost use Rattle.cluster.specs.Clusters as shown_as;
 ghost use Rattle.cluster.specs.Clusters.{cluster_of};
 ghost use Rattle.cluster.specs.Healing as planned;
 ghost use Rattle.cluster.specs.Healing.{plan_of, IsHealed, IsFailed};
+ghost use Rattle.cluster.specs.Causes.{IsCause};
 ghost use Rattle.cluster.specs.Healings.{healing_of};
-ghost use Rattle.cluster.specs.model.Stages.{halves_of, AreSides, AreRested, AreTrying, AreInRounds, HaveMet};
+ghost use Rattle.cluster.specs.model.Stages.{halves_of, clashes_shown, AreSides, AreRested, AreTrying};
+ghost use Rattle.cluster.specs.model.Stages.{AreInRounds, HaveMet, CanMeet};
 
 use crate::cluster::Cluster;
 use crate::fault::HealFault;
@@ -18,24 +17,28 @@ use crate::finishing::{Finishing, both_finished};
 use crate::halves::Halves;
 use crate::healing::Healing;
 use crate::plan::Plan;
-use clash_record::SideId;
-use exchange_core::{Finished, Judged, Side};
+use exchange_core::{Finished, Judged};
 use judge_pool::Gate;
 use partition_table::ClashList;
-use registry_lock::{Healed, meet, tell_round};
+use registry_lock::{meet, tell_round_by};
 use std::alloc::{AllocError, Global};
-use std::mem;
 use std::sync::Wait;
 use std::thread::Threads;
-use verdict_board::{Board, Seat, open};
+use verdict_board::{Board, Pass, Seat, open};
 
 impl Cluster {
     /// Heals the split: the halves exchange their tables, `workers` judge the clashes, and both keep the merge.
     ///
     /// First abandons an exchange that an earlier failure left open, and renews each journal that has more than 32,768
-    /// events, so that an exchange fits. On failure, abandons each open half, unless the
-    /// half rejects that, and returns the fault with the least number met: of the calls of a side, of `meet`, or 90 when
-    /// out of memory. A half that finished stays merged. Requires 1 to 16 workers, and waits for them.
+    /// events, so that an exchange fits. If both halves finish, the split is healed: no call after that can fail.
+    ///
+    /// On failure, abandons each open half, unless the half rejects that, and returns the fault with the least number
+    /// met: 31 or 47 if a half doesn't hold each name that it is to withdraw, or is to withdraw one twice; 35 if the
+    /// number isn't above all that a half began; 37 or 42 if the two tables don't fit together; 39 if a ruling is
+    /// missing; 40 if a journal is full; 90 when out of memory. A half that finished alone stays merged. The contract
+    /// doesn't promise that 39, 40 and 90 come only for these reasons.
+    ///
+    /// Requires 1 to 16 workers, and waits for them.
     pub fn heal<G: Gate + Sync, R: Threads + Wait + Sync>(
         &mut self,
         rt: &R,
@@ -48,15 +51,12 @@ impl Cluster {
         // Both halves have one table: the lawful merge of the two that they showed.
         ensures healed { IfOk result (λ healing. IsHealed (plan_of plan.entry.now) (cluster_of self.old)
             (cluster_of self.new) (healing_of healing)) }
-        // A failure leaves each half in one of four known states.
+        // A failure leaves each half in one of four known states, and at most one half merged.
         ensures failed { OnErr result (IsFailed (plan_of plan.entry.now) (cluster_of self.old) (cluster_of self.new)) }
+        // The fault has its cause in the halves as they were, or is 39, 40 or 90.
+        ensures cause { IfErr result (IsCause (plan_of plan.entry.now) (cluster_of self.old)) }
     {
-        let Cluster { a, b } = mem::replace(self, Cluster::new(alloc));
-        let mut halves = Halves { a, b };
-        let healing = halves.heal(rt, alloc, plan, workers, gate);
-        let Halves { a, b } = halves;
-        *self = Cluster { a, b };
-        healing
+        self.halves.heal(rt, alloc, plan, workers, gate)
     }
 }
 
@@ -75,6 +75,8 @@ impl Halves {
             → IsHealed (plan_of plan.entry.now) (halves_of self.old) (halves_of self.new) (healing_of healing)) }
         ensures failed { OnErr result (AreSides (halves_of self.old)
             → IsFailed (plan_of plan.entry.now) (halves_of self.old) (halves_of self.new)) }
+        ensures cause { IfErr result (λ fault. AreSides (halves_of self.old)
+            → IsCause (plan_of plan.entry.now) (halves_of self.old) fault) }
     {
         self.abandon_open()?;
         self.renew_long();
@@ -86,7 +88,9 @@ impl Halves {
 
     // Abandons the open halves after this failure. Returns the fault with the least number.
     fn give_up(&mut self, fault: HealFault) -> HealFault
-        ensures { (plan : planned.Plan) (was : shown_as.Cluster) → AreSides was → IsFailed plan was (halves_of self.old)
+        ensures cause { (plan : planned.Plan) (was : shown_as.Cluster) → IsCause plan was fault
+            → IsCause plan was result }
+        ensures left { (plan : planned.Plan) (was : shown_as.Cluster) → AreSides was → IsFailed plan was (halves_of self.old)
             → IsFailed plan was (halves_of self.new) }
     {
         match self.abandon_open() {
@@ -110,6 +114,8 @@ impl Halves {
             → IsHealed (plan_of plan.entry.now) was (halves_of self.new) (healing_of healing)) }
         ensures failed { OnErr result ((was : shown_as.Cluster) → AreSides was → AreRested was (halves_of self.old)
             → IsFailed (plan_of plan.entry.now) was (halves_of self.new)) }
+        ensures cause { IfErr result (λ fault. (was : shown_as.Cluster) → AreSides was
+            → AreRested was (halves_of self.old) → IsCause (plan_of plan.entry.now) was fault) }
     {
         let withdrawn = copy(alloc, plan.gone)?;
         self.open(alloc, plan)?;
@@ -124,7 +130,7 @@ impl Halves {
     }
 
     // Judges the clashes, finishes both halves and lets them meet. Returns the rulings, and the number of names in the
-    // one table.
+    // one table. Allocates the room for the rulings first, so that two halves that finished don't fail to meet.
     fn settle<G: Gate + Sync, R: Threads + Wait + Sync>(
         &mut self,
         rt: &R,
@@ -137,8 +143,7 @@ impl Halves {
         requires { (0 < workers) × (workers ≤ 16) }
         ensures healed { IfOk result (λ settled. (was : shown_as.Cluster) → AreSides was
             → AreTrying (plan_of plan.entry.now) was plan.entry.now.gone.now (halves_of self.old)
-            → clashes.now ≡ tables.clashes (shown_table was.a.side) plan.entry.now.uptimes.a (shown_table was.b.side)
-            plan.entry.now.uptimes.b
+            → clashes.now ≡ clashes_shown (plan_of plan.entry.now) was
             → IsHealed (plan_of plan.entry.now) was (halves_of self.new) (record {
               clashes = clashes.now;
               rulings = settled.0.items;
@@ -147,28 +152,41 @@ impl Halves {
             })) }
         ensures failed { OnErr result ((was : shown_as.Cluster) → AreSides was
             → AreTrying (plan_of plan.entry.now) was plan.entry.now.gone.now (halves_of self.old)
+            → clashes.now ≡ clashes_shown (plan_of plan.entry.now) was
             → IsFailed (plan_of plan.entry.now) was (halves_of self.new)) }
+        ensures cause { IfErr result (λ fault. (was : shown_as.Cluster) → AreSides was
+            → AreTrying (plan_of plan.entry.now) was plan.entry.now.gone.now (halves_of self.old)
+            → clashes.now ≡ clashes_shown (plan_of plan.entry.now) was
+            → IsCause (plan_of plan.entry.now) was fault) }
     {
+        let rulings = Vec::with_capacity(alloc, clashes.len())?;
         let (board, seats) = open(alloc, plan.number, plan.seed, clashes, workers)?;
-        let (first, second) = self.judge(rt, alloc, &board, seats, gate)?;
-        meet_halves(alloc, &board, first, second)
+        let mut pass = board.pass()?;
+        let (first, second) = self.judge(rt, alloc, &board, &mut pass, seats, gate)?;
+        meet_halves(&board, &mut pass, rulings, first, second)
     }
 
-    // Runs rounds 0 to 3 until both halves finish. Returns what they finished, A's first.
+    // Runs rounds 0 to 3 until both halves finish, by the rulings that the pass reads. Returns what they finished, A's
+    // first.
     fn judge<'p, G: Gate + Sync, R: Threads + Wait + Sync>(
         &mut self,
         rt: &R,
         alloc: Global,
         board: &Board<'p>,
+        pass: &mut Pass<'p>,
         seats: Vec<Seat>,
         gate: &G,
     ) -> Result<(Finished, Finished), HealFault>
-        requires { All (λ s. s.draws ≡ board.now.draws) seats.items }
+        requires pass { pass.old.place ≡ board.now.place }
+        requires seats { All (λ s. s.draws ≡ board.now.draws) seats.items }
+        ensures pass { pass.new.place ≡ pass.old.place }
         ensures merged { IfOk result (λ finished. (plan : planned.Plan) (was : shown_as.Cluster)
             → AreTrying plan was plan.gone (halves_of self.old)
-            → AreInRounds plan was (Some finished.0) (Some finished.1) (halves_of self.new)) }
+            → AreInRounds plan was pass.new (Some finished.0) (Some finished.1) (halves_of self.new)) }
         ensures failed { OnErr result ((plan : planned.Plan) (was : shown_as.Cluster) → AreSides was
             → AreTrying plan was plan.gone (halves_of self.old) → IsFailed plan was (halves_of self.new)) }
+        ensures cause { IfErr result (λ fault. (plan : planned.Plan) (was : shown_as.Cluster)
+            → AreTrying plan was plan.gone (halves_of self.old) → IsCause plan was fault) }
     {
         let mut seats = seats;
         let mut a = Finishing::new();
@@ -177,7 +195,7 @@ impl Halves {
             if a.finished.is_some() && b.finished.is_some() {
                 break;
             }
-            seats = self.tell(rt, alloc, board, seats, round, gate);
+            seats = self.tell(rt, alloc, board, pass, seats, round, gate);
             a.try_finish(alloc, &mut self.a);
             b.try_finish(alloc, &mut self.b);
         }
@@ -190,45 +208,42 @@ impl Halves {
         rt: &R,
         alloc: Global,
         board: &Board<'p>,
+        pass: &mut Pass<'p>,
         seats: Vec<Seat>,
         round: u32,
         gate: &G,
     ) -> Vec<Seat>
+        requires pass { pass.old.place ≡ board.now.place }
         requires seats { All (λ s. s.draws ≡ board.now.draws) seats.items }
         requires round { round < 4 }
-        ensures a { IsTold board.entry.now.place self.old.a self.new.a }
-        ensures b { IsTold board.entry.now.place self.old.b self.new.b }
+        ensures keeps { meeting.Keeps pass.old pass.new }
+        ensures a { IsTold pass.new (length board.entry.now.place.clashes) self.old.a self.new.a }
+        ensures b { IsTold pass.new (length board.entry.now.place.clashes) self.old.b self.new.b }
         ensures seats { All (λ s. s.draws ≡ board.entry.now.draws) result.items }
     {
-        let a = mem::replace(&mut self.a, Side::new(alloc, SideId::A));
-        let b = mem::replace(&mut self.b, Side::new(alloc, SideId::B));
-        let (a, b, done) = tell_round(rt, alloc, board, seats, round, gate, a, b);
-        self.a = a;
-        self.b = b;
-        done.seats
+        let (a, b) = (&mut self.a, &mut self.b);
+        tell_round_by(rt, alloc, board, pass, seats, round, gate, a, b).seats
     }
 }
 
-// Lets the two halves meet. Returns the rulings, and the number of names in the one table.
-fn meet_halves(
-    alloc: Global,
-    board: &Board<'_>,
+// Lets the two halves meet, and copies the rulings into these, which are empty. Returns them, and the number of names in
+// the one table.
+fn meet_halves<'p>(
+    board: &Board<'p>,
+    pass: &mut Pass<'p>,
+    rulings: Vec<Judged>,
     first: Finished,
     second: Finished,
 ) -> Result<(Vec<Judged>, usize), HealFault>
-    ensures { IfOk result (λ met. HaveMet board.now.place first second met.0.items met.1) }
+    requires board { pass.old.place ≡ board.now.place }
+    requires empty { rulings.items ≡ [] }
+    ensures met { IfOk result (λ met. HaveMet board.now.place first second met.0.items met.1) }
+    ensures refused { OnErr result (¬ CanMeet board.now.place pass.old (vec_capacity rulings) first second) }
 {
-    let rulings = copy(alloc, first.rulings())?;
-    let healed = meet_on(board, first, second)?;
+    let mut rulings = rulings;
+    rulings.extend_from_slice(first.rulings())?;
+    let healed = meet(board, pass, first, second)?;
     Ok((rulings, healed.table().len()))
-}
-
-// Returns the one table of the two, compared with the board through a new pass.
-fn meet_on(board: &Board<'_>, first: Finished, second: Finished) -> Result<Healed, HealFault>
-    ensures { IfOk result (λ healed. (pass : Pass) × meeting.IsHealed board.now.place pass first second healed) }
-{
-    let mut pass = board.pass()?;
-    Ok(meet(board, &mut pass, first, second)?)
 }
 
 // Returns a copy of the items.

@@ -18,10 +18,12 @@ pub use Rattle.partition_table.specs.Tables
 pub use Rattle.exchange_core.specs.Calls
 pub use Rattle.exchange_core.specs.Faults as SideFaults
 pub use Rattle.exchange_core.specs.Finished
+pub use Rattle.exchange_core.specs.Halves
 pub use Rattle.exchange_core.specs.History
 pub use Rattle.exchange_core.specs.Journal
 pub use Rattle.exchange_core.specs.Lists
 pub use Rattle.exchange_core.specs.Refusals as SideRefusals
+pub use Rattle.exchange_core.specs.Repeats
 pub use Rattle.exchange_core.specs.Rows
 pub use Rattle.exchange_core.specs.Settling
 pub use Rattle.exchange_core.specs.Shown
@@ -33,6 +35,7 @@ pub use Rattle.exchange_codec.specs.Offers as OfferMessages
 pub use Rattle.exchange_codec.specs.Reading as MessageFields
 pub use Rattle.exchange_codec.specs.Rows as RowMessages
 pub use Rattle.exchange_codec.specs.Withdrawals as ListMessages
+pub use Rattle.cluster.specs.Causes
 pub use Rattle.cluster.specs.Clusters
 pub use Rattle.cluster.specs.Faults as HealFaults
 pub use Rattle.cluster.specs.Healing

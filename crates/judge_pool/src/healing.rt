@@ -54,11 +54,11 @@ pub fn heal_round<'p, G: Gate + Sync, E: Ear + Sync, R: Threads + Wait + Sync>(
     requires seats { All (λ s. s.draws ≡ board.now.draws) seats.items }
     requires round { round < 4 }
     ensures seats { All (λ s. s.draws ≡ board.entry.now.draws) result.seats.items }
-    // The seat of each worker that was started is returned.
+    // At least as many seats are returned as workers were started.
     ensures back { result.started ≤ vec_len result.seats }
-    // Given a seat, the calling thread is a worker.
+    // Given a seat, at least one worker was started.
     ensures some { 0 < vec_len seats → 0 < result.started }
-    // Without workers nothing is judged.
+    // Without workers no post is counted.
     ensures none { result.started ≡ 0 → round_posts result ≡ 0 }
 {
     let shared = Round {

@@ -41,7 +41,7 @@ pub fn work<'p, G: Gate, E: Ear, R: Wait>(
     requires pass { pass.place ≡ board.now.place }
     requires round { round < 4 }
     ensures board { result.seat.draws ≡ board.entry.now.draws }
-    // It drew in this round alone, until none was left, and posted once for each clash that it drew.
+    // It drew in this round alone, until none was left, and counts one post for each clash that it drew.
     ensures round { DrewIn round seat.drawn result.seat.drawn }
     ensures spent { IsSpent (length board.entry.now.place.clashes) round result.seat.drawn }
     ensures posts { let n = length board.entry.now.place.clashes in

@@ -105,6 +105,12 @@ keeps_on o p q k kept looks = record {
       (kept.stays j));
 }
 
+pub keeps_through : (o p q : Pass) → Keeps o p → Keeps p q → Keeps o q
+keeps_through o p q kept more = record {
+  same_board = more.same_board ∙ kept.same_board;
+  stays = λ k. chain (seen o k) (seen p k) (seen q k) (kept.stays k) (more.stays k);
+}
+
 pub none_below : (pass : Pass) (rulings : List Judged) → AgreesBelow 0 pass rulings
 none_below pass rulings j judged lt is = absurd (omega (arith, lt))
 

@@ -9,8 +9,9 @@ use Rattle.exchange_core.specs.Sides.{Judged, Heard, Exchange, is_lawful, clashe
 use Rattle.exchange_core.specs.Sides as sides
 use Rattle.exchange_core.specs.Calls.{Take, carried_out}
 use Rattle.exchange_core.specs.Shown.{shown}
-use Rattle.verdict_board.specs.Boards.{Place}
-use Rattle.registry_lock.specs.Telling.{all_carried_out, takes_of, IsOfBoard, IsTold}
+use Rattle.verdict_board.specs.Boards.{Pass}
+use Rattle.registry_lock.specs.Telling.{all_carried_out, takes_of, HasSeen, IsTold}
+use Rattle.registry_lock.proofs.Told.{clash_seen}
 
 some_is : {A : Type 0} (a b : A) → Some a ≡ Some b → a ≡ b
 some_is a b e = cc
@@ -64,11 +65,11 @@ same_after (r ∷ rulings) s t e =
     by None h e so_far = absurd (cc)
     by (Some u) h e so_far = same_in u (clashes_of u) r.number r.k r.judged u.exchange refl t e ∙ so_far u h
 
-pub same_when_told : (place : Place) (old new : Side) → IsTold place old new
+pub same_when_told : (pass : Pass) (n : ℕ) (old new : Side) → IsTold pass n old new
     → heard_clashes (shown new) ≡ heard_clashes (shown old)
-same_when_told place old new told = same_after told.rulings (shown old) (shown new) told.carried
+same_when_told pass n old new told = same_after told.rulings (shown old) (shown new) told.carried
 
--- ---- a ruling of the board is of one of them
+-- ---- a ruling that a pass of the board has seen is of one of them
 
 clashes_by : (s : sides.Side) (clashes : List Clash) → heard_clashes s ≡ Some clashes → clashes_of s ≡ clashes
 clashes_by s clashes e = by_open s.exchange e
@@ -84,10 +85,10 @@ clashes_by s clashes e = by_open s.exchange e
     by_open None e = absurd (cc)
     by_open (Some x) e = by_heard x x.heard e
 
-pub is_own_clash : (place : Place) (side : Side) (ruling : Ruling) → heard_clashes (shown side) ≡ Some place.clashes
-    → IsOfBoard place ruling → has_clash (shown side) ruling.k ruling.clash ≡ true
-is_own_clash place side ruling own of_board =
+pub is_own_clash : (pass : Pass) (side : Side) (ruling : Ruling) → heard_clashes (shown side) ≡ Some pass.place.clashes
+    → HasSeen pass ruling → has_clash (shown side) ruling.k ruling.clash ≡ true
+is_own_clash pass side ruling own is_seen =
     ap (λ (l : List Clash). option_map_or (same_clash ruling.clash) (slice_get l ruling.k) false)
-    (clashes_by (shown side) place.clashes own)
-    ∙ ap (λ (o : Option Clash). option_map_or (same_clash ruling.clash) o false) of_board.clash
+    (clashes_by (shown side) pass.place.clashes own)
+    ∙ ap (λ (o : Option Clash). option_map_or (same_clash ruling.clash) o false) (clash_seen pass ruling is_seen)
     ∙ (clash_decides ruling.clash ruling.clash).1 refl

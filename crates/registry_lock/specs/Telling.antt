@@ -1,14 +1,13 @@
--- A side that took rulings, and did nothing else.
-use Rattle.std.specs.Prelude.{◌≡◌, List, [], ◌∷◌, ◌++◌, All, Option, Some, map, slice_get}
+-- Two sides that took rulings of one board, and did nothing else.
+use Rattle.std.specs.Prelude.{◌≡◌, ℕ, ◌≤◌, List, [], ◌∷◌, ◌++◌, All, Option, Some, length, map}
 use Rattle.std.specs.Option.{option_and_then}
-use Rattle.partition_table.specs.Tables.{answer}
 use Rattle.partition_table.specs.Rulings.{Ruling}
 use Rattle.exchange_core.specs.declared.side.Side.{Side}
 use Rattle.exchange_core.specs.Sides as sides
 use Rattle.exchange_core.specs.Calls.{Call, Take, carried_out}
 use Rattle.exchange_core.specs.Worlds.{clashes_between}
 use Rattle.exchange_core.specs.Shown.{shown, calls}
-use Rattle.verdict_board.specs.Boards.{Place}
+use Rattle.verdict_board.specs.Boards.{Place, Pass, seen}
 
 -- where calls lead a side, each carried out in its turn, the latest first; none where one is refused
 abbrev pub all_carried_out : sides.Side → List Call → Option sides.Side
@@ -26,16 +25,22 @@ pub record IsBoardOf (a b : sides.Offer) (place : Place) : Type 0 where
   pub seed_of_b : b.seed ≡ place.seed
   pub clashes : clashes_between a b ≡ place.clashes
 
--- a ruling of the board's exchange: it is of the board's clash k, and answers what the resolver does at its word
-pub record IsOfBoard (place : Place) (ruling : Ruling) : Type 0 where
-  pub number : ruling.number ≡ place.number
-  pub clash : slice_get place.clashes ruling.k ≡ Some ruling.clash
-  pub judged : ruling.judged.answer ≡ answer ruling.clash ruling.judged.word
+-- the pass has seen this ruling of its clash
+abbrev pub HasSeen : Pass → Ruling → Type 0
+HasSeen pass ruling = seen pass ruling.k ≡ Some ruling
 
--- The side differs only by takes of rulings of this board. Each was carried out in its turn, and the journal has them in
--- front of its earlier calls, the latest first
-pub record IsTold (place : Place) (old new : Side) : Type 0 where
+-- The side differs only by takes of rulings that the pass has seen, at most this many. Each was carried out in its turn,
+-- and the journal has them in front of its earlier calls, the latest first
+pub record IsTold (pass : Pass) (most : ℕ) (old new : Side) : Type 0 where
   pub rulings : List Ruling
-  pub of_board : All (IsOfBoard place) rulings
+  pub seen_each : All (HasSeen pass) rulings
+  pub few : length rulings ≤ most
   pub carried : all_carried_out (shown old) (takes_of rulings) ≡ Some (shown new)
   pub written : calls new ≡ takes_of rulings ++ calls old
+
+-- Both sides took rulings that one pass of the board has seen, each side at most one for each clash
+pub record AreTold (place : Place) (old_first old_second new_first new_second : Side) : Type 0 where
+  pub pass : Pass
+  pub of_board : pass.place ≡ place
+  pub first : IsTold pass (length place.clashes) old_first new_first
+  pub second : IsTold pass (length place.clashes) old_second new_second

@@ -1,7 +1,8 @@
 //! The rulings that a side receives during a round.
-ghost use Rattle.std.specs.Prelude.{◌≡◌, Some, IsTrue};
+ghost use Rattle.std.specs.Prelude.{◌≡◌, Some, IsTrue, length};
 ghost use Rattle.exchange_core.specs.Sides.{heard_clashes};
 ghost use Rattle.exchange_core.specs.Shown.{shown};
+ghost use Rattle.registry_lock.specs.Meeting.{Keeps};
 ghost use Rattle.registry_lock.specs.Telling.{IsTold};
 
 use crossbeam_queue::SegQueue;
@@ -12,54 +13,55 @@ use std::alloc::Global;
 use std::sync::Wait;
 use verdict_board::{Board, Pass};
 
-// The name of a ruling. It borrows nothing, so that a listener of any board may hold it.
-#[derive(Clone, Copy)]
-struct Told {
-    k: u32,
-    word: u64,
-}
-
-// The rulings for one side. If the queue can't be allocated, all rulings are dropped.
+// The clashes whose rulings a side receives. Without a queue, all rulings are dropped.
 #[derive(Drop)]
 pub(crate) struct Inbox {
-    queue: Option<SegQueue<Told>>,
+    queue: Option<SegQueue<u32>>,
 }
 
 impl Ear for Inbox {
     fn told<'p, R: Wait>(&self, rt: &R, ruling: Ruling<'p>, _pass: &Pass<'p>) {
-        let told = Told {
-            k: ruling.k,
-            word: ruling.verdict.word(),
-        };
         if let Some(queue) = &self.queue {
-            let _ = queue.push(rt, told);
+            let _ = queue.push(rt, ruling.k);
         }
     }
 }
 
 impl Inbox {
+    // Returns an empty inbox. If the queue can't be allocated, it drops all rulings.
     pub(crate) fn new(alloc: Global) -> Inbox {
         Inbox {
             queue: SegQueue::new(alloc).ok(),
         }
     }
 
-    // Lets the side take the queued rulings, at most one for each clash of the board.
-    pub(crate) fn empty_into<R: Wait>(&self, rt: &R, board: &Board<'_>, side: Side) -> Side
-        ensures { IsTold board.entry.now.place side result }
-    {
-        let mut side = side;
-        let is_own = side.has_clashes(board.clashes());
-        for _turn in 0..board.clashes().len() {
-            let Some(told) = self.next(rt) else {
-                break;
-            };
-            take_told(board, is_own, &mut side, told);
-        }
-        side
+    // Returns an inbox that drops all rulings.
+    pub(crate) fn closed() -> Inbox {
+        Inbox { queue: None }
     }
 
-    fn next<R: Wait>(&self, rt: &R) -> Option<Told> {
+    // Lets the side take the queued rulings as the pass reads them, at most one for each clash of the board.
+    pub(crate) fn empty_into<'p, R: Wait>(
+        &self,
+        rt: &R,
+        board: &Board<'p>,
+        pass: &mut Pass<'p>,
+        side: &mut Side,
+    )
+        requires { pass.old.place ≡ board.now.place }
+        ensures keeps { Keeps pass.old pass.new }
+        ensures told { IsTold pass.new (length board.now.place.clashes) side.old side.new }
+    {
+        let is_own = side.has_clashes(board.clashes());
+        for _turn in 0..board.clashes().len() {
+            let Some(k) = self.next(rt) else {
+                break;
+            };
+            take_seen(board, pass, is_own, side, k);
+        }
+    }
+
+    fn next<R: Wait>(&self, rt: &R) -> Option<u32> {
         match &self.queue {
             Some(queue) => queue.pop(rt),
             None => None,
@@ -67,13 +69,15 @@ impl Inbox {
     }
 }
 
-// Lets the side take the board's ruling at the word, if any. Drops a refusal. `is_own` is whether the side's clashes are
-// those of the board, so that this ruling's needn't be compared.
-fn take_told(board: &Board<'_>, is_own: bool, side: &mut Side, told: Told)
-    requires { IsTrue is_own → heard_clashes (shown side.old) ≡ Some board.now.place.clashes }
-    ensures { IsTold board.entry.now.place side.old side.new }
+// Lets the side take the ruling of clash k that the pass reads, if any. Drops a refusal. `is_own` is whether the side's
+// clashes are those of the board, so that this ruling's needn't be compared.
+fn take_seen<'p>(board: &Board<'p>, pass: &mut Pass<'p>, is_own: bool, side: &mut Side, k: u32)
+    requires board { pass.old.place ≡ board.now.place }
+    requires own { IsTrue is_own → heard_clashes (shown side.old) ≡ Some board.now.place.clashes }
+    ensures keeps { Keeps pass.old pass.new }
+    ensures told { IsTold pass.new 1 side.old side.new }
 {
-    let Some(ruling) = board.ruling(told.k, told.word) else {
+    let Some(ruling) = board.read(k, pass) else {
         return;
     };
     let _ = if is_own {

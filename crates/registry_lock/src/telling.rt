@@ -1,7 +1,8 @@
 //! A round whose rulings two sides take.
-ghost use Rattle.std.specs.Prelude.{◌≡◌, ◌<◌, ◌≤◌, All, vec_len};
+ghost use Rattle.std.specs.Prelude.{◌≡◌, ◌<◌, ◌≤◌, All, length, vec_len};
 ghost use Rattle.judge_pool.specs.Work.{round_posts};
-ghost use Rattle.registry_lock.specs.Telling.{IsTold};
+ghost use Rattle.registry_lock.specs.Meeting.{Keeps};
+ghost use Rattle.registry_lock.specs.Telling.{IsTold, AreTold};
 
 use crate::inbox::Inbox;
 use exchange_core::Side;
@@ -9,13 +10,13 @@ use judge_pool::{Gate, RoundDone, heal_round};
 use std::alloc::Global;
 use std::sync::Wait;
 use std::thread::Threads;
-use verdict_board::{Board, Seat};
+use verdict_board::{Board, Pass, Seat};
 
 /// Runs a round as `heal_round` does, and then lets two sides take its rulings. Drops rulings that a side refuses or
-/// that can't be queued.
+/// that can't be queued, and all of them if no pass can be allocated.
 ///
-/// Requires seats of this board and a round from 0 to 3. The sides take the answers that the board keeps; the contract
-/// leaves open at which words.
+/// Requires seats of this board and a round from 0 to 3. Both sides take what one pass of the board reads, each side at
+/// most one ruling for each clash.
 pub fn tell_round<'p, G: Gate + Sync, R: Threads + Wait + Sync>(
     rt: &R,
     alloc: Global,
@@ -28,9 +29,8 @@ pub fn tell_round<'p, G: Gate + Sync, R: Threads + Wait + Sync>(
 ) -> (Side, Side, RoundDone)
     requires seats { All (λ s. s.draws ≡ board.now.draws) seats.items }
     requires round { round < 4 }
-    // Each side differs only by takes of rulings of this board's exchange.
-    ensures first { IsTold board.entry.now.place first result.0 }
-    ensures second { IsTold board.entry.now.place second result.1 }
+    // Each side differs only by takes of rulings, which one pass of this board has seen for both.
+    ensures told { AreTold board.entry.now.place first second result.0 result.1 }
     ensures seats { All (λ s. s.draws ≡ board.entry.now.draws) result.2.seats.items }
     // At least as many seats are returned as workers were started.
     ensures back { result.2.started ≤ vec_len result.2.seats }
@@ -39,10 +39,61 @@ pub fn tell_round<'p, G: Gate + Sync, R: Threads + Wait + Sync>(
     // Without workers no post is counted.
     ensures none { result.2.started ≡ 0 → round_posts result.2 ≡ 0 }
 {
+    let (mut first, mut second) = (first, second);
+    let done = match board.pass() {
+        Ok(mut pass) => tell_round_by(
+            rt,
+            alloc,
+            board,
+            &mut pass,
+            seats,
+            round,
+            gate,
+            &mut first,
+            &mut second,
+        ),
+        Err(_) => {
+            let closed = Inbox::closed();
+            heal_round(rt, alloc, board, seats, round, gate, &closed, &closed)
+        }
+    };
+    (first, second, done)
+}
+
+/// Like `tell_round`, for sides that are lent, which take what this pass reads.
+///
+/// Requires a pass and seats of this board, and a round from 0 to 3.
+pub fn tell_round_by<'p, G: Gate + Sync, R: Threads + Wait + Sync>(
+    rt: &R,
+    alloc: Global,
+    board: &Board<'p>,
+    pass: &mut Pass<'p>,
+    seats: Vec<Seat>,
+    round: u32,
+    gate: &G,
+    first: &mut Side,
+    second: &mut Side,
+) -> RoundDone
+    requires pass { pass.old.place ≡ board.now.place }
+    requires seats { All (λ s. s.draws ≡ board.now.draws) seats.items }
+    requires round { round < 4 }
+    // The pass still sees what it had seen.
+    ensures keeps { Keeps pass.old pass.new }
+    // Each side differs only by takes of rulings that the pass has then seen, at most one for each clash.
+    ensures first { IsTold pass.new (length board.entry.now.place.clashes) first.old first.new }
+    ensures second { IsTold pass.new (length board.entry.now.place.clashes) second.old second.new }
+    ensures seats { All (λ s. s.draws ≡ board.entry.now.draws) result.seats.items }
+    // At least as many seats are returned as workers were started.
+    ensures back { result.started ≤ vec_len result.seats }
+    // Given a seat, at least one worker was started.
+    ensures some { 0 < vec_len seats → 0 < result.started }
+    // Without workers no post is counted.
+    ensures none { result.started ≡ 0 → round_posts result ≡ 0 }
+{
     let left = Inbox::new(alloc);
     let right = Inbox::new(alloc);
     let done = heal_round(rt, alloc, board, seats, round, gate, &left, &right);
-    let first = left.empty_into(rt, board, first);
-    let second = right.empty_into(rt, board, second);
-    (first, second, done)
+    left.empty_into(rt, board, pass, first);
+    right.empty_into(rt, board, pass, second);
+    done
 }

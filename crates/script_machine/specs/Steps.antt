@@ -29,6 +29,7 @@ use Rattle.script_text.specs.declared.fault.LineFault.{LineFault}
 use Rattle.script_text.specs.Faults.{line_fault_number}
 use Rattle.script_text.specs.Asking.{Asked, Upload, Register, Unregister, Whereis, Show, Heal, asked_of}
 use Rattle.script_text.specs.Lines.{Line, Short, Long}
+use Rattle.cluster.specs.Causes.{IsCause}
 use Rattle.cluster.specs.Clusters.{Cluster, AreFresh, at, with_standing, is_full_at}
 use Rattle.cluster.specs.Healing.{Plan, IsHealed, IsFailed}
 use Rattle.cluster.specs.Healings.{Healing}
@@ -148,10 +149,11 @@ pub record HasHealed (old new : Machine) : Type 0 where
   pub programs : new.programs ≡ old.programs
   pub latest : new.latest ≡ old.latest + 1
 
--- the exchange failed, with the number of any refusal of a healing
+-- the exchange failed, with a fault that has its cause in the halves as they were, or with 39, 40 or 90
 pub record HealRefused (plan : Plan) (old : Machine) (reply : Reply) (new : Machine) : Type 0 where
   pub fault : HealFault
   pub said : reply ≡ Refused (record { number = heal_fault_number fault; place = None })
+  pub cause : IsCause plan old.cluster fault
   pub failed : IsFailed plan old.cluster new.cluster
   pub healed : HasHealed old new
 

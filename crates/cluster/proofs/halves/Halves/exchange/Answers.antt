@@ -19,7 +19,12 @@ returns-in_err-clashes-clause-failed g c = on_err c.from_residual-in_err-clashes
 
 pub returns-in_err-rulings-clause-failed : goal.returns-in_err-rulings-clause-failed
 returns-in_err-rulings-clause-failed g c = on_err c.from_residual-in_err-rulings.result (λ was sides rest.
-    c.in_err-rulings.ensures.failed was sides (c.in_ok-open.ensures.tried was sides rest))
+    let plan = plan_of c.args.plan.now in
+    let trying = c.in_ok-open.ensures.tried was sides rest in
+    let all = arc_value c.in_ok-clashes.clashes in
+    c.in_err-rulings.ensures.failed was sides trying
+    (c.deref.ensures ∙ heard_shown plan was (gone_of_side A plan.gone) (shown c.open.new.self.a) all trying.a
+    c.in_ok-clashes.ensures.clashes))
 
 pub returns-clause-healed : goal.returns-clause-healed
 returns-clause-healed g c = λ was sides rest.

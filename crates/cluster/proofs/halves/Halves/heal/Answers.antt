@@ -1,6 +1,7 @@
 use Rattle.cluster.specs.Healing.{plan_of}
 use Rattle.cluster.specs.model.Stages.{halves_of}
 use Rattle.cluster.proofs.Answered.{on_err}
+use Rattle.cluster.proofs.Causes.{if_converted}
 use Rattle.cluster.proofs.Trying.{nothing_done, rested_fresh}
 use Rattle.cluster.proofs.halves.Halves.heal.Goals as goal
 
@@ -18,6 +19,17 @@ returns-in-Ok-clause-healed g c =
 pub returns-in-Err-clause-failed : goal.returns-in-Err-clause-failed
 returns-in-Err-clause-failed g c = λ sides.
     let was = halves_of c.args.self.now in
-    c.give_up.ensures (plan_of c.args.plan.now) was sides
+    c.give_up.ensures.left (plan_of c.args.plan.now) was sides
     (c.in-Err.ensures.failed was sides
     (rested_fresh was _ _ c.in_ok-abandon_open.ensures.rested c.renew_long.ensures))
+
+pub returns-in_err-abandon_open-clause-cause : goal.returns-in_err-abandon_open-clause-cause
+returns-in_err-abandon_open-clause-cause g c =
+    if_converted _ c.from_residual.result c.in_err-abandon_open.field-0.0 c.from_residual.ensures
+    (λ sides. c.in_err-abandon_open.ensures.cause (plan_of c.args.plan.now) (halves_of c.args.self.now))
+
+pub returns-in-Err-clause-cause : goal.returns-in-Err-clause-cause
+returns-in-Err-clause-cause g c = λ sides.
+    let was = halves_of c.args.self.now in
+    c.give_up.ensures.cause (plan_of c.args.plan.now) was
+    (c.in-Err.ensures.cause was sides (rested_fresh was _ _ c.in_ok-abandon_open.ensures.rested c.renew_long.ensures))

@@ -1,11 +1,14 @@
 use Rattle.std.specs.Prelude.{◌≡◌, All}
 use Rattle.cluster.specs.Clusters as shown_as
 use Rattle.cluster.specs.Healing as planned
+use Rattle.cluster.specs.Causes.{IsCause}
 use Rattle.cluster.specs.model.Stages.{halves_of, AreTrying, AreInRounds}
 use Rattle.cluster.proofs.halves.Halves.judge.Given as goal
 
--- the seats are the board's, and both halves are in the rounds
+-- pass and seats are the board's, both halves are in the rounds, and each refusal so far has a cause
 abbrev pub invariant-loop-round : goal.invariant-loop-round
-invariant-loop-round g l = All (λ s. s.draws ≡ l.board.draws) l.seats.items
+invariant-loop-round g l = (l.pass.place ≡ l.board.place) × All (λ s. s.draws ≡ l.board.draws) l.seats.items
     × ((plan : planned.Plan) (was : shown_as.Cluster) → AreTrying plan was plan.gone (halves_of l.fn.self) →
-    AreInRounds plan was l.a.finished l.b.finished (halves_of l.self))
+    AreInRounds plan was l.pass l.a.finished l.b.finished (halves_of l.self))
+    × ((plan : planned.Plan) (was : shown_as.Cluster) → AreTrying plan was plan.gone (halves_of l.fn.self) →
+    IsCause plan was l.a.least × IsCause plan was l.b.least)

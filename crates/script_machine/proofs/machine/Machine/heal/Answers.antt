@@ -11,6 +11,7 @@ returns-in-Err-clause-refused g c = record {
       ap (λ number. Refused (record { number = number; place = c.refusal_of.result.place })) c.refusal_of.ensures.number
       ∙ ap (λ place. Refused (record { number = heal_fault_number c.in-Err.fault; place = place }))
       c.refusal_of.ensures.place;
+  cause = c.in-Err.ensures.cause;
   failed = c.in-Err.ensures.failed;
   healed = record { labels = refl; programs = refl; latest = refl };
 }

@@ -1,0 +1,44 @@
+-- Why a healing fails.
+use Rattle.std.specs.Prelude.{◌≡◌, IsTrue}
+use Rattle.clash_record.specs.declared.side_id.SideId.TheVariants.{A, B}
+use Rattle.numbered.specs.Answers.{out_of_memory}
+use Rattle.partition_table.specs.Tables.{fit_together}
+use Rattle.partition_table.specs.declared.fault.TableFault.TheVariants.{NoSuchName, TooManyNames, OtherCode}
+use Rattle.exchange_core.specs.declared.fault.SideFault.{SideFault}
+use Rattle.exchange_core.specs.declared.fault.SideFault.TheVariants as of
+use Rattle.exchange_core.specs.Faults.{side_fault_number}
+use Rattle.exchange_core.specs.Sides.{shown_table}
+use Rattle.cluster.specs.Clusters.{Cluster}
+use Rattle.cluster.specs.Healing.{Plan, IsNew, HasHeld}
+use Rattle.cluster.specs.declared.fault.HealFault.{HealFault}
+use Rattle.cluster.specs.declared.fault.HealFault.TheVariants.{Side, Meet, OutOfMemory}
+
+-- the plan's number is new to both halves
+abbrev pub BothNew : Plan → Cluster → Type 0
+BothNew plan old = IsNew plan old A × IsNew plan old B
+
+-- each half has the names that it is to withdraw, each once
+abbrev pub BothHeld : Plan → Cluster → Type 0
+BothHeld plan old = HasHeld old A plan.gone × HasHeld old B plan.gone
+
+-- the tables that the halves show fit together
+abbrev pub BothFit : Cluster → Type 0
+BothFit old = IsTrue (fit_together (shown_table old.a.side) (shown_table old.b.side))
+
+-- The cause of a half's refusal. Where a ruling is missing, or a journal full, nothing is said of the halves. Any other
+-- refusal is out of memory
+abbrev pub IsSideCause : Plan → Cluster → SideFault → Type 0
+IsSideCause plan old of.StaleNumber = ¬ BothNew plan old
+IsSideCause plan old (of.Table NoSuchName) = ¬ BothHeld plan old
+IsSideCause plan old of.Withdrawn = ¬ BothHeld plan old
+IsSideCause plan old (of.Table TooManyNames) = ¬ BothFit old
+IsSideCause plan old (of.Table OtherCode) = ¬ BothFit old
+IsSideCause plan old (of.Missing part) = Unit {0}
+IsSideCause plan old of.JournalFull = Unit {0}
+IsSideCause plan old fault = side_fault_number fault ≡ out_of_memory
+
+-- the cause of a failure. Two halves that finished always meet
+abbrev pub IsCause : Plan → Cluster → HealFault → Type 0
+IsCause plan old (Side fault) = IsSideCause plan old fault
+IsCause plan old (Meet fault) = ⊥
+IsCause plan old OutOfMemory = Unit {0}
