@@ -16,8 +16,8 @@
  *           when the count is full. heal_side_renew starts a fresh count, but only while no exchange is open: call it
  *           before each heal_side_begin, and an exchange has room for 53,000 repeated messages. If the count is full while
  *           an exchange is open, heal_side_give_up closes the exchange and starts a fresh count. An event holds no memory.
- * THREADS   No two concurrent calls on one handle, also of calls that only read. Calls on different handles may run in parallel.
- *           No call starts a thread, waits, or does input or output.
+ * THREADS   No two concurrent calls on one handle, also of calls that only read. Calls on different handles may run in
+ *           parallel. No call starts a thread, waits, or does input or output.
  * YOU OWE   Valid pointers: each argument points to as many readable bytes (results: writable) as its comment states, and
  *           results don't overlap other arguments. A pointer with length 0 may be NULL. Every other pointer isn't NULL.
  *           A handle holds only what a call here has put there.
@@ -43,7 +43,7 @@ enum { HEAL_EXIT = 0, HEAL_NOTIFY = 1, HEAL_NOTIFY_ALL = 2, HEAL_PROGRAM = 3 };
 enum { HEAL_NEITHER = 0, HEAL_FIRST = 1, HEAL_SECOND = 2 };
 /* Kinds of notices. */
 enum { HEAL_NOTICE_EXIT = 0, HEAL_NOTICE_CONFLICT = 1, HEAL_NOTICE_CONFLICT_WITH = 2 };
-/* What heal_side_row and heal_side_row_after return where there is no such row. */
+/* What heal_side_row and heal_side_row_after return if no such row exists. */
 enum { HEAL_NO_ROW = 92 };
 
 typedef struct { void *at; } heal_program; /* a verified program */
@@ -201,7 +201,7 @@ uint32_t heal_side_events(heal_side *side, size_t *events);
 uint32_t heal_side_renew(heal_side *side);
 
 /* Closes the open exchange as heal_side_abandon does, if there is one, and starts a fresh count of events, also where the
-   count is full. Only 91 and 90 refuse it, and 90 only a side that withdrew names. */
+   count is full. Returns only 91, or 90 for a side that withdrew names. */
 uint32_t heal_side_give_up(heal_side *side);
 
 /* ---- A message ---- */
@@ -225,10 +225,10 @@ uint32_t heal_outcome_clashes(heal_outcome *outcome, size_t *clashes);
 /* Returns clash i in the order of names, from 0. Returns 92 for an index of `clashes` or more. */
 uint32_t heal_outcome_clash(heal_outcome *outcome, size_t i, heal_clash *clash);
 
-/* Returns notice n, from 0, of clash i. Only built-in resolvers bring notices. Returns 92 for an index that is too big.
-   Look the name up before you deliver a notice: a withdrawn registration still takes part in its clash, and may win. If the
-   verdict is HEAL_FIRST or HEAL_SECOND and heal_side_whereis returns 31, the winner was withdrawn. Then deliver no notice,
-   and register the other owner again on its half. */
+/* Returns notice n, from 0, of clash i. Only verdicts of built-in resolvers have notices. Returns 92 for an index that is
+   too big. Look the name up before you deliver a notice: a withdrawn registration still takes part in its clash, and may
+   win. If the verdict is HEAL_FIRST or HEAL_SECOND and heal_side_whereis returns 31, the winner was withdrawn. Then deliver
+   no notice, and register the other owner again on its half. */
 uint32_t heal_outcome_notice(heal_outcome *outcome, size_t i, size_t n, heal_notice *notice);
 
 void heal_outcome_free(heal_outcome *outcome);

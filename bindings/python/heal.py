@@ -546,5 +546,5 @@ class Side(_Owned):
         self._call("renew")
 
     def give_up(self):
-        """Closes the open exchange, if there is one, and starts a fresh journal, also of a full side."""
+        """Closes the open exchange, if there is one, and starts a fresh journal, also if the journal is full."""
         self._call("give_up")

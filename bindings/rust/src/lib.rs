@@ -269,7 +269,7 @@ impl Side {
         answer(unsafe { ffi::heal_side_renew(self.held.at()) })
     }
 
-    /// Gives the open exchange up, if there is one, and starts a fresh journal, also of a full side.
+    /// Gives the open exchange up, if there is one, and starts a fresh journal, also if the journal is full.
     pub fn give_up(&mut self) -> Result<(), Refused> {
         answer(unsafe { ffi::heal_side_give_up(self.held.at()) })
     }
