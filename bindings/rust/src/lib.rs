@@ -197,7 +197,9 @@ impl Side {
 
     /// Returns the names and registrations of the table, in the order of names.
     pub fn rows(&mut self) -> Result<Vec<(Vec<u8>, Registration)>, Refused> {
-        let mut rows = Vec::new();
+        let mut count = 0;
+        answer(unsafe { ffi::heal_side_count(self.held.at(), &mut count) })?;
+        let mut rows = Vec::with_capacity(count);
         let mut row = ffi::Row::default();
         let mut number = unsafe { ffi::heal_side_row(self.held.at(), 0, &mut row) };
         while number != NO_ROW {
