@@ -1,0 +1,515 @@
+#!/usr/bin/env python3
+"""Compares the built program with the second implementation in oracle/ on random and mutated inputs.
+
+    scripts/differential.py [--seconds N] [--seed S] [--case I] [--library FILE] [PROGRAM]
+
+Each case is made from the seed, which is printed, and its number, and is given to both: codes to check, judge and dis,
+texts to asm, and scripts to run. The first difference ends the comparison with its input and both answers. At the end
+the numbers of refusals that were never reached are printed; the status is 1 if one of REACHABLE is among them. Cases are
+tried for N seconds, 20 by default, and on until these numbers are reached, up to case 2,000.
+`--case I` carries out case I alone. With a built libheal.so, by default that of bindings/c/out, codes are loaded and judged
+through it as well, which is much faster and shows r0 whole, and messages are encoded and decoded.
+"""
+
+import argparse
+import ctypes
+import hashlib
+import pathlib
+import random
+import re
+import struct
+import subprocess
+import sys
+import time
+
+ROOT = pathlib.Path(__file__).resolve().parent.parent
+sys.dont_write_bytecode = True
+sys.path.insert(0, str(ROOT / "oracle"))
+
+import machine
+import messages
+import oracle
+import registry
+import script
+import text
+import verifier
+from random_codes import EXIT, Codes, slot
+
+# The refusals that the commands can give; 33 to 36, 38 to 40, 42, 45, 46, 48 and 49 are those of libraries or collisions.
+REACHABLE = {*range(1, 8), *range(10, 27), 30, 31, 32, 37, 41, 43, 44, 47, *range(50, 58), *range(60, 64)}
+MESSAGES = {34, *range(70, 83)}  # those that the library gives too
+
+
+# ---- Texts ----
+
+# Operands, right and wrong.
+REGISTERS = ["r0", "r10", "r11", "r01", "R1", "r", "r1x"]
+NUMERALS = ["-0", "+0", "0", "00", "01", "0x", "0xFf", "0X1", "-0x1", "+1", "-1", "2147483647", "2147483648",
+           "-2147483648", "-2147483649", "4294967295", "0xffffffff", "0x80000000", "0x100000000", "0x0000000000001",
+           "18446744073709551615", "18446744073709551616", "0xffffffffffffffff", "0x10000000000000000"]
+DISTANCES = ["1", "+0", "-0", "+00", "+01", "+0x1", "+32767", "+32768", "-32768", "-32769", "+2147483647",
+             "+2147483648", "-2147483648", "-2147483649", "+-1", "r1", ""]
+ADDRESSES = ["[r1+0]", "[r1]", "[r1 +1]", "[r10-32768]", "[r10-32769]", "[r1+32767]", "[r1+32768]", "[r1-0]",
+             "[r1+01]", "[r11+1]", "[r11+32768]", "[r1+0x1]", "[r1+1]x", "[r1+1", "r1+1]", "[1+r1]", "[r1+ 1]", "[]"]
+
+
+class Texts:
+    def __init__(self, rng, codes):
+        self.rng, self.codes = rng, codes
+
+    def any(self):
+        """The text of some code, changed in a few places."""
+        lines = []
+        while not lines:
+            try:
+                lines = text.disassemble(machine.decode(self.codes.any())).splitlines()
+            except machine.Refused:
+                pass
+        start = self.rng.randrange(len(lines))
+        lines = lines[start:start + 5]
+        for _ in range(self.rng.choice([0, 1, 1, 1, 2])):
+            at = self.rng.randrange(len(lines))
+            lines[at] = self.changed(lines[at])
+        data = "\n".join(lines).encode() + self.rng.choice([b"\n", b""])
+        return data + (b"\xff" if self.rng.random() < 0.01 else b"")
+
+    def changed(self, line):
+        pick = self.rng.choice
+        words = REGISTERS + NUMERALS + DISTANCES + ADDRESSES + ["", " ", "foo", "\u00e9"]
+        parts = re.split(r"([ ,]+)", line)
+        kind = self.rng.randrange(9)
+        at = self.rng.randrange(0, len(parts), 2)
+        if kind < 4:
+            near = {"[": ADDRESSES, "r": REGISTERS + NUMERALS, "+": DISTANCES, "-": DISTANCES + NUMERALS}
+            parts[at] = pick(near.get(parts[at][:1], NUMERALS) if kind and at else words)
+        elif kind == 4:
+            parts[0] = pick(sorted(text.MNEMONICS))
+        elif kind == 5:
+            parts.insert(self.rng.randrange(len(parts) + 1), pick([" ", "\t", ",", ", ", ";", "\r", "\v", "; c", " 1", "\0"]))
+        elif kind == 6:
+            del parts[at]
+        elif kind == 7:
+            place = self.rng.randrange(len(line) + 1)
+            return line[:place] + pick(list(" ,;+-0x9[]r\t\r\n")) + line[place:]
+        else:
+            return pick(["", ";", "\t ; c", " " + line + " ", line.replace(", ", "\t,  "), line + ";", line + "\r"])
+        return "".join(parts)
+
+
+# ---- Scripts ----
+
+class Scripts:
+    def __init__(self, rng, codes):
+        self.rng, self.codes = rng, codes
+
+    def uploads(self):
+        """Uploads many codes, and has each accepted one judge clashes."""
+        lines, accepted = [], []
+        for index in range(60):
+            code, label = self.codes.any(), f"p{index}"
+            lines.append(f"upload {label} {code.hex() or '0'}"[:20_000])
+            if oracle.check(code.hex())[1] == 0:
+                accepted.append(label)
+        for index in range(2 * len(accepted)):
+            name, label = f"{self.name()}{index}", accepted[index // 2]
+            lines += [f"register {side} {name} {self.registration()} {label}" for side in "ab"]
+        lines.append(f"heal {self.number()} {self.number()} {self.number()}")
+        return "\n".join(lines + ["show a", "show b"]).encode()
+
+    def number(self, bits=64):
+        return self.codes.number(bits)
+
+    def name(self):
+        return "".join(chr(self.rng.randint(0x21, 0x7e)) for _ in range(self.rng.randint(1, 29))).replace("#", "x")
+
+    def registration(self):
+        data = self.rng.choice(["-", self.rng.getrandbits(128).to_bytes(16, "big").hex()])
+        return f"{self.number(32)}.{self.number(32)} {self.number()} {self.number()} {data}"
+
+    def any(self):
+        """Lines over few names, so that they meet; many of them wrong."""
+        labels = ["exit", "notify", "notify-all"] + [f"l{i}" for i in range(6)]
+        lines = []
+        for _ in range(self.rng.choice([5, 20, 60, 200])):
+            line = self.line(labels)
+            if self.rng.random() < 0.25:
+                line = self.wrong(line)
+            lines.append(line.encode("latin-1"))
+        return b"\n".join(lines) + self.rng.choice([b"\n", b""])
+
+    def line(self, labels):
+        pick = self.rng.choice
+        names = ["a", "ab", "b", "db", "web", "A" * 32, "~", "!", "c", "d"]
+        side, name = pick("ab"), pick(names)
+        kind = self.rng.random()
+        if kind < 0.45:
+            owner = f"{pick([0, 1, 1, 2])}.{pick([0, 1, 4294967295])}"
+            fields = f"{pick([0, 1, self.number()])} {pick([0, 1])} {pick(['-', '-', '0' * 31 + '1', 'F' * 32])}"
+            if self.rng.random() < 0.3:  # registrations that are equal, or differ in the resolver alone
+                owner, fields = "1.1", "0 0 -"
+            return f"register {side} {name} {owner} {fields} {pick(labels)}"
+        if kind < 0.55:
+            return f"unregister {side} {name}"
+        if kind < 0.63:
+            return f"whereis {side} {name}"
+        if kind < 0.7:
+            return f"show {side}"
+        if kind < 0.8:
+            code = pick([self.codes.any(), slot(0xb7, imm=1) + EXIT, slot(0x79, 0, 1, 40) + slot(0x57, imm=3) + EXIT])
+            return f"upload {pick(labels[3:] * 3 + labels)} {code.hex()[:20_000]}"
+        if kind < 0.83:
+            return pick(["", "   ", "# c \xff", "  #", "#heal 0", " \t", "\r"])
+        uptimes = pick(["", "", f" {self.number()} {pick([0, 1, 7])}"])
+        gone = "".join(f" gone {pick('ab')} {pick(names)}" for _ in range(pick([0, 0, 0, 1, 1, 2, 4])))
+        return f"heal {pick([0, 1, self.number()])}{uptimes}{gone}"
+
+    def wrong(self, line):
+        """A line with a wrong word, mostly one that is nearly right, or with another number of words."""
+        words = line.split(" ")
+        at = self.rng.randrange(len(words))
+        numbers = ["00", "01", "-1", "+1", "18446744073709551615", "18446744073709551616", "0x1", "1.1", "9" * 40, "1a", "-"]
+        owners = ["4294967296.1", "1.", ".1", "1.1.1", "1.4294967295", "1.4294967296", "1.01", "00.1", "1", "1,1", "-1.1", "."]
+        others = ["", "c", "gone", "A" * 32, "A" * 33, "exit", "notify-all", "heal", "x\ty", "\x7f", "\xe9", "\0", "ab", "~"]
+        digits = ["0g" + "0" * 30, "0" * 34, "0" * 30, "0" * 31, "-", "--", "aB" * 16]
+        word = words[at]
+        near = (owners if "." in word else digits if word == "-" or len(word) > 30 else numbers if word.isdecimal() else others)
+        change = self.rng.randrange(6)
+        if change < 4:
+            words[at] = self.rng.choice(near if change else numbers + owners + others + digits)
+        elif change == 4:
+            del words[at]
+        else:
+            words.insert(at, self.rng.choice(numbers + others))
+        return " ".join(words) + self.rng.choice(["", "", "", "  ", "\r"])
+
+
+# ---- The library and messages ----
+
+class Handle(ctypes.Structure):
+    _fields_ = [("at", ctypes.c_void_p)]
+
+
+class Ended(ctypes.Structure):
+    _fields_ = [("r0", ctypes.c_uint64), ("steps", ctypes.c_uint32)]
+
+
+class CRegistration(ctypes.Structure):
+    _fields_ = [("node", ctypes.c_uint32), ("serial", ctypes.c_uint32), ("stamp", ctypes.c_uint64),
+                ("weight", ctypes.c_uint64), ("extra", ctypes.c_uint8 * 16), ("resolver", ctypes.c_uint32),
+                ("program", ctypes.c_uint8 * 32)]
+
+
+class Library:
+    """The calls of bindings/c/heal.h that are compared."""
+
+    def __init__(self, path):
+        self.calls = ctypes.CDLL(path)
+        self.program, self.ended, self.slot = Handle(), Ended(), ctypes.c_uint32()
+
+    def load(self, code):
+        """Returns 0 and 0, or the refusal with its slot; the program is kept for `judge`."""
+        number = self.calls.heal_program_load(code, ctypes.c_size_t(len(code)), ctypes.byref(self.program),
+                                              ctypes.byref(self.slot))
+        return number, self.slot.value
+
+    def judge(self, record):
+        self.calls.heal_program_judge(ctypes.byref(self.program), record, ctypes.byref(self.ended))
+        return self.ended.r0, self.ended.steps
+
+    def hear(self, name, data):
+        """Hears a message on a side without an exchange: 70 to 82, or 34 for a message."""
+        side = Handle()
+        self.calls.heal_side_new(False, ctypes.byref(side))
+        number = getattr(self.calls, name)(ctypes.byref(side), data, ctypes.c_size_t(len(data)))
+        self.calls.heal_side_free(ctypes.byref(side))
+        return number
+
+    def messages_of(self, offer, gone):
+        """The offer and the list that a side with these rows and withdrawn names gives."""
+        side, message, digest, slot_ = Handle(), Handle(), ctypes.create_string_buffer(32), ctypes.c_uint32()
+        at, size = ctypes.byref(side), ctypes.c_size_t
+        numbers = [self.calls.heal_side_new(bool(offer.side), at)]
+        for code in offer.programs.values():
+            numbers.append(self.calls.heal_side_upload(at, code, size(len(code)), digest, ctypes.byref(slot_)))
+        for name, r in offer.rows:
+            kind, program = (r.resolver, bytes(32)) if isinstance(r.resolver, int) else (3, r.resolver)
+            found = CRegistration(r.node, r.serial, r.stamp, r.weight, (ctypes.c_uint8 * 16)(*r.extra), kind,
+                                  (ctypes.c_uint8 * 32)(*program))
+            numbers.append(self.calls.heal_side_register(at, name, size(len(name)), ctypes.byref(found)))
+        u64 = ctypes.c_uint64
+        numbers.append(self.calls.heal_side_begin(at, u64(offer.number), u64(offer.seed), u64(offer.uptime),
+                                                  ctypes.byref(message)))
+        encoded = self.bytes_of(message)
+        numbers += [self.calls.heal_side_withdraw(at, name, size(len(name))) for name in gone]
+        numbers.append(self.calls.heal_side_close_list(at, ctypes.byref(message)))
+        listed = self.bytes_of(message)
+        self.calls.heal_side_free(at)
+        return encoded, listed, [number for number in numbers if number]
+
+    def bytes_of(self, message):
+        length = ctypes.c_size_t()
+        self.calls.heal_bytes_len(ctypes.byref(message), ctypes.byref(length))
+        buffer = ctypes.create_string_buffer(length.value)
+        self.calls.heal_bytes_copy(ctypes.byref(message), buffer, length)
+        return buffer.raw
+
+
+def random_offer(rng, codes):
+    """An offer with a few rows and programs, and the names to withdraw."""
+    programs = {}
+    for _ in range(rng.randint(0, 3)):
+        code = codes.any()
+        if oracle.check(code.hex())[1] == 0:
+            programs[hashlib.sha256(code).digest()] = code
+    names = sorted({bytes(rng.choice(b"!az~") for _ in range(rng.choice([1, 2, 3, 32]))) for _ in range(rng.randint(0, 6))})
+    rows = [(name, registry.Registration(codes.number(32), codes.number(32), codes.number(), codes.number(), rng.randbytes(16),
+                                         rng.choice([0, 1, 2, *programs, *programs]))) for name in names]
+    used = {row[1].resolver for row in rows}
+    number = max(codes.number(), 1)
+    offer = messages.Offer(rng.randrange(2), number, codes.number(), codes.number(), rows,
+                           {digest: code for digest, code in programs.items() if digest in used})
+    return offer, rng.sample(names, rng.randint(0, len(names)))
+
+
+def misspelled(rng, offer):
+    """An offer whose rows may be out of order or repeated, and each of which may bring its program's code again."""
+    rows = list(offer.rows)
+    for _ in range(rng.randint(0, 2)):
+        if rows:
+            rows.insert(rng.randrange(len(rows) + 1), rows.pop() if rng.random() < 0.5 else rng.choice(rows))
+    alone = [messages.encode_offer(offer._replace(rows=[row]))[37:] for row in rows]
+    body = b"".join(alone) if rng.random() < 0.5 else messages.encode_offer(offer._replace(rows=rows))[37:]
+    return messages.encode_offer(offer)[:33] + struct.pack("<I", len(rows)) + body
+
+
+def damaged(rng, data):
+    """A message with a few changes."""
+    data = bytearray(data)
+    for _ in range(rng.choice([1, 1, 1, 2])):
+        at = min(rng.choice([rng.randrange(len(data)), rng.randrange(40)]), len(data) - 1)
+        change = rng.randrange(6)
+        if change < 2:
+            data[at] = rng.choice([0, 1, 2, 3, 4, 5, 0x20, 0x21, 0x7e, 0x7f, 33, rng.randrange(256)])
+        elif change == 2:
+            del data[at:]
+        elif change == 3:
+            data += bytes(data[at:at + rng.choice([1, 40, 80])])
+        elif change == 4:
+            data[at:at] = data[at:at + rng.choice([3, 41, 77])]
+        else:
+            del data[at:at + rng.choice([1, 3, 41])]
+        if not data:
+            break
+    return bytes(data)
+
+
+# ---- Cases that random ones seldom reach ----
+
+def special_scripts():
+    """Full tables, a full store, and long lines."""
+    full = [f"register a n{i} 1.{i} 0 0 - exit" for i in range(4096)]
+    yield "\n".join(full + ["register a more 1.1 0 0 - exit", "register a n7 1.1 0 0 - exit", "register b n5 2.2 0 0 - notify",
+                            "register b more 2.1 0 0 - exit", "heal 3 gone b n5", "show b", "unregister a n1", "heal 1 gone b zz",
+                            "heal 1 gone b n5 gone b n5", "show b"]).encode()
+    store = [f"upload l{i} {slot(0xb7, imm=i).hex()}{EXIT.hex()}" for i in range(258)]
+    yield "\n".join(store + ["upload again " + store[7].split()[2], "register a x 1.1 0 0 - again", "show a"]).encode()
+    yield (b"#" + b"x" * 20_000 + b"\n" + b"#" + b"x" * 19_999 + b"\nshow a" + b" " * 19_994 + b"\nshow a" + b" " * 19_995
+           + b"\nupload long " + (EXIT * 1025).hex().encode() + b"\nupload full " + slot(0xb7).hex().encode() * 1023
+           + EXIT.hex().encode() + b"\n" + b"y" * 30_000)
+
+
+def special_texts():
+    yield b"exit ;" + b";" * ((1 << 20) - 6)
+    yield b";" * ((1 << 20) + 1)
+    yield b"\xff" * ((1 << 20) + 1)
+    yield b"\xff"
+    yield b"exit\n" * 1025
+    yield b"exit\n" * 1023 + b"; c\nlddw r0, 1\n"
+    yield b"exit\n" * 1024 + b"exit r1"
+    lines = [f"{start}{word}{end}" for start, words, end in (
+        ("mov64 r0, ", NUMERALS, ""), ("lddw r0, ", NUMERALS, ""), ("ja ", DISTANCES, ""), ("jal ", DISTANCES, ""),
+        ("ldxb r0, ", ADDRESSES, ""), ("stb ", ADDRESSES, ", 1"), ("neg32 ", REGISTERS, "")) for word in words]
+    right = [line for line in lines if oracle.asm(line.encode())[1] == 0]
+    yield "\n".join(right).encode()
+    yield from (line.encode() for line in lines if line not in right)
+    yield from (b"", b"; c", b"mov64 r0, 1,", b"exit;", b"exit,", b"exit ,", b"ja+1", b"mov64 r0 1", b"mov64 r0, 2147483648,")
+
+
+def examples_of_documents():
+    """The codes in resolvers/ and in the tables of docs/REFUSALS.md, with X for EXIT."""
+    codes = [bytes.fromhex(path.read_text()) for path in sorted((ROOT / "resolvers").glob("*.hex"))]
+    for row in (ROOT / "docs" / "REFUSALS.md").read_text().splitlines():
+        found = re.findall(r"`([0-9a-f]{16})`( X)?", row)
+        if found:
+            codes.append(b"".join(bytes.fromhex(digits) + (EXIT if x else b"") for digits, x in found))
+    return codes
+
+
+# ---- Comparing ----
+
+class Comparison:
+    def __init__(self, program, library, seed):
+        self.program, self.library, self.seed = program, library, seed
+        self.examples = examples_of_documents()
+        self.reached, self.counts = {}, {}
+
+    def compare(self, command, arguments, data, expected):
+        """Runs the program and compares it with the oracle's output, status and refusals."""
+        done = subprocess.run([self.program, command, *arguments], input=data, stdout=subprocess.PIPE,
+                              stderr=subprocess.DEVNULL, check=False)
+        output, status, numbers = expected
+        self.counts[command] = self.counts.get(command, 0) + 1
+        for number in numbers:
+            self.reached[number] = self.reached.get(number, 0) + 1
+        if (done.stdout, done.returncode) == (output.encode("latin-1"), status):
+            return True
+        print(f"DIFFERENCE: heal {command} {' '.join(arguments)}")
+        if data is not None:
+            print(f"input: {data!r}")
+        report(done.stdout.decode("latin-1"), output)
+        print(f"statuses: program {done.returncode}, oracle {status}")
+        return False
+
+    def script(self, data):
+        return self.compare("run", ["-"], data, script.run(data))
+
+    def asm(self, data):
+        return self.compare("asm", ["-"], data, oracle.asm(data))
+
+    def code(self, code, data, profile):
+        digits = code.hex()
+        return (self.compare("check", ["--profile", str(profile), digits], None, oracle.check(digits, profile))
+                and self.compare("judge", [digits, data.hex()], None, oracle.judge(digits, data.hex()))
+                and self.compare("dis", [digits], None, oracle.dis(digits)))
+
+    def special(self):
+        """The cases before the random ones."""
+        return (all(self.script(data) for data in special_scripts())
+                and all(self.script(path.read_bytes()) for path in sorted((ROOT / "examples").glob("*.heal")))
+                and all(self.asm(data) for data in special_texts())
+                and self.script("\n".join(f"upload l{i} {code.hex()}" for i, code in enumerate(self.examples)).encode())
+                and all(self.compare("judge", arguments, None, oracle.judge(*arguments)) for arguments in
+                        [[EXIT.hex(), "00"], ["0", "0"], ["b7000000010000009500000000000000", "00" * 127], ["", "00" * 160],
+                         ["B700000001000000" + EXIT.hex(), "0A" * 128]]))
+
+    def missed(self):
+        """The numbers within reach that weren't reached yet."""
+        return sorted((REACHABLE | (MESSAGES if self.library else set())) - self.reached.keys())
+
+    def same(self, what, given, got, wanted):
+        """Compares an answer of the library."""
+        self.counts[what] = self.counts.get(what, 0) + 1
+        if got == wanted:
+            return True
+        print(f"DIFFERENCE: {what} of {given}\n  library: {got}\n  oracle:  {wanted}")
+        return False
+
+    def loaded(self, code, record):
+        """Loads code through the library, and runs accepted code on a record."""
+        try:
+            insns = machine.decode(code)
+            verifier.verify(insns)
+        except machine.Refused as refused:
+            self.reached[refused.number] = self.reached.get(refused.number, 0) + 1
+            place = refused.place[1] if refused.place else 0
+            return self.same("heal_program_load", code.hex(), self.library.load(code), (refused.number, place))
+        return (self.same("heal_program_load", code.hex(), self.library.load(code), (0, 0))
+                and self.same("heal_program_judge", f"{code.hex()} on {record.hex()}", self.library.judge(record),
+                              machine.run(insns, record)))
+
+    def messages(self, rng, codes):
+        """Encodes an offer and a list, and decodes them and damaged ones."""
+        offer, gone = random_offer(rng, codes)
+        listed = messages.Withdrawals(offer.side, offer.number, gone)
+        wanted = messages.encode_offer(offer), messages.encode_withdrawals(listed), []
+        assert messages.decode_offer(wanted[0]) == offer and messages.decode_withdrawals(wanted[1]) == listed
+        if not self.same("messages", (offer, gone), self.library.messages_of(offer, gone), wanted):
+            return False
+        for _ in range(30):
+            again = messages.encode_withdrawals(listed._replace(names=gone + [rng.choice(gone)] if gone else []))
+            for name, decode, data, wrong in (
+                    ("heal_side_hear", messages.decode_offer, wanted[0], misspelled(rng, offer)),
+                    ("heal_side_hear_list", messages.decode_withdrawals, wanted[1], again)):
+                data = rng.choice([damaged(rng, data)] * 14 + [wrong] * 6 + [wanted[0], wanted[1]])
+                if not self.same(name, data.hex(), self.library.hear(name, data), self.heard(decode, data)):
+                    return False
+        return True
+
+    def heard(self, decode, data):
+        """What hearing a message on a side without an exchange is refused with."""
+        try:
+            decode(data)
+            number = 34
+        except machine.Refused as refused:
+            number = refused.number
+        self.reached[number] = self.reached.get(number, 0) + 1
+        return number
+
+    def random_case(self, index):
+        rng = random.Random(f"{self.seed}/{index}")
+        codes = Codes(rng, self.examples)
+        if self.library and index % 2:
+            if index % 4 == 1:
+                return self.messages(rng, codes)
+            return all(self.loaded(codes.any(), rng.randbytes(160)) for _ in range(100))
+        kind = rng.choice(["uploads", "uploads", "script", "script", "asm", "asm", "code"])
+        if kind == "uploads":
+            return self.script(Scripts(rng, codes).uploads())
+        if kind == "script":
+            return self.script(Scripts(rng, codes).any())
+        if kind == "asm":
+            return all(self.asm(Texts(rng, codes).any()) for _ in range(10))
+        record = rng.randbytes(rng.choice([160, 160, 160, 128, 127]))
+        return self.code(codes.any(), record, rng.choice([1, 2]))
+
+
+def report(got, wanted):
+    """Prints the first line in which two outputs differ."""
+    ours, theirs = wanted.splitlines() + [""], got.splitlines() + [""]
+    for number, (mine, other) in enumerate(zip(ours, theirs), 1):
+        if mine != other or number == min(len(ours), len(theirs)):
+            print(f"line {number} of the output\n  program: {other[:300]}\n  oracle:  {mine[:300]}")
+            return
+
+
+def main():
+    parser = argparse.ArgumentParser(description=__doc__.split("\n")[0])
+    parser.add_argument("--seconds", type=float, default=20)
+    parser.add_argument("--seed", type=int, default=random.randrange(1 << 32))
+    parser.add_argument("--case", type=int)
+    parser.add_argument("--library", default=str(ROOT / "bindings/c/out/libheal.so"))
+    parser.add_argument("program", nargs="?", default=str(ROOT / "crates/heal_main/out/heal_main"))
+    options = parser.parse_args()
+    library = Library(options.library) if pathlib.Path(options.library).exists() else None
+    print(f"seed {options.seed}" + ("" if library else "; no library"), flush=True)
+    comparison = Comparison(options.program, library, options.seed)
+    if options.case is not None:
+        return 0 if comparison.random_case(options.case) else 1
+    stop, index, same = time.monotonic() + options.seconds, 0, False
+    try:
+        same = comparison.special()
+        while same and (time.monotonic() < stop or (comparison.missed() and index < 2000)):
+            index, same = index + 1, False
+            same = comparison.random_case(index - 1)
+    finally:  # also where the oracle itself fails
+        if not same:
+            print(f"seed {options.seed}, " + (f"case {index - 1}" if index else "a special case"), flush=True)
+    if not same:
+        return 1
+    print(f"{index} random cases alike; commands: " + ", ".join(f"{n} {c}" for c, n in sorted(comparison.counts.items())))
+    print("refusals: " + ", ".join(f"{number}: {n}" for number, n in sorted(comparison.reached.items())))
+    missed = comparison.missed()
+    never = sorted(set(numbers_of_document()) - comparison.reached.keys())
+    print("never reached: " + ", ".join(map(str, never)))
+    if missed:
+        print("FAILED: within reach, but not reached: " + ", ".join(map(str, missed)))
+    return 1 if missed else 0
+
+
+def numbers_of_document():
+    rows = (ROOT / "docs" / "REFUSALS.md").read_text().splitlines()
+    return [int(found.group(1)) for row in rows for found in [re.match(r"\| (\d+) \|", row)] if found]
+
+
+if __name__ == "__main__":
+    sys.exit(main())
