@@ -8,6 +8,7 @@ clashes. Every line must be carried out, and the most memory of the long script 
 import os
 import subprocess
 import sys
+import tempfile
 
 ROOT = os.path.dirname(os.path.dirname(os.path.realpath(__file__)))
 NAMES = 4096
@@ -30,11 +31,16 @@ def script(heals):
 
 
 def run(program, heals):
-    """Returns the answers of the script, and the most memory of its run in KiB."""
-    text = "".join(f"{line}\n" for line in script(heals)).encode()
-    with subprocess.Popen([program, "run", "-"], stdin=subprocess.PIPE, stdout=subprocess.PIPE) as child:
-        answers, _ = child.communicate(text, SECONDS)
-        lines = answers.decode().splitlines()
+    """Runs the script and returns its answers.
+
+    Writes the script line by line to a file: a child's memory counts what this process had when it started the child.
+    """
+    with tempfile.NamedTemporaryFile("w") as file:
+        file.writelines(f"{line}\n" for line in script(heals))
+        file.flush()
+        with subprocess.Popen([program, "run", file.name], stdout=subprocess.PIPE) as child:
+            answers, _ = child.communicate(timeout=SECONDS)
+    lines = answers.decode().splitlines()
     refused = [line for line in lines if "refused" in line]
     healed = sum(line == f"healed {NAMES} names" for line in lines)
     if child.returncode != 0 or refused or healed != heals:
