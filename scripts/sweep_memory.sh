@@ -64,20 +64,20 @@ without() {
 # are $2. The lines that it answered must be answered as if the refused ones weren't there. A `heal` may also be refused by another
 # number if no round could start a worker, and may leave both halves as before, or merged.
 is_right_script() {
-    local script=$1 words=$2 number='refused [0-9]+' refused heal expected=2
+    local script=$1 words=$2 number='refused [0-9]+' refused heal_line expected=2
     [ "$status $printed" = "$ample" ] && return
     [ "$status" = 3 ] && { [ "$printed" = "refused 90" ] || grep -q 'out of memory' "$out/errors"; } && return
     refused=$(printf '%s\n' "$printed" | sed -nE 's/^line ([0-9]+): refused 90$/\1/p' | tr '\n' ' ')
-    heal=$(awk '/^heal [0-9]+$/ { print NR }' "$script")
+    heal_line=$(awk '/^heal [0-9]+$/ { print NR }' "$script")
     [ -n "$refused" ] && expected=3
     printf '%s\n' "$printed" | grep -q "$number" || expected=0
     [ "$status" = "$expected" ] || return 1
     answered() { printf '%s\n' "$printed" | grep -vE '^line [0-9]+: refused 90$' | sed -E "s/ word ($words)\$/ word W/"; }
     due() { without "$script" "$1" | sed -E "s/ word ($words)\$/ word W/"; }
-    if [ -n "$heal" ] && printf '%s\n' "$printed" | grep -qE "^line $heal: $number"; then
-        local others=${refused/"$heal "/}
-        rest=$(answered | grep -vE "^line $heal: $number")
-        [ "$rest" = "$(due "$others$heal ")" ] && return
+    if [ -n "$heal_line" ] && printf '%s\n' "$printed" | grep -qE "^line $heal_line: $number"; then
+        local others=${refused/"$heal_line "/}
+        rest=$(answered | grep -vE "^line $heal_line: $number")
+        [ "$rest" = "$(due "$others$heal_line ")" ] && return
         [ "$rest" = "$(due "$others" | grep -vE '^([a-z]+ (first|second|none) word |exit |conflict |healed )')" ]
     else
         [ "$(answered)" = "$(due "$refused")" ]

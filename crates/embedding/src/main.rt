@@ -43,8 +43,8 @@ fn main(rt: HostRuntime) -> io::Result<ExitCode> {
         Ok(healing) => {
             print_healing(&rt, &healing)?;
             print_names(&rt, &cluster)?;
-            if let Ok([a, b]) = renew(&mut cluster) {
-                println!(&rt; "Renewed, the journals have {a} and {b} events")?;
+            if renew(&mut cluster).is_ok() {
+                print_events(&rt, &cluster)?;
             }
             Ok(ExitCode::SUCCESS)
         }
@@ -129,14 +129,18 @@ fn print_clash(rt: &impl Print, clash: &Clash, verdict: Verdict3) -> io::Result<
     Ok(())
 }
 
-// Renews the journals of both halves, so that they have room for further exchanges. Returns the number of events of each.
-fn renew(cluster: &mut Cluster) -> Result<[usize; 2], Refused> {
+// Renews the journals of both halves, so that they have room for further exchanges.
+fn renew(cluster: &mut Cluster) -> Result<(), Refused> {
     cluster.renew(SideId::A)?;
     cluster.renew(SideId::B)?;
-    Ok([
-        cluster.side(SideId::A).events(),
-        cluster.side(SideId::B).events(),
-    ])
+    Ok(())
+}
+
+// Prints how many events the journal of each half has.
+fn print_events(rt: &impl Print, cluster: &Cluster) -> io::Result<()> {
+    let on_a = cluster.side(SideId::A).events();
+    let on_b = cluster.side(SideId::B).events();
+    println!(rt; "Renewed, the journals have {on_a} and {on_b} events")
 }
 
 // Prints each name with its owner on half A and on half B.
