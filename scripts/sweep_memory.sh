@@ -70,7 +70,7 @@ is_right_script() {
     refused=$(printf '%s\n' "$printed" | sed -nE 's/^line ([0-9]+): refused 90$/\1/p' | tr '\n' ' ')
     heal_line=$(awk '/^heal [0-9]+$/ { print NR }' "$script")
     [ -n "$refused" ] && expected=3
-    printf '%s\n' "$printed" | grep -q "$number" || expected=0
+    printf '%s\n' "$printed" | grep -qE "$number" || expected=0
     [ "$status" = "$expected" ] || return 1
     answered() { printf '%s\n' "$printed" | grep -vE '^line [0-9]+: refused 90$' | sed -E "s/ word ($words)\$/ word W/"; }
     due() { without "$script" "$1" | sed -E "s/ word ($words)\$/ word W/"; }
