@@ -88,10 +88,9 @@ is_right_script() {
 # ones it does without. A call is wrong if it reports a fault, if it was refused though no request was, if it answers though a
 # request was refused, if its last window refused a request, if it allocates and shouldn't, and if it should and was never
 # refused. A merge, and so a finish, collects its rows into a map: if the room for all rows is refused, it allocates row by row.
-# On the sides of this sweep some calls need no memory: a registration allocates where a node of the map is full, as the sweep of
-# tables has it, but these sides have at most four names; unregistering copies a shared table alone; hearing a list adds an owner.
+# On the sides of this sweep some calls need no memory: unregistering copies a shared table alone; hearing a list adds an owner.
 read_sweep() {
-    awk -v asks_again='^(merge|Side::finish)$' -v needs_none='^Side::(register of .*|unregister|hear_list)$' '
+    awk -v asks_again='^(merge|Side::finish)$' -v needs_none='^Side::(unregister|hear_list)$' '
         function fault(what) { print call ": " what > "/dev/stderr"; faults++ }
         /^call / { call = substr($0, 6); if (!(call in runs)) order[++calls] = call; runs[call]++ }
         /^refuse / { every = $2 == "all"; number = $2; made = -1 }

@@ -1,5 +1,5 @@
 -- Facts about a side after a call.
-use Rattle.std.proofs.Common.{◌≡◌, ℕ, ◌≤◌, length, Some, sym, ap, subst, arith}
+use Rattle.std.proofs.Common.{◌≡◌, List, [], ◌∷◌, ◌++◌, Some, append_assoc, refl, sym, ap, ◌∙◌, subst}
 use Rattle.std.specs.Prelude.{OnOk, OnErr, IfOk}
 use Rattle.std.specs.declared.result.Result.{Result}
 use Rattle.std.specs.declared.result.Result.TheVariants.{Ok, Err}
@@ -7,9 +7,9 @@ use Rattle.exchange_core.specs.declared.fault.SideFault.{SideFault}
 use Rattle.exchange_core.specs.declared.side.Side as code
 use Rattle.exchange_core.specs.Sides.{Side}
 use Rattle.exchange_core.specs.Calls.{Call, carried_out}
-use Rattle.exchange_core.specs.Shown.{shown, calls, IsDone, IsUntouched}
-use Rattle.cluster.specs.Clusters.{Cluster, standing_of}
-use Rattle.cluster.specs.Healing.{HaveGrown}
+use Rattle.exchange_core.specs.Shown.{shown, IsDone, IsUntouched}
+use Rattle.cluster.specs.Clusters.{Standing, Cluster, Extends, standing_of}
+use Rattle.cluster.specs.Healing.{Grows, HaveGrown}
 use Rattle.cluster.specs.model.Stages.{AddsEvents}
 
 abbrev pub pair : code.Side → code.Side → Cluster
@@ -44,24 +44,42 @@ pub by_answer : {X : Type 0} (r : Result X SideFault) (old new : code.Side) (cal
 by_answer (Ok x) old new call P done same before after = after (shown new) done.carried
 by_answer (Err e) old new call P done same before after = subst P (sym same.state) before
 
-grows_to : (old new : code.Side) (n : ℕ) → length (calls new) ≡ n → length (calls old) ≤ n → AddsEvents old new
-grows_to old new n e h = subst (λ m. length (calls old) ≤ m) (sym e) h
-
 pub done_grows : (old new : code.Side) (call : Call) → IsDone old call new → AddsEvents old new
-done_grows old new call done = grows_to old new _ (ap length done.written) (omega arith)
+done_grows old new call done =
+    record { same_limit = done.same_limit; extends = record { added = call ∷ []; is = done.written } }
 
 pub untouched_grows : (old new : code.Side) → IsUntouched old new → AddsEvents old new
-untouched_grows old new same = grows_to old new _ (ap length same.journal) (omega arith)
+untouched_grows old new same =
+    record { same_limit = same.same_limit; extends = record { added = []; is = same.journal } }
 
 pub answer_grows : {X : Type 0} (r : Result X SideFault) (old new : code.Side) (call : Call) →
     OnOk r (IsDone old call new) → OnErr r (IsUntouched old new) → AddsEvents old new
 answer_grows (Ok x) old new call done same = done_grows old new call done
 answer_grows (Err e) old new call done same = untouched_grows old new same
 
-pub le_trans : (x y z : ℕ) → x ≤ y → y ≤ z → x ≤ z
-le_trans x y z h k = omega arith
+-- a journal that goes on twice
+pub extends_on : (x y z : List Call) → Extends x y → Extends y z → Extends x z
+extends_on x y z h k = record {
+  added = k.added ++ h.added;
+  is = k.is ∙ ap (λ (l : List Call). k.added ++ l) h.is ∙ sym (append_assoc k.added h.added x);
+}
+
+pub grows_on : (was old new : Standing) → Grows was old → new.limit ≡ old.limit → Extends old.calls new.calls →
+    Grows was new
+grows_on was old new h same more = record {
+  same_limit = same ∙ h.same_limit;
+  kept = λ few. extends_on was.calls old.calls new.calls (h.kept few) more;
+}
+
+-- nothing was done yet
+pub never_grows : (standing : Standing) → Grows standing standing
+never_grows standing = record { same_limit = refl; kept = λ few. record { added = []; is = refl } }
+
+pub adds_on : (was : Standing) (old new : code.Side) → Grows was (standing_of old) → AddsEvents old new →
+    Grows was (standing_of new)
+adds_on was old new h adds = grows_on was (standing_of old) (standing_of new) h adds.same_limit adds.extends
 
 pub grown_on : (was : Cluster) (old_a old_b new_a new_b : code.Side) → HaveGrown was (pair old_a old_b) →
     AddsEvents old_a new_a → AddsEvents old_b new_b → HaveGrown was (pair new_a new_b)
 grown_on was old_a old_b new_a new_b h a b =
-    record { a = λ few. le_trans _ _ _ (h.a few) a; b = λ few. le_trans _ _ _ (h.b few) b }
+    record { a = adds_on was.a old_a new_a h.a a; b = adds_on was.b old_b new_b h.b b }

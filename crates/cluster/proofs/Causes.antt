@@ -13,7 +13,7 @@ use Rattle.clash_record.specs.Name.{Name}
 use Rattle.clash_record.specs.declared.side_id.SideId.{SideId}
 use Rattle.clash_record.specs.declared.side_id.SideId.TheVariants.{A, B}
 use Rattle.clash_record.specs.declared.halves.Withdrawal.{Withdrawal}
-use Rattle.partition_table.specs.Tables.{Table, max_names, is_in, union_len, tables_agree}
+use Rattle.partition_table.specs.Tables.{Table, is_in, union_len, tables_agree}
 use Rattle.partition_table.specs.declared.judged.Judged.{Judged}
 use Rattle.partition_table.specs.declared.fault.TableFault.{TableFault}
 use Rattle.partition_table.specs.declared.fault.TableFault.TheVariants as at_table
@@ -194,11 +194,12 @@ module _ (plan : Plan) (was : Cluster) where
   agree_of A = refl
   agree_of B = refl
 
-  no_room : nat_le (union_len table_a table_b) max_names ≡ false → ¬ BothFit was
-  no_room e fit = true≢false (sym (left_holds _ _ fit) ∙ e)
+  no_room : (id : SideId) → nat_le (union_len table_a table_b) (at was id).limit ≡ false → ¬ BothFit was
+  no_room A e fit = true≢false (sym (left_holds _ _ fit.0) ∙ e)
+  no_room B e fit = true≢false (sym (left_holds _ _ fit.1) ∙ e)
 
   no_code : tables_agree table_a table_b ≡ false → ¬ BothFit was
-  no_code e fit = true≢false (sym (right_holds (nat_le (union_len table_a table_b) max_names) _ fit) ∙ e)
+  no_code e fit = true≢false (sym (right_holds (nat_le (union_len table_a table_b) was.a.limit) _ fit.0) ∙ e)
 
   not_own : (id : SideId) → is_side id (other id) ≡ false
   not_own A = refl
@@ -207,18 +208,18 @@ module _ (plan : Plan) (was : Cluster) where
   module _ (holds : ℕ → Judged → Type 0) (id : SideId) (names : List Name) (full : Bool) (side : Side)
       (t : IsTrying plan was holds id names side) where
     first_cause : (offer : Offer) → offer ≡ offer_in plan was (other id) → (fault : SideFault) →
-        due.first_offer_fault full side t.exchange offer ≡ Some fault → IsSideCause plan was fault
+        due.first_offer_fault (at was id).limit full side t.exchange offer ≡ Some fault → IsSideCause plan was fault
     first_cause offer same fault e =
         let seeds = ap (λ (o : Offer). o.seed) same in
         let theirs = sym (ap (λ (o : Offer). o.table) same) in
-        by (t.exchange.seed == offer.seed) (nat_le (due.union_for side.id side.table offer.table) max_names) full
+        by (t.exchange.seed == offer.seed) (nat_le (due.union_for side.id side.table offer.table) (at was id).limit) full
         (due.agree_for side.id side.table offer.table)
         ((λ i. t.under_way.seed i == seeds i) ∙ eq_self plan.seed)
-        (ap (λ n. nat_le n max_names) (sym (union_of id)
+        (ap (λ n. nat_le n (at was id).limit) (sym (union_of id)
         ∙ (λ i. due.union_for (sym t.same_id i) (sym t.table i) (theirs i))))
         (sym (agree_of id) ∙ (λ i. due.agree_for (sym t.same_id i) (sym t.table i) (theirs i))) e
       where
-        by : (seed few full code : Bool) → seed ≡ true → nat_le (union_len table_a table_b) max_names ≡ few →
+        by : (seed few full code : Bool) → seed ≡ true → nat_le (union_len table_a table_b) (at was id).limit ≡ few →
             tables_agree table_a table_b ≡ code →
             (if not seed then Some of.SeedDiffers
             else (if not few then Some (of.Table at_table.TooManyNames)
@@ -226,7 +227,7 @@ module _ (plan : Plan) (was : Cluster) where
             else (if not code then Some (of.Table at_table.OtherCode) else None)))) ≡ Some fault →
             IsSideCause plan was fault
         by false few full code s f c e = absurd (cc)
-        by true false full code s f c e = subst (IsSideCause plan was) (some_is e) (no_room f)
+        by true false full code s f c e = subst (IsSideCause plan was) (some_is e) (no_room id f)
         by true true true code s f c e = subst (IsSideCause plan was) (some_is e) tt
         by true true false false s f c e = subst (IsSideCause plan was) (some_is e) (no_code c)
         by true true false true s f c e = absurd (cc)
@@ -238,15 +239,15 @@ module _ (plan : Plan) (was : Cluster) where
         ((λ i. t.under_way.number i == same i) ∙ eq_self plan.number)
         ((λ i. is_side (t.same_id i) (theirs i)) ∙ not_own id) fault e
 
-    pub hear_cause : (offer : Offer) → offer ≡ offer_in plan was (other id) → (fault : SideFault) →
-        due.hear_fault full side offer ≡ Some fault → IsSideCause plan was fault
-    hear_cause offer same fault e =
+    pub hear_cause : (limit : ℕ) → limit ≡ (at was id).limit → (offer : Offer) → offer ≡ offer_in plan was (other id) →
+        (fault : SideFault) → due.hear_fault limit full side offer ≡ Some fault → IsSideCause plan was fault
+    hear_cause limit is offer same fault e =
         by (due.is_first_offer side.id t.exchange offer)
-        (sym (ap (λ (o : Option Exchange). option_map_or (due.hear_fault_in full side offer) o (Some of.NotHealing))
-        t.opened) ∙ e)
+        (sym (ap (λ (o : Option Exchange). option_map_or (due.hear_fault_in (at was id).limit full side offer) o (Some of.NotHealing))
+        t.opened) ∙ ap (λ n. due.hear_fault n full side offer) (sym is) ∙ e)
       where
         by : (first : Bool) →
-            (if first then due.first_offer_fault full side t.exchange offer
+            (if first then due.first_offer_fault (at was id).limit full side t.exchange offer
             else due.sent_fault full side.id t.exchange offer.side offer.number) ≡ Some fault →
             IsSideCause plan was fault
         by true e = first_cause offer same fault e

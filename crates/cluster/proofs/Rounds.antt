@@ -112,9 +112,7 @@ told_half n plan was pass id (Some finished) old new told m = record {
 
 told_grows : (pass : Pass) (n : ℕ) (old new : code.Side) → IsTold pass n old new → AddsEvents old new
 told_grows pass n old new told =
-    let count : length (calls new) ≡ length (takes_of told.rulings) + length (calls old) =
-    ap length told.written ∙ length-append (takes_of told.rulings) (calls old) in
-    omega (arith, count)
+    record { same_limit = told.same_limit; extends = record { added = takes_of told.rulings; is = told.written } }
 
 -- before the first round
 no_rounds : (plan : Plan) (was : Cluster) (pass : Pass) (now : Cluster) → AreTrying plan was plan.gone now →

@@ -21,7 +21,7 @@ use Rattle.cluster.specs.Clusters.{Standing, Cluster, at, half_full, is_long, Is
 use Rattle.cluster.specs.Healing.{Plan, Grows, gone_of_side, IsLeft, untouched, IsMerged, AreLeft, none_merged, a_merged, b_merged, IsFailed}
 use Rattle.exchange_core.specs.Sides.{rested}
 use Rattle.cluster.specs.model.Stages.{AreSides, AddsEvents, IsRested, AreRested, HaveAbandoned, AreOffers, no_ruling, IsTrying, AreTrying}
-use Rattle.cluster.proofs.Answered.{pair, was_ok, by_answer, done_grows, answer_grows, le_trans, grown_on}
+use Rattle.cluster.proofs.Answered.{pair, was_ok, by_answer, done_grows, answer_grows, never_grows, adds_on, grown_on}
 use Rattle.cluster.proofs.Steps.{begun, hears, withdraws, closes, hears_list}
 use Rattle.cluster.proofs.Left.{left_rested, left_trying, left_all, left_abandoned, merged_still}
 
@@ -202,7 +202,7 @@ withdrawn_of_a (Ok x) one old_a new_a b is done = λ plan was gone trying. recor
   b =
       subst (λ names. IsTrying plan was no_ruling B names (shown b)) (none_more B gone one (names_of B one A is)) trying.b;
   grown = record {
-    a = λ few. le_trans _ _ _ (trying.grown.a few) (done_grows old_a new_a (Withdraw one.name) done);
+    a = adds_on was.a old_a new_a trying.grown.a (done_grows old_a new_a (Withdraw one.name) done);
     b = trying.grown.b;
   };
 }
@@ -221,7 +221,7 @@ withdrawn_of_b (Ok x) one a old_b new_b is done = λ plan was gone trying. recor
       (withdraws plan was no_ruling B (gone_of_side B gone) (shown old_b) (shown new_b) one.name done.carried trying.b);
   grown = record {
     a = trying.grown.a;
-    b = λ few. le_trans _ _ _ (trying.grown.b few) (done_grows old_b new_b (Withdraw one.name) done);
+    b = adds_on was.b old_b new_b trying.grown.b (done_grows old_b new_b (Withdraw one.name) done);
   };
 }
 withdrawn_of_b (Err e) one a old_b new_b is done = tt
@@ -250,7 +250,7 @@ pub nothing_done : (plan : Plan) (was : Cluster) → IsFailed plan was was
 nothing_done plan was = record {
   count = 0;
   left = none_merged (untouched refl refl) (untouched refl refl);
-  grown = record { a = λ few. omega arith; b = λ few. omega arith };
+  grown = record { a = never_grows _; b = never_grows _ };
 }
 
 -- both halves are idle
@@ -290,17 +290,27 @@ fresh_side old new = by_length (is_long old)
     by_length false same = ap (λ (s : Standing). s.side) same
 
 -- a journal that is less than half full isn't renewed after one event more
-fresh_grows : (was mid now : Standing) → Grows was mid → mid.events ≤ was.events + 1 → IsFresh mid now → Grows was now
-fresh_grows was mid now grows few fresh low = by_length (is_long mid) refl fresh
+fresh_grows : (was mid now : Standing) → Grows was mid → length mid.calls ≤ length was.calls + 1 → IsFresh mid now →
+    Grows was now
+fresh_grows was mid now grows few fresh = by_length (is_long mid) refl fresh
   where
-    by_length : (long : Bool) → is_long mid ≡ long → MatchBool long (IsRenewed mid now) (now ≡ mid) →
-        was.events ≤ now.events
-    by_length true is renewed = absurd (not_long _ is)
+    by_length : (long : Bool) → is_long mid ≡ long → MatchBool long (IsRenewed mid now) (now ≡ mid) → Grows was now
+    by_length true is renewed = record {
+      same_limit = renewed.same_limit ∙ grows.same_limit;
+      kept = λ low. absurd (not_long low _ is);
+    }
       where
-        not_long : (idle : Bool) → (idle && nat_lt half_full mid.events) ≡ true → ⊥
-        not_long true is = grind (arith, nat_tests)
-        not_long false is = cc
-    by_length false is same = subst (λ (s : Standing). was.events ≤ s.events) (sym same) (grows low)
+        above : (n m : ℕ) → nat_lt n m ≡ true → n < m
+        above n m e = grind (arith, nat_tests)
+
+        not_long : length was.calls < half_full was.limit → (idle : Bool) →
+            (idle && nat_lt (half_full mid.limit) (length mid.calls)) ≡ true → ⊥
+        not_long low true is =
+            let same = ap half_full grows.same_limit in
+            let over = above (half_full mid.limit) (length mid.calls) is in
+            omega (arith, low, few, over, same)
+        not_long low false is = cc
+    by_length false is same = subst (Grows was) (sym same) grows
 
 fresh_rested : (was mid now : Side) → now ≡ mid → IsRested was mid → IsRested was now
 fresh_rested was mid now same rest = subst (IsRested was) (sym same) rest

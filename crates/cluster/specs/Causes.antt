@@ -2,13 +2,14 @@
 use Rattle.std.specs.Prelude.{◌≡◌, IsTrue}
 use Rattle.clash_record.specs.declared.side_id.SideId.TheVariants.{A, B}
 use Rattle.numbered.specs.Answers.{out_of_memory}
-use Rattle.partition_table.specs.Tables.{fit_together}
+use Rattle.partition_table.specs.Tables.{fit_within}
 use Rattle.partition_table.specs.declared.fault.TableFault.TheVariants.{NoSuchName, TooManyNames, OtherCode}
 use Rattle.exchange_core.specs.declared.fault.SideFault.{SideFault}
 use Rattle.exchange_core.specs.declared.fault.SideFault.TheVariants as of
 use Rattle.exchange_core.specs.Faults.{side_fault_number}
 use Rattle.exchange_core.specs.Sides.{shown_table}
-use Rattle.cluster.specs.Clusters.{Cluster}
+use Rattle.clash_record.specs.declared.side_id.SideId.{SideId}
+use Rattle.cluster.specs.Clusters.{Cluster, at}
 use Rattle.cluster.specs.Healing.{Plan, IsNew, HasHeld}
 use Rattle.cluster.specs.declared.fault.HealFault.{HealFault}
 use Rattle.cluster.specs.declared.fault.HealFault.TheVariants.{Side, Meet, OutOfMemory}
@@ -21,12 +22,15 @@ BothNew plan old = IsNew plan old A × IsNew plan old B
 abbrev pub BothHeld : Plan → Cluster → Type 0
 BothHeld plan old = HasHeld old A plan.gone × HasHeld old B plan.gone
 
--- the tables that the halves show fit together
-abbrev pub BothFit : Cluster → Type 0
-BothFit old = IsTrue (fit_together (shown_table old.a.side) (shown_table old.b.side))
+-- the tables that the halves show fit together within a half's limit
+abbrev pub FitsIn : Cluster → SideId → Type 0
+FitsIn old id = IsTrue (fit_within (at old id).limit (shown_table old.a.side) (shown_table old.b.side))
 
--- The cause of a half's refusal. Where a ruling is missing, or a journal full, nothing is said of the halves. Any other
--- refusal is out of memory
+abbrev pub BothFit : Cluster → Type 0
+BothFit old = FitsIn old A × FitsIn old B
+
+-- The cause of a half's refusal. A missing ruling and a full journal have none in the halves. Any other refusal is
+-- out of memory
 abbrev pub IsSideCause : Plan → Cluster → SideFault → Type 0
 IsSideCause plan old of.StaleNumber = ¬ BothNew plan old
 IsSideCause plan old (of.Table NoSuchName) = ¬ BothHeld plan old

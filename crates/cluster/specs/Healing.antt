@@ -11,7 +11,7 @@ use Rattle.partition_table.specs.Tables.{Table, Gone, is_in}
 use Rattle.partition_table.specs.declared.judged.Judged.{Judged}
 use Rattle.exchange_core.specs.Sides.{Side, Exchange, is_above, is_side, shown_table, without}
 use Rattle.exchange_core.specs.Finished.{Finished, IsFinished, clashes_merged}
-use Rattle.cluster.specs.Clusters.{Standing, Cluster, at, half_full}
+use Rattle.cluster.specs.Clusters.{Standing, Cluster, Extends, at, half_full}
 use Rattle.cluster.specs.Healings.{Healing}
 use Rattle.cluster.specs.declared.plan.Plan as code
 
@@ -67,9 +67,10 @@ IsLawful plan old rulings table = IsFinished (finished_as plan old rulings table
 abbrev pub idle_side : SideId → Table → Option ℕ → Side
 idle_side id table latest = record { id = id; table = table; exchange = None; latest = latest }
 
--- a journal that is less than half full loses no event. A fuller one may be renewed
-abbrev pub Grows : Standing → Standing → Type 0
-Grows old new = old.events < half_full → old.events ≤ new.events
+-- The half has its limit still. A journal that is less than half full loses no call; a fuller one may be renewed
+pub record Grows (old new : Standing) : Type 0 where
+  pub same_limit : new.limit ≡ old.limit
+  pub kept : length old.calls < half_full old.limit → Extends old.calls new.calls
 
 pub record HaveGrown (old new : Cluster) : Type 0 where
   pub a : Grows old.a new.a

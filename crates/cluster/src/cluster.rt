@@ -6,6 +6,7 @@ ghost use Rattle.clash_record.specs.declared.side_id.SideId.TheVariants.{A, B};
 use crate::halves::Halves;
 use clash_record::{Name, Registration, SideId};
 use exchange_core::{Side, SideFault};
+use partition_table::NameLimit;
 use std::alloc::Global;
 use upload_store::UploadStore;
 
@@ -21,20 +22,27 @@ impl Cluster {
     ghost use Rattle.std.specs.Prelude.{OnOk, OnErr, IfOk, Some};
     ghost use Rattle.std.specs.Option.{option_map};
     ghost use Rattle.std.specs.FinMap.{get};
-    ghost use Rattle.partition_table.specs.Tables.{row_for};
-    ghost use Rattle.exchange_core.specs.Sides as sides;
+    ghost use Rattle.partition_table.specs.Tables.{max_names, row_for};
+    ghost use Rattle.exchange_core.specs.Calls as call;
     ghost use Rattle.numbered.specs.Answers.{IsAnswered};
     ghost use Rattle.exchange_core.specs.Faults.{side_fault_number};
     ghost use Rattle.exchange_core.specs.Refusals as due;
     ghost use Rattle.cluster.specs.Clusters.{standing_of, cluster_of, new_cluster, at, is_full_at, IsCalled};
 
-    /// Returns two idle halves without names. Allocates nothing.
+    /// Returns two idle halves without names, each of which may have 4,096. Allocates nothing.
     pub fn new(alloc: Global) -> Cluster
-        ensures { cluster_of result ≡ new_cluster }
+        ensures { cluster_of result ≡ new_cluster max_names }
+    {
+        Cluster::with_limit(alloc, NameLimit::default())
+    }
+
+    /// Returns two idle halves without names, each of which may have as many as `limit`. Allocates nothing.
+    pub fn with_limit(alloc: Global, limit: NameLimit) -> Cluster
+        ensures { cluster_of result ≡ new_cluster limit.names }
     {
         let halves = Halves {
-            a: Side::new(alloc, SideId::A),
-            b: Side::new(alloc, SideId::B),
+            a: Side::with_limit(alloc, SideId::A, limit),
+            b: Side::with_limit(alloc, SideId::B, limit),
         };
         Cluster { halves }
     }
@@ -62,9 +70,9 @@ impl Cluster {
         store: &UploadStore,
     ) -> Result<(), SideFault>
         ensures answer { let standing = at (cluster_of self.old) id in
-            IsAnswered side_fault_number (due.register_fault (is_full_at standing) standing.side name registration store.now) result }
+            IsAnswered side_fault_number (due.register_fault standing.limit (is_full_at standing) standing.side name registration store.now) result }
         ensures done { OnOk result (IsCalled (cluster_of self.old) id
-            (sides.register (at (cluster_of self.old) id).side name (row_for store.now registration))
+            (call.Register name (row_for store.now registration))
             (cluster_of self.new)) }
         ensures untouched { OnErr result (cluster_of self.new ≡ cluster_of self.old) }
     {
@@ -84,7 +92,7 @@ impl Cluster {
         ensures given { IfOk result (λ registration. option_map (λ row. row.registration)
             (get (at (cluster_of self.old) id).side.table name.now) ≡ Some registration) }
         ensures done { OnOk result (IsCalled (cluster_of self.old) id
-            (sides.unregister (at (cluster_of self.old) id).side name.now) (cluster_of self.new)) }
+            (call.Unregister name.now) (cluster_of self.new)) }
         ensures untouched { OnErr result (cluster_of self.new ≡ cluster_of self.old) }
     {
         match id {

@@ -8,7 +8,7 @@ ghost use Rattle.cluster.specs.model.Stages.{halves_of};
 use crate::cluster::Cluster;
 use crate::halves::Halves;
 use clash_record::SideId;
-use exchange_core::{MAX_EVENTS, Side, SideFault};
+use exchange_core::{Side, SideFault};
 
 impl Cluster {
     /// Shortens the journal of an idle half: afterwards it has at most two events more than the table has names.
@@ -26,7 +26,8 @@ impl Cluster {
         }
     }
 
-    /// Renews the journal of each idle half that has more than 32,768 events, half of what it holds. Allocates nothing.
+    /// Renews the journal of each idle half that is more than half full: 32,768 events unless the halves have another limit.
+    /// Allocates nothing.
     pub fn renew_long(&mut self)
         ensures { AreFresh (cluster_of self.old) (cluster_of self.new) }
     {
@@ -48,7 +49,7 @@ impl Halves {
 fn renew_long(side: &mut Side)
     ensures { IsFresh (standing_of side.old) (standing_of side.new) }
 {
-    if side.open_number().is_some() || side.events() <= MAX_EVENTS / 2 {
+    if side.open_number().is_some() || side.events() <= side.max_events() / 2 {
         return;
     }
     if side.renew().is_err() {

@@ -25,7 +25,7 @@ use Rattle.clash_record.specs.declared.registrations.ProgramId.{ProgramId}
 use Rattle.clash_record.specs.declared.registrations.ResolverId.{ResolverId}
 use Rattle.clash_record.specs.declared.registrations.ResolverId.TheVariants as by
 use Rattle.upload_store.specs.Programs.{IsProgram, id_of}
-use Rattle.partition_table.specs.Tables.{Row, Table, IsCodeOf, IsNewRow, max_names, program_of, same_id, same_code, rows_agree, agrees_with}
+use Rattle.partition_table.specs.Tables.{Row, Table, IsCodeOf, IsNewRow, most_names, program_of, same_id, same_code, rows_agree, agrees_with}
 use Rattle.partition_table.specs.laws.Sameness.{code_decides}
 use Rattle.exchange_codec.specs.declared.building.Known.{Known}
 use Rattle.exchange_codec.specs.declared.rows.RowText as lent
@@ -141,7 +141,7 @@ module _ (old new : Table) (text : RowText) (row : Row) (above : IsAbove (entrie
 -- ---- which rows can be added
 
 can_add : (table : Table) (row : lent.RowText) (resolver : ResolverId) (code : Option (List Insn))
-    → IsAbove (entries table) row.name → len table < max_names → IsCodeOf resolver code
+    → IsAbove (entries table) row.name → len table < most_names → IsCodeOf resolver code
     → agrees_with table (row_with row resolver code) ≡ true → IsNewRow table row.name (row_with row resolver code)
 can_add table row resolver code above room coded agrees = record {
   new = is_new table row.name above;
@@ -435,18 +435,18 @@ module _ (table : Table) (programs : Programs) (row : lent.RowText) (at : ℕ) (
   bad_cause bytes fault is none (inl bad) = inl (bad_code bytes fault is none bad)
   bad_cause bytes fault is none (inr out) = inr out
 
-  pub can_builtin : (b : Builtin) → len table < max_names → IsNewRow table row.name (row_with row (by.Builtin b) None)
+  pub can_builtin : (b : Builtin) → len table < most_names → IsNewRow table row.name (row_with row (by.Builtin b) None)
   can_builtin b room =
       can_add table row (by.Builtin b) None above room tt
       (agrees_with_none (row_with row (by.Builtin b) None) (values table) refl)
 
-  pub can_named : (id : ProgramId) (known : Known) → len table < max_names → get id_cmp programs id ≡ Some known
+  pub can_named : (id : ProgramId) (known : Known) → len table < most_names → get id_cmp programs id ≡ Some known
       → IsNewRow table row.name (row_with row (by.Program id) (Some (known_code known)))
   can_named id known room there =
       can_add table row (by.Program id) (Some (known_code known)) above room (of.each id known there)
       (agrees_stored table programs row id known of there)
 
-  pub can_code : (id : ProgramId) (code : List Insn) → len table < max_names → get id_cmp programs id ≡ None
+  pub can_code : (id : ProgramId) (code : List Insn) → len table < most_names → get id_cmp programs id ≡ None
       → IsProgram id code → IsNewRow table row.name (row_with row (by.Program id) (Some code))
   can_code id code room none program =
       can_add table row (by.Program id) (Some code) above room program

@@ -10,6 +10,7 @@ pub mod RowLaws
 pub mod OfferLaws
 pub mod IdLaws
 pub mod TableLaws
+pub mod PeekingLaws
 pub mod OneOffer
 pub mod OneFault
 pub mod RebuildingLaws

@@ -2,7 +2,7 @@
 use Rattle.std.proofs.Common.{◌≡◌, ℕ, ◌≤◌, [], length, Option, Some, None, Result, Ok, Err, refl, ap, ◌∙◌, arith, inl, inr}
 use Rattle.std.proofs.lemmas.Bool.{le-ltb}
 use Rattle.numbered.specs.Answers.{ReturnsOrRunsOut}
-use Rattle.partition_table.specs.Tables.{max_names}
+use Rattle.partition_table.specs.Tables.{most_names}
 use Rattle.exchange_core.specs.Sides.{Withdrawals}
 use Rattle.exchange_core.specs.Repeats.{list_fault_number, names_due}
 use Rattle.exchange_core.specs.Repeats.{unless_again as unless}
@@ -20,7 +20,7 @@ returned v = Ok v
 abbrev refused : ListFault → Result Withdrawals ListFault
 refused f = Err f
 
-few_due : (w : Withdrawals) → length w.names ≤ max_names → names_due w ≡ unless (first_again [] 0 w.names) w
+few_due : (w : Withdrawals) → length w.names ≤ most_names → names_due w ≡ unless (first_again [] 0 w.names) w
 few_due w few = rw (le-ltb _ _ few) refl
 
 same_list : (o : Option ℕ) (w v : Withdrawals) → returned v ≡ unless o w → Ok v ≡ unless_again o w
@@ -36,7 +36,7 @@ never_many : (o : Option ℕ) (w : Withdrawals) → refused fault.TooMany ≡ un
 never_many None w e = cc
 never_many (Some k) w e = cc
 
-module _ (w : Withdrawals) (few : length w.names ≤ max_names) where
+module _ (w : Withdrawals) (few : length w.names ≤ most_names) where
   pub is_listed : (v : Withdrawals) → ReturnsOrRunsOut list_fault_number (returned v) (names_due w)
       → ReturnsOrRunsOut {F = MessageFault} message_fault_number (Ok v) (unless_again (first_again [] 0 w.names) w)
   is_listed v (inl e) = inl (same_list (first_again [] 0 w.names) w v (e ∙ few_due w few))

@@ -15,7 +15,7 @@ use Rattle.verifier.specs.declared.refusal.VerifyFault.TheVariants as verify
 use Rattle.program.specs.declared.fault.ProgramFault.{ProgramFault}
 use Rattle.program.specs.declared.fault.ProgramFault.TheVariants.{Codec, Verify}
 use Rattle.program.specs.Programs.{IsAccepted, IsProgramFault, profile}
-use Rattle.partition_table.specs.Tables.{Table, max_names}
+use Rattle.partition_table.specs.Tables.{Table, most_names}
 use Rattle.exchange_codec.specs.declared.offers.OfferText as lent
 use Rattle.exchange_codec.specs.OffersText.{view}
 use Rattle.exchange_codec.proofs.RebuildingLaws.{views_len}
@@ -160,7 +160,7 @@ pub is_failed : (bytes : List ℕ) (e : ReadError) → Fails e (offer_of bytes)
 is_failed bytes errors.Memory h = inr refl
 is_failed bytes (errors.Fault f) h = inl (f.left, h, refl)
 
--- an offer that is read has at most 4,096 rows
+-- an offer that is read has at most 1,048,576 rows
 pub few_rows : (bytes : List ℕ) (text : lent.OfferText) → IsBytes bytes → offer_of bytes ≡ Ok (view text)
-    → length text.rows.items ≤ max_names
+    → length text.rows.items ≤ most_names
 few_rows bytes text fits e = omega (arith, (text_spelled bytes (view text) fits e).0.few, views_len text.rows.items)

@@ -13,7 +13,7 @@ use Rattle.std.proofs.lemmas.List.Folds.{list_all-append}
 use Rattle.clash_record.specs.Name.{Name}
 use Rattle.clash_record.specs.Orders.{name_cmp}
 use Rattle.clash_record.specs.laws.Orders.{names_total}
-use Rattle.partition_table.specs.Tables.{Row, Table, IsTable, max_names}
+use Rattle.partition_table.specs.Tables.{Row, Table, IsTable, most_names}
 use Rattle.exchange_codec.specs.declared.rows.RowText as lent
 use Rattle.exchange_codec.specs.declared.fault.ItemFault.{ItemFault}
 use Rattle.exchange_codec.specs.declared.fault.ItemFault.TheVariants as item
@@ -138,7 +138,7 @@ walk_on table after programs more texts k text there w has = record {
 }
 
 pub walk_room : (table : Table) (programs : Programs) (texts : List RowText) (k : ℕ) → k < length texts
-    → length texts ≤ max_names → IsWalked texts k table programs → len table < max_names
+    → length texts ≤ most_names → IsWalked texts k table programs → len table < most_names
 walk_room table programs texts k lt few w =
     omega (arith, lt, few, len-entries table, texts_len [] (entries table), ap length w.told, length-take k texts)
 

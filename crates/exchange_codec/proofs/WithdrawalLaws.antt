@@ -9,7 +9,7 @@ use Rattle.std.proofs.lemmas.Grind.{flat_map-append}
 use Rattle.std.proofs.lemmas.List.{append-nil, length-take, length-drop, length-append, take-append-drop}
 use Rattle.std.proofs.lemmas.List.Concat.{flat_map-cons}
 use Rattle.clash_record.specs.Name.{Name, is_name}
-use Rattle.partition_table.specs.Tables.{max_names, is_in}
+use Rattle.partition_table.specs.Tables.{most_names, is_in}
 use Rattle.partition_table.specs.Tables.{is_name as same_name}
 use Rattle.partition_table.specs.laws.Sameness.{equivalent_by, name_decides}
 use Rattle.exchange_core.specs.Lists.{IsNameList}
@@ -34,22 +34,22 @@ Named name = IsTrue (is_name name)
 -- all of a list but that no name stands twice
 pub record IsListText (w : Withdrawals) : Type 0 where
   pub number : w.number < 2 ^ 64
-  pub few : length w.names ≤ max_names
+  pub few : length w.names ≤ most_names
   pub named : AllByRecursion (λ name. IsTrue (is_name name)) w.names
 
 list_takes : (bytes : List ℕ) (x : Withdrawals × List ℕ) → IsBytes bytes → list_at bytes ≡ Ok x
     → Takes bytes (withdrawals_bytes x.0) x.1 × IsListText x.0
 unfolding list_at
 list_takes bytes x fits e =
-    let h = bind_ok (header_at withdrawals_header bytes) (λ rest. side_at rest >>= λ side. number_at w64 side.1 >>= λ number. count_at max_names number.1 >>= λ count. many_at name_at count.0 count.1 >>= λ names. Ok (record { side = side.0; number = number.0; names = names.0 }, names.1)) x e in
-    let s = bind_ok (side_at h.0) (λ side. number_at w64 side.1 >>= λ number. count_at max_names number.1 >>= λ count. many_at name_at count.0 count.1 >>= λ names. Ok (record { side = side.0; number = number.0; names = names.0 }, names.1)) x h.2 in
-    let n = bind_ok (number_at w64 s.0.1) (λ number. count_at max_names number.1 >>= λ count. many_at name_at count.0 count.1 >>= λ names. Ok (record { side = s.0.0; number = number.0; names = names.0 }, names.1)) x s.2 in
-    let c = bind_ok (count_at max_names n.0.1) (λ count. many_at name_at count.0 count.1 >>= λ names. Ok (record { side = s.0.0; number = n.0.0; names = names.0 }, names.1)) x n.2 in
+    let h = bind_ok (header_at withdrawals_header bytes) (λ rest. side_at rest >>= λ side. number_at w64 side.1 >>= λ number. count_at most_names number.1 >>= λ count. many_at name_at count.0 count.1 >>= λ names. Ok (record { side = side.0; number = number.0; names = names.0 }, names.1)) x e in
+    let s = bind_ok (side_at h.0) (λ side. number_at w64 side.1 >>= λ number. count_at most_names number.1 >>= λ count. many_at name_at count.0 count.1 >>= λ names. Ok (record { side = side.0; number = number.0; names = names.0 }, names.1)) x h.2 in
+    let n = bind_ok (number_at w64 s.0.1) (λ number. count_at most_names number.1 >>= λ count. many_at name_at count.0 count.1 >>= λ names. Ok (record { side = s.0.0; number = number.0; names = names.0 }, names.1)) x s.2 in
+    let c = bind_ok (count_at most_names n.0.1) (λ count. many_at name_at count.0 count.1 >>= λ names. Ok (record { side = s.0.0; number = n.0.0; names = names.0 }, names.1)) x n.2 in
     let m = bind_ok (many_at name_at c.0.0 c.0.1) (λ names. Ok (record { side = s.0.0; number = n.0.0; names = names.0 }, names.1)) x c.2 in
     let th = header_takes withdrawals_header bytes h.0 fits h.1 in
     let ts = side_takes h.0 s.0 th.rest_fits s.1 in
     let tn = number_takes w64 (2 ^ 64) wide64 s.0.1 n.0.0 n.0.1 ts.rest_fits n.1 in
-    let tc = count_takes max_names n.0.1 c.0.0 c.0.1 tn.0.rest_fits c.1 in
+    let tc = count_takes most_names n.0.1 c.0.0 c.0.1 tn.0.rest_fits c.1 in
     let tm = many_take name_at name_bytes Named name_takes c.0.0 c.0.1 m.0 tc.0.rest_fits m.1 in
     let counted : Takes n.0.1 (to_le_bytes w32 (length m.0.0)) c.0.1 = subst (λ (k : ℕ). Takes n.0.1 (to_le_bytes w32 k) c.0.1) (sym tm.1) tc.0 in
     let e3 = Takes-then n.0.1 (to_le_bytes w32 (length m.0.0)) c.0.1 (flat_map name_bytes m.0.0) m.0.1 counted tm.0 in
@@ -57,7 +57,7 @@ list_takes bytes x fits e =
     let e1 = Takes-then h.0 (side_byte s.0.0 ∷ []) s.0.1 (to_le_bytes w64 n.0.0 ++ (to_le_bytes w32 (length m.0.0) ++ flat_map name_bytes m.0.0)) m.0.1 ts e2 in
     let e0 = Takes-then bytes (to_le_bytes w64 withdrawals_header) h.0 (side_byte s.0.0 ∷ (to_le_bytes w64 n.0.0 ++ (to_le_bytes w32 (length m.0.0) ++ flat_map name_bytes m.0.0))) m.0.1 th e1 in
     let made : Withdrawals × List ℕ = (record { side = s.0.0; number = n.0.0; names = m.0.0 }, m.0.1) in
-    let few : length m.0.0 ≤ max_names = omega (arith, tm.1, tc.1) in
+    let few : length m.0.0 ≤ most_names = omega (arith, tm.1, tc.1) in
     subst (λ (y : Withdrawals × List ℕ). Takes bytes (withdrawals_bytes y.0) y.1 × IsListText y.0) (ok_is made x m.2)
     (e0, record { number = tn.1; few = few; named = tm.2 })
 
@@ -78,7 +78,7 @@ list_again w rest fits =
       header_again withdrawals_header (side_byte w.side ∷ (to_le_bytes w64 w.number ++ (to_le_bytes w32 (length w.names) ++ (flat_map name_bytes w.names ++ rest)))) (lit< tt),
       side_again w.side (to_le_bytes w64 w.number ++ (to_le_bytes w32 (length w.names) ++ (flat_map name_bytes w.names ++ rest))),
       number_again w64 (2 ^ 64) wide64 w.number (to_le_bytes w32 (length w.names) ++ (flat_map name_bytes w.names ++ rest)) fits.number,
-      count_again max_names (length w.names) (flat_map name_bytes w.names ++ rest) fits.few (lit< tt),
+      count_again most_names (length w.names) (flat_map name_bytes w.names ++ rest) fits.few (lit< tt),
       many_again name_at name_bytes Named name_again w.names rest fits.named,
     ) refl
 
@@ -172,8 +172,8 @@ pub bad_exact : (len : ℕ) (e : ReadError) (read : Result Withdrawals Fault) �
 bad_exact len errors.Memory read h = inr refl
 bad_exact len (errors.Fault f) read h = inl (sym (ap (list_due len) h))
 
--- a list that is read has at most 4,096 names
-pub few_names : (bytes : List ℕ) (w : Withdrawals) → IsBytes bytes → list_of bytes ≡ Ok w → length w.names ≤ max_names
+-- a list that is read has at most 1,048,576 names
+pub few_names : (bytes : List ℕ) (w : Withdrawals) → IsBytes bytes → list_of bytes ≡ Ok w → length w.names ≤ most_names
 unfolding list_of
 few_names bytes w fits e =
     let a = bind_ok (list_at bytes) ended w e in
@@ -213,16 +213,16 @@ none_before (x ∷ names) = (refl, none_before names)
 
 -- the parts of a list, written one after the other
 pub list_written : (w : Withdrawals) (names : List Name) (n : ℕ) (a b c d e : List ℕ) → names ≡ w.names
-    → n ≡ min (length names) max_names
+    → n ≡ min (length names) most_names
     → a ≡ to_le_bytes w64 withdrawals_header → b ≡ a ++ side_byte w.side ∷ [] → c ≡ b ++ to_le_bytes w64 w.number
     → d ≡ c ++ to_le_bytes w32 n → e ≡ d ++ flat_map name_bytes names → e ≡ names_bytes w
 list_written w names n a b c d e is count wrote_a wrote_b wrote_c wrote_d wrote_e =
     wrote_e ∙ rw (wrote_d, wrote_c, wrote_b, wrote_a, count, is) refl
 
-few_bytes : (w : Withdrawals) → length w.names ≤ max_names → names_bytes w ≡ withdrawals_bytes w
+few_bytes : (w : Withdrawals) → length w.names ≤ most_names → names_bytes w ≡ withdrawals_bytes w
 few_bytes w few = ap (λ (n : ℕ). counted_bytes n w) (min-eq_left few)
 
--- distinct names, at most 4,096, are spelled
+-- distinct names, at most 1,048,576, are spelled
 pub names_spelled : (w : Withdrawals) (e : List ℕ) → e ≡ names_bytes w → w.number < 2 ^ 64
     → AllByRecursion (λ name. IsTrue (is_name name)) w.names → IsNameList w.names → SpellsWithdrawals e w
 names_spelled w e wrote number named listed = record {
@@ -272,9 +272,9 @@ apart_names before k (x ∷ names) h =
     let all = all_new before x names rest.new in
     record { new = (first.0, all.0); distinct = (all.1, rest.distinct) }
 
--- the first 4,096 of more names
+-- the first 1,048,576 of more names
 front_of : Withdrawals → Withdrawals
-front_of w = record { side = w.side; number = w.number; names = take max_names w.names }
+front_of w = record { side = w.side; number = w.number; names = take most_names w.names }
 
 name_somewhere : (names : List Name) → 0 < length names → length (flat_map name_bytes names) ≡ 0 → ⊥
 name_somewhere [] some none = omega (arith, some)
@@ -291,28 +291,28 @@ all_front P zero xs h = tt
 all_front P (suc n) [] h = tt
 all_front P (suc n) (x ∷ xs) h = (h.0, all_front P n xs h.1)
 
-too_many : (w v : Withdrawals) → max_names < length w.names → w.number < 2 ^ 64
+too_many : (w v : Withdrawals) → most_names < length w.names → w.number < 2 ^ 64
     → AllByRecursion (λ name. IsTrue (is_name name)) w.names → list_of (names_bytes w) ≡ Ok v → ⊥
 unfolding list_of front_of
 too_many w v many number named read =
-    let rest = flat_map name_bytes (drop max_names w.names) in
-    let count : length (take max_names w.names) ≡ max_names = omega (arith, many, length-take max_names w.names) in
-    let names : flat_map name_bytes w.names ≡ flat_map name_bytes (take max_names w.names) ++ rest =
-    ap (flat_map name_bytes) (sym (take-append-drop max_names w.names))
-    ∙ flat_map-append name_bytes (take max_names w.names) (drop max_names w.names) in
+    let rest = flat_map name_bytes (drop most_names w.names) in
+    let count : length (take most_names w.names) ≡ most_names = omega (arith, many, length-take most_names w.names) in
+    let names : flat_map name_bytes w.names ≡ flat_map name_bytes (take most_names w.names) ++ rest =
+    ap (flat_map name_bytes) (sym (take-append-drop most_names w.names))
+    ∙ flat_map-append name_bytes (take most_names w.names) (drop most_names w.names) in
     let parts : names_bytes w ≡ withdrawals_bytes (front_of w) ++ rest =
     ap (λ (n : ℕ). counted_bytes n w) (min-eq_right (omega (arith, many)) ∙ sym count)
     ∙ ap (λ (xs : List ℕ). to_le_bytes w64 withdrawals_header ++ (side_byte w.side ∷ (to_le_bytes w64 w.number
-    ++ (to_le_bytes w32 (length (take max_names w.names)) ++ xs)))) names ∙ sym (regrouped (front_of w) rest) in
+    ++ (to_le_bytes w32 (length (take most_names w.names)) ++ xs)))) names ∙ sym (regrouped (front_of w) rest) in
     let text : IsListText (front_of w) = record {
       number = number;
       few = omega (arith, count);
-      named = all_front (λ name. IsTrue (is_name name)) max_names w.names named;
+      named = all_front (λ name. IsTrue (is_name name)) most_names w.names named;
     } in
     let there : list_at (names_bytes w) ≡ Ok (front_of w, rest) = ap list_at parts ∙ list_again (front_of w) rest text in
     let whole : ended (front_of w, rest) ≡ Ok v = sym (ap (λ r. r >>= ended) there) ∙ read in
     let none = ended_ok (front_of w, rest) v whole in
-    name_somewhere (drop max_names w.names) (omega (arith, many, length-drop max_names w.names)) (ap length none.1)
+    name_somewhere (drop most_names w.names) (omega (arith, many, length-drop most_names w.names)) (ap length none.1)
 
 -- other names are not
 pub spelled_names : (w : Withdrawals) (e : List ℕ) → e ≡ names_bytes w → w.number < 2 ^ 64
@@ -320,7 +320,7 @@ pub spelled_names : (w : Withdrawals) (e : List ℕ) → e ≡ names_bytes w →
 unfolding list_of
 spelled_names w e wrote number named v spells =
     let read : list_of (names_bytes w) ≡ Ok v = ap list_of (sym wrote) ∙ list_read e v spells in
-    elim (cases_lt max_names (length w.names)) [
+    elim (cases_lt most_names (length w.names)) [
       | inl many ↦ absurd (too_many w v many number named read)
       | inr few ↦
           let text : IsListText w = record { number = number; few = few; named = named } in

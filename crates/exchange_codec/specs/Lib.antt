@@ -5,6 +5,7 @@ pub mod Names
 pub mod Withdrawals
 pub mod Rows
 pub mod Offers
+pub mod Peeking
 pub mod WithdrawalsText
 pub mod RowsText
 pub mod OffersText

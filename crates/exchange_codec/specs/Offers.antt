@@ -9,7 +9,7 @@ use Rattle.clash_record.specs.declared.registrations.ProgramId.{ProgramId}
 use Rattle.clash_record.specs.Orders.{name_cmp}
 use Rattle.upload_store.specs.Programs.{id_of}
 use Rattle.clash_record.specs.Name.{Name}
-use Rattle.partition_table.specs.Tables.{Row, Table, IsTable, max_names}
+use Rattle.partition_table.specs.Tables.{Row, Table, IsTable, most_names}
 use Rattle.exchange_core.specs.Sides.{Offer}
 use Rattle.exchange_codec.specs.declared.offers.OfferHead.{OfferHead}
 use Rattle.exchange_codec.specs.declared.fault.Fault.{Fault}
@@ -56,7 +56,7 @@ pub record IsHead (h : OfferHead) : Type 0 where
 -- what has a spelling
 pub record IsText (o : OfferText) : Type 0 where
   pub head : IsHead o.head
-  pub few : length o.rows ≤ max_names
+  pub few : length o.rows ≤ most_names
   pub each : AllByRecursion IsRow o.rows
 
 -- the bytes are the spelling of the offer
@@ -79,7 +79,7 @@ unfoldable pub offer_at : List ℕ → Result (OfferText × List ℕ) Fault
 offer_at bytes = do
   rest ← header_at offers_header bytes
   head ← head_at rest
-  count ← count_at max_names head.1
+  count ← count_at most_names head.1
   rows ← many_at row_at count.0 count.1
   Ok (record { head = head.0; rows = rows.0 }, rows.1)
 

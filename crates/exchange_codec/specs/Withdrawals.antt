@@ -3,7 +3,7 @@ use Rattle.std.specs.Prelude.{◌≡◌, ℕ, ◌<◌, ◌≤◌, ◌^◌, min, 
 use Rattle.std.specs.List.{flat_map, AllByRecursion}
 use Rattle.std.specs.Int.{w32, w64, to_le_bytes}
 use Rattle.clash_record.specs.Name.{is_name}
-use Rattle.partition_table.specs.Tables.{max_names}
+use Rattle.partition_table.specs.Tables.{most_names}
 use Rattle.exchange_core.specs.Sides.{Withdrawals}
 pub use Rattle.exchange_core.specs.Repeats.{first_again}
 use Rattle.exchange_codec.specs.declared.fault.Fault.{Fault}
@@ -28,14 +28,14 @@ counted_bytes count w =
 abbrev pub withdrawals_bytes : Withdrawals → List ℕ
 withdrawals_bytes w = counted_bytes (length w.names) w
 
--- any names, with a count of at most 4,096
+-- any names, with a count of at most 1,048,576
 abbrev pub names_bytes : Withdrawals → List ℕ
-names_bytes w = counted_bytes (min (length w.names) max_names) w
+names_bytes w = counted_bytes (min (length w.names) most_names) w
 
--- what has a spelling: at most 4,096 names, each once
+-- what has a spelling: at most 1,048,576 names, each once
 pub record IsList (w : Withdrawals) : Type 0 where
   pub number : w.number < 2 ^ 64
-  pub few : length w.names ≤ max_names
+  pub few : length w.names ≤ most_names
   pub named : AllByRecursion (λ name. IsTrue (is_name name)) w.names
   pub apart : first_again [] 0 w.names ≡ None
 
@@ -51,7 +51,7 @@ list_at bytes = do
   rest ← header_at withdrawals_header bytes
   side ← side_at rest
   number ← number_at w64 side.1
-  count ← count_at max_names number.1
+  count ← count_at most_names number.1
   names ← many_at name_at count.0 count.1
   Ok (record { side = side.0; number = number.0; names = names.0 }, names.1)
 

@@ -8,7 +8,7 @@ ghost use Rattle.numbered.specs.Answers.{HasCause};
 ghost use Rattle.instruction_set.specs.Machine.{IsSafe};
 ghost use Rattle.program.specs.Programs.{IsAccepted};
 ghost use Rattle.clash_record.specs.Orders.{name_cmp};
-ghost use Rattle.partition_table.specs.Tables.{IsNewRow, max_names};
+ghost use Rattle.partition_table.specs.Tables.{IsNewRow, most_names};
 ghost use Rattle.exchange_codec.specs.Faults.{message_fault_number};
 ghost use Rattle.exchange_codec.specs.Rows.{Code};
 ghost use Rattle.exchange_codec.specs.Rows as texts;
@@ -24,7 +24,7 @@ use crate::rows::{ResolverText, RowText};
 use clash_record::{ProgramId, Registration, ResolverId};
 use exchange_core::{Offer, Side};
 use numbered::{Numbered, OUT_OF_MEMORY};
-use partition_table::{Table, TableBuilder};
+use partition_table::{NameLimit, Table, TableBuilder};
 use program::{ProgramFault, read_program};
 use sha2::{Digest, Sha256};
 use std::alloc::Global;
@@ -43,23 +43,35 @@ type Programs = BTreeMap<ProgramId, Known>;
 
 /// Returns the offer of the text: a side with a table of the rows begins the number.
 pub(crate) fn rebuilt(alloc: Global, text: &OfferText<'_>) -> Result<Offer, MessageFault>
-    requires { length text.now.rows.items ≤ max_names }
+    requires { length text.now.rows.items ≤ most_names }
     ensures rebuilt { IfOk result (IsOfferOf (view text.now)) }
     ensures refused { IfErr result (HasCause message_fault_number (IsRowsFault (rows_view text.now.rows.items))) }
 {
     let table = table_of(alloc, &text.rows)?;
     // For the proof: what the type of the table guarantees.
     table.len();
-    let mut side = Side::with_table(alloc, text.head.side, table, None);
+    let Ok(mut side) = Side::with_table(alloc, text.head.side, greatest(), table, None) else {
+        unreachable!()
+    };
     match side.begin(alloc, text.head.number, text.head.seed, text.head.uptime) {
         Ok(offer) => Ok(offer),
         Err(fault) => Err(ran_out(fault.number())),
     }
 }
 
+// Returns the greatest limit: a message may have as many names as any table.
+fn greatest() -> NameLimit
+    ensures { result.names ≡ most_names }
+{
+    match NameLimit::new(NameLimit::MAX) {
+        Some(limit) => limit,
+        None => unreachable!(),
+    }
+}
+
 // Builds the table of the rows.
 fn table_of(alloc: Global, rows: &[RowText<'_>]) -> Result<Table, MessageFault>
-    requires { length rows.now ≤ max_names }
+    requires { length rows.now ≤ most_names }
     ensures built { IfOk result (IsTableOf (rows_view rows.now)) }
     ensures refused { IfErr result (HasCause message_fault_number (IsRowsFault (rows_view rows.now))) }
 {
@@ -81,7 +93,7 @@ fn add_rows(
 ) -> Result<(), MessageFault>
     requires programs { AreProgramsOf builder.old programs.old }
     requires none { entries builder.old ≡ [] }
-    requires few { length rows.now ≤ max_names }
+    requires few { length rows.now ≤ most_names }
     ensures built { OnOk result (IsTableOf (rows_view rows.now) builder.new) }
     ensures refused { IfErr result (HasCause message_fault_number (IsRowsFault (rows_view rows.now))) }
 {
@@ -121,7 +133,7 @@ fn add_row(
 ) -> Result<(), MessageFault>
     requires programs { AreProgramsOf builder.old programs.old }
     requires above { IsTrue (is_above (entries builder.old) row.now.name) }
-    requires room { len builder.old < max_names }
+    requires room { len builder.old < most_names }
     ensures added { OnOk result (HasRow builder.old (row_view row.now) builder.new programs.new) }
     ensures refused { IfErr result
         (HasCause message_fault_number (IsLeastRowFault (entries builder.old) (row_view row.now) at)) }
@@ -152,7 +164,7 @@ fn add_code(
 ) -> Result<(), MessageFault>
     requires programs { AreProgramsOf builder.old programs.old }
     requires above { IsTrue (is_above (entries builder.old) row.now.name) }
-    requires room { len builder.old < max_names }
+    requires room { len builder.old < most_names }
     requires code { resolver_view row.now.resolver ≡ Code bytes.now }
     ensures added { OnOk result (HasRow builder.old (row_view row.now) builder.new programs.new) }
     ensures refused { IfErr result

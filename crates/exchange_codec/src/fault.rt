@@ -22,7 +22,7 @@ pub enum FieldFault {
     Header,
     /// 72: extra bytes after the message.
     Trailing,
-    /// 73: a count above its limit: 4,096 rows or names, 8,192 bytes of code.
+    /// 73: a count above its limit: 1,048,576 rows or names, 8,192 bytes of code.
     Count,
     /// 74: neither side.
     Side,

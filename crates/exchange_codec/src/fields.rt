@@ -37,7 +37,7 @@ pub(crate) fn u64_at(bytes: &[u8]) -> Result<(u64, &[u8]), ReadError>
     Ok((number, rest))
 }
 
-/// So many bytes, and what follows them.
+/// Splits off this many bytes.
 pub(crate) fn bytes_at(len: usize, bytes: &[u8]) -> Result<(&[u8], &[u8]), ReadError>
     ensures read { Gives (λ x. (x.0.now, x.1.now)) result (bytes_at len bytes.now) }
     ensures length { IfOk result (λ x. length x.0.now ≡ len) }
@@ -61,7 +61,7 @@ pub(crate) fn header_at(header: u64, bytes: &[u8]) -> Result<&[u8], ReadError>
 }
 
 // The fault of eight bytes that aren't the header: that of another version, if only the version or the kind differs.
-fn header_fault(found: u64) -> FieldFault
+pub(crate) fn header_fault(found: u64) -> FieldFault
     ensures { result ≡ header_fault found }
 {
     if found % 0x1_0000_0000_0000 == MAGIC && (found >> 48) % 256 != VERSION {

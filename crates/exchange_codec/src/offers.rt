@@ -19,14 +19,14 @@ use crate::rows::{RowText, all_rows, push_row};
 use clash_record::SideId;
 use exchange_core::Offer;
 use insn_codec::one_reading_theorem;
-use partition_table::{MAX_NAMES, Table};
+use partition_table::{NameLimit, Table};
 use program::Profile;
 use std::alloc::{AllocError, Global};
 use std::collections::BTreeSet;
 use verifier::one_verdict_theorem;
 
 // "HEALXC", version 1, kind 1.
-const HEADER: u64 = 0x0101_4358_4C41_4548;
+pub(crate) const HEADER: u64 = 0x0101_4358_4C41_4548;
 
 /// All of an offer but its table.
 #[derive(Clone, Copy)]
@@ -111,7 +111,8 @@ fn push_rows(alloc: Global, out: &mut Vec<u8>, table: &Table) -> Result<(), Allo
 
 /// Decodes untrusted bytes as an offer.
 ///
-/// It verifies each program again, and computes its id. That the bytes are those that the other half sent in this exchange is the transport's duty.
+/// Verifies each program again, and computes its id. The transport ensures that the bytes are those that the other half sent in
+/// this exchange.
 ///
 /// Rejects the first invalid field, with its byte: 70 if the bytes end within it, 71 for another message, 72 for extra
 /// bytes, 73 for a count above its limit, 74 for neither side, 75 for an invalid name, 76 for an unknown kind of resolver
@@ -158,7 +159,7 @@ fn text_at(alloc: Global, bytes: &[u8]) -> Result<(OfferText<'_>, &[u8]), ReadEr
 {
     let rest = header_at(HEADER, bytes)?;
     let (head, rest) = read_head(rest)?;
-    let (count, rest) = count_at(MAX_NAMES as u32, rest)?;
+    let (count, rest) = count_at(NameLimit::MAX as u32, rest)?;
     let (rows, rest) = all_rows(alloc, count, rest)?;
     Ok((OfferText { head, rows }, rest))
 }

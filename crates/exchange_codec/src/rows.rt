@@ -44,7 +44,7 @@ pub(crate) struct RowText<'a> {
     pub(crate) resolver: ResolverText<'a>,
 }
 
-/// So many rows.
+/// Reads this many rows.
 pub(crate) fn all_rows(
     alloc: Global,
     count: u32,

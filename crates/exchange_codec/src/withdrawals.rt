@@ -3,7 +3,7 @@ ghost use Rattle.std.specs.Prelude.{◌≡◌, ◌≤◌, ◌++◌, [], length, 
 ghost use Rattle.std.specs.List.{flat_map, AllByRecursion};
 ghost use Rattle.clash_record.specs.Name.{is_name};
 ghost use Rattle.numbered.specs.Answers.{ReturnsOrRunsOut};
-ghost use Rattle.partition_table.specs.Tables.{max_names};
+ghost use Rattle.partition_table.specs.Tables.{most_names};
 ghost use Rattle.exchange_core.specs.Lists.{IsNameList};
 ghost use Rattle.exchange_core.specs.Sides as sides;
 ghost use Rattle.exchange_codec.specs.Faults.{message_fault_number};
@@ -17,11 +17,11 @@ use crate::fields::{count_at, header_at, push_u32, push_u64, u64_at};
 use crate::names::{name_at, push_name, push_side, side_at};
 use clash_record::{Name, SideId};
 use exchange_core::{ListFault, Withdrawals};
-use partition_table::MAX_NAMES;
+use partition_table::NameLimit;
 use std::alloc::{AllocError, Global};
 
 // "HEALXC", version 1, kind 2.
-const HEADER: u64 = 0x0201_4358_4C41_4548;
+pub(crate) const HEADER: u64 = 0x0201_4358_4C41_4548;
 
 /// The fields of a list in a message.
 #[derive(Drop)]
@@ -40,7 +40,7 @@ pub fn encode_withdrawals(alloc: Global, list: &Withdrawals) -> Result<Vec<u8>, 
 
 /// Encodes the list that a side makes when it closes its list with these names. Fails only when out of memory.
 ///
-/// For repeated names, or more than 4,096, the bytes spell no list.
+/// For repeated names, or more than 1,048,576, the bytes spell no list.
 pub fn spell_withdrawals(
     alloc: Global,
     side: SideId,
@@ -50,7 +50,7 @@ pub fn spell_withdrawals(
     // The bytes, whether or not they spell a list.
     ensures bytes { IfOk result (λ bytes. bytes.items
         ≡ names_bytes record { side = side; number = number; names = names.now }) }
-    // Distinct names, at most 4,096, have a spelling.
+    // Distinct names, at most 1,048,576, have a spelling.
     ensures spelled { IfOk result (λ bytes. IsNameList names.now
         → SpellsWithdrawals bytes.items record { side = side; number = number; names = names.now }) }
     // Other names have none.
@@ -61,7 +61,7 @@ pub fn spell_withdrawals(
     push_u64(&mut out, HEADER)?;
     push_side(&mut out, side)?;
     push_u64(&mut out, number)?;
-    push_u32(&mut out, names.len().min(MAX_NAMES) as u32)?;
+    push_u32(&mut out, names.len().min(NameLimit::MAX) as u32)?;
     push_names(&mut out, names)?;
     Ok(out)
 }
@@ -82,7 +82,7 @@ fn push_names(out: &mut Vec<u8>, names: &[Name]) -> Result<(), AllocError>
 /// That the bytes are those that the other half sent in this exchange is the transport's duty.
 ///
 /// Rejects the first invalid field, with its byte: 70 if the bytes end within it, 71 for another message, 72 for extra
-/// bytes, 73 for more than 4,096 names, 74 for neither side, 75 for an invalid name and 82 for another version. If every
+/// bytes, 73 for more than 1,048,576 names, 74 for neither side, 75 for an invalid name and 82 for another version. If every
 /// field is valid, rejects with 77 the first name that the list already has, with its index. Returns 90 when out of
 /// memory.
 pub fn decode_withdrawals(alloc: Global, bytes: &[u8]) -> Result<Withdrawals, MessageFault>
@@ -102,7 +102,7 @@ pub fn decode_withdrawals(alloc: Global, bytes: &[u8]) -> Result<Withdrawals, Me
 
 // Returns the list of the text, or 77 for the first name that it already has.
 fn listed(alloc: Global, text: ListText) -> Result<Withdrawals, MessageFault>
-    requires { length text.names.items ≤ max_names }
+    requires { length text.names.items ≤ most_names }
     ensures { ReturnsOrRunsOut message_fault_number result
         (unless_again (first_again [] 0 text.names.items) (view text)) }
 {
@@ -142,7 +142,7 @@ fn text_at(alloc: Global, bytes: &[u8]) -> Result<(ListText, &[u8]), ReadError>
     let rest = header_at(HEADER, bytes)?;
     let (side, rest) = side_at(rest)?;
     let (number, rest) = u64_at(rest)?;
-    let (count, rest) = count_at(MAX_NAMES as u32, rest)?;
+    let (count, rest) = count_at(NameLimit::MAX as u32, rest)?;
     let (names, rest) = match all_names(alloc, count, rest) {
         Ok(found) => found,
         Err(error) => return Err(error),
@@ -157,7 +157,7 @@ fn text_at(alloc: Global, bytes: &[u8]) -> Result<(ListText, &[u8]), ReadError>
     ))
 }
 
-// So many names.
+// Reads this many names.
 fn all_names(alloc: Global, count: u32, bytes: &[u8]) -> Result<(Vec<Name>, &[u8]), ReadError>
     ensures { Gives (λ x. (x.0.items, x.1.now)) result (many_at name_at count bytes.now) }
 {

@@ -1,8 +1,10 @@
+pub mod Bounded
 pub mod Calling
 pub mod Carried
 pub mod Due
 pub mod Ending
 pub mod Filling
+pub mod Hearing
 pub mod Journaled
 pub mod Kept
 pub mod Listed

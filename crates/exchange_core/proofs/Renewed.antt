@@ -8,10 +8,10 @@ use Rattle.clash_record.specs.Name.{Name}
 use Rattle.clash_record.specs.Orders.{name_cmp}
 use Rattle.clash_record.specs.laws.Orders.{names_total, names_exact}
 use Rattle.clash_record.specs.declared.registrations.Registration.{Registration}
-use Rattle.partition_table.specs.Tables.{Row, Table, IsTable, max_names, rows_agree, agrees_with, rows_of}
+use Rattle.partition_table.specs.Tables.{Row, Table, IsTable, most_names, rows_agree, agrees_with, rows_of}
 use Rattle.exchange_core.specs.Sides.{Side, register}
 use Rattle.exchange_core.specs.Calls.{Call, Register, Begin, Abandon, carried_out}
-use Rattle.exchange_core.specs.Journal.{IsJournal, max_events}
+use Rattle.exchange_core.specs.Journal.{IsJournal, most_events}
 use Rattle.exchange_core.specs.model.Renewing.{number_calls}
 use Rattle.exchange_core.specs.laws.Entries.{Entry, entries_front, has_entry, is_new, not_in_front, made_again}
 use Rattle.exchange_core.proofs.Journaled.{kept_on}
@@ -91,14 +91,14 @@ module _ (side : Side) (idle : side.exchange ≡ None) (kept : IsTable side.tabl
   front : Table
   front = from_entries done
 
-  has_room : nat_lt (len (from_entries {R = name_cmp} done)) max_names ≡ true
+  has_room : nat_lt (len (from_entries {R = name_cmp} done)) most_names ≡ true
   has_room =
       let here : len (from_entries {R = name_cmp} done) ≡ length done =
       len-entries (from_entries done) ∙ ap length (entries_front side.table done (e ∷ rest) parts) in
       let whole : len side.table ≡ length done + suc (length rest) =
       len-entries side.table ∙ ap length parts ∙ length-append done (e ∷ rest) in
       let few = kept.few in
-      let below : len (from_entries {R = name_cmp} done) < max_names = omega (arith, here, whole, few) in
+      let below : len (from_entries {R = name_cmp} done) < most_names = omega (arith, here, whole, few) in
       grind (arith, nat_tests)
 
   agrees : agrees_with (from_entries done) e.1 ≡ true
@@ -164,7 +164,7 @@ module _ (side : Side) (idle : side.exchange ≡ None) (kept : IsTable side.tabl
 
 -- while a row is left, the journal has room for it
 pub renewing_room : (side : Side) (calls : List Call) (left more : List (Name × Registration)) (e : Name × Registration) →
-    IsTable side.table → IsRenewing side calls left → left ≡ e ∷ more → length calls < max_events
+    IsTable side.table → IsRenewing side calls left → left ≡ e ∷ more → length calls < most_events
 renewing_room side calls left more e kept h is =
     let count = len-entries side.table in
     let parts = ap length h.parts ∙ length-append h.done h.rest in

@@ -12,7 +12,7 @@ use Rattle.std.proofs.lemmas.List.Folds.{list_any-append}
 use Rattle.clash_record.specs.Name.{Name}
 use Rattle.clash_record.specs.Orders.{name_cmp}
 use Rattle.clash_record.specs.laws.Orders.{names_total}
-use Rattle.partition_table.specs.Tables.{is_in, is_name, max_names}
+use Rattle.partition_table.specs.Tables.{is_in, is_name, most_names}
 use Rattle.exchange_core.specs.Lists.{IsNameList}
 use Rattle.exchange_core.specs.Repeats.{first_again}
 use Rattle.exchange_core.specs.model.Listing.{IsSetOf}
@@ -48,7 +48,7 @@ apart_on before k (name ∷ names) apart none =
     subst (IsDistinct is_name) (append_assoc before (name ∷ []) names)
     (apart_on (before ++ name ∷ []) (k + 1) names (one_more_apart before name apart first.0) first.1)
 
-pub is_list : (names : List Name) → length names ≤ max_names → first_again [] 0 names ≡ None → IsNameList names
+pub is_list : (names : List Name) → length names ≤ most_names → first_again [] 0 names ≡ None → IsNameList names
 is_list names few none = record { few = few; distinct = apart_on [] 0 names none_apart none }
 
 -- ---- the loop

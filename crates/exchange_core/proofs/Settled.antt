@@ -1,12 +1,13 @@
 -- A side that is settled is where its journal leads.
-use Rattle.std.proofs.Common.{◌≡◌, ℕ, suc, ◌-◌, ◌<◌, ◌≤◌, Bool, true, false, nat_lt, if◌then◌else◌, List, [], ◌∷◌, ◌++◌, length, Option, Some, None, is_some, slice_get, slice_set, unwrap_or, eq-eqb, refl, sym, ap, ◌∙◌, subst, append_assoc, arith, option_map, option_and_then, reverse}
+use Rattle.std.proofs.Common.{◌≡◌, ℕ, suc, ◌-◌, ◌+◌, ◌<◌, ◌≤◌, Bool, true, false, nat_lt, if◌then◌else◌, List, [], ◌∷◌, ◌++◌, length, Option, Some, None, is_some, slice_get, slice_set, unwrap_or, eq-eqb, refl, sym, ap, ◌∙◌, subst, append_assoc, length-append, arith, option_map, option_and_then, reverse}
 use Rattle.std.proofs.lemmas.Bool.Decides.{nat_tests}
+use Rattle.std.proofs.lemmas.List.{length-map, length-reverse}
 use Rattle.std.specs.Option.{option_map_or}
 use Rattle.partition_table.specs.Tables.{Clash}
 use Rattle.exchange_core.specs.Sides.{Judged, Heard, Exchange, Side, clashes_heard, heard_clashes, rulings_of, put_ruling, take_heard, take}
 use Rattle.exchange_core.specs.Calls.{Call, Take}
 use Rattle.exchange_core.specs.Journal.{IsJournal, max_events}
-use Rattle.exchange_core.specs.Settling.{judged_in, filled, lacking, lacking_of, settled, settle_calls}
+use Rattle.exchange_core.specs.Settling.{judged_in, filled, lacking, lacking_of, settled, settle_calls, number_in}
 use Rattle.exchange_core.specs.Refusals.{count_lacking, settle_fault, settle_fault_heard}
 use Rattle.exchange_core.specs.declared.fault.SideFault.TheVariants.{JournalFull, NotHealing}
 use Rattle.exchange_core.specs.model.Settling.{SideHasPlaces, take_calls}
@@ -170,25 +171,36 @@ same_clashes round side = by_open side.exchange
     by_open (Some x) = by_heard x x.heard
 
 -- a side that nothing keeps from settling has room for the rulings that it lacks
-pub can_settle : (events : ℕ) (side : Side) → settle_fault events side ≡ None →
-    count_lacking (rulings_of side) ≤ max_events - events
-can_settle events side e = by_open side.exchange e
+pub can_settle : (limit events : ℕ) (side : Side) → settle_fault limit events side ≡ None →
+    count_lacking (rulings_of side) ≤ max_events limit - events
+can_settle limit events side e = by_open side.exchange e
   where
-    by_room : (n : ℕ) (b : Bool) → nat_lt (max_events - events) n ≡ b →
-        (if b then Some JournalFull else None) ≡ None → n ≤ max_events - events
-    by_room n true is e = cc
-    by_room n false is e = grind (arith, nat_tests)
+    by_room : (m n : ℕ) (b : Bool) → nat_lt m n ≡ b → (if b then Some JournalFull else None) ≡ None → n ≤ m
+    by_room m n true is e = cc
+    by_room m n false is e = grind (arith, nat_tests)
 
-    by_heard : (x : Exchange) (h : Option Heard) → settle_fault_heard events h ≡ None →
-        count_lacking (rulings_of (record side { exchange = Some (record x { heard = h }) })) ≤ max_events - events
+    by_heard : (x : Exchange) (h : Option Heard) → settle_fault_heard limit events h ≡ None →
+        count_lacking (rulings_of (record side { exchange = Some (record x { heard = h }) })) ≤ max_events limit - events
     by_heard x None e = cc
-    by_heard x (Some heard) e = by_room (count_lacking heard.rulings) _ refl e
+    by_heard x (Some heard) e = by_room (max_events limit - events) (count_lacking heard.rulings) _ refl e
 
     by_open : (o : Option Exchange) →
-        option_map_or (λ exchange. settle_fault_heard events exchange.heard) o (Some NotHealing) ≡ None →
-        count_lacking (rulings_of (record side { exchange = o })) ≤ max_events - events
+        option_map_or (λ exchange. settle_fault_heard limit events exchange.heard) o (Some NotHealing) ≡ None →
+        count_lacking (rulings_of (record side { exchange = o })) ≤ max_events limit - events
     by_open None e = cc
     by_open (Some x) e = by_heard x x.heard e
+
+-- the journal of a side that had room for the rulings has few events afterwards
+pub settled_few : (limit round : ℕ) (calls after : List Call) (side : Side) →
+    after ≡ reverse (settle_calls round side) ++ calls → length calls + length (lacking_of round side) ≤ max_events limit →
+    length after ≤ max_events limit
+settled_few limit round calls after side added room =
+    let taken = settle_calls round side in
+    let count : length after ≡ length (reverse taken) + length calls =
+    ap length added ∙ length-append (reverse taken) calls in
+    let same : length taken ≡ length (lacking_of round side) =
+    length-map (lacking_of round side) (λ (p : ℕ × Judged). Take (number_in side) p.0 p.1) in
+    omega (arith, count, length-reverse taken, same, room)
 
 -- where each clash has a place, none lacks a ruling after they are filled
 filled_whole : (judge : ℕ → Clash → Judged) (k : ℕ) (cs : List Clash) (rs : List (Option Judged)) →

@@ -7,7 +7,7 @@ use Rattle.clash_record.specs.Orders.{name_cmp}
 use Rattle.clash_record.specs.declared.side_id.SideId.{SideId}
 use Rattle.clash_record.specs.declared.side_id.SideId.TheVariants.{A, B}
 use Rattle.clash_record.specs.Name.{Name}
-use Rattle.partition_table.specs.Tables.{Row, Table, Clash, clash_at, clashes, facts_of, merge, fit_together, agrees_with, max_names}
+use Rattle.partition_table.specs.Tables.{Row, Table, Clash, clash_at, clashes, facts_of, merge, fit_together, agrees_with, most_names}
 use Rattle.exchange_core.specs.Sides.{Offer, Judged, Exchange, Side, new_exchange, hear, finish}
 use Rattle.exchange_core.specs.Calls.{Begin, Close_list, Finish}
 use Rattle.exchange_core.specs.Worlds.{World, Past, Does, Hears, Hears_list, side_of, with_side}
@@ -26,7 +26,7 @@ fit : fit_together none none ≡ true
 fit =
     let test = λ (es : List (Name × Row)).
     nat_le (length (map (λ e. e.0) es) + length (filter (λ name. not (contains_key none name)) (map (λ e. e.0) es)))
-    max_names && list_all (agrees_with none) (map (λ e. e.1) es) in
+    most_names && list_all (agrees_with none) (map (λ e. e.1) es) in
     ap test no_entries
 
 no_clashes : clashes none 0 none 0 ≡ []

@@ -57,7 +57,7 @@ abbrev pub after_act : World → Act → World
 after_act w (Happens event) = if is_own event then happens w event else w
 after_act w (Settles id) = with_side w id w.past (Some (settled the_round (side_of w id)))
 
--- where acts lead. The latest stands first
+-- where acts lead; the list has the latest first
 abbrev pub halves_after : List Act → World
 halves_after [] = first_world
 halves_after (act ∷ earlier) = after_act (halves_after earlier) act

@@ -1,16 +1,21 @@
 -- What the events of a journal record, and where a journal leads.
-use Rattle.std.specs.Prelude.{◌≡◌, ℕ, List, [], ◌∷◌}
+use Rattle.std.specs.Prelude.{◌≡◌, ℕ, ◌*◌, List, [], ◌∷◌}
 use Rattle.std.specs.Option.{option_and_then}
 use Rattle.std.specs.FinMap.{get}
+use Rattle.partition_table.specs.Tables.{most_names}
 use Rattle.exchange_core.specs.declared.journal.Event.{Event}
 use Rattle.exchange_core.specs.declared.journal.Event.TheVariants as event
 use Rattle.exchange_core.specs.declared.journal.Past.{Past, Empty, Then'}
 use Rattle.exchange_core.specs.Sides.{Side}
 use Rattle.exchange_core.specs.Calls.{Call, Register, Unregister, Begin, Hear, Take, Withdraw, Close_list, Hear_list, Finish, Abandon, replay}
 
--- the most events that a journal holds
-abbrev pub max_events : ℕ
-max_events = 65536
+-- the most events that the journal of a side of this limit holds: 16 for each name
+abbrev pub max_events : ℕ → ℕ
+max_events limit = 16 * limit
+
+-- the most events that any journal holds
+abbrev pub most_events : ℕ
+most_events = max_events most_names
 
 -- the call that an event records
 abbrev pub call_of : Event → Call

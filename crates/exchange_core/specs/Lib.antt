@@ -5,6 +5,7 @@ pub mod Finished
 pub mod Halves
 pub mod History
 pub mod Journal
+pub mod Limits
 pub mod Lists
 pub mod Refusals
 pub mod Repeats

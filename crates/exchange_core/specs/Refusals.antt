@@ -1,11 +1,11 @@
--- The refusal that is due at each call of a side: the least number that stands.
+-- The refusal that is due at each call of a side: the least that applies.
 use Rattle.std.specs.Prelude.{◌≡◌, ℕ, ◌+◌, ◌-◌, Bool, not, ◌&&◌, ◌==◌, nat_lt, nat_le, if◌then◌else◌, List, [], ◌∷◌, length, Option, Some, None, Result, Ok, Err, is_some, is_none, filter}
 use Rattle.std.specs.Option.{option_map_or}
 use Rattle.std.specs.FinMap.{len, contains_key}
 use Rattle.clash_record.specs.declared.registrations.Registration.{Registration}
 use Rattle.upload_store.specs.Programs.{Programs}
 use Rattle.clash_record.specs.Name.{Name}
-use Rattle.partition_table.specs.Tables.{Table, Clash, max_names, row_for, agrees_with, union_len, tables_agree, is_in}
+use Rattle.partition_table.specs.Tables.{Table, Clash, row_for, agrees_with, union_len, tables_agree, is_in}
 use Rattle.partition_table.specs.declared.fault.TableFault.TheVariants.{NameTaken, NoSuchName, Full, TooManyNames, UnknownProgram, OtherCode}
 use Rattle.partition_table.specs.Faults.{is_known}
 use Rattle.clash_record.specs.declared.side_id.SideId.{SideId}
@@ -16,19 +16,19 @@ use Rattle.exchange_core.specs.declared.fault.SideFault.{SideFault}
 use Rattle.exchange_core.specs.declared.fault.SideFault.TheVariants.{Healing, NotHealing, StaleNumber, SeedDiffers, StrangeRuling, Missing, JournalFull, OtherNumber, OwnOffer, Withdrawn, ListClosed}
 use Rattle.exchange_core.specs.declared.fault.SideFault.TheVariants as of
 use Rattle.exchange_core.specs.Journal.{max_events}
-use Rattle.exchange_core.specs.Sides.{Offer, Withdrawals, Judged, Heard, Exchange, Side, is_one_of_four, is_side, is_above, clashes_of, has_clash}
+use Rattle.exchange_core.specs.Sides.{Offer, Withdrawals, Judged, Heard, Exchange, Side, is_one_of_four, is_side, is_above, is_theirs, clashes_of, has_clash}
 
 -- a call that needs no memory succeeds exactly where no refusal is due, and else returns that refusal
 abbrev pub IsDecidedBy : {A : Type 0} → Option SideFault → Result A SideFault → Type 0
 IsDecidedBy due (Ok value) = due ≡ None
 IsDecidedBy due (Err fault) = due ≡ Some fault
 
--- In each of these, `full` is whether the journal has 65,536 events.
+-- In each of these, `limit` is the most names that the side may have, and `full` whether its journal holds no more events.
 
-abbrev pub register_fault : Bool → Side → Name → Registration → Programs → Option SideFault
-register_fault full side name r store =
+abbrev pub register_fault : ℕ → Bool → Side → Name → Registration → Programs → Option SideFault
+register_fault limit full side name r store =
     if contains_key side.table name then Some (of.Table NameTaken)
-    else (if not (nat_lt (len side.table) max_names) then Some (of.Table Full)
+    else (if not (nat_lt (len side.table) limit) then Some (of.Table Full)
     else (if is_some side.exchange then Some Healing
     else (if full then Some JournalFull
     else (if not (is_known store r.resolver) then Some (of.Table UnknownProgram)
@@ -56,10 +56,10 @@ agree_for A own other = tables_agree own other
 agree_for B own other = tables_agree other own
 
 -- what is due to the other side's first offer of the open number
-abbrev pub first_offer_fault : Bool → Side → Exchange → Offer → Option SideFault
-first_offer_fault full side exchange offer =
+abbrev pub first_offer_fault : ℕ → Bool → Side → Exchange → Offer → Option SideFault
+first_offer_fault limit full side exchange offer =
     if not (exchange.seed == offer.seed) then Some SeedDiffers
-    else (if not (nat_le (union_for side.id side.table offer.table) max_names) then Some (of.Table TooManyNames)
+    else (if not (nat_le (union_for side.id side.table offer.table) limit) then Some (of.Table TooManyNames)
     else (if full then Some JournalFull
     else (if not (agree_for side.id side.table offer.table) then Some (of.Table OtherCode) else None)))
 
@@ -70,18 +70,24 @@ sent_fault full id exchange sender number =
     else (if not (exchange.number == number) then Some OtherNumber
     else (if is_side id sender then Some OwnOffer else None))
 
+-- what is due to a message by its sender and number alone
+abbrev pub message_fault : Bool → Side → SideId → ℕ → Option SideFault
+message_fault full side sender number =
+    option_map_or (λ exchange. if is_theirs side.id exchange sender number
+    then None else sent_fault full side.id exchange sender number) side.exchange (Some NotHealing)
+
 abbrev pub is_first_offer : SideId → Exchange → Offer → Bool
 is_first_offer id exchange offer =
     is_none exchange.heard && (exchange.number == offer.number && not (is_side id offer.side))
 
-abbrev pub hear_fault_in : Bool → Side → Offer → Exchange → Option SideFault
-hear_fault_in full side offer exchange =
+abbrev pub hear_fault_in : ℕ → Bool → Side → Offer → Exchange → Option SideFault
+hear_fault_in limit full side offer exchange =
     if is_first_offer side.id exchange offer
-    then first_offer_fault full side exchange offer
+    then first_offer_fault limit full side exchange offer
     else sent_fault full side.id exchange offer.side offer.number
 
-abbrev pub hear_fault : Bool → Side → Offer → Option SideFault
-hear_fault full side offer = option_map_or (hear_fault_in full side offer) side.exchange (Some NotHealing)
+abbrev pub hear_fault : ℕ → Bool → Side → Offer → Option SideFault
+hear_fault limit full side offer = option_map_or (hear_fault_in limit full side offer) side.exchange (Some NotHealing)
 
 -- the ruling isn't of clash k of the open exchange, or its word is none of the clash's four
 abbrev pub is_strange : Side → Exchange → ℕ → Clash → ℕ → Bool
@@ -157,15 +163,15 @@ abandon_fault full side =
 abbrev pub count_lacking : List (Option Judged) → ℕ
 count_lacking rulings = length (filter is_none rulings)
 
-abbrev pub settle_fault_heard : ℕ → Option Heard → Option SideFault
-settle_fault_heard events None = Some (Missing TheirOffer)
-settle_fault_heard events (Some heard) =
-    if nat_lt (max_events - events) (count_lacking heard.rulings) then Some JournalFull else None
+abbrev pub settle_fault_heard : ℕ → ℕ → Option Heard → Option SideFault
+settle_fault_heard limit events None = Some (Missing TheirOffer)
+settle_fault_heard limit events (Some heard) =
+    if nat_lt (max_events limit - events) (count_lacking heard.rulings) then Some JournalFull else None
 
 -- of a side whose journal has this many events: each ruling that is taken adds one
-abbrev pub settle_fault : ℕ → Side → Option SideFault
-settle_fault events side =
-    option_map_or (λ exchange. settle_fault_heard events exchange.heard) side.exchange (Some NotHealing)
+abbrev pub settle_fault : ℕ → ℕ → Side → Option SideFault
+settle_fault limit events side =
+    option_map_or (λ exchange. settle_fault_heard limit events exchange.heard) side.exchange (Some NotHealing)
 
 abbrev pub clashes_fault_in : Exchange → Option SideFault
 clashes_fault_in exchange = if is_some exchange.heard then None else Some (Missing TheirOffer)

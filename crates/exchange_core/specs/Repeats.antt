@@ -1,10 +1,10 @@
--- Names that are to make a list.
+-- Lists made of names.
 use Rattle.std.specs.Prelude.{ℕ, ◌+◌, nat_lt, List, [], ◌∷◌, ◌++◌, length, Option, Some, None, Result, Ok, Err, if◌then◌else◌}
 use Rattle.numbered.specs.Answers.{out_of_memory}
 use Rattle.numbered.specs.declared.Place.{Place}
 use Rattle.numbered.specs.declared.Place.TheVariants.{Item}
 use Rattle.clash_record.specs.Name.{Name}
-use Rattle.partition_table.specs.Tables.{max_names, is_in}
+use Rattle.partition_table.specs.Tables.{most_names, is_in}
 use Rattle.exchange_core.specs.Sides.{Withdrawals}
 use Rattle.exchange_core.specs.declared.withdrawn_names.ListFault.{ListFault}
 use Rattle.exchange_core.specs.declared.withdrawn_names.ListFault.TheVariants.{TooMany, NameAgain, OutOfMemory}
@@ -20,7 +20,7 @@ list_fault_place TooMany = None
 list_fault_place (NameAgain at) = Some (Item at)
 list_fault_place OutOfMemory = None
 
--- the first place with a name that stands before it, where these stand before the list, which begins at place k
+-- the first place whose name is among the earlier ones, where these come before the list, which begins at place k
 abbrev pub first_again : List Name → ℕ → List Name → Option ℕ
 first_again before k [] = None
 first_again before k (name ∷ names) =
@@ -33,4 +33,4 @@ unless_again (Some at) list = Err (NameAgain at)
 -- the list of these names: at most 4,096, each once
 abbrev pub names_due : Withdrawals → Result Withdrawals ListFault
 names_due list =
-    if nat_lt max_names (length list.names) then Err TooMany else unless_again (first_again [] 0 list.names) list
+    if nat_lt most_names (length list.names) then Err TooMany else unless_again (first_again [] 0 list.names) list

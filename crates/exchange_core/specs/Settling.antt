@@ -5,7 +5,7 @@ use Rattle.partition_table.specs.Tables.{Clash, answer, word_of}
 use Rattle.exchange_core.specs.declared.side.Side as declared
 use Rattle.exchange_core.specs.Sides.{Judged, Heard, Exchange, Side, clashes_of}
 use Rattle.exchange_core.specs.Calls.{Call, Take}
-use Rattle.exchange_core.specs.Shown.{shown, calls}
+use Rattle.exchange_core.specs.Shown.{shown, calls, limit_of}
 use Rattle.exchange_core.specs.Finished.{Finished, clashes_merged}
 
 -- the round at whose words sides settle, so that both take the same rulings
@@ -68,6 +68,7 @@ settle_calls round side = map (λ p. Take (number_in side) p.0 p.1) (lacking_of 
 pub record IsSettled (old : declared.Side) (round : ℕ) (new : declared.Side) : Type 0 where
   pub state : shown new ≡ settled round (shown old)
   pub written : calls new ≡ reverse (settle_calls round (shown old)) ++ calls old
+  pub same_limit : limit_of new ≡ limit_of old
 
 -- each ruling of a finished exchange is that of one round
 abbrev pub IsOfRound : ℕ → Finished → Type 0

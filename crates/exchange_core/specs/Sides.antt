@@ -2,11 +2,12 @@
 use Rattle.std.specs.Prelude.{ℕ, Bool, true, false, not, ◌&&◌, ◌==◌, nat_lt, if◌then◌else◌, List, [], ◌∷◌, ◌++◌, length, map, replicate, Option, Some, None, is_none, is_some, unwrap_or, slice_get, slice_set}
 use Rattle.std.specs.Option.{option_map, option_and_then, option_map_or}
 use Rattle.std.specs.List.{fold, list_all}
+use Rattle.std.specs.Cmp.Lexicographic.{pointwise}
 use Rattle.std.specs.FinMap.{empty, insert, remove, contains_key, len}
 use Rattle.builtin_resolvers.specs.declared.verdicts.Verdict3.{Verdict3}
 use Rattle.builtin_resolvers.specs.declared.verdicts.Verdict3.TheVariants.{Neither}
 use Rattle.clash_record.specs.Name.{Name}
-use Rattle.partition_table.specs.Tables.{Row, Table, max_names, agrees_with, same_clash, Clash, clashes, merge, is_in, fit_together}
+use Rattle.partition_table.specs.Tables.{Row, Table, most_names, agrees_with, same_clash, same_table, is_name, Clash, clashes, merge, is_in, fit_together}
 pub use Rattle.partition_table.specs.declared.judged.Judged.{Judged}
 pub use Rattle.partition_table.specs.Rulings.{is_one_of_four, is_answer, is_lawful}
 use Rattle.clash_record.specs.declared.side_id.SideId.{SideId}
@@ -74,7 +75,7 @@ is_side B A = false
 is_side B B = true
 
 -- the clashes of a side's table with the other's, whether the two fit together, and their merge. A's table goes
--- first, whichever side asks
+-- first, on either side
 abbrev pub clashes_for : SideId → Table → ℕ → Table → ℕ → List Clash
 clashes_for A own uptime other other_uptime = clashes own uptime other other_uptime
 clashes_for B own uptime other other_uptime = clashes other other_uptime own uptime
@@ -126,7 +127,7 @@ abbrev pub register : Side → Name → Row → Option Side
 register side name row =
     if is_none side.exchange
     && not (contains_key side.table name)
-    && nat_lt (len side.table) max_names
+    && nat_lt (len side.table) most_names
     && agrees_with side.table row
     then Some (record side { table = insert side.table name row })
     else None
@@ -208,7 +209,7 @@ withdraw side name = in_exchange side (withdraw_in side.table name)
 abbrev pub close_in : Exchange → Option Exchange
 close_in exchange = if exchange.closed then None else Some (record exchange { closed = true })
 
--- from now on it withdraws no name
+-- afterwards it withdraws no name
 abbrev pub close_list : Side → Option Side
 close_list side = in_exchange side close_in
 
@@ -245,9 +246,33 @@ finish_in side exchange None theirs = None
 abbrev pub finish : Side → Option Side
 finish side = option_and_then (λ exchange. finish_in side exchange exchange.heard exchange.their_list) side.exchange
 
--- the names that it withdrew are gone all the same
+-- the names that it withdrew are gone, as after a finish
 abbrev pub abandon : Side → Option Side
 abandon side = if is_some side.exchange then Some (record side { table = shown_table side; exchange = None }) else None
+
+-- ---- messages that come again
+
+-- the exchange heard an offer with another seed, uptime or table
+abbrev pub other_heard : Exchange → Offer → Bool
+other_heard exchange offer =
+    option_map_or (λ heard. not (exchange.seed == offer.seed
+    && (heard.uptime == offer.uptime && same_table heard.table offer.table))) exchange.heard false
+
+-- an offer of the other side and the open number that isn't the one that was heard
+abbrev pub heard_other_offer : Side → Offer → Bool
+heard_other_offer side offer =
+    option_map_or (λ exchange. is_theirs side.id exchange offer.side offer.number && other_heard exchange offer)
+    side.exchange false
+
+-- the exchange heard a list of other names
+abbrev pub other_list : Exchange → List Name → Bool
+other_list exchange names = option_map_or (λ theirs. not (pointwise is_name theirs names)) exchange.their_list false
+
+-- a list of the other side and the open number that isn't the one that was heard
+abbrev pub heard_other_list : Side → Withdrawals → Bool
+heard_other_list side sent =
+    option_map_or (λ exchange. is_theirs side.id exchange sent.side sent.number && other_list exchange sent.names)
+    side.exchange false
 
 -- ---- giving an exchange up
 

@@ -4,6 +4,7 @@ pub mod Pairing
 pub mod Changing
 pub mod Early
 pub mod Finishing
+pub mod Hearing
 pub mod Settling
 pub mod Renewing
 pub mod Listing

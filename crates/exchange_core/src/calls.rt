@@ -4,7 +4,7 @@ ghost use Rattle.std.specs.Bool.{Decides};
 ghost use Rattle.std.specs.Option.{option_map};
 ghost use Rattle.std.specs.Arc.{arc_value};
 ghost use Rattle.std.specs.FinMap.{get, len};
-ghost use Rattle.partition_table.specs.Tables.{row_for, rows_of};
+ghost use Rattle.partition_table.specs.Tables.{max_names, row_for, rows_of};
 ghost use Rattle.exchange_core.specs.Lists.{AreNamesOf};
 ghost use Rattle.exchange_core.specs.Rows.{rows_left};
 ghost use Rattle.partition_table.specs.Judged.{clash_of_verdict, word_of_verdict, answer_of_verdict};
@@ -19,57 +19,51 @@ ghost use Rattle.numbered.specs.Answers.{IsAnswered, out_of_memory};
 ghost use Rattle.exchange_core.specs.Faults.{side_fault_number};
 ghost use Rattle.exchange_core.specs.Refusals as due;
 ghost use Rattle.exchange_core.specs.Refusals.{IsDecidedBy, count_lacking};
-ghost use Rattle.exchange_core.specs.Shown.{shown, calls, is_full, IsDone, IsUntouched};
+ghost use Rattle.exchange_core.specs.Shown.{shown, calls, limit_of, is_full, IsDone, IsUntouched};
 
 use crate::fault::SideFault;
 use crate::finished::Finished;
-use crate::journal::{Event, Journal};
+use crate::journal::Event;
 use crate::messages::{Offer, Withdrawals};
 use crate::shown_rows::ShownRows;
 use crate::side::Side;
-use crate::state::State;
 use clash_record::{Name, Registration, SideId};
-use partition_table::{ClashList, Judged, Ruling, Table};
+use partition_table::{ClashList, Judged, NameLimit, Ruling, Table, merge_theorem};
 use std::alloc::Global;
 use std::snapshot::Snapshot;
 use std::sync::Arc;
 use upload_store::UploadStore;
 
-/// The most events that a side's journal holds.
-pub const MAX_EVENTS: usize = 65_536;
-
 // The round at whose words sides settle.
 const ROUND: u32 = 0;
 
 impl Side {
-    /// An idle side without names. Allocates nothing.
+    /// Returns an idle side without names, which may have 4,096. Allocates nothing.
     pub fn new(alloc: Global, id: SideId) -> Side
         ensures state { shown result ≡ new_side id }
         ensures journal { calls result ≡ [] }
+        ensures limit { limit_of result ≡ max_names }
     {
-        Side {
-            state: State::new(alloc, id),
-            journal: Journal::new(),
-        }
+        Side::with_limit(alloc, id, NameLimit::default())
     }
 
-    /// Which of the two sides it is.
+    /// Returns which of the two sides it is.
     pub fn id(&self) -> SideId
         ensures { result ≡ (shown self.now).id }
     {
         self.state.id()
     }
 
-    /// Returns the number of events in the journal, at most 65,536: one for each call that returned `Ok` and changes the side
+    /// Returns the number of events in the journal, at most 16 for each name of the limit: one for each call that returned `Ok` and changes the side
     /// or its journal, one for each ruling that `settle` took, and after `renew` those of the fresh journal. Allocates nothing.
     pub fn events(&self) -> usize
         ensures count { result ≡ length (calls self.now) }
-        ensures few { result ≤ max_events }
+        ensures few { result ≤ max_events (limit_of self.now) }
     {
         self.journal.len()
     }
 
-    /// What the name is registered with, if it is; an open side leaves out the names that it withdrew. Allocates nothing.
+    /// Returns the registration of the name, if any; an open side leaves out the names that it withdrew. Allocates nothing.
     pub fn whereis(&self, name: &Name) -> Option<&Registration>
         ensures { option_map (λ r. r.now) result
             ≡ option_map (λ row. row.registration) (get (shown_table (shown self.now)) name.now) }
@@ -77,7 +71,7 @@ impl Side {
         self.state.whereis(name)
     }
 
-    /// The names with their registrations, in the order of names; an open side leaves out the names that it withdrew.
+    /// Iterates over the names and their registrations in the order of names; an open side leaves out the names that it withdrew.
     /// Allocates nothing.
     pub fn rows(&self) -> ShownRows<'_>
         ensures { rows_left result ≡ rows_of (shown_table (shown self.entry.now)) }
@@ -133,13 +127,6 @@ impl Side {
         self.state.share_clashes()
     }
 
-    // Checks whether the journal has as many events as it holds.
-    fn is_full(&self) -> bool
-        ensures { result ≡ is_full self.now }
-    {
-        self.events() >= MAX_EVENTS
-    }
-
     /// Registers the name on an idle side, and keeps the program that the registration names, as the store has it.
     ///
     /// Returns 30 for a registered name, 32 if the table is full, 33 if an exchange is open, 40 if the journal is full,
@@ -151,15 +138,15 @@ impl Side {
         registration: Registration,
         store: &UploadStore,
     ) -> Result<(), SideFault>
-        ensures answer { IsAnswered side_fault_number (due.register_fault (is_full self.old) (shown self.old) name registration store.now)
+        ensures answer { IsAnswered side_fault_number (due.register_fault (limit_of self.old) (is_full self.old) (shown self.old) name registration store.now)
             result }
         ensures done { OnOk result (IsDone self.old (call.Register name (row_for store.now registration)) self.new) }
         ensures untouched { OnErr result (IsUntouched self.old self.new) }
     {
         if self.is_full() || self.state.is_open() {
-            return Err(self.state.closed_register_fault(&name));
+            return Err(self.state.closed_register_fault(self.limit, &name));
         }
-        self.state.register(name, registration, store)?;
+        self.state.register(self.limit, name, registration, store)?;
         let table = Snapshot::of(self.state.table());
         self.journal
             .push(Event::Register(name, registration, table));
@@ -221,20 +208,20 @@ impl Side {
     /// Hears the other side's offer. One that comes after the first, of the open number, changes nothing but the
     /// journal.
     ///
-    /// Returns 34 if no exchange is open, 36 if the seeds differ, 37 if the two tables have more than 4,096 names
-    /// together, 40 if the journal is full, 42 if the tables have two codes under one id, 45 for another number, and 46
+    /// Returns 34 if no exchange is open, 36 if the seeds differ, 37 if the two tables have more names together than the
+    /// limit, 40 if the journal is full, 42 if the tables have two codes under one id, 45 for another number, and 46
     /// for an offer of this side: the least that applies. 36, 37 and 42 apply only to the
-    /// other side's first offer of the open number. Returns 90 when out of memory: it allocates the list of clashes,
-    /// copies of both maps of programs, a place for each ruling, and two owners of the table.
+    /// other side's first offer of the open number. Walks both tables once. Returns 90 when out of memory: it allocates the
+    /// list of clashes, copies of both maps of programs, and a place for each ruling.
     pub fn hear(&mut self, alloc: Global, offer: &Offer) -> Result<(), SideFault>
-        ensures answer { IsAnswered side_fault_number (due.hear_fault (is_full self.old) (shown self.old) offer.now) result }
+        ensures answer { IsAnswered side_fault_number (due.hear_fault (limit_of self.old) (is_full self.old) (shown self.old) offer.now) result }
         ensures done { OnOk result (IsDone self.old (call.Hear offer.now) self.new) }
         ensures untouched { OnErr result (IsUntouched self.old self.new) }
     {
-        if let Some(fault) = self.state.hear_fault(self.is_full(), offer) {
+        if let Some(fault) = self.state.early_hear_fault(self.limit, self.is_full(), offer) {
             return Err(fault);
         }
-        self.state.hear(alloc, offer)?;
+        self.state.hear(alloc, self.limit, offer)?;
         self.journal.push(Event::Hear(Snapshot::of(offer)));
         Ok(())
     }
@@ -306,12 +293,12 @@ impl Side {
     /// Returns 34 if no exchange is open, 39 if the other's offer isn't heard, and 40 if the journal has fewer free places
     /// than there are clashes without a ruling: the least that applies. Allocates nothing.
     pub fn settle(&mut self) -> Result<(), SideFault>
-        ensures answer { IsDecidedBy (due.settle_fault (length (calls self.old)) (shown self.old)) result }
+        ensures answer { IsDecidedBy (due.settle_fault (limit_of self.old) (length (calls self.old)) (shown self.old)) result }
         ensures done { OnOk result (IsSettled self.old the_round self.new) }
         ensures complete { OnOk result (count_lacking (rulings_of (shown self.new)) ≡ 0) }
         ensures untouched { OnErr result (IsUntouched self.old self.new) }
     {
-        if let Some(fault) = self.state.settle_fault(self.events()) {
+        if let Some(fault) = self.state.settle_fault(self.limit, self.events()) {
             return Err(fault);
         }
         self.state.settle(ROUND, &mut self.journal);
@@ -401,6 +388,8 @@ impl Side {
         if let Some(fault) = self.state.finish_fault(self.is_full()) {
             return Err(fault);
         }
+        // For the proof: the merge has no more names than both tables.
+        merge_theorem();
         let finished = self.state.finish(alloc)?;
         self.journal.push(Event::Finish);
         Ok(finished)
@@ -413,6 +402,7 @@ impl Side {
     pub fn renew(&mut self) -> Result<(), SideFault>
         ensures answer { IsDecidedBy (due.renew_fault (shown self.old)) result }
         ensures same { OnOk result (shown self.new ≡ shown self.old) }
+        ensures limit { OnOk result (limit_of self.new ≡ limit_of self.old) }
         ensures short { OnOk result (length (calls self.new) ≤ len (shown self.old).table + 2) }
         ensures untouched { OnErr result (IsUntouched self.old self.new) }
     {
@@ -450,6 +440,7 @@ impl Side {
         ensures answer { IfErr result (λ fault. side_fault_number fault ≡ out_of_memory) }
         ensures withdrew { OnErr result (withdrawn_by (shown self.old) ≢ []) }
         ensures rested { OnOk result (shown self.new ≡ rested (shown self.old)) }
+        ensures limit { OnOk result (limit_of self.new ≡ limit_of self.old) }
         ensures short { OnOk result (length (calls self.new) ≤ len (shown self.new).table + 2) }
         ensures untouched { OnErr result (IsUntouched self.old self.new) }
     {

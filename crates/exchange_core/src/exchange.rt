@@ -1,18 +1,19 @@
 //! The open exchange of a side.
-ghost use Rattle.std.specs.Prelude.{◌≡◌, ◌≤◌, ◌+◌, ◌∷◌, ◌++◌, [], Some, None, IfOk, OnOk, OnErr, replicate, is_some, true, length, reverse};
+ghost use Rattle.std.specs.Prelude.{◌≡◌, ◌==◌, ◌&&◌, ◌≤◌, ◌+◌, ◌∷◌, ◌++◌, [], Some, None, IfOk, OnOk, OnErr, replicate, is_some, true, length, reverse};
 ghost use Rattle.std.specs.Option.{option_map};
 ghost use Rattle.std.specs.Arc.{arc_value};
-ghost use Rattle.partition_table.specs.Tables.{is_in};
+ghost use Rattle.partition_table.specs.Tables.{is_in, same_table};
 ghost use Rattle.exchange_core.specs.Sides.{put_ruling, new_exchange};
 ghost use Rattle.exchange_core.specs.Refusals.{first_without, missing_of};
 ghost use Rattle.exchange_core.specs.model.Changing.{with_ruling};
 ghost use Rattle.exchange_core.specs.Settling.{filled, lacking};
 ghost use Rattle.exchange_core.specs.model.Settling.{judge_by, take_calls};
-ghost use Rattle.exchange_core.specs.Journal.{calls_of, max_events};
+ghost use Rattle.exchange_core.specs.Journal.{calls_of, most_events};
 ghost use Rattle.exchange_core.specs.Codings.{names_of};
 
 use crate::fault::MissingPart;
 use crate::journal::Journal;
+use crate::messages::Offer;
 use crate::name_list::NameList;
 use crate::settling::{Course, fill};
 use clash_record::Name;
@@ -76,6 +77,13 @@ impl Heard {
         &self.rulings
     }
 
+    // Checks whether the offer has this uptime and table.
+    pub(crate) fn is_of(&self, offer: &Offer) -> bool
+        ensures { result ≡ (self.now.uptime == offer.now.uptime && same_table self.now.table offer.now.table) }
+    {
+        self.uptime == offer.uptime() && *self.table() == *offer.table()
+    }
+
     // Keeps the ruling of clash `k`, unless it has one.
     pub(crate) fn put(&mut self, k: u32, judged: Judged)
         ensures { self.new ≡ record self.old { rulings = put_ruling self.old.rulings k judged } }
@@ -89,7 +97,7 @@ impl Heard {
     pub(crate) fn fill(&mut self, course: Course, clashes: &ClashList, journal: &mut Journal)
         requires places { length self.old.rulings ≡ length clashes.now }
         requires room { length (calls_of journal.old.past.value)
-            + length (lacking (judge_by course (length clashes.now)) 0 clashes.now self.old.rulings) ≤ max_events }
+            + length (lacking (judge_by course (length clashes.now)) 0 clashes.now self.old.rulings) ≤ most_events }
         ensures filled { self.new ≡ record self.old {
           rulings = filled (judge_by course (length clashes.now)) 0 clashes.now self.old.rulings;
         } }

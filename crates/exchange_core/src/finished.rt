@@ -47,21 +47,21 @@ impl Model for Finished {
 }
 
 impl Finished {
-    /// The number of the exchange.
+    /// Returns the number of the exchange.
     pub fn number(&self) -> u64
         ensures { result ≡ self.now.number }
     {
         self.number
     }
 
-    /// The seed of the words.
+    /// Returns the seed of the words.
     pub fn seed(&self) -> u64
         ensures { result ≡ self.now.seed }
     {
         self.seed
     }
 
-    /// The table of side A that was merged.
+    /// Returns the table of side A that was merged.
     pub fn a(&self) -> &Table
         ensures { result.now ≡ self.now.a }
     {
@@ -71,7 +71,7 @@ impl Finished {
         }
     }
 
-    /// The table of side B that was merged.
+    /// Returns the table of side B that was merged.
     pub fn b(&self) -> &Table
         ensures { result.now ≡ self.now.b }
     {
@@ -81,7 +81,7 @@ impl Finished {
         }
     }
 
-    /// How long side A had been up.
+    /// Returns the uptime of side A.
     pub fn uptime_a(&self) -> u64
         ensures { result ≡ self.now.uptime_a }
     {
@@ -91,7 +91,7 @@ impl Finished {
         }
     }
 
-    /// How long side B had been up.
+    /// Returns the uptime of side B.
     pub fn uptime_b(&self) -> u64
         ensures { result ≡ self.now.uptime_b }
     {
@@ -101,7 +101,7 @@ impl Finished {
         }
     }
 
-    /// The names that side A withdrew, the earliest first.
+    /// Returns the names that side A withdrew, the earliest first.
     pub fn gone_a(&self) -> &[Name]
         ensures { result.now ≡ self.now.gone.of_a }
     {
@@ -111,7 +111,7 @@ impl Finished {
         }
     }
 
-    /// The names that side B withdrew, the earliest first.
+    /// Returns the names that side B withdrew, the earliest first.
     pub fn gone_b(&self) -> &[Name]
         ensures { result.now ≡ self.now.gone.of_b }
     {
@@ -121,7 +121,7 @@ impl Finished {
         }
     }
 
-    /// The ruling of each clash, in the order of clashes.
+    /// Returns the ruling of each clash, in the order of clashes.
     pub fn rulings(&self) -> &[Judged]
         ensures rulings { result.now ≡ self.now.rulings }
         // The table is the merge under these rulings, and each is lawful.
@@ -130,14 +130,14 @@ impl Finished {
         &self.rulings
     }
 
-    /// The merged table.
+    /// Returns the merged table.
     pub fn table(&self) -> &Table
         ensures { result.now ≡ self.now.table }
     {
         &self.table
     }
 
-    /// The merged table itself, which the side may share.
+    /// Returns the merged table with its owner, which the side may share.
     pub fn into_table(self) -> Arc<Table>
         ensures { arc_value result ≡ self.table }
     {

@@ -9,7 +9,7 @@ ghost use Rattle.exchange_core.specs.Halves.{Act, ActsAreCalls, BothFinish, Fini
 /// Two halves that exchange offers and lists, settle, and finish one number have one outcome: one table, the merge of the
 /// tables that they offered, each clash decided by its resolver at the word of round 0.
 ///
-/// It does nothing when it runs. Its contract is proved of all that two processes can do, each with its half.
+/// Does nothing at run time. Its contract holds of all that two processes can do, each with its half.
 pub fn two_halves_theorem()
     // Whichever halves finish the number, and whenever.
     ensures one_outcome { (acts : List Act) (i j : SideId) (f g : Finished) (m n : Side)

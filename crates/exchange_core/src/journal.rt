@@ -1,6 +1,6 @@
 //! The events of a side. At run time they are a count; what they were given is known to proofs alone.
 ghost use Rattle.std.specs.Prelude.{◌≡◌, ◌≤◌, ◌<◌, [], ◌∷◌, length};
-ghost use Rattle.exchange_core.specs.Journal.{call_of, calls_of, max_events};
+ghost use Rattle.exchange_core.specs.Journal.{call_of, calls_of, most_events};
 
 use crate::messages::{Offer, Withdrawals};
 use clash_record::{Name, Registration};
@@ -41,7 +41,7 @@ pub(crate) struct Journal {
     #[derive_where(skip)]
     pub(crate) past: Snapshot<Past>,
     pub ghost counted: { count ≡ length (calls_of past.value) },
-    pub ghost few: { length (calls_of past.value) ≤ max_events },
+    pub ghost few: { length (calls_of past.value) ≤ most_events },
 }
 
 impl Journal {
@@ -58,14 +58,14 @@ impl Journal {
     // Returns the number of events.
     pub(crate) fn len(&self) -> usize
         ensures count { result ≡ length (calls_of self.now.past.value) }
-        ensures few { result ≤ max_events }
+        ensures few { result ≤ most_events }
     {
         self.count
     }
 
     // Adds an event.
     pub(crate) fn push(&mut self, event: Event)
-        requires { length (calls_of self.old.past.value) < max_events }
+        requires { length (calls_of self.old.past.value) < most_events }
         ensures { calls_of self.new.past.value ≡ call_of event ∷ calls_of self.old.past.value }
     {
         let earlier = mem::replace(&mut self.past, Snapshot::of(&Past::Empty));

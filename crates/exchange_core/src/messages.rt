@@ -115,7 +115,7 @@ impl Offer {
     }
 }
 
-/// The distinct names that a side withdrew in an exchange, the earliest first; at most 4,096. `Side::close_list` makes the
+/// The distinct names that a side withdrew in an exchange, the earliest first; at most 1,048,576. `Side::close_list` makes the
 /// list of a side, `of_names` that of names that came as bytes.
 #[derive(Debug)]
 pub struct Withdrawals {

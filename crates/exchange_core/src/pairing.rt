@@ -1,8 +1,10 @@
 //! The table of a side paired with the other's. The definitions put A's first; here the side's own is first, since the
 //! order doesn't matter.
-ghost use Rattle.std.specs.Prelude.{◌≡◌, IsTrue, IfOk, length};
+ghost use Rattle.std.specs.Prelude.{◌≡◌, IsTrue, IfOk, length, not, nat_le};
 ghost use Rattle.clash_record.specs.declared.side_id.SideId.{SideId};
-ghost use Rattle.partition_table.specs.Faults.{IsRefused};
+ghost use Rattle.numbered.specs.Answers.{IsAnswered};
+ghost use Rattle.partition_table.specs.Faults.{table_fault_number};
+ghost use Rattle.exchange_core.specs.Refusals.{union_for};
 ghost use Rattle.partition_table.specs.Tables.{fit_together, clash_names};
 ghost use Rattle.exchange_core.specs.Sides as sides;
 ghost use Rattle.exchange_core.specs.model.Pairing.{fit_fault_for};
@@ -10,35 +12,39 @@ ghost use Rattle.exchange_core.specs.model.Pairing.{fit_fault_for};
 use builtin_resolvers::Verdict3;
 use clash_record::Name;
 use partition_table::{
-    ClashList, Table, TableFault, clashes, clashes_theorem, fit, fit_theorem, merge_fitting,
-    merge_theorem,
+    ClashList, NameLimit, Table, TableFault, clashes_theorem, clashes_within, fit_theorem, fit_within,
+    merge_fitting, merge_theorem,
 };
 use std::alloc::{AllocError, Global};
 
-// Checks whether the two tables have a merge.
-pub(crate) fn fit_own(own: &Table, other: &Table) -> Result<(), TableFault>
-    ensures { (id : SideId) → IsRefused (fit_fault_for id own.now other.now) result }
+// Checks whether the two tables have more names together than the limit.
+pub(crate) fn has_too_many(limit: NameLimit, own: &Table, other: &Table) -> bool
+    ensures { (id : SideId) → result ≡ not (nat_le (union_for id own.now other.now) limit.names) }
 {
     fit_theorem();
-    fit(own, other)
+    matches!(fit_within(limit, own, other), Err(TableFault::TooManyNames))
 }
 
-// The clashes of the two tables.
+// Returns the clashes of the two tables, unless they don't fit together.
 pub(crate) fn clashes_own(
     alloc: Global,
+    limit: NameLimit,
     own: &Table,
     own_uptime: u64,
     other: &Table,
     other_uptime: u64,
-) -> Result<ClashList, AllocError>
-    ensures { (id : SideId)
+) -> Result<ClashList, TableFault>
+    ensures answer { (id : SideId)
+        → IsAnswered table_fault_number (fit_fault_for limit.names id own.now other.now) result }
+    ensures clashes { (id : SideId)
         → IfOk result (λ list. list ≡ sides.clashes_for id own.now own_uptime other.now other_uptime) }
 {
+    fit_theorem();
     clashes_theorem();
-    clashes(alloc, own, own_uptime, other, other_uptime)
+    clashes_within(alloc, limit, own, own_uptime, other, other_uptime)
 }
 
-// The merge of the two tables, which fit together.
+// Returns the merge of the two tables, which fit together.
 pub(crate) fn merge_own(
     alloc: Global,
     own: &Table,

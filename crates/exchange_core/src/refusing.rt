@@ -1,34 +1,32 @@
 //! The refusals that apply, other than out of memory.
-ghost use Rattle.std.specs.Prelude.{◌≡◌, ◌&&◌, ◌==◌, ◌<◌, ◌≤◌, ◌^◌, Some, None, MatchOption, not, nat_lt, true, false, is_some, length, if◌then◌else◌};
+ghost use Rattle.std.specs.Prelude.{◌≡◌, ◌&&◌, ◌==◌, ◌<◌, ◌≤◌, ◌^◌, Some, None, MatchOption, not, nat_le, nat_lt, true, false, is_some, length, if◌then◌else◌};
 ghost use Rattle.std.specs.FinMap.{len, contains_key};
 ghost use Rattle.clash_record.specs.declared.registrations.Registration.{Registration};
 ghost use Rattle.upload_store.specs.Programs.{Programs};
-ghost use Rattle.partition_table.specs.Faults.{IsRefused};
 ghost use Rattle.partition_table.specs.Judged.{clash_of_verdict, word_of_verdict};
-ghost use Rattle.partition_table.specs.Tables.{max_names, same_clash};
+ghost use Rattle.partition_table.specs.Tables.{same_clash};
 ghost use Rattle.exchange_core.specs.Sides.{is_above, is_side, is_one_of_four, clashes_of, has_clash};
 ghost use Rattle.exchange_core.specs.Sides as sides;
 ghost use Rattle.exchange_core.specs.Refusals as due;
-ghost use Rattle.exchange_core.specs.model.Early.{closed_register_fault};
-ghost use Rattle.exchange_core.specs.model.Pairing.{fit_fault_for};
+ghost use Rattle.exchange_core.specs.model.Early.{closed_register_fault, early_offer_fault, early_hear_fault};
 
 use crate::exchange::Exchange;
 use crate::fault::SideFault;
 use crate::messages::{Offer, Withdrawals};
-use crate::pairing::fit_own;
+use crate::pairing::has_too_many;
 use crate::state::State;
 use clash_record::{Name, SideId};
-use partition_table::{Clash, MAX_NAMES, Ruling, Table, TableFault, word};
+use partition_table::{Clash, NameLimit, Ruling, Table, TableFault, word};
 
 impl State {
     // Returns the refusal to register the name on a side with an open exchange or a full journal.
-    pub(crate) fn closed_register_fault(&self, name: &Name) -> SideFault
-        ensures { result ≡ closed_register_fault self.now name.now }
+    pub(crate) fn closed_register_fault(&self, limit: NameLimit, name: &Name) -> SideFault
+        ensures { result ≡ closed_register_fault limit.names self.now name.now }
     {
         if self.table.table().whereis(name).is_some() {
             return SideFault::Table(TableFault::NameTaken);
         }
-        if self.table.table().len() == MAX_NAMES {
+        if self.table.table().len() >= limit.names() {
             return SideFault::Table(TableFault::Full);
         }
         if self.exchange.is_some() {
@@ -69,45 +67,53 @@ impl State {
         None
     }
 
-    // Returns the refusal to hear the offer.
-    pub(crate) fn hear_fault(&self, full: bool, offer: &Offer) -> Option<SideFault>
-        ensures { result ≡ due.hear_fault full self.now offer.now }
+    // Returns the refusal to hear the offer, as far as this side's table and the other's needn't be compared.
+    pub(crate) fn early_hear_fault(
+        &self,
+        limit: NameLimit,
+        full: bool,
+        offer: &Offer,
+    ) -> Option<SideFault>
+        ensures { result ≡ early_hear_fault limit.names full self.now offer.now }
     {
         let Some(exchange) = &self.exchange else {
             return Some(SideFault::NotHealing);
         };
-        let theirs = exchange.number() == offer.number() && !is_side(self.id, offer.side());
+        let theirs = is_theirs(self.id, exchange, offer.side(), offer.number());
         if !exchange.has_heard() && theirs {
-            return self.first_offer_fault(full, exchange, offer);
+            return self.early_offer_fault(limit, full, exchange, offer);
         }
         sent_fault(full, self.id, exchange, offer.side(), offer.number())
     }
 
-    // Checks whether this side's table and the other's have a merge.
-    fn fit(&self, other: &Table) -> Result<(), TableFault>
-        ensures { IsRefused (fit_fault_for self.now.id self.now.table other.now) result }
+    // Checks whether this side's table and the other's have more names together than the limit.
+    fn has_too_many(&self, limit: NameLimit, other: &Table) -> bool
+        ensures { result ≡ not (nat_le (due.union_for self.now.id self.now.table other.now) limit.names) }
     {
-        fit_own(self.table.table(), other)
+        has_too_many(limit, self.table.table(), other)
     }
 
-    // Returns the refusal of the other side's first offer of the open number.
-    fn first_offer_fault(&self, full: bool, exchange: &Exchange, offer: &Offer) -> Option<SideFault>
-        ensures { result ≡ due.first_offer_fault full self.now exchange.now offer.now }
+    // Returns the refusal of the other side's first offer of the open number, before the tables are compared. Counts the names
+    // of both only if the journal is full.
+    fn early_offer_fault(
+        &self,
+        limit: NameLimit,
+        full: bool,
+        exchange: &Exchange,
+        offer: &Offer,
+    ) -> Option<SideFault>
+        ensures { result ≡ early_offer_fault limit.names full self.now exchange.now offer.now }
     {
         if exchange.seed() != offer.seed() {
             return Some(SideFault::SeedDiffers);
         }
-        let fit = self.fit(offer.table());
-        if let Err(TableFault::TooManyNames) = fit {
+        if !full {
+            return None;
+        }
+        if self.has_too_many(limit, offer.table()) {
             return Some(SideFault::Table(TableFault::TooManyNames));
         }
-        if full {
-            return Some(SideFault::JournalFull);
-        }
-        if fit.is_err() {
-            return Some(SideFault::Table(TableFault::OtherCode));
-        }
-        None
+        Some(SideFault::JournalFull)
     }
 
     // Returns the refusal to take the ruling. `is_own` is whether its clash is clash `k` of the open exchange.
@@ -240,8 +246,15 @@ impl State {
     }
 }
 
-// What refuses something that a side sent, of this number.
-fn sent_fault(
+// Checks whether a message of this sender and number is the other side's, of the open number.
+pub(crate) fn is_theirs(id: SideId, exchange: &Exchange, sender: SideId, number: u64) -> bool
+    ensures { result ≡ sides.is_theirs id exchange.now sender number }
+{
+    exchange.number() == number && !is_side(id, sender)
+}
+
+// Returns the refusal of something that a side sent, of this number.
+pub(crate) fn sent_fault(
     full: bool,
     id: SideId,
     exchange: &Exchange,

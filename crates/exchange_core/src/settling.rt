@@ -4,15 +4,15 @@ ghost use Rattle.exchange_core.specs.Sides as sides;
 ghost use Rattle.exchange_core.specs.Refusals as due;
 ghost use Rattle.exchange_core.specs.Settling.{filled, lacking, lacking_in, lacking_of, settle_calls, settled, settled_exchange};
 ghost use Rattle.exchange_core.specs.model.Settling.{HasPlaces, SideHasPlaces, judge_by, take_calls};
-ghost use Rattle.exchange_core.specs.Journal.{calls_of, max_events};
+ghost use Rattle.exchange_core.specs.Journal.{calls_of, most_events};
 
-use crate::calls::MAX_EVENTS;
 use crate::exchange::Exchange;
 use crate::fault::{MissingPart, SideFault};
+use crate::limits::max_events;
 use crate::journal::{Event, Journal};
 use crate::state::State;
 use interpreter::Scratch;
-use partition_table::{Clash, ClashList, Judged, Verdict, word};
+use partition_table::{Clash, ClashList, Judged, NameLimit, Verdict, word};
 
 // The numbers of an exchange that rulings are made of.
 #[derive(Clone, Copy)]
@@ -23,9 +23,9 @@ pub(crate) struct Course {
 }
 
 impl State {
-    // Returns the refusal to settle; the journal has this many events.
-    pub(crate) fn settle_fault(&self, events: usize) -> Option<SideFault>
-        ensures { result ≡ due.settle_fault events self.now }
+    // Returns the refusal to settle on a side of this limit whose journal has this many events.
+    pub(crate) fn settle_fault(&self, limit: NameLimit, events: usize) -> Option<SideFault>
+        ensures { result ≡ due.settle_fault limit.names events self.now }
     {
         let Some(exchange) = &self.exchange else {
             return Some(SideFault::NotHealing);
@@ -33,7 +33,7 @@ impl State {
         let Some(heard) = &exchange.heard else {
             return Some(SideFault::Missing(MissingPart::TheirOffer));
         };
-        if MAX_EVENTS.saturating_sub(events) < count_lacking(heard.rulings()) {
+        if max_events(limit).saturating_sub(events) < count_lacking(heard.rulings()) {
             return Some(SideFault::JournalFull);
         }
         None
@@ -42,7 +42,7 @@ impl State {
     // Gives each clash without a ruling that of the round, and writes an event for each.
     pub(crate) fn settle(&mut self, round: u32, journal: &mut Journal)
         requires places { SideHasPlaces self.old }
-        requires room { length (calls_of journal.old.past.value) + length (lacking_of round self.old) ≤ max_events }
+        requires room { length (calls_of journal.old.past.value) + length (lacking_of round self.old) ≤ most_events }
         ensures state { self.new ≡ settled round self.old }
         ensures written { calls_of journal.new.past.value
             ≡ reverse (settle_calls round self.old) ++ calls_of journal.old.past.value }
@@ -61,7 +61,7 @@ impl Exchange {
     // Gives each of these clashes without a ruling that of the round, and writes an event for each.
     fn settle(&mut self, round: u32, clashes: &ClashList, journal: &mut Journal)
         requires places { HasPlaces clashes.now self.old }
-        requires room { length (calls_of journal.old.past.value) + length (lacking_in round clashes.now self.old) ≤ max_events }
+        requires room { length (calls_of journal.old.past.value) + length (lacking_in round clashes.now self.old) ≤ most_events }
         ensures state { self.new ≡ settled_exchange round clashes.now self.old }
         ensures written { calls_of journal.new.past.value
             ≡ reverse (take_calls self.old.number (lacking_in round clashes.now self.old)) ++ calls_of journal.old.past.value }
@@ -94,7 +94,7 @@ pub(crate) fn fill(
 )
     requires places { length rulings.old ≡ length clashes.now }
     requires room { length (calls_of journal.old.past.value)
-        + length (lacking (judge_by course (length clashes.now)) 0 clashes.now rulings.old) ≤ max_events }
+        + length (lacking (judge_by course (length clashes.now)) 0 clashes.now rulings.old) ≤ most_events }
     ensures filled { rulings.new ≡ filled (judge_by course (length clashes.now)) 0 clashes.now rulings.old }
     ensures written { calls_of journal.new.past.value
         ≡ reverse (take_calls course.number (lacking (judge_by course (length clashes.now)) 0 clashes.now rulings.old))

@@ -1,5 +1,5 @@
 //! The state of a side, and what each call leaves of it.
-ghost use Rattle.std.specs.Prelude.{◌≡◌, ◌≢◌, [], Some, None, IsTrue, IfOk, OnOk, OnErr, is_some};
+ghost use Rattle.std.specs.Prelude.{◌≡◌, ◌≢◌, [], false, Some, None, IsTrue, IfOk, OnOk, OnErr, is_some};
 ghost use Rattle.std.specs.Bool.{Decides};
 ghost use Rattle.std.specs.FinMap.{get};
 ghost use Rattle.partition_table.specs.Tables.{row_for, rows_of};
@@ -14,6 +14,9 @@ ghost use Rattle.exchange_core.specs.Faults.{side_fault_number};
 ghost use Rattle.exchange_core.specs.Refusals as due;
 ghost use Rattle.exchange_core.specs.Sides as sides;
 ghost use Rattle.exchange_core.specs.Worlds.{offer_of, list_of};
+ghost use Rattle.exchange_core.specs.model.Early.{early_hear_fault};
+ghost use Rattle.exchange_core.specs.model.Hearing.{has_heard, clashes_offered};
+ghost use Rattle.exchange_core.specs.model.Pairing.{fit_fault_for};
 
 use crate::exchange::{Exchange, Heard};
 use crate::fault::{MissingPart, SideFault};
@@ -22,7 +25,7 @@ use crate::messages::{Offer, Withdrawals};
 use crate::pairing::clashes_own;
 use crate::shown_rows::ShownRows;
 use clash_record::{Name, Registration, SideId};
-use partition_table::{ClashList, Judged, Table, TableFault};
+use partition_table::{ClashList, Judged, NameLimit, Table, TableFault};
 use std::alloc::{AllocError, Global};
 use std::marker::Model;
 use std::sync::Arc;
@@ -176,17 +179,18 @@ impl State {
     // Registers the name on an idle side.
     pub(crate) fn register(
         &mut self,
+        limit: NameLimit,
         name: Name,
         registration: Registration,
         store: &UploadStore,
     ) -> Result<(), TableFault>
         requires { self.old.exchange ≡ None }
-        ensures answer { IsAnswered table.table_fault_number (table.register_fault self.old.table name registration store.now) result }
+        ensures answer { IsAnswered table.table_fault_number (table.register_fault limit.names self.old.table name registration store.now) result }
         ensures done { OnOk result (sides.register self.old name (row_for store.now registration) ≡ Some self.new) }
         ensures unchanged { OnErr result (self.new ≡ self.old) }
     {
         let mut table = self.table.take()?;
-        let result = table.register(name, registration, store);
+        let result = table.register_within(limit, name, registration, store);
         self.table.put(table);
         result
     }
@@ -228,25 +232,77 @@ impl State {
         Ok(Offer::new(self.id, number, seed, uptime, table))
     }
 
-    // Hears the other side's offer.
-    pub(crate) fn hear(&mut self, alloc: Global, offer: &Offer) -> Result<(), AllocError>
-        requires { IsTrue (is_some (sides.hear self.old offer.now)) }
+    // Checks whether the other side's offer was heard.
+    fn has_heard(&self) -> bool
+        ensures { result ≡ has_heard self.now }
+    {
+        match &self.exchange {
+            Some(exchange) => exchange.has_heard(),
+            None => false,
+        }
+    }
+
+    // Hears the other side's offer, unless the two tables don't fit together.
+    pub(crate) fn hear(
+        &mut self,
+        alloc: Global,
+        limit: NameLimit,
+        offer: &Offer,
+    ) -> Result<(), SideFault>
+        requires { early_hear_fault limit.names false self.old offer.now ≡ None }
+        ensures answer { IsAnswered side_fault_number (due.hear_fault limit.names false self.old offer.now) result }
+        ensures done { OnOk result (sides.hear self.old offer.now ≡ Some self.new) }
+        ensures unchanged { OnErr result (self.new ≡ self.old) }
+    {
+        if self.has_heard() {
+            return Ok(());
+        }
+        let clashes = self.clashes_with(alloc, limit, offer)?;
+        self.keep_offer(alloc, offer, clashes)?;
+        Ok(())
+    }
+
+    // Returns the clashes of the table with the offer's, unless the two don't fit together.
+    fn clashes_with(
+        &self,
+        alloc: Global,
+        limit: NameLimit,
+        offer: &Offer,
+    ) -> Result<ClashList, TableFault>
+        requires { IsTrue (is_some self.now.exchange) }
+        ensures answer { IsAnswered table.table_fault_number
+            (fit_fault_for limit.names self.now.id self.now.table offer.now.table) result }
+        ensures clashes { IfOk result (λ list. list ≡ clashes_offered self.now offer.now) }
+    {
+        let Some(exchange) = &self.exchange else {
+            unreachable!()
+        };
+        clashes_own(
+            alloc,
+            limit,
+            self.table.table(),
+            exchange.uptime(),
+            offer.table(),
+            offer.uptime(),
+        )
+    }
+
+    // Keeps the first offer with its clashes.
+    fn keep_offer(
+        &mut self,
+        alloc: Global,
+        offer: &Offer,
+        clashes: ClashList,
+    ) -> Result<(), AllocError>
+        requires hearable { IsTrue (is_some (sides.hear self.old offer.now)) }
+        requires unheard { has_heard self.old ≡ false }
+        requires clashes { clashes ≡ clashes_offered self.old offer.now }
         ensures done { OnOk result (sides.hear self.old offer.now ≡ Some self.new) }
         ensures unchanged { OnErr result (self.new ≡ self.old) }
     {
         let Some(exchange) = &mut self.exchange else {
             unreachable!()
         };
-        if exchange.has_heard() {
-            return Ok(());
-        }
-        let clashes = clashes_own(
-            alloc,
-            self.table.table(),
-            exchange.uptime(),
-            offer.table(),
-            offer.uptime(),
-        )?;
         let heard = Heard::new(alloc, offer.share_table()?, offer.uptime(), clashes.len())?;
         let clashes = Arc::new(alloc, clashes)?;
         exchange.keep_heard(heard);

@@ -7,7 +7,7 @@ ghost use Rattle.exchange_core.specs.declared.withdrawn_names.ListFault.TheVaria
 use crate::messages::Withdrawals;
 use clash_record::{Name, SideId};
 use numbered::{Numbered, OUT_OF_MEMORY, Place, words_of};
-use partition_table::MAX_NAMES;
+use partition_table::NameLimit;
 use std::alloc::{AllocError, Global};
 use std::collections::BTreeSet;
 use std::sync::Arc;
@@ -16,7 +16,7 @@ use thiserror::Error;
 /// The reason why names don't make a list.
 #[derive(Clone, Copy, Debug, PartialEq, Eq, Error)]
 pub enum ListFault {
-    /// 73: more than 4,096 names.
+    /// 73: more than 1,048,576 names.
     #[error("{}", words_of(self.number()))]
     TooMany,
     /// 77: an earlier name equals the name at this index, counted from 0. No name before it repeats one.
@@ -70,7 +70,7 @@ impl Withdrawals {
         ensures { ReturnsOrRunsOut list_fault_number result
             (names_due record { side = side; number = number; names = names.items }) }
     {
-        if names.len() > MAX_NAMES {
+        if names.len() > NameLimit::MAX {
             return Err(ListFault::TooMany);
         }
         if let Some(at) = first_again(alloc, &names)? {

@@ -21,6 +21,7 @@ pub use Rattle.exchange_core.specs.Finished
 pub use Rattle.exchange_core.specs.Halves
 pub use Rattle.exchange_core.specs.History
 pub use Rattle.exchange_core.specs.Journal
+pub use Rattle.exchange_core.specs.Limits
 pub use Rattle.exchange_core.specs.Lists
 pub use Rattle.exchange_core.specs.Refusals as SideRefusals
 pub use Rattle.exchange_core.specs.Repeats
@@ -32,6 +33,7 @@ pub use Rattle.exchange_core.specs.Steps
 pub use Rattle.exchange_core.specs.Worlds
 pub use Rattle.exchange_codec.specs.Faults as MessageFaults
 pub use Rattle.exchange_codec.specs.Offers as OfferMessages
+pub use Rattle.exchange_codec.specs.Peeking
 pub use Rattle.exchange_codec.specs.Reading as MessageFields
 pub use Rattle.exchange_codec.specs.Rows as RowMessages
 pub use Rattle.exchange_codec.specs.Withdrawals as ListMessages

@@ -5,7 +5,7 @@
 //! | draw clashes, post verdicts, read rulings | `open`, `Board`, `Seat`, `Draw`, `Pass`, `Posted` | `verdict_board` |
 //! | judge with workers | `heal_round`, `RoundDone`, `work`, `Done`, `judge`, `Gate`, `Ear` | `judge_pool` |
 //! | share a side between threads | `Partition` | `registry_lock` |
-//! | hand the rulings to two sides, and compare their outcomes | `tell_round`, `tell_round_by`, `meet`, `Healed` | `registry_lock` |
+//! | let two sides take the rulings, and compare their outcomes | `tell_round`, `tell_round_by`, `meet`, `Healed` | `registry_lock` |
 //! | state that all callers see one ruling | `seen_theorem` | `registry_lock` |
 //!
 //! Drawing, posting and reading never wait. `heal_round` and `tell_round` wait for their workers, and `Partition` waits

@@ -7,9 +7,9 @@
 //! |---|---|---|
 //! | heal a split in one process | `Cluster`, `Plan`, `Healing`, `HealFault`, `Gate`, `OpenGate` | `cluster`, `judge_pool` |
 //! | run one half | `Side`, `Offer`, `Withdrawals`, `ListFault`, `Finished`, `Judged`, `SideFault`, `history_theorem`, `two_halves_theorem` | `exchange_core` |
-//! | send messages | `encode_offer`, `decode_offer`, `encode_withdrawals`, `decode_withdrawals`, `MessageFault` | `exchange_codec` |
+//! | send messages | `encode_offer`, `decode_offer`, `encode_withdrawals`, `decode_withdrawals`, `peek`, `MessageFault` | `exchange_codec` |
 //! | judge clashes | `clashes`, `Clash`, `ClashList`, `word`, `Verdict`, `Ruling` | `partition_table` |
-//! | build and merge tables | `Table`, `TableBuilder`, `Rows`, `RowsAfter`, `fit`, `merge`, `TableFault` | `partition_table` |
+//! | build and merge tables | `Table`, `TableBuilder`, `NameLimit`, `Rows`, `RowsAfter`, `fit`, `fit_within`, `merge`, `TableFault` | `partition_table` |
 //! | keep uploaded programs | `UploadStore`, `Uploaded`, `UploadFault` | `upload_store` |
 //! | name and register | `name`, `Name`, `Owner`, `Registration`, `ResolverId`, `SideId`, `Withdrawal` | `clash_record` |
 //! | notify owners | `notices`, `Notice`, `Notices`, `Verdict3`, `decide` | `builtin_resolvers` |
@@ -17,8 +17,8 @@
 //! | read, write and run programs | the module `programs` | `program` and those below it |
 //! | judge with several threads | the module `boards` | `verdict_board`, `judge_pool`, `registry_lock` |
 //!
-//! Limits: 4,096 names in a table, 256 programs in a store, 65,536 events in the journal of a side, 1,024 slots in a
-//! program, 16 workers, and two halves in an exchange. The crate has no transport and no storage: the embedder delivers
+//! Limits: 4,096 names in the table of a side, or as many as its owner chooses, up to 1,048,576; 16 events in its journal for
+//! each of these names; 256 programs in a store, 1,024 slots in a program, 16 workers, and two halves in an exchange. The crate has no transport and no storage: the embedder delivers
 //! messages and notices.
 //!
 //! Each fault implements `Numbered`. `REFUSALS` has the words of each number, and docs/REFUSALS.md an example.
@@ -34,8 +34,8 @@ pub use clash_record::{
 };
 pub use cluster::{Cluster, HealFault, Healing, Plan};
 pub use exchange_codec::{
-    FieldFault, ItemFault, MessageFault, decode_offer, decode_withdrawals, encode_offer,
-    encode_withdrawals, one_message_theorem,
+    FieldFault, ItemFault, MessageFault, MessageHead, MessageKind, decode_offer, decode_withdrawals,
+    encode_offer, encode_withdrawals, one_message_theorem, peek,
 };
 pub use exchange_core::{
     Finished, Judged, ListFault, MAX_EVENTS, MissingPart, Offer, ShownRows, Side, SideFault,
@@ -46,8 +46,8 @@ pub use numbered::{
     Numbered, NumberedRefusal, OUT_OF_MEMORY, Place, REFUSALS, refusal_of, words_of,
 };
 pub use partition_table::{
-    Clash, ClashList, MAX_NAMES, Rows, RowsAfter, Ruling, Table, TableBuilder, TableFault, Verdict,
-    clashes, fit, merge, word,
+    Clash, ClashList, MAX_NAMES, NameLimit, Rows, RowsAfter, Ruling, Table, TableBuilder,
+    TableFault, Verdict, clashes, clashes_within, fit, fit_within, merge, word,
 };
 pub use registry_lock::MeetFault;
 pub use upload_store::{MAX_PROGRAMS, UploadFault, UploadStore, Uploaded};

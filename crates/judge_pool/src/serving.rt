@@ -15,7 +15,7 @@ use std::sync::Wait;
 use verdict_board::{Board, Pass, Posted, Seat};
 
 // The maximum number of draws of a seat in a round.
-const MOST_DRAWN: u32 = 4097;
+const MOST_DRAWN: u32 = 1_048_577;
 
 // The maximum number of clashes that a worker draws in a row. Workers wait for one another at the word that counts the
 // draws, and where cells and answers of adjacent clashes share a line of memory.

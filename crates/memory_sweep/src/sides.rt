@@ -5,8 +5,8 @@ use crate::fault::Fault;
 use crate::sweep::{Call, sweep};
 use std::alloc::Global;
 
-/// How many names a side has before the call, so that at one of them its journal is to grow.
-const SIZES: [u16; 4] = [1, 2, 3, 4];
+/// How many names a side has before the call. A node of its table holds 11, so that a further name needs another node.
+const SIZES: [u16; 2] = [1, 11];
 
 /// A call's name, the step that makes it, and the steps before it.
 type Row = (&'static str, Step, &'static [Step]);

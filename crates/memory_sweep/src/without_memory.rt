@@ -6,7 +6,7 @@ use crate::fault::Fault;
 use crate::rows::clashing;
 use crate::sweep::{Starved, Subject};
 use crate::tables::is_same_list;
-use abstract_value::{Both, Domain};
+use abstract_value::{Both, Domain, Interval};
 use answers::judge_one;
 use builtin_resolvers::{Notice, Verdict3, decide, notices};
 use clash_record::{
@@ -46,8 +46,10 @@ fn make_calls(rt: &HostRuntime, list: &ClashList) -> Result<(), Fault> {
         .and(reads(&mut calls, list))
         .and(meetings(&mut calls, list))?;
     operations(&mut calls);
-    sets_of_words(&mut calls);
-    operations_on_sets(&mut calls);
+    sets_of_words::<Interval>(&mut calls);
+    operations_on_sets::<Interval>(&mut calls);
+    sets_of_words::<Both>(&mut calls);
+    operations_on_sets::<Both>(&mut calls);
     calls.end()
 }
 
@@ -264,35 +266,37 @@ fn operations(calls: &mut Starved<'_>) {
     calls.gave(test(Width::W64, Test::Jslt, u64::MAX, 0), true);
 }
 
-fn sets_of_words(calls: &mut Starved<'_>) {
-    let one = Both::single(1);
-    let three = Both::single(3);
+fn sets_of_words<D: Domain>(calls: &mut Starved<'_>) {
+    let one = D::single(1);
+    let three = D::single(3);
     let up_to_three = one.join(&three);
-    calls.refuse("Both::full");
-    calls.gave(Both::full().bounds(), (0, u64::MAX));
-    calls.refuse("Both::single");
-    calls.gave(Both::single(3).bounds(), (3, 3));
-    calls.refuse("Both::below");
+    calls.refuse("Domain::full");
+    calls.gave(D::full().bounds(), (0, u64::MAX));
+    calls.refuse("Domain::single");
+    calls.gave(D::single(3).bounds(), (3, 3));
+    calls.refuse("Domain::bounds");
+    calls.gave(up_to_three.bounds(), (1, 3));
+    calls.refuse("Domain::below");
     calls.gave(one.below(&up_to_three), true);
-    calls.refuse("Both::join");
+    calls.refuse("Domain::join");
     calls.gave(one.join(&three).bounds(), (1, 3));
-    calls.refuse("Both::refine");
-    let above = Both::refine(Width::W64, Test::Jgt, true, &up_to_three, &one);
+    calls.refuse("Domain::refine");
+    let above = D::refine(Width::W64, Test::Jgt, true, &up_to_three, &one);
     calls.gave(above.map(|(above, _)| above.bounds()), Some((2, 3)));
 }
 
-fn operations_on_sets(calls: &mut Starved<'_>) {
-    let one = Both::single(1);
-    calls.refuse("Both::alu");
-    let sum = Both::alu(Width::W64, AluOp::Add, &one, &one);
+fn operations_on_sets<D: Domain>(calls: &mut Starved<'_>) {
+    let one = D::single(1);
+    calls.refuse("Domain::alu");
+    let sum = D::alu(Width::W64, AluOp::Add, &one, &one);
     calls.gave(sum.bounds(), (2, 2));
-    calls.refuse("Both::neg");
-    let negated = Both::neg(Width::W32, &one);
+    calls.refuse("Domain::neg");
+    let negated = D::neg(Width::W32, &one);
     calls.gave(negated.bounds(), (0xffff_ffff, 0xffff_ffff));
-    calls.refuse("Both::movsx");
-    calls.gave(Both::movsx(Width::W64, 8, &one).bounds(), (1, 1));
-    calls.refuse("Both::end");
-    calls.gave(Both::end(EndKind::Little, 16, &one).bounds(), (1, 1));
-    calls.refuse("Both::loaded");
-    calls.gave(Both::loaded(Size::Byte, false).bounds(), (0, 255));
+    calls.refuse("Domain::movsx");
+    calls.gave(D::movsx(Width::W64, 8, &one).bounds(), (1, 1));
+    calls.refuse("Domain::end");
+    calls.gave(D::end(EndKind::Little, 16, &one).bounds(), (1, 1));
+    calls.refuse("Domain::loaded");
+    calls.gave(D::loaded(Size::Byte, false).bounds(), (0, 255));
 }

@@ -4,7 +4,7 @@ ghost use Rattle.std.specs.List.{find};
 ghost use Rattle.std.specs.Option.{option_map};
 
 /// Every refusal: its number, and its words.
-pub const REFUSALS: [(u32, &'static str); 73] = [
+pub const REFUSALS: [(u32, &'static str); 81] = [
     (1, "empty: no byte, or a text without an instruction"),
     (2, "more than 1,024 slots"),
     (3, "an incomplete last slot"),
@@ -12,6 +12,10 @@ pub const REFUSALS: [(u32, &'static str); 73] = [
     (5, "a register above R10"),
     (6, "an unused field that isn't zero"),
     (7, "a wide load without its second slot"),
+    (
+        8,
+        "an object file without code in `.text`, with relocations, or of another machine",
+    ),
     (10, "a backward jump"),
     (11, "a jump to the end or past it"),
     (12, "a jump into a wide load"),
@@ -34,18 +38,24 @@ pub const REFUSALS: [(u32, &'static str); 73] = [
     (26, "an address as the answer"),
     (30, "the name is already registered"),
     (31, "the name isn't registered"),
-    (32, "the table is full: 4,096 names"),
+    (32, "the table is full: 4,096 names, or the side's limit"),
     (33, "an exchange is open"),
     (34, "no exchange is open"),
     (35, "the number isn't above every number begun so far"),
     (36, "the seeds differ"),
-    (37, "the two tables have more than 4,096 names together"),
+    (
+        37,
+        "the two tables have more names together than one may have: 4,096, or the side's limit",
+    ),
     (
         38,
         "the ruling isn't of this clash at one of its words, or differs from the board's",
     ),
     (39, "the exchange isn't complete"),
-    (40, "the journal is full: 65,536 events"),
+    (
+        40,
+        "the journal is full: 65,536 events, or 16 for each name of the side's limit",
+    ),
     (
         41,
         "an unknown program, or a word that is neither a built-in resolver nor a label",
@@ -84,7 +94,7 @@ pub const REFUSALS: [(u32, &'static str); 73] = [
     (72, "extra bytes after the message"),
     (
         73,
-        "a count above its limit: 4,096 rows or names, 8,192 bytes of code",
+        "a count above its limit: 1,048,576 rows or names, 8,192 bytes of code",
     ),
     (74, "an unknown side"),
     (75, "an invalid name in a message"),
@@ -95,10 +105,20 @@ pub const REFUSALS: [(u32, &'static str); 73] = [
     (80, "code that an earlier row already has"),
     (81, "code in a message that the verifier rejects"),
     (82, "an unsupported version of messages"),
+    (
+        83,
+        "a message that differs from the one of its kind and number that was heard",
+    ),
     (90, "out of memory"),
     (91, "an empty handle"),
     (92, "an index out of range"),
     (93, "a buffer of another length"),
+    (94, "a registered name has the program as its resolver"),
+    (95, "the replica isn't the primary of its view"),
+    (96, "an entry of another view"),
+    (97, "entries before this one are missing"),
+    (98, "a snapshot of the replica's own latest view"),
+    (99, "no number is left for a view or an entry"),
 ];
 
 /// Returns the words of a refusal's number, or "unknown refusal".

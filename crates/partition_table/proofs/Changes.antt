@@ -16,10 +16,11 @@ use Rattle.clash_record.specs.laws.Orders.{names_total, names_exact, ids_total, 
 use Rattle.upload_store.specs.Programs.{Programs, programs_by}
 use Rattle.clash_record.specs.Name.{Name}
 use Rattle.partition_table.specs.declared.programs.Kept.{Kept}
-use Rattle.partition_table.specs.Tables.{Row, Table, IsCodeOf, max_names, program_of, code_for, row_for, same_id}
+use Rattle.partition_table.specs.Tables.{Row, Table, IsCodeOf, most_names, program_of, code_for, row_for, same_id}
 use Rattle.partition_table.specs.model.Keeping.{IsNamed, IsHeld, IsKept, kept_code, rows_kept, rows_naming, is_of, with_code, has_room_for}
 use Rattle.partition_table.specs.Views.{table_by}
-use Rattle.partition_table.proofs.Maps.{made_inserted, made_removed, made_alike, get-insert_same, remove_insert}
+use Rattle.upload_store.specs.laws.Mapped.{made_inserted, made_removed}
+use Rattle.partition_table.proofs.Maps.{made_alike, get-insert_same, remove_insert}
 use Rattle.partition_table.proofs.Counts.{naming_more, few_naming}
 use Rattle.partition_table.proofs.Held.{IsLookedUp, get_row, same_id_is, same_id_from, named_program}
 
@@ -34,7 +35,7 @@ get-with_code programs (Program p) (Some c) id coded =
 
 -- one more row
 module _ (programs : Programs) (table : Table) (held : IsHeld programs table) (looked : IsLookedUp programs table)
-    (name : Name) (row : Row) (new : get table name ≡ None) (room : len table < max_names)
+    (name : Name) (row : Row) (new : get table name ≡ None) (room : len table < most_names)
     (coded : IsCodeOf row.registration.resolver row.code)
     (fits : has_room_for programs row.registration.resolver row.code) where
   abbrev after : Programs
@@ -150,8 +151,8 @@ module _ (programs : Programs) (table : Table) (held : IsHeld programs table) (l
 module _ (kept : List (ProgramId × Kept)) (table : Table) (held : IsHeld (programs_by kept_code kept) table)
     (looked : IsLookedUp (programs_by kept_code kept) table)
     (counted : (id : ProgramId) → rows_kept kept id ≡ rows_naming table id)
-    (name : Name) (row : Row) (new : get table name ≡ None) (room : len table < max_names) where
-  pub few_kept : (id : ProgramId) → rows_kept kept id < max_names
+    (name : Name) (row : Row) (new : get table name ≡ None) (room : len table < most_names) where
+  pub few_kept : (id : ProgramId) → rows_kept kept id < most_names
   few_kept id = omega (arith, counted id, few_naming table id, room)
 
   pub kept_more : (coded : IsCodeOf row.registration.resolver row.code)
@@ -188,7 +189,7 @@ module _ (programs : Programs) (table : Table) (held : IsHeld programs table) (l
       by true e = absurd (cc)
       by false e = e
 
-  less : len (remove table name) ≤ max_names
+  less : len (remove table name) ≤ most_names
   less =
       omega (
         arith,

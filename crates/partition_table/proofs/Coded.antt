@@ -1,9 +1,9 @@
 -- Clashes that have their code from the programs of one of two tables.
-use Rattle.std.proofs.Common.{◌≡◌, ◌⊎◌, Bool, true, false, if◌then◌else◌, Option, Some, None, List, [], ◌∷◌, All, refl, ap, sym, subst, ◌∙◌, inl, inr}
+use Rattle.std.proofs.Common.{◌≡◌, ◌⊎◌, ℕ, Bool, true, false, if◌then◌else◌, Option, Some, None, List, [], ◌∷◌, All, refl, ap, sym, subst, ◌∙◌, inl, inr}
 use Rattle.std.proofs.lemmas.List.Elements.{All-nil, All-cons, All-head, All-tail}
 use Rattle.std.specs.List.{filter_map, cons_option}
 use Rattle.std.specs.Ordering.{is_lt}
-use Rattle.std.specs.FinMap.{get}
+use Rattle.std.specs.FinMap.{get, keys}
 use Rattle.instruction_set.specs.declared.insn.Insn.{Insn}
 use Rattle.clash_record.specs.declared.registrations.ResolverId.{ResolverId}
 use Rattle.clash_record.specs.declared.registrations.ResolverId.TheVariants.{Builtin, Program}
@@ -12,7 +12,7 @@ use Rattle.clash_record.specs.Orders.{registration_cmp}
 use Rattle.clash_record.specs.Name.{Name}
 use Rattle.upload_store.specs.Programs.{Programs}
 use Rattle.partition_table.specs.declared.both.BothPrograms.{BothPrograms}
-use Rattle.partition_table.specs.Tables.{Row, Table, IsTable, Clash, IsCodeOf, code_for, clash_at, clash_of, same_registration}
+use Rattle.partition_table.specs.Tables.{Row, Table, IsTable, Clash, IsCodeOf, code_for, clash_at, clash_of, clashes, facts_of, same_registration}
 use Rattle.partition_table.specs.laws.Sameness.{registration_decides}
 use Rattle.partition_table.specs.model.Coding.{AreProgramsOf, BothAgree, IsCoded, IsDecided, IdsDecide, of_a, of_b}
 use Rattle.partition_table.specs.model.Keeping.{programs_agree}
@@ -84,6 +84,10 @@ module _ (a b : Table) (kept_a : IsTable a) (kept_b : IsTable b) (both : BothPro
       by (Some clash) e rest = All-cons (IsCoded both) clash
           (filter_map (λ name. clash_at of_a of_b name (get a name) (get b name)) names)
           (coded_at of_a of_b name (get a name) (get b name) refl refl clash e) rest
+
+  pub clashes_coded : (uptime_a uptime_b : ℕ) → All (IsCoded both) (clashes a uptime_a b uptime_b)
+  unfolding clashes
+  clashes_coded uptime_a uptime_b = all_coded (facts_of a uptime_a) (facts_of b uptime_b) (keys a)
 
 -- ---- where the ids of two lists decide
 

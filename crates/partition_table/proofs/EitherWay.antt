@@ -4,7 +4,7 @@ use Rattle.std.proofs.Math.Bool.{and_comm}
 use Rattle.std.proofs.Math.Nat.{add_right_comm}
 use Rattle.std.proofs.lemmas.List.Filters.{length-filter_both}
 use Rattle.std.proofs.lemmas.List.Kept.{IsStrictlySortedBy-filter}
-use Rattle.std.specs.FinMap.{keys, contains_key, contains_key-keys}
+use Rattle.std.specs.FinMap.{keys, len, contains_key, contains_key-keys}
 use Rattle.std.specs.Prelude.{nat_le}
 use Rattle.std.specs.List.{list_any}
 use Rattle.clash_record.specs.Name.{Name}
@@ -13,10 +13,12 @@ use Rattle.clash_record.specs.laws.Orders.{names_total}
 use Rattle.partition_table.specs.declared.fault.TableFault.{TableFault}
 use Rattle.partition_table.specs.declared.fault.TableFault.TheVariants.{TooManyNames, OtherCode}
 use Rattle.partition_table.specs.Faults.{fit_fault}
-use Rattle.partition_table.specs.Tables.{Table, max_names, is_name, rows_agree, agrees_with, tables_agree, union_len, fit_together}
+use Rattle.partition_table.specs.Tables.{Table, is_name, rows_agree, agrees_with, tables_agree, union_len, fit_within}
+use Rattle.partition_table.specs.model.Merging.{names_without}
 use Rattle.partition_table.proofs.Agreeing.{same_bool}
 use Rattle.partition_table.proofs.Held.{agree_from, agree_at}
 use Rattle.partition_table.proofs.Maps.{all_values_from, all_values_at}
+use Rattle.partition_table.proofs.OneClash.{keys_length}
 use Rattle.partition_table.proofs.Settling.{keys_sorted}
 use Rattle.partition_table.proofs.Sides.{any_kept, same_names}
 
@@ -50,6 +52,13 @@ union_back a b =
     ∙ ap (λ ns. length ns + length (alone b a) + length (alone a b)) (common_back a b)
     ∙ ap (λ n. n + length (alone a b)) (parts b a)
 
+-- the names of the second and those that the first has alone are all
+pub union_by_alone : (a b : Table) (count alone : ℕ) → count ≡ len b → alone ≡ length (names_without b (keys a)) →
+    union_len a b ≡ count + alone
+union_by_alone a b count alone counted found =
+    union_back a b ∙ ap (λ n. n + length (names_without b (keys a))) (keys_length b ∙ sym counted)
+    ∙ ap (λ n. count + n) (sym found)
+
 -- ---- programs
 
 agree_there : (a b : Table) → tables_agree a b ≡ true → tables_agree b a ≡ true
@@ -64,12 +73,12 @@ agree_back a b = same_bool (tables_agree a b) (tables_agree b a) (agree_there a 
 
 -- ---- both
 
-abbrev fault_of : ℕ → Bool → Option TableFault
-fault_of count agree =
-    if not (nat_le count max_names) then Some TooManyNames else (if not agree then Some OtherCode else None)
+abbrev fault_of : ℕ → ℕ → Bool → Option TableFault
+fault_of limit count agree =
+    if not (nat_le count limit) then Some TooManyNames else (if not agree then Some OtherCode else None)
 
-pub fit_back : (a b : Table) → fit_together a b ≡ fit_together b a
-fit_back a b i = nat_le (union_back a b i) max_names && agree_back a b i
+pub fit_back : (limit : ℕ) (a b : Table) → fit_within limit a b ≡ fit_within limit b a
+fit_back limit a b i = nat_le (union_back a b i) limit && agree_back a b i
 
-pub fit_fault_back : (a b : Table) → fit_fault a b ≡ fit_fault b a
-fit_fault_back a b i = fault_of (union_back a b i) (agree_back a b i)
+pub fit_fault_back : (limit : ℕ) (a b : Table) → fit_fault limit a b ≡ fit_fault limit b a
+fit_fault_back limit a b i = fault_of limit (union_back a b i) (agree_back a b i)

@@ -20,7 +20,8 @@ use Rattle.clash_record.specs.Name.{Name}
 use Rattle.partition_table.specs.Tables.{Row, Table, IsTable, IsCodeOf, program_of, code_for, row_for, rows_of, same_id, same_code, rows_agree, agrees_with}
 use Rattle.partition_table.specs.model.Keeping.{IsHeld, has_room_for, IsKeptFor}
 use Rattle.partition_table.specs.Views.{mapped, table_by}
-use Rattle.partition_table.proofs.Maps.{get-mapped, entries-mapped, len-mapped, all_values_from, all_values_at}
+use Rattle.upload_store.specs.laws.Mapped.{get-mapped, entries-mapped, len-mapped}
+use Rattle.partition_table.proofs.Maps.{all_values_from, all_values_at}
 
 -- each row has the code that the programs have under its id
 abbrev pub IsLookedUp : Programs → Table → Type 0

@@ -21,7 +21,8 @@ use Rattle.upload_store.specs.Programs.{Programs, programs_by}
 use Rattle.partition_table.specs.declared.programs.Kept.{Kept}
 use Rattle.partition_table.specs.model.Keeping.{kept_code, rows_kept, is_of, last_of, without_code, has_room_for}
 use Rattle.partition_table.specs.Views.{mapped}
-use Rattle.partition_table.proofs.Maps.{get-mapped, made_inserted, made_removed, insert_again, remove_absent}
+use Rattle.upload_store.specs.laws.Mapped.{get-mapped, made_inserted, made_removed}
+use Rattle.partition_table.proofs.Maps.{insert_again, remove_absent}
 
 pub is_none_by : {X : Type 0} (o : Option X) → is_some o ≡ false → o ≡ None
 is_none_by None h = refl

@@ -8,6 +8,7 @@ pub mod Equal
 pub mod Held
 pub mod Holding
 pub mod Maps
+pub mod MergeLen
 pub mod Merged
 pub mod OneClash
 pub mod Registering

@@ -1,103 +1,18 @@
 -- Finite maps, and the entries that they are made of.
-use Rattle.std.proofs.Common.{◌≡◌, suc, Bool, true, false, cond, ◌||◌, Option, Some, None, Result, Ok, Err, OnOk, OnErr, List, [], ◌∷◌, length, map, refl, ap, sym, subst, ◌∙◌}
+use Rattle.std.proofs.Common.{◌≡◌, Bool, true, false, cond, ◌||◌, Option, Some, None, Result, Ok, Err, OnOk, OnErr, List, [], ◌∷◌, map, refl, ap, sym, ◌∙◌}
 use Rattle.std.proofs.lemmas.Bool.{and_parts, and_from, or_parts}
-use Rattle.std.proofs.lemmas.Map.Keys.{sorted_head, sorted_tail}
-use lib.Dec.{T}
-use Rattle.std.specs.List.{AllByRecursion, list_all, list_any}
-use Rattle.std.specs.List.Sorted.{IsStrictlySortedBy}
+use Rattle.std.specs.List.{list_all, list_any}
 use Rattle.std.specs.Option.{option_map}
 use Rattle.std.specs.declared.cmp.Ordering.{Ordering}
 use Rattle.std.specs.declared.cmp.Ordering.TheVariants.{Less, Equal}
 use Rattle.std.specs.Ordering.{eq_by_cmp, is_eq, is_lt}
-use Rattle.std.specs.Cmp.{IsTotalOrder, eq_by_cmp_equiv, Equal-is, tied_itself}
-use Rattle.std.specs.Map.{lookup, keys_of}
+use Rattle.std.specs.Cmp.{IsTotalOrder, Equal-is, tied_itself}
+use Rattle.std.specs.Map.{lookup}
 use Rattle.std.specs.BTreeMap.{BTreeMap, is_at, Updates}
-use Rattle.std.specs.FinMap.{FinMap, IsAntisymmetric, get, insert, remove, len, entries, values, from_entries, from_sorted, len-entries, get-entries, get-from_entries, get-from_sorted, entries-from_sorted, entries_sorted, get-insert, get-remove, same_map}
+use Rattle.std.specs.FinMap.{FinMap, IsAntisymmetric, get, insert, remove, entries, values, from_entries, get-entries, entries_sorted, get-insert, get-remove, same_map}
 use Rattle.std.specs.FinMap.Entries.{find, is_sorted, below_all}
+use Rattle.upload_store.specs.laws.Mapped.{to_true, get-mapped}
 use Rattle.partition_table.specs.Views.{mapped}
-
-from_true : (b : Bool) → b ≡ true → T b
-from_true b e = subst T (sym e) tt
-
-pub to_true : (b : Bool) → T b → b ≡ true
-to_true true h = refl
-to_true false h = absurd h
-
-cond_map : {X Y : Type 0} (f : X → Y) (b : Bool) (x : X) (o : Option X) (p : Option Y) → p ≡ option_map f o
-    → cond b (Some (f x)) p ≡ option_map f (cond b (Some x) o)
-cond_map f true x o p h = refl
-cond_map f false x o p h = h
-
-length-mapped : {K X Y : Type 0} (f : X → Y) (es : List (K × X)) → length (mapped f es) ≡ length es
-length-mapped f [] = refl
-length-mapped f (e ∷ es) = ap suc (length-mapped f es)
-
-module _ {K X Y : Type 0} {R : K → K → Ordering} (o : IsTotalOrder R) (f : X → Y) where
-  find-mapped : (es : List (K × X)) (q : K) → find R q (mapped f es) ≡ option_map f (lookup (is_at (R q)) es)
-  find-mapped [] q = refl
-  find-mapped (e ∷ es) q =
-      cond_map f (eq_by_cmp R q e.0) e.1 (lookup (is_at (R q)) es) (find R q (mapped f es)) (find-mapped es q)
-
-  -- what the map that the entries make has at a key
-  pub get-mapped : (es : List (K × X)) (q : K)
-      → get (from_entries {R = R} (mapped f es)) q ≡ option_map f (lookup (is_at (R q)) es)
-  get-mapped es q = get-from_entries o (mapped f es) q ∙ find-mapped es q
-
-  below_all-mapped : (k : K) (es : List (K × X)) → AllByRecursion (λ y. R k y ≡ Less) (keys_of es)
-      → below_all R k (mapped f es) ≡ true
-  below_all-mapped k [] h = refl
-  below_all-mapped k (e ∷ es) h = and_from _ _ (ap is_lt h.0) (below_all-mapped k es h.1)
-
-  sorted-mapped : (es : List (K × X)) → IsStrictlySortedBy R (keys_of es) → is_sorted R (mapped f es) ≡ true
-  sorted-mapped [] h = refl
-  sorted-mapped (e ∷ es) h =
-      and_from _ _ (below_all-mapped e.0 es (sorted_head R e.0 (keys_of es) h))
-      (sorted-mapped es (sorted_tail R e.0 (keys_of es) h))
-
-  module _ (exact : IsAntisymmetric R) where
-    -- entries in order are those of the map that they make
-    pub entries-mapped : (es : List (K × X)) → IsStrictlySortedBy R (keys_of es)
-        → entries (from_entries {R = R} (mapped f es)) ≡ mapped f es
-    entries-mapped es h =
-        let sorted = from_true (is_sorted R (mapped f es)) (sorted-mapped es h) in
-        ap entries (same_map o exact (from_entries (mapped f es)) (from_sorted (mapped f es))
-        (λ q. get-from_entries o (mapped f es) q ∙ sym (get-from_sorted R (mapped f es) q sorted)))
-        ∙ entries-from_sorted R (mapped f es) sorted
-
-    pub len-mapped : (es : List (K × X)) → IsStrictlySortedBy R (keys_of es)
-        → len (from_entries {R = R} (mapped f es)) ≡ length es
-    len-mapped es h =
-        len-entries (from_entries (mapped f es)) ∙ ap length (entries-mapped es h) ∙ length-mapped f es
-
-    pub made_inserted : (m n : BTreeMap K X) (k : K) (x : X) → Updates R m n k (Some x)
-        → from_entries {R = R} (mapped f n.entries) ≡ insert (from_entries (mapped f m.entries)) k (f x)
-    made_inserted m n k x updates = same_map o exact _ _ (λ q.
-        get-mapped n.entries q ∙ ap (option_map f) (updates.0 q)
-        ∙ sym (cond_map f (is_at (R k) q) x (lookup (is_at (R q)) m.entries)
-        (get (from_entries {R = R} (mapped f m.entries)) q) (get-mapped m.entries q))
-        ∙ ap (λ b. cond b (Some (f x)) (get (from_entries {R = R} (mapped f m.entries)) q))
-        ((eq_by_cmp_equiv o).symm k q)
-        ∙ sym (get-insert o (from_entries (mapped f m.entries)) k (f x) q))
-
-    -- entries that have the same at each key make one map
-    pub made_same : (m n : BTreeMap K X)
-        → ((q : K) → lookup (is_at (R q)) n.entries ≡ lookup (is_at (R q)) m.entries)
-        → from_entries {R = R} (mapped f n.entries) ≡ from_entries (mapped f m.entries)
-    made_same m n same = same_map o exact _ _ (λ q.
-        get-mapped n.entries q ∙ ap (option_map f) (same q) ∙ sym (get-mapped m.entries q))
-
-    none_map : (b : Bool) (p : Option X) → option_map f (cond b None p) ≡ cond b None (option_map f p)
-    none_map true p = refl
-    none_map false p = refl
-
-    pub made_removed : (m n : BTreeMap K X) (k : K) → Updates R m n k None
-        → from_entries {R = R} (mapped f n.entries) ≡ remove (from_entries (mapped f m.entries)) k
-    made_removed m n k updates = same_map o exact _ _ (λ q.
-        get-mapped n.entries q ∙ ap (option_map f) (updates.0 q)
-        ∙ none_map (is_at (R k) q) (lookup (is_at (R q)) m.entries)
-        ∙ ap (cond (is_at (R k) q) None) (sym (get-mapped m.entries q))
-        ∙ ap (λ b. cond b None (get (from_entries {R = R} (mapped f m.entries)) q)) ((eq_by_cmp_equiv o).symm k q)
-        ∙ sym (get-remove o (from_entries (mapped f m.entries)) k q))
 
 -- a value that is written over and then written back leaves the map unchanged
 pub put_back : {K X : Type 0} {R : K → K → Ordering} → IsAntisymmetric R

@@ -1,6 +1,6 @@
 -- The table made name by name is the merge.
-use Rattle.std.proofs.Common.{◌≡◌, ℕ, ◌≤◌, Bool, true, false, cond, if◌then◌else◌, not, ◌||◌, filter, Option, Some, None, is_some, List, [], ◌∷◌, ◌++◌, refl, ap, sym, ◌∙◌, arith}
-use Rattle.std.proofs.lemmas.Bool.{and_parts, or_parts, or_from, leb-true}
+use Rattle.std.proofs.Common.{◌≡◌, ℕ, ◌≤◌, Bool, true, false, cond, if◌then◌else◌, nat_le, not, ◌||◌, filter, Option, Some, None, is_some, List, [], ◌∷◌, ◌++◌, refl, ap, sym, ◌∙◌, arith}
+use Rattle.std.proofs.lemmas.Bool.{and_parts, and_from, or_parts, or_from, leb-true, le-leb}
 use Rattle.std.proofs.lemmas.Map.Keys.{sorted_head, sorted_tail}
 use Rattle.std.proofs.lemmas.List.Kept.{IsStrictlySortedBy-filter}
 use Rattle.std.specs.List.{AllByRecursion, list_any}
@@ -14,7 +14,7 @@ use Rattle.clash_record.specs.laws.Orders.{names_total, names_exact}
 use Rattle.builtin_resolvers.specs.declared.verdicts.Verdict3.{Verdict3}
 use Rattle.builtin_resolvers.specs.declared.verdicts.Verdict3.TheVariants.{Neither}
 use Rattle.clash_record.specs.Name.{Name}
-use Rattle.partition_table.specs.Tables.{Row, Table, max_names, is_name, is_in, same_registration, differ, clash_names, answer_at, merged_at, winner, unless_gone, Gone, kept_at, IsMerge, with_row, tabulated, merge, union_len, fit_together}
+use Rattle.partition_table.specs.Tables.{Row, Table, most_names, is_name, is_in, same_registration, differ, clash_names, answer_at, merged_at, winner, unless_gone, Gone, kept_at, IsMerge, with_row, tabulated, merge, union_len, tables_agree, fit_within, fit_together}
 use Rattle.partition_table.specs.model.Merging.{IsReady, first_answer, answers_behind, answers_left, kept_with, settled, put_all, names_without, each_kept}
 use Rattle.partition_table.proofs.Maps.{get-insert_same}
 use Rattle.partition_table.proofs.Walks.{flipped}
@@ -218,8 +218,8 @@ module _ (a b : Table) (gone_a gone_b : Name → Bool) (answers : List Verdict3)
       by false e ih = (lacked_first n e, ih)
 
   -- after the names of the first there is room for those of the second alone
-  pub ready_others : (room : ℕ) → IsReady a b [] room first_pass → room ≡ len a → union_len a b ≤ max_names
-      → IsReady a b (names_without a (keys b)) max_names first_pass
+  pub ready_others : (room : ℕ) → IsReady a b [] room first_pass → room ≡ len a → union_len a b ≤ most_names
+      → IsReady a b (names_without a (keys b)) most_names first_pass
   ready_others room ready is few = record {
     part = ready.part;
     fresh = others_lacked (keys b);
@@ -329,5 +329,12 @@ passes_merge a b gone_a gone_b answers gone first second =
     (merged_at (get a q) (get b q) (answer_at (clash_names a b) answers q))) (second q))
 
 -- tables that fit together have few names
-pub fit_few : (a b : Table) → fit_together a b ≡ true → union_len a b ≤ max_names
-fit_few a b h = leb-true (union_len a b) max_names (and_parts _ _ h).0
+pub fit_few : (a b : Table) → fit_together a b ≡ true → union_len a b ≤ most_names
+fit_few a b h = leb-true (union_len a b) most_names (and_parts _ _ h).0
+
+-- tables that fit into a limit fit together
+pub fits_together : (limit : ℕ) (a b : Table) → limit ≤ most_names → fit_within limit a b ≡ true → fit_together a b ≡ true
+fits_together limit a b most h =
+    let parts = and_parts (nat_le (union_len a b) limit) (tables_agree a b) h in
+    and_from (nat_le (union_len a b) most_names) (tables_agree a b)
+    (le-leb (union_len a b) most_names (omega (arith, leb-true (union_len a b) limit parts.0, most))) parts.1

@@ -1,5 +1,5 @@
 -- The clash of one name.
-use Rattle.std.proofs.Common.{◌≡◌, ◌≤◌, suc, Bool, true, false, cond, not, filter, Option, Some, None, List, [], ◌∷◌, ◌++◌, length, map, refl, ap, sym, ◌∙◌, arith, append-nil}
+use Rattle.std.proofs.Common.{◌≡◌, ℕ, ◌≤◌, ◌+◌, suc, Bool, true, false, cond, not, filter, Option, Some, None, List, [], ◌∷◌, ◌++◌, length, map, refl, ap, sym, ◌∙◌, arith, append-nil}
 use Rattle.std.specs.Option.{option_map}
 use Rattle.std.specs.List.{filter_map, cons_option}
 use Rattle.std.specs.FinMap.{len, keys, contains_key, entries, len-entries}
@@ -9,7 +9,12 @@ use Rattle.clash_record.specs.declared.registrations.Registration.{Registration}
 use Rattle.clash_record.specs.declared.records.Facts.{Facts}
 use Rattle.clash_record.specs.Orders.{registration_cmp}
 use Rattle.clash_record.specs.Name.{Name}
-use Rattle.partition_table.specs.Tables.{Row, Table, IsTable, Clash, clash_at, max_names, union_len}
+use Rattle.std.specs.Prelude.{nat_le, if◌then◌else◌}
+use Rattle.partition_table.specs.declared.fault.TableFault.TheVariants.{TooManyNames}
+use Rattle.partition_table.specs.Faults.{fit_fault}
+use Rattle.partition_table.specs.Tables.{Row, Table, IsTable, Clash, clash_at, clashes, facts_of, most_names, tables_agree, union_len}
+use Rattle.partition_table.specs.model.Judging.{clash_by_name}
+use Rattle.partition_table.specs.model.Merging.{names_without}
 
 few_kept : {X Y : Type 0} (h : X → Option Y) (xs : List X) → length (filter_map h xs) ≤ length xs
 few_kept h [] = omega arith
@@ -30,7 +35,7 @@ keys_length table = named_length (entries table) ∙ sym (len-entries table)
 
 -- at most as many clashes as names
 pub few_found : (by_name : Name → Option Clash) (table : Table) → IsTable table
-    → length (filter_map by_name (keys table)) ≤ max_names
+    → length (filter_map by_name (keys table)) ≤ most_names
 few_found by_name table kept = omega (arith, few_kept by_name (keys table), keys_length table, kept.few)
 
 -- where nothing is left, all was found
@@ -90,7 +95,7 @@ few_filtered p (x ∷ xs) = by (p x) (few_filtered p xs)
     by false h = omega arith
 
 -- two tables have few names together
-pub union_few : (a b : Table) → IsTable a → IsTable b → union_len a b ≤ 8192
+pub union_few : (a b : Table) → IsTable a → IsTable b → union_len a b ≤ 2097152
 union_few a b kept_a kept_b =
     omega (
       arith,
@@ -100,3 +105,35 @@ union_few a b kept_a kept_b =
       kept_a.few,
       kept_b.few,
     )
+
+-- few names of a table are lacking in another
+pub alone_few : (b a : Table) → IsTable a → length (names_without b (keys a)) ≤ most_names
+alone_few b a kept =
+    omega (arith, few_filtered (λ name. not (contains_key b name)) (keys a), keys_length a, kept.few)
+
+-- where nothing is left, all of them are counted
+pub none_alone : (b : Table) (alone : ℕ) (left : List (Name × Registration × Option Registration))
+    (names : List Name) → alone + length (names_without b (map (λ item. item.0) left)) ≡ length (names_without b names) →
+    left ≡ [] → alone ≡ length (names_without b names)
+none_alone b alone left names counted none =
+    let here : alone + length (names_without b []) ≡ length (names_without b names) =
+    ap (λ (items : List (Name × Registration × Option Registration)). alone + length (names_without b (map (λ item. item.0) items)))
+    (sym none) ∙ counted in
+    omega (arith, here)
+
+-- two tables have at most as many clashes as names
+pub few_clashes : (a b : Table) (uptime_a uptime_b : ℕ) → IsTable a → length (clashes a uptime_a b uptime_b) ≤ most_names
+unfolding clashes
+few_clashes a b uptime_a uptime_b kept =
+    few_found (clash_by_name (facts_of a uptime_a) a (facts_of b uptime_b) b) a kept
+
+-- ---- fitting into a limit
+
+-- two tables that agree fit into a limit just where their names do
+pub fits_by_count : (limit : ℕ) (a b : Table) (count : ℕ) → union_len a b ≡ count → tables_agree a b ≡ true →
+    (few : Bool) → nat_le count limit ≡ few → fit_fault limit a b ≡ (if few then None else Some TooManyNames)
+fits_by_count limit a b count is agree few test = by few (ap (λ n. nat_le n limit) is ∙ test)
+  where
+    by : (few : Bool) → nat_le (union_len a b) limit ≡ few → fit_fault limit a b ≡ (if few then None else Some TooManyNames)
+    by true e = rw (e, agree) refl
+    by false e = rw e refl

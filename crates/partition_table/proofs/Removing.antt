@@ -15,7 +15,7 @@ use Rattle.partition_table.specs.declared.programs.Kept.{Kept}
 use Rattle.partition_table.specs.Tables.{Row, Table, program_of, row_for, same_id}
 use Rattle.partition_table.specs.model.Keeping.{IsNamed, IsHeld, IsKept, kept_code, rows_kept, rows_naming, is_of, last_of, without_code}
 use Rattle.partition_table.specs.Views.{table_by}
-use Rattle.partition_table.proofs.Maps.{made_removed}
+use Rattle.upload_store.specs.laws.Mapped.{made_removed}
 use Rattle.partition_table.proofs.Held.{IsLookedUp, same_id_from}
 use Rattle.partition_table.proofs.Changes.{held_less, held_released, made_released}
 use Rattle.partition_table.proofs.Counts.{naming_less, named_by_count, unnamed_by_count}

@@ -20,7 +20,7 @@ use Rattle.partition_table.specs.Tables.{Row, Table, merged_at, winner, same_reg
 use Rattle.partition_table.specs.model.Walking.{IsPaired}
 use Rattle.partition_table.specs.model.Merging.{IsRowOf, IsReady, answers_left, names_without}
 use Rattle.partition_table.proofs.Walks.{flipped, is_less}
-use Rattle.partition_table.proofs.Maps.{to_true}
+use Rattle.upload_store.specs.laws.Mapped.{to_true}
 use Rattle.partition_table.proofs.OneClash.{keys_length}
 use Rattle.partition_table.proofs.Uniting.{row_with}
 

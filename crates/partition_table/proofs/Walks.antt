@@ -16,7 +16,7 @@ use Rattle.clash_record.specs.Name.{Name}
 use Rattle.partition_table.specs.Tables.{Row, Table, rows_of}
 use Rattle.partition_table.specs.Views.{mapped}
 use Rattle.partition_table.specs.model.Walking.{drop_before, first_at, walk, IsPaired}
-use Rattle.partition_table.proofs.Maps.{to_true}
+use Rattle.upload_store.specs.laws.Mapped.{to_true}
 
 -- the test of the order, read
 pub is_less : (o : Ordering) → is_lt o ≡ true → o ≡ Less

@@ -8,7 +8,7 @@ use Rattle.upload_store.specs.Programs.{Programs}
 use Rattle.partition_table.specs.declared.fault.TableFault.{TableFault}
 use Rattle.partition_table.specs.declared.fault.TableFault.TheVariants.{NameTaken, NoSuchName, Full, TooManyNames, UnknownProgram, OtherCode, OutOfMemory}
 use Rattle.clash_record.specs.Name.{Name}
-use Rattle.partition_table.specs.Tables.{Row, Table, max_names, row_for, agrees_with, tables_agree, union_len}
+use Rattle.partition_table.specs.Tables.{Row, Table, row_for, agrees_with, tables_agree, union_len}
 
 -- the number of a refusal
 abbrev pub table_fault_number : TableFault → ℕ
@@ -30,11 +30,11 @@ abbrev pub is_known : Programs → ResolverId → Bool
 is_known store (Builtin b) = true
 is_known store (Program id) = contains_key store id
 
--- the refusal that registering a name is due
-abbrev pub register_fault : Table → Name → Registration → Programs → Option TableFault
-register_fault table name r store =
+-- the refusal that registering a name is due, in a table of at most this many names
+abbrev pub register_fault : ℕ → Table → Name → Registration → Programs → Option TableFault
+register_fault limit table name r store =
     if contains_key table name then Some NameTaken
-    else (if not (nat_lt (len table) max_names) then Some Full
+    else (if not (nat_lt (len table) limit) then Some Full
     else (if not (is_known store r.resolver) then Some UnknownProgram
     else (if not (agrees_with table (row_for store r)) then Some OtherCode else None)))
 
@@ -43,8 +43,8 @@ abbrev pub unregister_answer : Option Row → Result Registration TableFault
 unregister_answer (Some row) = Ok row.registration
 unregister_answer None = Err NoSuchName
 
--- the refusal that two tables which don't fit together are due
-abbrev pub fit_fault : Table → Table → Option TableFault
-fit_fault a b =
-    if not (nat_le (union_len a b) max_names) then Some TooManyNames
+-- the refusal that is due to two tables which don't fit into one of at most this many names
+abbrev pub fit_fault : ℕ → Table → Table → Option TableFault
+fit_fault limit a b =
+    if not (nat_le (union_len a b) limit) then Some TooManyNames
     else (if not (tables_agree a b) then Some OtherCode else None)

@@ -31,7 +31,11 @@ pub record Row : Type 0 where
 abbrev pub Table : Type 0
 Table = FinMap name_cmp Row
 
--- the most names that a table holds
+-- the most names that a table holds, whatever its owner chooses
+abbrev pub most_names : ℕ
+most_names = 1048576
+
+-- the most names of a table whose owner chooses nothing
 abbrev pub max_names : ℕ
 max_names = 4096
 
@@ -72,14 +76,14 @@ IsCodeOf (Program id) (Some code) = IsProgram id code
 
 -- what a table keeps
 pub record IsTable (table : Table) : Type 0 where
-  pub few : len table ≤ max_names
+  pub few : len table ≤ most_names
   pub coded : (name : Name) (row : Row) → get table name ≡ Some row → IsCodeOf row.registration.resolver row.code
   pub one_code : IsTrue (tables_agree table table)
 
 -- the row has its code, and may be added to a table under this name
 pub record IsNewRow (table : Table) (name : Name) (row : Row) : Type 0 where
   pub new : get table name ≡ None
-  pub room : len table < max_names
+  pub room : len table < most_names
   pub coded : IsCodeOf row.registration.resolver row.code
   pub agrees : IsTrue (agrees_with table row)
 
@@ -267,6 +271,10 @@ merge a b answers gone = tabulated (keys a ++ keys b) (kept_at a b answers gone)
 abbrev pub union_len : Table → Table → ℕ
 union_len a b = length (keys a) + length (filter (λ name. not (contains_key a name)) (keys b))
 
--- the union of names fits into a table, and no program has two codes
+-- the two have at most this many names together, and no program has two codes
+abbrev pub fit_within : ℕ → Table → Table → Bool
+fit_within limit a b = nat_le (union_len a b) limit && tables_agree a b
+
+-- they have a merge: the union of names fits into a table
 abbrev pub fit_together : Table → Table → Bool
-fit_together a b = nat_le (union_len a b) max_names && tables_agree a b
+fit_together = fit_within most_names

@@ -1,5 +1,5 @@
 -- What contracts see of tables and clashes, and how these are compared.
-use Rattle.std.specs.Prelude.{ℕ, Option, List, map as map_list, refl}
+use Rattle.std.specs.Prelude.{ℕ, Option, List, refl}
 use Rattle.std.specs.Coded.{Coded, code_by, coded×, coded_ℕ, coded_list, coded_option}
 use Rattle.std.specs.FinMap.{from_entries, code}
 use Rattle.instruction_set.specs.declared.insn.Insn.{Insn}
@@ -8,6 +8,7 @@ use Rattle.clash_record.specs.declared.registrations.Registration.{Registration}
 use Rattle.clash_record.specs.declared.records.Facts.{Facts}
 use Rattle.clash_record.specs.laws.Codings.{coded_name, coded_registration}
 use Rattle.clash_record.specs.Name.{Name}
+pub use Rattle.upload_store.specs.Programs.{mapped}
 use Rattle.upload_store.specs.Programs.{Programs}
 use Rattle.partition_table.specs.Tables.{Row, Table, Clash, row_for}
 
@@ -20,10 +21,6 @@ coded_row =
 -- equality of tables
 abbrev pub coded_table : Coded Table
 coded_table = code coded_name coded_row
-
--- entries with another value at each key
-abbrev pub mapped : {K X Y : Type 0} → (X → Y) → List (K × X) → List (K × Y)
-mapped f entries = map_list (λ e. (e.0, f e.1)) entries
 
 -- the table that registrations make, with the code of these programs
 abbrev pub table_by : Programs → List (Name × Registration) → Table

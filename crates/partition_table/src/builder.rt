@@ -77,7 +77,7 @@ impl TableBuilder {
 
     /// States what the type guarantees of the rows. Does nothing at run time.
     pub fn known(&self)
-        // At most 4,096 names; each row has the program that it names; no id has two codes.
+        // At most 1,048,576 names; each row has the program that it names; no id has two codes.
         ensures { IsTable self.now }
     {
         let _ = &self.rows;

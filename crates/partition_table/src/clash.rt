@@ -4,7 +4,7 @@ ghost use Rattle.std.specs.Option.{option_map};
 ghost use Rattle.std.specs.Arc.{arc_value};
 ghost use Rattle.std.specs.Slice.Iter.{iter_rest};
 ghost use Rattle.clash_record.specs.Record.{clash_bytes};
-ghost use Rattle.partition_table.specs.Tables.{max_names};
+ghost use Rattle.partition_table.specs.Tables.{most_names};
 ghost use Rattle.partition_table.specs.Tables as tables;
 ghost use Rattle.partition_table.specs.model.Coding.{IsCoded};
 
@@ -194,7 +194,7 @@ impl Drop for ClashList {
 impl Model for ClashList {
     ghost use Rattle.std.specs.Prelude.{◌≤◌, List, length, All};
     ghost use Rattle.std.specs.Coded.{coded_list};
-    ghost use Rattle.partition_table.specs.Tables.{Clash, max_names};
+    ghost use Rattle.partition_table.specs.Tables.{Clash, most_names};
     ghost use Rattle.partition_table.specs.model.Coding.{IsCoded};
     ghost use Rattle.partition_table.specs.Views.{coded_clash};
 
@@ -204,13 +204,13 @@ impl Model for ClashList {
 
     ghost view = { λ l. l.clashes.items };
 
-    ghost invariant = { λ l. (length l.clashes.items ≤ max_names) × All (IsCoded l.programs) l.clashes.items };
+    ghost invariant = { λ l. (length l.clashes.items ≤ most_names) × All (IsCoded l.programs) l.clashes.items };
 }
 
 impl ClashList {
     // Returns the list of these clashes, of two tables with these programs.
     pub(crate) fn new(clashes: Vec<Clash>, programs: BothPrograms) -> ClashList
-        requires few { length clashes.items ≤ max_names }
+        requires few { length clashes.items ≤ most_names }
         requires coded { All (IsCoded programs) clashes.items }
         ensures { result ≡ clashes.items }
     {
@@ -231,10 +231,10 @@ impl ClashList {
         &self.programs
     }
 
-    /// Returns the number of clashes, at most 4,096.
+    /// Returns the number of clashes, at most 1,048,576.
     pub fn len(&self) -> usize
         ensures count { result ≡ length self.now }
-        ensures few { result ≤ max_names }
+        ensures few { result ≤ most_names }
     {
         self.clashes.len()
     }

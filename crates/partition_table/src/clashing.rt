@@ -2,10 +2,16 @@
 ghost use Rattle.std.specs.Prelude.{◌≡◌, Some, IfOk, length};
 ghost use Rattle.std.specs.Option.{option_map};
 ghost use Rattle.std.specs.FinMap as map;
+ghost use Rattle.numbered.specs.Answers.{IsAnswered};
+ghost use Rattle.partition_table.specs.Faults.{fit_fault, table_fault_number};
 ghost use Rattle.partition_table.specs.Tables.{IsTable, facts_of, clash_at, clashes, clash_names};
+ghost use Rattle.partition_table.specs.model.Merging.{names_without};
 
 use crate::both::BothPrograms;
 use crate::clash::{Clash, ClashList};
+use crate::fault::TableFault;
+use crate::fitting::fit_within;
+use crate::limit::NameLimit;
 use crate::order::order;
 use crate::paired::Paired;
 use crate::table::Table;
@@ -20,10 +26,26 @@ struct Half<'a> {
     facts: Facts,
 }
 
+impl<'a> Half<'a> {
+    // Returns the half of this table and uptime.
+    fn new(table: &'a Table, uptime: u64) -> Half<'a>
+        ensures table { result.table ≡ table.entry }
+        ensures facts { result.facts ≡ facts_of table.entry.now uptime }
+    {
+        Half {
+            table,
+            facts: Facts {
+                size: table.len() as u64,
+                uptime,
+            },
+        }
+    }
+}
+
 /// Returns the clashes of two tables, in the order of names, with the uptime of each half.
 ///
-/// Walks both tables once. Allocates the list and copies of both maps of programs. Adds an owner to a program for each clash
-/// that it judges.
+/// Walks both tables once. Allocates the list and copies of both maps of programs, and adds an owner to a program for each
+/// clash that it judges.
 pub fn clashes(
     alloc: Global,
     a: &Table,
@@ -36,35 +58,79 @@ pub fn clashes(
     ensures count { IfOk result (λ list. length list ≡ length (clash_names a.now b.now)) }
 {
     let programs = BothPrograms::of(a, b)?;
-    let half_a = Half {
-        table: a,
-        facts: facts(a, uptime_a),
-    };
-    let half_b = Half {
-        table: b,
-        facts: facts(b, uptime_b),
-    };
+    let walked = walk(alloc, a, uptime_a, b, uptime_b)?;
+    Ok(ClashList::new(walked.clashes, programs))
+}
+
+/// Returns the clashes of two tables that have a merge of at most `limit` names, as `clashes` does.
+///
+/// Refusals, the least first: 37 if they have more names together, 42 if they have two codes under one id. Returns 90 when
+/// out of memory. Walks both tables once.
+pub fn clashes_within(
+    alloc: Global,
+    limit: NameLimit,
+    a: &Table,
+    uptime_a: u64,
+    b: &Table,
+    uptime_b: u64,
+) -> Result<ClashList, TableFault>
+    ensures answer { IsAnswered table_fault_number (fit_fault limit.names a.now b.now) result }
+    ensures clashes { IfOk result (λ list. list ≡ clashes a.now uptime_a b.now uptime_b) }
+{
+    if !a.agrees_with(b) {
+        // Which of the two refusals it is depends on the number of names.
+        let Err(fault) = fit_within(limit, a, b) else {
+            unreachable!()
+        };
+        return Err(fault);
+    }
+    let programs = BothPrograms::of(a, b)?;
+    let walked = walk(alloc, a, uptime_a, b, uptime_b)?;
+    if b.len() + walked.alone > limit.names() {
+        return Err(TableFault::TooManyNames);
+    }
+    Ok(ClashList::new(walked.clashes, programs))
+}
+
+// What a walk over two tables finds: the clashes, and how many names the first has alone.
+#[derive(Drop)]
+struct Walked {
+    clashes: Vec<Clash>,
+    alone: usize,
+}
+
+// Walks both tables once.
+fn walk(
+    alloc: Global,
+    a: &Table,
+    uptime_a: u64,
+    b: &Table,
+    uptime_b: u64,
+) -> Result<Walked, AllocError>
+    ensures clashes { IfOk result (λ walked. walked.clashes.items ≡ clashes a.now uptime_a b.now uptime_b) }
+    ensures alone { IfOk result (λ walked. walked.alone ≡ length (names_without b.now (map.keys a.now))) }
+    ensures kept { IfOk result (λ walked. IsTable a.now × IsTable b.now) }
+{
+    // For the prover: both are tables.
+    a.len();
+    b.len();
+    let half_a = Half::new(a, uptime_a);
+    let half_b = Half::new(b, uptime_b);
     let mut found = Vec::new(alloc);
+    let mut alone = 0;
     for (name, mine, other) in Paired::new(half_a.table, half_b.table) {
         let Some(other) = other else {
+            alone += 1;
             continue;
         };
         if let Some(clash) = clash_of(name, mine, half_a, other, half_b)? {
             found.push(clash)?;
         }
     }
-    Ok(ClashList::new(found, programs))
-}
-
-// Returns the size of the table and the uptime of its half.
-fn facts(table: &Table, uptime: u64) -> Facts
-    ensures facts { result ≡ facts_of table.now uptime }
-    ensures kept { IsTable table.now }
-{
-    Facts {
-        size: table.len() as u64,
-        uptime,
-    }
+    Ok(Walked {
+        clashes: found,
+        alone,
+    })
 }
 
 // Returns the clash of a name that both halves have, unless the registrations are equal.

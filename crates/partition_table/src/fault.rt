@@ -15,9 +15,9 @@ pub enum TableFault {
     NameTaken,
     /// 31: the name isn't registered.
     NoSuchName,
-    /// 32: the table has 4,096 names.
+    /// 32: the table has as many names as it may have: 4,096, or the limit that its owner chose.
     Full,
-    /// 37: two tables have more than 4,096 names together.
+    /// 37: two tables have more names together than one may have.
     TooManyNames,
     /// 41: the store has no program with this id.
     UnknownProgram,

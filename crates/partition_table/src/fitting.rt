@@ -2,21 +2,30 @@
 ghost use Rattle.std.specs.Prelude.{◌≡◌, ◌↔◌, ◌<◌, ◌^◌, IsTrue, IsOk};
 ghost use Rattle.std.specs.Option.{option_map};
 ghost use Rattle.std.specs.FinMap as map;
-ghost use Rattle.partition_table.specs.Tables.{IsTable, fit_together, tables_agree, union_len};
+ghost use Rattle.partition_table.specs.Tables.{IsTable, fit_within, max_names, tables_agree, union_len};
 ghost use Rattle.partition_table.specs.Faults.{IsRefused, fit_fault};
 
 use crate::fault::TableFault;
 use crate::paired::Paired;
-use crate::table::{MAX_NAMES, Table};
+use crate::limit::NameLimit;
+use crate::table::Table;
 
-/// Checks that two tables have a merge. Allocates nothing.
-///
-/// Refusals, the least first: 37 if they have more than 4,096 names together, 42 if they have two codes under one id.
+/// Checks that two tables have a merge of at most 4,096 names. See `fit_within`.
 pub fn fit(a: &Table, b: &Table) -> Result<(), TableFault>
-    ensures answer { IsRefused (fit_fault a.now b.now) result }
-    ensures fits { IsOk result ↔ IsTrue (fit_together a.now b.now) }
+    ensures answer { IsRefused (fit_fault max_names a.now b.now) result }
+    ensures fits { IsOk result ↔ IsTrue (fit_within max_names a.now b.now) }
 {
-    if count_names(a, b) > MAX_NAMES {
+    fit_within(NameLimit::default(), a, b)
+}
+
+/// Checks that two tables have a merge of at most `limit` names. Walks both tables once, and allocates nothing.
+///
+/// Refusals, the least first: 37 if they have more names together, 42 if they have two codes under one id.
+pub fn fit_within(limit: NameLimit, a: &Table, b: &Table) -> Result<(), TableFault>
+    ensures answer { IsRefused (fit_fault limit.names a.now b.now) result }
+    ensures fits { IsOk result ↔ IsTrue (fit_within limit.names a.now b.now) }
+{
+    if count_names(a, b) > limit.names() {
         return Err(TableFault::TooManyNames);
     }
     if !a.agrees_with(b) {
@@ -30,7 +39,7 @@ fn count_names(a: &Table, b: &Table) -> usize
     ensures count { result ≡ union_len a.now b.now }
 {
     let mut count = a.len();
-    // For the prover: at most 4,096 are added.
+    // For the prover: at most 1,048,576 are added.
     b.len();
     for (_, _, mine) in Paired::new(b, a) {
         if mine.is_none() {

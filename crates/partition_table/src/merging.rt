@@ -7,7 +7,7 @@ ghost use Rattle.std.specs.BTreeSet.{contains};
 ghost use Rattle.std.specs.Slice.Iter.{iter_rest};
 ghost use Rattle.clash_record.specs.Orders.{name_cmp};
 ghost use Rattle.clash_record.specs.Name.{Name};
-ghost use Rattle.partition_table.specs.Tables.{IsTable, Row, max_names, tables_agree, differ, fit_together, clash_names, is_in};
+ghost use Rattle.partition_table.specs.Tables.{IsTable, Row, max_names, most_names, tables_agree, differ, fit_together, clash_names, is_in};
 ghost use Rattle.partition_table.specs.Tables.{merged_at, unless_gone, with_row, merge};
 ghost use Rattle.numbered.specs.Answers.{IsAnswered};
 ghost use Rattle.partition_table.specs.Faults.{fit_fault, table_fault_number};
@@ -47,7 +47,7 @@ pub fn merge(
     gone_b: &[Name],
 ) -> Result<Table, TableFault>
     requires { length answers.now ≡ length (clash_names a.now b.now) }
-    ensures answer { IsAnswered table_fault_number (fit_fault a.now b.now) result }
+    ensures answer { IsAnswered table_fault_number (fit_fault max_names a.now b.now) result }
     ensures merged { IfOk result (λ table. table ≡ merge a.now b.now answers.now
         record { of_a = gone_a.now; of_b = gone_b.now }) }
 {
@@ -119,7 +119,7 @@ impl<'a> Parents<'a> {
     fn put_names_of_b_alone(&self, merged: &mut TableBuilder) -> Result<(), AllocError>
         requires agree { IsTrue (tables_agree self.now.a.now self.now.b.now) }
         requires ready { IsReady self.now.a.now self.now.b.now
-            (names_without self.now.a.now (map.keys self.now.b.now)) max_names merged.old }
+            (names_without self.now.a.now (map.keys self.now.b.now)) most_names merged.old }
         ensures { OnOk result (merged.new ≡ put_all (each_kept (λ name. unless_gone None (map.get self.now.b.now name)
             (contains name_cmp self.now.gone_a name) (contains name_cmp self.now.gone_b name)
             (map.get self.now.b.now name))
@@ -146,7 +146,7 @@ impl<'a> Parents<'a> {
         requires held { IfSome kept (λ kept. (row : Row) × IsRowOf self.now.a.now self.now.b.now name.now row
             × (row.registration ≡ kept.now)) }
         requires new { map.get merged.old name.now ≡ None }
-        requires room { map.len merged.old < max_names }
+        requires room { map.len merged.old < most_names }
         requires part { (name : Name) (row : Row) → map.get merged.old name ≡ Some row
             → IsRowOf self.now.a.now self.now.b.now name row }
         ensures { OnOk result ((row : Option Row) → option_map (λ row. row.registration) row

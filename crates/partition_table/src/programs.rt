@@ -6,7 +6,7 @@ ghost use Rattle.clash_record.specs.declared.registrations.ResolverId.TheVariant
 ghost use Rattle.partition_table.specs.declared.fault.TableFault.TheVariants.{UnknownProgram};
 ghost use Rattle.partition_table.specs.Faults.{is_known};
 ghost use Rattle.clash_record.specs.declared.registrations.ProgramId.{ProgramId};
-ghost use Rattle.partition_table.specs.Tables.{IsCodeOf, code_for, max_names};
+ghost use Rattle.partition_table.specs.Tables.{IsCodeOf, code_for, most_names};
 ghost use Rattle.partition_table.specs.model.Keeping.{kept_code, rows_kept, is_of, last_of, with_code, without_code, has_room_for, programs_agree};
 ghost use Rattle.upload_store.specs.Programs.{programs_by};
 
@@ -45,7 +45,7 @@ pub(crate) fn hold_program(
     requires room { has_room_for (programs_by kept_code programs.old.entries) resolver
         (option_map (λ p. arc_value p.now) program) }
     requires coded { IsCodeOf resolver (option_map (λ p. arc_value p.now) program) }
-    requires few { (id : ProgramId) → rows_kept programs.old.entries id < max_names }
+    requires few { (id : ProgramId) → rows_kept programs.old.entries id < most_names }
     ensures held { OnOk result (programs_by kept_code programs.new.entries
         ≡ with_code resolver (option_map (λ p. arc_value p.now) program.entry)
         (programs_by kept_code programs.old.entries)) }

@@ -6,7 +6,7 @@ ghost use Rattle.std.specs.FinMap as map;
 ghost use Rattle.std.specs.BTreeMap.{IsFromIterResult, Updates, get};
 ghost use Rattle.clash_record.specs.Orders.{name_cmp};
 ghost use Rattle.clash_record.specs.Name.{Name};
-ghost use Rattle.partition_table.specs.Tables.{IsTable, IsCodeOf, agrees_with, max_names, tables_agree, row_for, rows_above, rows_of, Row};
+ghost use Rattle.partition_table.specs.Tables.{IsTable, IsCodeOf, agrees_with, max_names, most_names, tables_agree, row_for, rows_above, rows_of, Row};
 ghost use Rattle.partition_table.specs.model.Coding.{HasCodesOf};
 ghost use Rattle.partition_table.specs.model.Keeping.{kept_code, IsKept, IsKeptFor};
 ghost use Rattle.partition_table.specs.Views.{table_by};
@@ -16,6 +16,7 @@ ghost use Rattle.numbered.specs.Answers.{IsAnswered};
 ghost use Rattle.partition_table.specs.Faults.{register_fault, table_fault_number, unregister_answer};
 
 use crate::fault::TableFault;
+use crate::limit::NameLimit;
 use crate::programs::{
     Kept, find_program, has_room, hold_program, programs_agree, release_program,
 };
@@ -28,16 +29,13 @@ use std::sync::Arc;
 use upload_store::UploadStore;
 use verifier::Verified;
 
-/// The maximum number of names in a table.
-pub const MAX_NAMES: usize = 4096;
-
 /// Iterates over the rows of a table in the order of names.
 pub type Rows<'a> = btree_map::Iter<'a, Name, Registration>;
 
 /// Iterates over the rows of a table that come after a name, in the order of names.
 pub type RowsAfter<'a> = btree_map::Range<'a, Name, Registration>;
 
-/// At most 4,096 names with their registrations, and the programs that the registrations name.
+/// At most 1,048,576 names with their registrations, and the programs that the registrations name.
 ///
 /// Contracts see it as a finite map from names to rows: a registration with the code of its program.
 #[derive(Debug)]
@@ -86,7 +84,7 @@ impl Table {
     /// Returns the number of names. Allocates nothing.
     pub fn len(&self) -> usize
         ensures count { result ≡ map.len self.now }
-        // At most 4,096 names; each row has the program that it names; no id has two codes.
+        // At most 1,048,576 names; each row has the program that it names; no id has two codes.
         ensures kept { IsTable self.now }
     {
         self.rows.len()
@@ -123,23 +121,39 @@ impl Table {
         self.rows.range((Bound::Excluded(*name), Bound::Unbounded))
     }
 
-    /// Registers the name, and keeps the program that the registration names, as the store has it.
-    ///
-    /// Refusals, the least first: 30 if the name is registered, 32 if the table is full, 41 if the store lacks the
-    /// program, 42 if the table keeps other code under its id. Returns 90 when out of memory: it allocates the row, the
-    /// program's id and one more owner of the program.
+    /// Registers the name in a table of at most 4,096 names. See `register_within`.
     pub fn register(
         &mut self,
         name: Name,
         registration: Registration,
         store: &UploadStore,
     ) -> Result<(), TableFault>
-        ensures answer { IsAnswered table_fault_number (register_fault self.old name registration store.now) result }
+        ensures answer { IsAnswered table_fault_number (register_fault max_names self.old name registration store.now) result }
+        ensures registered { OnOk result (self.new ≡ map.insert self.old name (row_for store.now registration)) }
+        ensures unchanged { OnErr result (self.new ≡ self.old) }
+    {
+        self.register_within(NameLimit::default(), name, registration, store)
+    }
+
+    /// Registers the name in a table of at most `limit` names, and keeps the program that the registration names, as the
+    /// store has it.
+    ///
+    /// Refusals, the least first: 30 if the name is registered, 32 if the table has `limit` names or more, 41 if the store
+    /// lacks the program, 42 if the table keeps other code under its id. Returns 90 when out of memory: it allocates the
+    /// row, the program's id and one more owner of the program.
+    pub fn register_within(
+        &mut self,
+        limit: NameLimit,
+        name: Name,
+        registration: Registration,
+        store: &UploadStore,
+    ) -> Result<(), TableFault>
+        ensures answer { IsAnswered table_fault_number (register_fault limit.names self.old name registration store.now) result }
         ensures registered { OnOk result (self.new ≡ map.insert self.old name (row_for store.now registration)) }
         ensures unchanged { OnErr result (self.new ≡ self.old) }
     {
         // Looks the name up only where something else refuses it: `keep` finds a registered name by itself.
-        if self.rows.len() == MAX_NAMES {
+        if self.rows.len() >= limit.names() {
             return Err(self.refusal(&name, TableFault::Full));
         }
         let program = match find_program(store, registration.resolver) {
@@ -238,7 +252,7 @@ impl Table {
         registration: Registration,
         program: Option<&Arc<Verified>>,
     ) -> Result<(), TableFault>
-        requires room { map.len self.old < max_names }
+        requires room { map.len self.old < most_names }
         requires coded { IsCodeOf registration.resolver (option_map (λ p. arc_value p.now) program) }
         requires agrees { IsTrue (agrees_with self.old
             record { registration = registration; code = option_map (λ p. arc_value p.now) program }) }

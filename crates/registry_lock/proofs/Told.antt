@@ -72,6 +72,7 @@ told_still before after n old new kept told = record {
   few = told.few;
   carried = told.carried;
   written = told.written;
+  same_limit = told.same_limit;
 }
 
 -- ---- none, one, and one after another
@@ -83,10 +84,11 @@ not_told pass n old new same = record {
   few = omega arith;
   carried = ap (λ (s : sides.Side). Some s) (sym same.state);
   written = same.journal;
+  same_limit = same.same_limit;
 }
 
 pub same_told : (pass : Pass) (n : ℕ) (side : Side) → IsTold pass n side side
-same_told pass n side = not_told pass n side side (record { state = refl; journal = refl })
+same_told pass n side = not_told pass n side side (record { state = refl; journal = refl; same_limit = refl })
 
 one_told : (pass : Pass) (old new : Side) (ruling : Ruling) → HasSeen pass ruling →
     IsDone old (Take ruling.number ruling.k ruling.judged) new → IsTold pass 1 old new
@@ -96,6 +98,7 @@ one_told pass old new ruling is_seen done = record {
   few = omega arith;
   carried = done.carried;
   written = done.written;
+  same_limit = done.same_limit;
 }
 
 -- a take, carried out or refused
@@ -130,6 +133,7 @@ told_on pass n m a b c first second =
       written = second.written ∙ ap (λ (l : List Call). takes_of second.rulings ++ l) first.written
           ∙ sym (append_assoc (takes_of second.rulings) (takes_of first.rulings) (calls a))
           ∙ ap (λ (l : List Call). l ++ calls a) (sym both);
+      same_limit = second.same_limit ∙ first.same_limit;
     }
 
 pub told_fewer : (pass : Pass) (n m : ℕ) (old new : Side) → n ≤ m → IsTold pass n old new → IsTold pass m old new
@@ -139,6 +143,7 @@ told_fewer pass n m old new le told = record {
   few = omega (arith, le, told.few);
   carried = told.carried;
   written = told.written;
+  same_limit = told.same_limit;
 }
 
 -- ---- both sides

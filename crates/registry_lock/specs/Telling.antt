@@ -6,7 +6,7 @@ use Rattle.exchange_core.specs.declared.side.Side.{Side}
 use Rattle.exchange_core.specs.Sides as sides
 use Rattle.exchange_core.specs.Calls.{Call, Take, carried_out}
 use Rattle.exchange_core.specs.Worlds.{clashes_between}
-use Rattle.exchange_core.specs.Shown.{shown, calls}
+use Rattle.exchange_core.specs.Shown.{shown, calls, limit_of}
 use Rattle.verdict_board.specs.Boards.{Place, Pass, seen}
 
 -- where calls lead a side, each carried out in its turn, the latest first; none where one is refused
@@ -19,7 +19,7 @@ all_carried_out side (call ∷ earlier) =
 abbrev pub takes_of : List Ruling → List Call
 takes_of rulings = map (λ ruling. Take ruling.number ruling.k ruling.judged) rulings
 
--- the board was opened with what these two offers of one number say
+-- the board is of the seed and the clashes of these two offers
 pub record IsBoardOf (a b : sides.Offer) (place : Place) : Type 0 where
   pub seed_of_a : a.seed ≡ place.seed
   pub seed_of_b : b.seed ≡ place.seed
@@ -37,6 +37,7 @@ pub record IsTold (pass : Pass) (most : ℕ) (old new : Side) : Type 0 where
   pub few : length rulings ≤ most
   pub carried : all_carried_out (shown old) (takes_of rulings) ≡ Some (shown new)
   pub written : calls new ≡ takes_of rulings ++ calls old
+  pub same_limit : limit_of new ≡ limit_of old
 
 -- Both sides took rulings that one pass of the board has seen, each side at most one for each clash
 pub record AreTold (place : Place) (old_first old_second new_first new_second : Side) : Type 0 where

@@ -4,6 +4,7 @@ use Rattle.std.specs.Bool.{MatchBool}
 use Rattle.hex.specs.Hex.{decode_of}
 use Rattle.clash_record.specs.declared.side_id.SideId.{SideId}
 use Rattle.exchange_core.specs.declared.fault.SideFault.{SideFault}
+use Rattle.exchange_core.specs.Calls.{Call}
 use Rattle.exchange_core.specs.Sides.{Side}
 use Rattle.clash_record.specs.declared.registrations.ResolverId.{ResolverId}
 use Rattle.script_text.specs.declared.command.Terms.{Terms}
@@ -18,15 +19,15 @@ use Rattle.script_machine.specs.Steps.{Step, AnswersLine, AnswersText, Answers, 
 stays : (old new : Machine) → new ≡ old → new.latest ≤ old.latest + 1
 stays old new same = omega (arith, ap (λ (m : Machine). m.latest) same)
 
-edited : (old : Machine) (id : SideId) (fault : Option SideFault) (after : Option Side) (done reply : Reply)
-    (new : Machine) → Edits old id fault after done reply new → new.latest ≤ old.latest + 1
-edited old id (Some fault) after done reply new h = stays old new h.1
-edited old id None (Some side) done reply new h = omega (arith, ap (λ (m : Machine). m.latest) h.1)
-edited old id None None done reply new h = absurd h
+edited : (old : Machine) (id : SideId) (call : Call) (fault : Option SideFault) (after : Option Side) (done reply : Reply)
+    (new : Machine) → Edits old id call fault after done reply new → new.latest ≤ old.latest + 1
+edited old id call (Some fault) after done reply new h = stays old new h.1
+edited old id call None (Some side) done reply new h = omega (arith, ap (λ (m : Machine). m.latest) h.1)
+edited old id call None None done reply new h = absurd h
 
 registered : (old : Machine) (id : SideId) (name : List ℕ) (terms : Terms) (resolver : Option ResolverId)
     (reply : Reply) (new : Machine) → RegisterStep old id name terms resolver reply new → new.latest ≤ old.latest + 1
-registered old id name terms (Some resolver) reply new h = edited old id _ _ _ reply new h
+registered old id name terms (Some resolver) reply new h = edited old id _ _ _ _ reply new h
 registered old id name terms None reply new h = stays old new h.1
 
 uploaded : {E : Type 0} (old : Machine) (word : List ℕ) (bytes : Result (List ℕ) E) (reply : Reply) (new : Machine)
@@ -46,7 +47,7 @@ replied : (old : Machine) (asked : Asked) (reply : Reply) (new : Machine) → Re
 replied old (Upload label code) reply new h = upload_step old label code (is_free old.labels label) reply new h
 replied old (Register id name terms resolver) reply new h =
     registered old id name terms (resolver_of old.labels resolver) reply new h
-replied old (Unregister id name) reply new h = edited old id _ _ _ reply new h
+replied old (Unregister id name) reply new h = edited old id _ _ _ _ reply new h
 replied old (Whereis id name) reply new h = stays old new h.1
 replied old (Show id) reply new h = absurd h
 replied old (Heal seed uptimes gone) reply new h = omega (arith, h.healed.latest)

@@ -11,7 +11,7 @@ use Rattle.clash_record.specs.declared.registrations.ProgramId.{ProgramId}
 use Rattle.clash_record.specs.declared.registrations.ResolverId.{ResolverId}
 use Rattle.clash_record.specs.declared.registrations.ResolverId.TheVariants.{Builtin, Program}
 use Rattle.upload_store.specs.Programs.{Programs}
-use Rattle.exchange_core.specs.Journal.{max_events}
+use Rattle.partition_table.specs.Tables.{max_names}
 use Rattle.cluster.specs.Clusters.{Cluster, cluster_of, new_cluster}
 use Rattle.script_machine.specs.declared.labels.Label.{Label}
 use Rattle.script_machine.specs.declared.machine.Machine as code
@@ -32,7 +32,7 @@ machine_of m = record {
 }
 
 abbrev pub new_machine : Machine
-new_machine = record { labels = []; programs = empty; cluster = new_cluster; latest = 0 }
+new_machine = record { labels = []; programs = empty; cluster = new_cluster max_names; latest = 0 }
 
 -- ---- labels, and the words for resolvers
 

@@ -20,7 +20,8 @@ use Rattle.partition_table.specs.Tables.{row_for, rows_of}
 use Rattle.clash_record.specs.declared.side_id.SideId.{SideId}
 use Rattle.exchange_core.specs.declared.fault.SideFault.{SideFault}
 use Rattle.exchange_core.specs.Faults.{side_fault_number}
-use Rattle.exchange_core.specs.Sides.{Side, register, unregister, shown_table}
+use Rattle.exchange_core.specs.Calls.{Call, Register, Unregister, carried_out}
+use Rattle.exchange_core.specs.Sides.{Side, shown_table}
 use Rattle.exchange_core.specs.Refusals.{register_fault, unregister_fault}
 use Rattle.script_text.specs.declared.command.Terms.{Terms}
 use Rattle.clash_record.specs.declared.halves.Uptimes.{Uptimes}
@@ -86,17 +87,21 @@ UploadStep old label code reply new =
 
 -- ---- edits
 
--- the same machine with this side, which has one more event
-abbrev pub with_side : Machine → SideId → Side → Machine
-with_side machine id side = record machine {
-  cluster = with_standing machine.cluster id (record { side = side; events = (at machine.cluster id).events + 1 });
+-- the same machine with this side, after this call
+abbrev pub with_side : Machine → SideId → Call → Side → Machine
+with_side machine id call side = record machine {
+  cluster = with_standing machine.cluster id (record {
+    side = side;
+    calls = call ∷ (at machine.cluster id).calls;
+    limit = (at machine.cluster id).limit;
+  });
 }
 
 -- an edit is refused where a refusal is due, and else carried out
-abbrev pub Edits : Machine → SideId → Option SideFault → Option Side → Reply → Reply → Machine → Type 0
-Edits old id (Some fault) after done reply new = Refuses (side_fault_number fault) None old reply new
-Edits old id None (Some side) done reply new = (reply ≡ done) × (new ≡ with_side old id side)
-Edits old id None None done reply new = ⊥
+abbrev pub Edits : Machine → SideId → Call → Option SideFault → Option Side → Reply → Reply → Machine → Type 0
+Edits old id call (Some fault) after done reply new = Refuses (side_fault_number fault) None old reply new
+Edits old id call None (Some side) done reply new = (reply ≡ done) × (new ≡ with_side old id call side)
+Edits old id call None None done reply new = ⊥
 
 abbrev pub registration_of : Terms → ResolverId → Registration
 registration_of terms resolver = record {
@@ -110,8 +115,10 @@ registration_of terms resolver = record {
 abbrev pub Registers : Machine → SideId → Name → Registration → Reply → Machine → Type 0
 Registers old id name registration reply new =
     let standing = at old.cluster id in
-    Edits old id (register_fault (is_full_at standing) standing.side name registration old.programs)
-    (register standing.side name (row_for old.programs registration)) Registered reply new
+    let call = Register name (row_for old.programs registration) in
+    Edits old id call
+    (register_fault standing.limit (is_full_at standing) standing.side name registration old.programs)
+    (carried_out standing.side call) Registered reply new
 
 -- the word for the resolver is checked before the call
 abbrev pub RegisterStep : Machine → SideId → Name → Terms → Option ResolverId → Reply → Machine → Type 0
@@ -122,7 +129,8 @@ RegisterStep old id name terms None reply new = Refuses 41 None old reply new
 abbrev pub UnregisterStep : Machine → SideId → Name → Reply → Machine → Type 0
 UnregisterStep old id name reply new =
     let standing = at old.cluster id in
-    Edits old id (unregister_fault (is_full_at standing) standing.side name) (unregister standing.side name)
+    Edits old id (Unregister name) (unregister_fault (is_full_at standing) standing.side name)
+    (carried_out standing.side (Unregister name))
     Unregistered reply new
 
 -- ---- questions

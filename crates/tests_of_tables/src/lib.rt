@@ -7,6 +7,8 @@ mod exchange_rows;
 #[cfg(test)]
 mod exchanges;
 #[cfg(test)]
+mod limits;
+#[cfg(test)]
 mod merges;
 #[cfg(test)]
 mod programs_judge;

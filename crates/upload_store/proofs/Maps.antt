@@ -1,35 +1,25 @@
 -- A store's map and its entries.
-use Rattle.std.proofs.Common.{◌≡◌, ◌+◌, ◌<◌, Bool, true, false, cond, if◌then◌else◌, Option, Some, None, is_some, IfSome, Result, Ok, Err, IfOk, OnOk, OnErr, Bor, List, [], ◌∷◌, length, map, refl, ap, sym, subst, ◌∙◌, arith}
+use Rattle.std.proofs.Common.{◌≡◌, suc, ◌+◌, ◌-◌, ◌<◌, ◌≤◌, Bool, true, false, cond, if◌then◌else◌, Option, Some, None, is_some, IfSome, Result, Ok, Err, IfOk, OnOk, OnErr, Bor, List, [], ◌∷◌, length, map, refl, ap, sym, subst, ◌∙◌, arith}
 use Rattle.std.specs.Option.{option_map, option_copied}
 use Rattle.std.specs.Ordering.{eq_by_cmp}
 use Rattle.std.specs.Cmp.{eq_by_cmp_equiv, Equal-is}
 use Rattle.std.specs.Map.{lookup}
 use Rattle.std.specs.BTreeMap.{BTreeMap, is_at, Updates}
-use Rattle.std.specs.FinMap.{get, insert, get-empty, len-empty, len, find, get-from_entries, get-insert, len-insert, same_map}
+use Rattle.std.specs.List.{AllZip}
+use Rattle.std.specs.FinMap.{from_entries, get, insert, remove, contains_key, len-empty, len, get-empty, get-insert, get-remove, len-insert, len-remove, same_map}
 use Rattle.instruction_set.specs.declared.insn.Insn.{Insn}
 use Rattle.clash_record.specs.declared.registrations.ProgramId.{ProgramId}
 use Rattle.clash_record.specs.Orders.{id_cmp}
 use Rattle.clash_record.specs.laws.Orders.{ids_total, ids_exact}
-use Rattle.upload_store.specs.Programs.{Programs, programs_by, IsProgram, IsStore, max_programs}
+use Rattle.upload_store.specs.Programs.{Programs, mapped, programs_by, IsProgram, IsStore, max_programs}
+use Rattle.upload_store.specs.laws.Mapped.{get-mapped, made_inserted, made_removed}
 use Rattle.upload_store.specs.model.Keeping.{AreKept}
 
 module _ {X : Type 0} (code_of : X → List Insn) where
-  code_of_either : (b : Bool) (x : X) (o : Option X) (p : Option (List Insn)) → p ≡ option_map code_of o
-      → cond b (Some (code_of x)) p ≡ option_map code_of (cond b (Some x) o)
-  code_of_either true x o p h = refl
-  code_of_either false x o p h = h
-
-  find_code : (es : List (ProgramId × X)) (q : ProgramId)
-      → find id_cmp q (map (λ e. (e.0, code_of e.1)) es) ≡ option_map code_of (lookup (is_at (id_cmp q)) es)
-  find_code [] q = refl
-  find_code (e ∷ es) q =
-      code_of_either (eq_by_cmp id_cmp q e.0) e.1 (lookup (is_at (id_cmp q)) es)
-      (find id_cmp q (map (λ e. (e.0, code_of e.1)) es)) (find_code es q)
-
   -- the map's code at an id is the code of the entry there
-  get_code : (es : List (ProgramId × X)) (q : ProgramId)
+  pub get_code : (es : List (ProgramId × X)) (q : ProgramId)
       → get (programs_by code_of es) q ≡ option_map code_of (lookup (is_at (id_cmp q)) es)
-  get_code es q = get-from_entries ids_total (map (λ e. (e.0, code_of e.1)) es) q ∙ find_code es q
+  get_code es q = get-mapped ids_total code_of es q
 
   -- a look-up that lends what it finds, in entries that make this map
   pub get_lent : (m : Programs) (es : List (ProgramId × X)) → programs_by code_of es ≡ m
@@ -90,13 +80,7 @@ module _ {X : Type 0} (code_of : X → List Insn) (m n : BTreeMap ProgramId X) (
   -- entries that differ at one id make maps that differ there
   pub map_inserted : Updates id_cmp m n id (Some x)
       → programs_by code_of n.entries ≡ insert (programs_by code_of m.entries) id (code_of x)
-  map_inserted updates = same_map ids_total ids_exact _ _ (λ q.
-      get_code code_of n.entries q ∙ ap (option_map code_of) (updates.0 q)
-      ∙ sym (code_of_either code_of (is_at (id_cmp id) q) x (lookup (is_at (id_cmp q)) m.entries)
-      (get (programs_by code_of m.entries) q) (get_code code_of m.entries q))
-      ∙ ap (λ b. cond b (Some (code_of x)) (get (programs_by code_of m.entries) q))
-      ((eq_by_cmp_equiv ids_total).symm id q)
-      ∙ sym (get-insert ids_total (programs_by code_of m.entries) id (code_of x) q))
+  map_inserted updates = made_inserted ids_total code_of ids_exact m n id x updates
 
   -- entries remain a store, even if a new program runs out of memory
   pub still_kept : {E : Type 0} → AreKept code_of m.entries → IsProgram id (code_of x)
@@ -120,3 +104,82 @@ module _ {X : Type 0} (code_of : X → List Insn) (m n : BTreeMap ProgramId X) (
       get_code code_of m.entries id ∙ ap (option_map code_of) (sym old) in
       absurd (cc)
   still_kept kept program none room (Err e) updates longer old same = subst (AreKept code_of) (sym same) kept
+
+-- a store that forgets a program
+module _ {X : Type 0} (code_of : X → List Insn) (m n : BTreeMap ProgramId X) (id : ProgramId)
+    (updates : Updates id_cmp m n id None) where
+  pub map_removed : programs_by code_of n.entries ≡ remove (programs_by code_of m.entries) id
+  map_removed = made_removed ids_total code_of ids_exact m n id updates
+
+  one_less : IsStore (programs_by code_of m.entries) → IsStore (remove (programs_by code_of m.entries) id)
+  one_less store = record {
+    few = by_len (contains_key (programs_by code_of m.entries) id) (len-remove ids_total (programs_by code_of m.entries) id);
+    each = λ q code h. by q code (eq_by_cmp id_cmp q id) (sym (get-remove ids_total (programs_by code_of m.entries) id q) ∙ h);
+  }
+    where
+      by_len : (b : Bool) → len (remove (programs_by code_of m.entries) id)
+          ≡ cond b (len (programs_by code_of m.entries) - 1) (len (programs_by code_of m.entries)) →
+          len (remove (programs_by code_of m.entries) id) ≤ max_programs
+      by_len true e = omega (arith, e, store.few)
+      by_len false e = omega (arith, e, store.few)
+
+      by : (q : ProgramId) (code : List Insn) (b : Bool) →
+          cond b None (get (programs_by code_of m.entries) q) ≡ Some code → IsProgram q code
+      by q code true h = cc
+      by q code false h = store.each q code h
+
+  pub less_kept : AreKept code_of m.entries → (r : Option X) → r ≡ lookup (is_at (id_cmp id)) m.entries →
+      length n.entries + (if is_some r then 1 else 0) ≡ length m.entries → AreKept code_of n.entries
+  less_kept kept r was shorter = record {
+    store = subst IsStore (sym map_removed) (one_less kept.store);
+    distinct =
+        ap len map_removed ∙ len-remove ids_total (programs_by code_of m.entries) id
+        ∙ ap (λ b. cond b (len (programs_by code_of m.entries) - 1) (len (programs_by code_of m.entries)))
+        (ap is_some (get_code code_of m.entries id) ∙ has_code r was)
+        ∙ by (is_some r) shorter;
+  }
+    where
+      has_code : (r : Option X) → r ≡ lookup (is_at (id_cmp id)) m.entries →
+          is_some (option_map code_of (lookup (is_at (id_cmp id)) m.entries)) ≡ is_some r
+      has_code None h = ap (λ o. is_some (option_map code_of o)) (sym h)
+      has_code (Some x) h = ap (λ o. is_some (option_map code_of o)) (sym h)
+
+      by : (b : Bool) → length n.entries + (if b then 1 else 0) ≡ length m.entries →
+          cond b (len (programs_by code_of m.entries) - 1) (len (programs_by code_of m.entries)) ≡ length n.entries
+      by true h = let same = kept.distinct in omega (arith, same, h)
+      by false h = let same = kept.distinct in omega (arith, same, h)
+
+-- ---- clones
+
+module _ {X : Type 0} (code_of : X → List Insn) where
+  abbrev pub AreCloned : List (ProgramId × X) → List (ProgramId × X) → Type 0
+  AreCloned = AllZip (λ p q. (q.0 ≡ p.0) × (code_of q.1 ≡ code_of p.1))
+
+  abbrev coded_entries : List (ProgramId × X) → List (ProgramId × List Insn)
+  coded_entries = mapped code_of
+
+  same_codes : (es fs : List (ProgramId × X)) → AreCloned es fs
+      → coded_entries fs ≡ coded_entries es
+  same_codes [] [] h = refl
+  same_codes [] (f ∷ fs) h = absurd h
+  same_codes (e ∷ es) [] h = absurd h
+  same_codes (e ∷ es) (f ∷ fs) h =
+      ap (λ k. (k, code_of f.1) ∷ coded_entries fs) h.0.0
+      ∙ ap (λ x. (e.0, x) ∷ coded_entries fs) h.0.1
+      ∙ ap (λ xs. (e.0, code_of e.1) ∷ xs) (same_codes es fs h.1)
+
+  as_long : (es fs : List (ProgramId × X)) → AreCloned es fs → length fs ≡ length es
+  as_long [] [] h = refl
+  as_long [] (f ∷ fs) h = absurd h
+  as_long (e ∷ es) [] h = absurd h
+  as_long (e ∷ es) (f ∷ fs) h = ap (λ n. suc n) (as_long es fs h.1)
+
+  -- a clone of entries makes the same map
+  pub cloned : (es fs : List (ProgramId × X)) → AreCloned es fs → programs_by code_of fs ≡ programs_by code_of es
+  cloned es fs h = ap from_entries (same_codes es fs h)
+
+  pub cloned_kept : (es fs : List (ProgramId × X)) → AreCloned es fs → AreKept code_of es → AreKept code_of fs
+  cloned_kept es fs h kept = record {
+    store = subst IsStore (sym (cloned es fs h)) kept.store;
+    distinct = ap len (cloned es fs h) ∙ kept.distinct ∙ sym (as_long es fs h);
+  }

@@ -1,6 +1,8 @@
 -- The results of uploads, and their effect on the store.
-use Rattle.std.specs.Prelude.{◌≡◌, ◌≢◌, ℕ, ◌<◌, ◌⊎◌, Some, None, List, length, Result, Err}
+use Rattle.std.specs.Prelude.{◌≡◌, ◌≢◌, ℕ, ◌<◌, nat_lt, if◌then◌else◌, ◌⊎◌, Option, Some, None, List, length, Result, Err}
+use Rattle.std.specs.Cmp.Lexicographic.{pointwise}
 use Rattle.std.specs.FinMap as map
+use Rattle.instruction_set.specs.contracts.insn.InsnPartialEq.TheImpl as insn_eq
 use Rattle.numbered.specs.Answers.{RanOut}
 use Rattle.instruction_set.specs.declared.insn.Insn.{Insn}
 use Rattle.instruction_set.specs.Machine.{IsSafe}
@@ -14,7 +16,7 @@ use Rattle.upload_store.specs.declared.fault.UploadFault.{UploadFault}
 use Rattle.upload_store.specs.declared.fault.UploadFault.TheVariants.{Program, DigestClash, StoreFull, OutOfMemory}
 use Rattle.upload_store.specs.declared.store.Uploaded.{Uploaded}
 use Rattle.upload_store.specs.Faults.{upload_fault_number}
-use Rattle.upload_store.specs.Programs.{Programs, id_of, max_programs}
+use Rattle.upload_store.specs.Programs.{Programs, Upload, id_of, max_programs}
 
 -- the bytes spell code that the verifier doesn't accept
 pub record IsUnaccepted (bytes : List ℕ) : Type 0 where
@@ -64,6 +66,17 @@ pub record IsKept (before : Programs) (bytes : List ℕ) (id : ProgramId) (after
   pub place : HasPlace before id code
   pub inserted : after ≡ map.insert before id code
   pub found : map.get after id ≡ Some code
+
+-- ---- keeping an upload
+
+-- of code, by what the store has under its id
+abbrev pub keep_fault_by : ℕ → List Insn → Option (List Insn) → Option UploadFault
+keep_fault_by len code (Some kept) = if pointwise insn_eq.ghosts.eq kept code then None else Some DigestClash
+keep_fault_by len code None = if nat_lt len max_programs then None else Some StoreFull
+
+-- the refusal that keeping an upload is due: other code has its id, or its id is new and the store is full
+abbrev pub keep_fault : Programs → Upload → Option UploadFault
+keep_fault store upload = keep_fault_by (map.len store) upload.code (map.get store upload.id)
 
 -- ---- uploads with the number of instructions
 

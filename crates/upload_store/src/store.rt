@@ -3,20 +3,21 @@ ghost use Rattle.std.specs.Prelude.{◌≡◌, ◌≤◌, ◌↔◌, IsTrue, Ok,
 ghost use Rattle.std.specs.Option.{option_map};
 ghost use Rattle.std.specs.Arc.{arc_value};
 ghost use Rattle.std.specs.FinMap as map;
-ghost use Rattle.numbered.specs.Answers.{HasCause, ReturnsOrRunsOut};
+ghost use Rattle.numbered.specs.Answers.{HasCause, IsAnswered, ReturnsOrRunsOut};
 ghost use Rattle.upload_store.specs.declared.fault.UploadFault.{UploadFault};
-ghost use Rattle.upload_store.specs.Programs.{IsProgram, id_of};
-ghost use Rattle.upload_store.specs.Uploads.{uploaded_as, Fits, HasPlace, IsKept, IsRejection, IsUnaccepted, IsUploadFault, IsUploaded};
+ghost use Rattle.upload_store.specs.Programs.{IsProgram, id_of, mapped};
+ghost use Rattle.upload_store.specs.Uploads.{uploaded_as, keep_fault, Fits, HasPlace, IsKept, IsRejection, IsUnaccepted, IsUploadFault, IsUploaded};
 ghost use Rattle.upload_store.specs.Faults.{upload_fault_number};
 ghost use Rattle.upload_store.specs.model.Keeping.{IsKeepingFault};
 
+use crate::accepted::Upload;
 use crate::fault::UploadFault;
 use clash_record::ProgramId;
 use insn_codec::one_reading_theorem;
 use program::read_program;
 use sha2::{Digest, Sha256};
-use std::alloc::Global;
-use std::collections::BTreeMap;
+use std::alloc::{AllocError, Global};
+use std::collections::{BTreeMap, btree_map};
 use std::marker::Model;
 use std::sync::Arc;
 use verifier::Verified;
@@ -96,6 +97,23 @@ impl UploadStore {
         self.programs.get(id)
     }
 
+    /// Forgets the program with this id, and returns it, if there is one. Allocates nothing.
+    ///
+    /// A table that has the program keeps it: what a store forgets can only not be registered any more.
+    pub fn forget(&mut self, id: &ProgramId) -> Option<Arc<Verified>>
+        ensures program { option_map arc_value result ≡ map.get self.old id.now }
+        ensures forgotten { self.new ≡ map.remove self.old id.now }
+    {
+        self.programs.remove(id)
+    }
+
+    /// Iterates over the ids and their programs in the order of ids. Allocates nothing.
+    pub fn programs(&self) -> btree_map::Iter<'_, ProgramId, Arc<Verified>>
+        ensures { mapped arc_value result ≡ map.entries self.now }
+    {
+        self.programs.iter()
+    }
+
     /// Keeps the program that these bytes spell, and returns its id: the SHA-256 digest of the bytes (FIPS 180-4).
     ///
     /// Bytes that are already kept return their id again, also in a full store. Rejects bytes that spell no code (1 to
@@ -162,21 +180,49 @@ impl UploadStore {
             id,
             len: program.code().len(),
         };
-        if let Some(kept) = self.programs.get(&id) {
-            if kept.code() == program.code() {
-                return Ok(uploaded);
-            }
-            return Err(UploadFault::DigestClash);
-        }
-        if self.programs.len() == MAX_PROGRAMS {
-            return Err(UploadFault::StoreFull);
-        }
         let Ok(program) = Arc::new(alloc, program) else {
             return Err(UploadFault::OutOfMemory);
         };
-        match self.programs.insert(id, program) {
-            Ok(_) => Ok(uploaded),
+        // For the proof: a store has at most 256 programs.
+        let _ = &self.programs;
+        self.keep_upload(&Upload { id, program })?;
+        Ok(uploaded)
+    }
+
+    /// Keeps an accepted program under its id. One that is kept already changes nothing, also in a full store.
+    ///
+    /// Returns 42 if other code has the id, and 43 for a new program in a full store. Returns 90 when out of memory: it
+    /// allocates one entry, and one more owner of the program.
+    pub fn keep_upload(&mut self, upload: &Upload) -> Result<(), UploadFault>
+        ensures answer { IsAnswered upload_fault_number (keep_fault self.old upload.now) result }
+        ensures kept { OnOk result (self.new ≡ map.insert self.old upload.now.id upload.now.code) }
+        ensures unchanged { OnErr result (self.new ≡ self.old) }
+    {
+        if let Some(kept) = self.programs.get(&upload.id) {
+            if kept.code() == upload.program.code() {
+                return Ok(());
+            }
+            return Err(UploadFault::DigestClash);
+        }
+        if self.programs.len() >= MAX_PROGRAMS {
+            return Err(UploadFault::StoreFull);
+        }
+        let program: Result<_, _> = upload.program.clone();
+        let Ok(program) = program else {
+            return Err(UploadFault::OutOfMemory);
+        };
+        match self.programs.insert(upload.id, program) {
+            Ok(_) => Ok(()),
             Err(_) => Err(UploadFault::OutOfMemory),
         }
+    }
+
+    /// Copies the store. Allocates the entries, and one more owner of each program.
+    pub fn try_clone(&self) -> Result<UploadStore, AllocError>
+        ensures { IfOk result (λ store. store ≡ self.now) }
+    {
+        Ok(UploadStore {
+            programs: self.programs.clone()?,
+        })
     }
 }

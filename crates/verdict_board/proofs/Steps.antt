@@ -22,7 +22,7 @@ S = Unit {0}
 
 -- no word is near its end
 pub count_low : (seats : ℕ) (words : List ℕ) (views : List Hand)
-    (j : ℕ) → IsGiven seats words views → j < 4 → slice_index words j ≤ 65552
+    (j : ℕ) → IsGiven seats words views → j < 4 → slice_index words j ≤ 16777232
 count_low seats words views j h lt =
     let t = total_le (λ v. taken j v.drawn) (λ v. v.parts) views (λ by v at. h.bound j by v at) in
     omega (arith, t, h.few, h.parts, h.count j lt)
@@ -52,7 +52,7 @@ here_weighs j i x n (suc c) e =
 
 module _ (seats : ℕ) (words : List ℕ) (views : List Hand) (id j c : ℕ) (drawn : List (ℕ × ℕ))
     (h : IsGiven seats words views) (lt : j < 4) (at : get_elem? views id ≡ some (hand 1 drawn))
-    (room : taken j drawn + c ≤ 4097) where
+    (room : taken j drawn + c ≤ 1048577) where
   abbrev found : ℕ
   found = slice_index words j
 
@@ -112,7 +112,7 @@ module _ (seats : ℕ) (words : List ℕ) (views : List Hand) (id j c : ℕ) (dr
       (λ (t : (by ≢ id) × (get_elem? views by ≡ some v)). h.bound i by v t.1)
       (at_set views id by after v e)
     where
-      mine : taken i (drawn ++ row) ≤ 4097 * 1
+      mine : taken i (drawn ++ row) ≤ 1048577 * 1
       mine =
           let more = weigh-append (in_round i) drawn row in
           let was = h.bound i id (hand 1 drawn) at in
@@ -133,7 +133,7 @@ module _ (seats : ℕ) (words : List ℕ) (views : List Hand) (id j c : ℕ) (dr
 
 -- a seat takes the next numbers of a round in which it has room
 pub draws : (seats slots id j c : ℕ) (me : Me S Hand) → me ≡ (hand 1 me.0.drawn, []) → j < 4 →
-    taken j me.0.drawn + c ≤ 4097
+    taken j me.0.drawn + c ≤ 1048577
     → Allows {S = S} (Given seats) slots id me j (λ n. (n + c) % 18446744073709551616)
     (Drew (step slots j c 0 none) me)
 draws seats slots id j c me one lt room =
@@ -152,7 +152,7 @@ pub seat_after : (used : List ℕ) (me new : Me S Hand)
     (j n c : ℕ) → me ≡ (hand 1 me.0.drawn, []) → new ≡ (hand me.0.parts (me.0.drawn ++ row_from j n c), me.1) → j < 4 →
     length used ≡ 4
     → ((i : ℕ) → i < 4 → (slice_index used i ≡ taken i me.0.drawn) × (taken i me.0.drawn ≤ most_drawn)) →
-    taken j me.0.drawn + c ≤ 4097
+    taken j me.0.drawn + c ≤ 1048577
     → (new ≡ (hand 1 new.0.drawn, [])) × ((i : ℕ) → i < 4 →
     (slice_index (set used j (get_or used j 0 + c)) i ≡ taken i new.0.drawn) × (taken i new.0.drawn ≤ most_drawn))
 seat_after used me new j n c one is lt four known room =

@@ -22,7 +22,7 @@ total-append f (u ∷ us) vs = omega (arith, total-append f us vs)
 
 -- if f of each view is at most n times g, so is the total
 pub total_le : (f g : Hand → ℕ) (views : List Hand) →
-    ((by : ℕ) (v : Hand) → get_elem? views by ≡ some v → f v ≤ 4097 * g v) → total f views ≤ 4097 * total g views
+    ((by : ℕ) (v : Hand) → get_elem? views by ≡ some v → f v ≤ 1048577 * g v) → total f views ≤ 1048577 * total g views
 total_le f g [] h = omega arith
 total_le f g (u ∷ us) h = let here = h zero u refl in omega (arith, here, total_le f g us (λ by v at. h (suc by) v at))
 

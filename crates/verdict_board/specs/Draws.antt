@@ -39,7 +39,7 @@ once_below x n = one_if (nat_lt x n)
 
 -- the most numbers that a seat draws in a round
 abbrev pub most_drawn : ℕ
-most_drawn = 4097
+most_drawn = 1048577
 
 -- A call adds at most one number, to the list of its round alone: below the count n it answers the clash of that
 -- number, at or past it that none is left. It adds none, and answers so, only where the seat has drawn the most

@@ -25,7 +25,7 @@ use std::marker::Model;
 use std::ops::Range;
 
 // The maximum number of draws of a seat in a round. One of them is past the count of clashes.
-const MOST_DRAWN: u32 = 4097;
+const MOST_DRAWN: u32 = 1_048_577;
 
 /// The draws and the verdicts of one exchange.
 ///
@@ -57,7 +57,7 @@ impl<'p> Drop for Board<'p> {
 impl<'p> Model for Board<'p> {
     ghost use Rattle.std.specs.Prelude.{◌≡◌, ◌<◌, ◌≤◌, map, length};
     ghost use Rattle.once_cell.specs.Once.{cell_name};
-    ghost use Rattle.partition_table.specs.Tables.{max_names};
+    ghost use Rattle.partition_table.specs.Tables.{most_names};
     ghost use Rattle.verdict_board.specs.Boards.{Board};
     ghost use Rattle.verdict_board.specs.Views.{place_of};
 
@@ -70,7 +70,7 @@ impl<'p> Model for Board<'p> {
     } };
 
     ghost invariant = { λ b. (length b.cells.items ≡ length b.site.clashes.now)
-        × (length b.site.clashes.now ≤ max_names)
+        × (length b.site.clashes.now ≤ most_names)
         × (0 < b.seats) × (b.seats ≤ 16) × (b.words.shared.key ≡ b.seats)
         × (b.words.shared.table_id.words ≡ 4) × (b.words.shared.table_id.slots ≡ 0)
         × (b.answers.shared.table_id.words ≡ length b.site.clashes.now)
@@ -183,7 +183,7 @@ impl<'p> Board<'p> {
 
     /// Draws the next numbers of a round in one step, and returns those that are positions of clashes.
     ///
-    /// Draws as many as are wanted, but no more than 4,097 with one seat. Returns fewer than wanted only if no clash is left
+    /// Draws as many as are wanted, but no more than 1,048,577 with one seat. Returns fewer than wanted only if no clash is left
     /// in the round. Requires a seat of this board and a round from 0 to 3. Never waits.
     pub fn draw_row(&self, seat: &mut Seat, round: u32, wanted: u32) -> Range<u32>
         requires board { seat.old.draws ≡ self.now.draws }

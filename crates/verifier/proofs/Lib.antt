@@ -17,3 +17,4 @@ pub mod Waits
 pub mod OneVerdict
 pub mod LongerRecords
 pub mod Lifted
+pub mod StatesBefore

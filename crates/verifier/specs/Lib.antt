@@ -2,6 +2,7 @@ pub mod Structure
 pub mod Rules
 pub mod Assignments
 pub mod Refusals
+pub mod Before
 pub mod Stores
 pub mod Width
 pub mod Peak

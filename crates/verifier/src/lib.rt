@@ -1,6 +1,7 @@
 //! Accepts safe code by one forward pass over an abstract domain, or returns the first rule that fails.
 #![tactic(auto)]
 
+mod before;
 mod checks;
 mod kinds;
 mod longer_records;
@@ -14,6 +15,7 @@ mod verified;
 mod verify_code;
 mod wider;
 
+pub use before::state_before;
 pub use longer_records::{SHORTER_RECORD_LEN, longer_record_theorem};
 pub use refusal::{Refusal, VerifyFault};
 pub use rule::Rule;

@@ -117,7 +117,7 @@ fn carry_over<D: Domain>(
 }
 
 // Checks the instruction at a slot in its state, if the slot has one, drops that state, and puts its successors.
-fn visit<D: Domain>(
+pub(crate) fn visit<D: Domain>(
     alloc: Global,
     code: &Code,
     at: usize,

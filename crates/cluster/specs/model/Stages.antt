@@ -6,7 +6,7 @@ use Rattle.clash_record.specs.declared.side_id.SideId.{SideId}
 use Rattle.clash_record.specs.declared.side_id.SideId.TheVariants.{A, B}
 use Rattle.exchange_core.specs.Sides.{Side, Exchange, Heard, Offer, shown_table}
 use Rattle.exchange_core.specs.Finished.{Finished, IsFinished}
-use Rattle.exchange_core.specs.Shown.{calls}
+use Rattle.exchange_core.specs.Shown.{calls, limit_of}
 use Rattle.partition_table.specs.declared.judged.Judged.{Judged}
 use Rattle.clash_record.specs.Name.{Name}
 use Rattle.partition_table.specs.Tables.{Table, Clash, clashes}
@@ -19,7 +19,7 @@ use Rattle.exchange_core.specs.declared.fault.SideFault.{SideFault}
 use Rattle.cluster.specs.declared.fault.HealFault.{HealFault}
 use Rattle.cluster.specs.declared.fault.HealFault.TheVariants.{Side as OfSide}
 use Rattle.cluster.specs.declared.halves.Halves as halves
-use Rattle.cluster.specs.Clusters.{Cluster, at, standing_of}
+use Rattle.cluster.specs.Clusters.{Cluster, Extends, at, standing_of}
 use Rattle.cluster.specs.Healing.{Plan, HaveGrown, IsNew, HasHeld, gone_of_side, AreHeld, finished_as, idle_side}
 
 abbrev pub halves_of : halves.Halves → Cluster
@@ -38,9 +38,10 @@ pub record AreSides (halves : Cluster) : Type 0 where
   pub a : halves.a.side.id ≡ A
   pub b : halves.b.side.id ≡ B
 
--- the journal of a side loses no call
-abbrev pub AddsEvents : code.Side → code.Side → Type 0
-AddsEvents old new = length (calls old) ≤ length (calls new)
+-- the journal of a side loses no call, and its limit stays
+pub record AddsEvents (old new : code.Side) : Type 0 where
+  pub same_limit : limit_of new ≡ limit_of old
+  pub extends : Extends (calls old) (calls new)
 
 -- ---- before the exchange
 
@@ -59,8 +60,8 @@ pub record AreRested (was now : Cluster) : Type 0 where
 -- the halves after abandoning: the journal of each has at most one event more
 pub record HaveAbandoned (was now : Cluster) : Type 0 where
   pub rested : AreRested was now
-  pub few_a : now.a.events ≤ was.a.events + 1
-  pub few_b : now.b.events ≤ was.b.events + 1
+  pub few_a : length now.a.calls ≤ length was.a.calls + 1
+  pub few_b : length now.b.calls ≤ length was.b.calls + 1
 
 -- ---- while it is open
 

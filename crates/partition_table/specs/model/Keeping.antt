@@ -13,7 +13,7 @@ use Rattle.clash_record.specs.Orders.{id_cmp}
 use Rattle.upload_store.specs.Programs.{Programs, programs_by}
 use Rattle.clash_record.specs.Name.{Name}
 use Rattle.partition_table.specs.declared.programs.Kept.{Kept}
-use Rattle.partition_table.specs.Tables.{Row, Table, IsCodeOf, max_names, program_of, same_id, agrees_with}
+use Rattle.partition_table.specs.Tables.{Row, Table, IsCodeOf, most_names, program_of, same_id, agrees_with}
 
 -- some row names the program
 abbrev pub IsNamed : Table → ProgramId → Type 0
@@ -22,7 +22,7 @@ IsNamed table id =
 
 -- what is kept of a table: each program that is named, as itself, and no other
 pub record IsHeld (programs : Programs) (table : Table) : Type 0 where
-  pub few : len table ≤ max_names
+  pub few : len table ≤ most_names
   pub coded : (name : Name) (row : Row) → get table name ≡ Some row → IsCodeOf row.registration.resolver row.code
   pub named : (id : ProgramId) (c : List Insn) → get programs id ≡ Some c → IsNamed table id
 

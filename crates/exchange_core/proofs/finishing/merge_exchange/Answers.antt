@@ -1,8 +1,8 @@
-use Rattle.std.proofs.Common.{◌≡◌, length, true, refl, ap, sym, subst, ◌∙◌}
+use Rattle.std.proofs.Common.{◌≡◌, ℕ, length, true, refl, ap, sym, subst, ◌∙◌}
 use Rattle.std.specs.Option.{option_map}
 use Rattle.clash_record.specs.declared.side_id.SideId.{SideId}
 use Rattle.clash_record.specs.declared.side_id.SideId.TheVariants.{A, B}
-use Rattle.partition_table.specs.Tables.{Table, fit_together, clash_names}
+use Rattle.partition_table.specs.Tables.{Table, most_names, fit_within, fit_together, clash_names}
 use Rattle.exchange_core.specs.Sides.{Exchange, fit_for, merge_for}
 use Rattle.exchange_core.specs.Finished.{all_held}
 use Rattle.exchange_core.specs.model.Pairing.{clash_names_for}
@@ -11,10 +11,10 @@ use Rattle.exchange_core.proofs.Ending.{answers, fits, one_answer_each, merged_s
 use Rattle.exchange_core.proofs.finishing.merge_exchange.Goals as goal
 
 -- what fits with A's table first fits with the own one first, and the same names clash
-own_fits : (id : SideId) (own other : Table) → ((a b : Table) → fit_together a b ≡ fit_together b a)
+own_fits : (id : SideId) (own other : Table) → ((limit : ℕ) (a b : Table) → fit_within limit a b ≡ fit_within limit b a)
     → fit_for id own other ≡ true → fit_together own other ≡ true
 own_fits A own other back h = h
-own_fits B own other back h = back own other ∙ h
+own_fits B own other back h = back most_names own other ∙ h
 
 own_names : (id : SideId) (own other : Table) → ((a b : Table) → clash_names a b ≡ clash_names b a)
     → clash_names_for id own other ≡ clash_names own other

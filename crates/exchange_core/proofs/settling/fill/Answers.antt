@@ -2,7 +2,7 @@ use Rattle.std.proofs.Common.{◌≡◌, ℕ, ◌+◌, ◌<◌, ◌≤◌, List,
 use Rattle.std.specs.Option.{option_map}
 use Rattle.std.proofs.lemmas.Option.{slice_get_within}
 use Rattle.partition_table.specs.declared.judged.Judged.{Judged}
-use Rattle.exchange_core.specs.Journal.{calls_of, max_events}
+use Rattle.exchange_core.specs.Journal.{calls_of, most_events}
 use Rattle.exchange_core.specs.model.Settling.{judge_by}
 use Rattle.exchange_core.proofs.Filling.{is_empty, is_held, lack_none, fills, keeps, one_less}
 use Rattle.exchange_core.proofs.settling.fill.Goals as goal
@@ -69,7 +69,7 @@ loop-k-preserved c =
                 held.1 c.if-is_none.rulings w.rulings-is (calls_of c.if-is_none.journal.past.value) (λ i. calls_of (w.journal-is i).past.value);
             room =
                 rw (w.journal-is, w.rulings-is)
-                (subst (λ (l : List (ℕ × Judged)). length (calls_of c.loop-k.journal.past.value) + length l ≤ max_events)
+                (subst (λ (l : List (ℕ × Judged)). length (calls_of c.loop-k.journal.past.value) + length l ≤ most_events)
                 same c.loop-k.invariant.room);
           }
     ]

@@ -1,5 +1,5 @@
 use Rattle.std.proofs.Common.{◌≡◌, ◌≤◌, ◌+◌, ◌++◌, length, drop, reverse}
-use Rattle.exchange_core.specs.Journal.{calls_of, max_events}
+use Rattle.exchange_core.specs.Journal.{calls_of, most_events}
 use Rattle.exchange_core.specs.Settling.{filled, lacking}
 use Rattle.exchange_core.specs.model.Settling.{judge_by, take_calls}
 use Rattle.exchange_core.proofs.Filling.{IsFilling}
@@ -16,5 +16,5 @@ invariant-loop-k l =
           (filled judge 0 l.clashes l.fn.rulings)
           (reverse (take_calls l.course.number lacks) ++ calls_of l.fn.journal.past.value);
       room : length (calls_of l.journal.past.value) + length (lacking judge l.k (drop l.k l.clashes) (drop l.k l.rulings))
-          ≤ max_events;
+          ≤ most_events;
     }

@@ -2,7 +2,7 @@ use Rattle.std.proofs.Common.{[], refl, ap, sym, subst, ◌∙◌}
 use Rattle.std.specs.BTreeSet.{contains}
 use Rattle.std.specs.FinMap.{keys, len}
 use Rattle.clash_record.specs.Orders.{name_cmp}
-use Rattle.partition_table.specs.Tables.{max_names}
+use Rattle.partition_table.specs.Tables.{most_names}
 use Rattle.partition_table.specs.model.Merging.{IsReady, put_all, each_kept, names_without}
 use Rattle.partition_table.proofs.Merged.{ready_others, passes_merge, alone_in_b, fit_few}
 use Rattle.partition_table.proofs.merging.merge_fitting.Goals as goal
@@ -14,7 +14,7 @@ put_names_of_b_alone-requires-clause-ready c =
     let gone_a = contains name_cmp c.in_ok-set_of.field-0 in
     let gone_b = contains name_cmp c.in_ok-set_of-2.field-0 in
     let put = c.in_ok-put_names_of_a.ensures.put in
-    subst (IsReady a b (names_without a (keys b)) max_names) (sym put)
+    subst (IsReady a b (names_without a (keys b)) most_names) (sym put)
     (ready_others a b gone_a gone_b c.args.answers.now (len a)
     (subst (IsReady a b [] (len a)) put c.in_ok-put_names_of_a.ensures.few) refl
     (fit_few a b c.requires.fit))

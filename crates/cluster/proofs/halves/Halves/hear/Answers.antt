@@ -33,6 +33,6 @@ returns-in_err-both-clause-cause c =
     (λ plan was offers trying.
     as_heal plan was c.hear.result c.hear-2.result c.in_err-both.field-0.0 c.in_err-both.ensures.refused
     (answered_cause plan was c.hear.result _ c.hear.ensures.answer
-    (hear_cause plan was no_ruling A [] _ _ trying.a c.args.of_b.now offers.b))
+    (hear_cause plan was no_ruling A [] _ _ trying.a _ trying.grown.a.same_limit c.args.of_b.now offers.b))
     (answered_cause plan was c.hear-2.result _ c.hear-2.ensures.answer
-    (hear_cause plan was no_ruling B [] _ _ trying.b c.args.of_a.now offers.a)))
+    (hear_cause plan was no_ruling B [] _ _ trying.b _ trying.grown.b.same_limit c.args.of_a.now offers.a)))

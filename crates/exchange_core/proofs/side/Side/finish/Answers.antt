@@ -5,7 +5,7 @@ use Rattle.exchange_core.proofs.Ready.{ready_to_finish, open_to_finish}
 use Rattle.exchange_core.proofs.Replays.{Holds, replay_holds}
 use Rattle.exchange_core.specs.Calls as call
 use Rattle.exchange_core.specs.Shown.{calls}
-use Rattle.exchange_core.proofs.Journaled.{kept_on, has_room}
+use Rattle.exchange_core.proofs.Journaled.{has_room, has_place, kept_by}
 use Rattle.exchange_core.proofs.side.Side.finish.Goals as goal
 
 pub finish-requires-clause-open : goal.finish-requires-clause-open
@@ -20,12 +20,13 @@ finish-requires-clause-ready c =
 
 pub push-requires : goal.push-requires
 push-requires c =
-    has_room (calls c.args.self.now) c.is_full.result c.is_full.ensures
-    (room_finish c.is_full.result c.args.self.now.state (sym c.finish_fault.ensures ∙ c.in_default.is))
+    has_place c.args.self.now.limit.names _ c.args.self.now.limit.few
+    (has_room c.args.self.now.limit.names (calls c.args.self.now) c.is_full.result c.is_full.ensures (room_finish c.is_full.result c.args.self.now.state (sym c.finish_fault.ensures ∙ c.in_default.is)))
 
 pub invariant_of-self-2 : goal.invariant_of-self-2
-invariant_of-self-2 c = record {
-  replayed =
-      kept_on (calls c.args.self.now) _ (call.Finish) _ _ (c.push.ensures) c.args.self.now.replayed
-      c.in_ok-finished.ensures.done;
-}
+invariant_of-self-2 c =
+    let side = c.args.self.now in
+    let k = kept_by side.limit.names (calls side) _ (call.Finish) side.state _ (c.push.ensures) side.replayed side.within
+    (has_room c.args.self.now.limit.names (calls c.args.self.now) c.is_full.result c.is_full.ensures (room_finish c.is_full.result c.args.self.now.state (sym c.finish_fault.ensures ∙ c.in_default.is))) c.merge_theorem.ensures.few
+    c.in_ok-finished.ensures.done in
+    record { replayed = k.replayed; within = k.within; few = k.few }

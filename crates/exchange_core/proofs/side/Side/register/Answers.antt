@@ -1,12 +1,12 @@
-use Rattle.std.proofs.Common.{◌≡◌, List, Option, ◌∷◌, ap, ◌∙◌, option_and_then, rules}
+use Rattle.std.proofs.Common.{◌≡◌, List, Option, ◌∷◌, ap, ◌∙◌, option_and_then, refl, rules}
 use Rattle.std.specs.FinMap.{get}
 use Rattle.instruction_set.specs.declared.insn.Insn.{Insn}
 use Rattle.partition_table.specs.Tables.{Row, Table, row_for}
 use Rattle.exchange_core.specs.Calls.{Register}
 use Rattle.exchange_core.specs.Journal.{calls_of}
 use Rattle.exchange_core.specs.Shown.{calls}
-use Rattle.exchange_core.proofs.Journaled.{kept_on, has_room}
-use Rattle.exchange_core.proofs.Registered.{registered_row}
+use Rattle.exchange_core.proofs.Journaled.{has_room, has_place, kept_by}
+use Rattle.exchange_core.proofs.Registered.{registered_row, registered_room}
 use Rattle.exchange_core.proofs.side.Side.register.Goals.{After-push}
 use Rattle.exchange_core.proofs.side.Side.register.Goals as goal
 
@@ -27,14 +27,21 @@ written c =
     }) ∷ calls c.args.self.now) code
 
 pub push-requires : goal.push-requires
-push-requires c = has_room (calls c.args.self.now) c.is_full.result c.is_full.ensures (search rules)
+push-requires c =
+    has_place c.args.self.now.limit.names _ c.args.self.now.limit.few
+    (has_room c.args.self.now.limit.names (calls c.args.self.now) c.is_full.result c.is_full.ensures (search rules))
 
 pub invariant_of-self-2 : goal.invariant_of-self-2
-invariant_of-self-2 c = record {
-  replayed =
-      kept_on (calls c.args.self.now) _ (Register c.args.name (row_for c.args.store.now c.args.registration)) _ _
-      (written c) c.args.self.now.replayed c.in_ok-register.ensures.done;
-}
+invariant_of-self-2 c =
+    let side = c.args.self.now in
+    let row = row_for c.args.store.now c.args.registration in
+    let room = has_room side.limit.names (calls side) c.is_full.result c.is_full.ensures (search rules) in
+    let place = registered_room side.limit.names side.state.table c.args.name c.args.registration c.args.store.now
+    c.in_ok-register.ensures.answer in
+    let k = kept_by side.limit.names (calls side) _ (Register c.args.name row) side.state _ (written c) side.replayed
+    side.within room place c.in_ok-register.ensures.done in
+    record { replayed = k.replayed; within = k.within; few = k.few }
 
 pub returns-clause-done : goal.returns-clause-done
-returns-clause-done c = record { carried = c.in_ok-register.ensures.done; written = written c.before }
+returns-clause-done c =
+    record { carried = c.in_ok-register.ensures.done; written = written c.before; same_limit = refl }

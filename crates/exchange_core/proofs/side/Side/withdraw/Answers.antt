@@ -2,17 +2,18 @@ use Rattle.std.proofs.Common.{sym, ◌∙◌}
 use Rattle.exchange_core.proofs.Due.{room_withdraw}
 use Rattle.exchange_core.specs.Calls as call
 use Rattle.exchange_core.specs.Shown.{calls}
-use Rattle.exchange_core.proofs.Journaled.{kept_on, has_room}
+use Rattle.exchange_core.proofs.Journaled.{has_room, has_place, kept_by}
 use Rattle.exchange_core.proofs.side.Side.withdraw.Goals as goal
 
 pub push-requires : goal.push-requires
 push-requires c =
-    has_room (calls c.args.self.now) c.is_full.result c.is_full.ensures
-    (room_withdraw c.is_full.result c.args.self.now.state c.args.name.now (sym c.withdraw_fault.ensures ∙ c.in_default.is))
+    has_place c.args.self.now.limit.names _ c.args.self.now.limit.few
+    (has_room c.args.self.now.limit.names (calls c.args.self.now) c.is_full.result c.is_full.ensures (room_withdraw c.is_full.result c.args.self.now.state c.args.name.now (sym c.withdraw_fault.ensures ∙ c.in_default.is)))
 
 pub invariant_of-self-2 : goal.invariant_of-self-2
-invariant_of-self-2 c = record {
-  replayed =
-      kept_on (calls c.args.self.now) _ (call.Withdraw c.args.name.now) _ _ (c.push.ensures) c.args.self.now.replayed
-      c.in_ok-withdraw.ensures.done;
-}
+invariant_of-self-2 c =
+    let side = c.args.self.now in
+    let k = kept_by side.limit.names (calls side) _ (call.Withdraw c.args.name.now) side.state _ (c.push.ensures) side.replayed side.within
+    (has_room c.args.self.now.limit.names (calls c.args.self.now) c.is_full.result c.is_full.ensures (room_withdraw c.is_full.result c.args.self.now.state c.args.name.now (sym c.withdraw_fault.ensures ∙ c.in_default.is))) tt
+    c.in_ok-withdraw.ensures.done in
+    record { replayed = k.replayed; within = k.within; few = k.few }

@@ -4,7 +4,7 @@ use Rattle.std.specs.BTreeSet.{contains}
 use Rattle.std.specs.FinMap.{get}
 use Rattle.clash_record.specs.Orders.{name_cmp}
 use Rattle.clash_record.specs.Name.{Name}
-use Rattle.partition_table.specs.Tables.{max_names, unless_gone, with_row}
+use Rattle.partition_table.specs.Tables.{most_names, unless_gone, with_row}
 use Rattle.partition_table.specs.model.Walking.{pairs_left, IsPaired}
 use Rattle.partition_table.specs.model.Merging.{IsReady, put_all, each_kept, names_without, IsRowOf}
 use Rattle.partition_table.proofs.Settling.{ready_next, unless_gone_of, own_row, lacked, without_step}
@@ -31,9 +31,9 @@ loop-name-preserved c =
       told = ap (put_all (each_kept kept (names_without a left))) put
           ∙ ap (λ names. put_all (each_kept kept names) c.loop-name.merged) (sym names)
           ∙ c.loop-name.invariant.told;
-      ready = subst (IsReady a b (names_without a left) max_names) (sym put)
-          (ready_next a b n (names_without a left) max_names c.loop-name.merged
-          (subst (λ names. IsReady a b names max_names c.loop-name.merged) names c.loop-name.invariant.ready) (kept n)
+      ready = subst (IsReady a b (names_without a left) most_names) (sym put)
+          (ready_next a b n (names_without a left) most_names c.loop-name.merged
+          (subst (λ names. IsReady a b names most_names c.loop-name.merged) names c.loop-name.invariant.ready) (kept n)
           (unless_gone_of (IsRowOf a b n) None (get b n) (gone_a n) (gone_b n) (get b n) row));
       met = met.1;
     }

@@ -4,7 +4,7 @@ use Rattle.std.specs.BTreeSet.{contains}
 use Rattle.std.specs.FinMap.{get, keys}
 use Rattle.clash_record.specs.Orders.{name_cmp}
 use Rattle.clash_record.specs.Name.{Name}
-use Rattle.partition_table.specs.Tables.{max_names, unless_gone}
+use Rattle.partition_table.specs.Tables.{most_names, unless_gone}
 use Rattle.partition_table.specs.model.Walking.{pairs_left, IsPaired}
 use Rattle.partition_table.specs.model.Merging.{IsReady, put_all, each_kept, names_without}
 use Rattle.partition_table.proofs.merging.Parents.put_names_of_b_alone.Given as goal
@@ -20,6 +20,6 @@ invariant-loop-name l =
       told :
           put_all (each_kept kept (names_without p.a.now (map (λ item. item.0) left))) l.merged
           ≡ put_all (each_kept kept (names_without p.a.now (keys p.b.now))) l.fn.merged;
-      ready : IsReady p.a.now p.b.now (names_without p.a.now (map (λ item. item.0) left)) max_names l.merged;
+      ready : IsReady p.a.now p.b.now (names_without p.a.now (map (λ item. item.0) left)) most_names l.merged;
       met : AllByRecursion (IsPaired p.b.now p.a.now) left;
     }

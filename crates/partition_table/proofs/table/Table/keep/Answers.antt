@@ -10,7 +10,7 @@ use Rattle.partition_table.proofs.Held.{held_now, has_name, room_from_agrees}
 use Rattle.clash_record.specs.laws.Orders.{names_total, names_exact}
 use Rattle.numbered.specs.Answers.{IsAnswered}
 use Rattle.partition_table.specs.Faults.{table_fault_number}
-use Rattle.partition_table.proofs.Maps.{made_same}
+use Rattle.upload_store.specs.laws.Mapped.{made_same}
 use Rattle.partition_table.proofs.Registering.{handed_on, if_err, taken_if, new_name}
 use Rattle.partition_table.proofs.Changes.{few_kept, kept_more, made_more, made_back}
 use Rattle.partition_table.proofs.table.Table.keep.Goals.{After-into, In_default, After-from_residual}

@@ -1,4 +1,4 @@
-use Rattle.std.proofs.Common.{Some, inl, ap, sym, ◌∙◌}
+use Rattle.std.proofs.Common.{◌<◌, Some, inl, ap, sym, ◌∙◌, arith}
 use Rattle.std.specs.Option.{option_map}
 use Rattle.std.specs.Arc.{arc_value}
 use Rattle.std.specs.FinMap.{len}
@@ -7,18 +7,18 @@ use Rattle.partition_table.specs.Tables.{agrees_with}
 use Rattle.partition_table.specs.model.Keeping.{kept_code}
 use Rattle.upload_store.specs.Programs.{programs_by}
 use Rattle.partition_table.proofs.Held.{held_now, count_of}
-use Rattle.partition_table.proofs.Registering.{refused_first, answered, full_due, unknown_due, other_due, has_place, agrees_when, differs_when}
-use Rattle.partition_table.proofs.table.Table.register.Goals as goal
+use Rattle.partition_table.proofs.Registering.{refused_first, answered, full_due, unknown_due, other_due, agrees_when, differs_when}
+use Rattle.partition_table.proofs.table.Table.register_within.Goals as goal
 
-pub returns-then-len-eq-MAX_NAMES-clause-answer : goal.returns-then-len-eq-MAX_NAMES-clause-answer
-returns-then-len-eq-MAX_NAMES-clause-answer c =
+pub returns-then-len-names-clause-answer : goal.returns-then-len-names-clause-answer
+returns-then-len-names-clause-answer c =
     let programs = programs_by kept_code c.self.inside.programs.entries in
     let count = c.len.ensures.len ∙ sym (count_of programs c.self.inside.rows.entries c.len.ensures.ordered)
     ∙ ap len c.self.view_is in
-    inl (refused_first c.args.self.now c.args.name c.args.registration c.args.store.now Full c.refusal.result
+    inl (refused_first c.args.limit.names c.args.self.now c.args.name c.args.registration c.args.store.now Full c.refusal.result
     c.refusal.ensures (λ a.
-    full_due c.args.self.now c.args.name c.args.registration c.args.store.now a
-    (sym count ∙ c.if-len-eq-MAX_NAMES.true)))
+    full_due c.args.limit.names c.args.self.now c.args.name c.args.registration c.args.store.now a
+    (omega (arith, count, c.if-len-names.true, c.names.ensures))))
 
 pub returns-in-Err-clause-answer : goal.returns-in-Err-clause-answer
 returns-in-Err-clause-answer c =
@@ -26,10 +26,10 @@ returns-in-Err-clause-answer c =
     let held = held_now programs c.self.inside.rows.entries c.args.self.now c.self.view_is c.self.invariant.held in
     let count = c.len.ensures.len ∙ sym (count_of programs c.self.inside.rows.entries c.len.ensures.ordered)
     ∙ ap len c.self.view_is in
-    let place = has_place c.len.result (len c.args.self.now) count held.0.few c.if-len-eq-MAX_NAMES.false in
-    inl (refused_first c.args.self.now c.args.name c.args.registration c.args.store.now c.in-Err.fault
+    let place : len c.args.self.now < c.args.limit.names = omega (arith, count, c.if-len-names.false, c.names.ensures) in
+    inl (refused_first c.args.limit.names c.args.self.now c.args.name c.args.registration c.args.store.now c.in-Err.fault
     c.refusal-in-Err.result c.refusal-in-Err.ensures (λ a.
-    unknown_due c.args.self.now c.args.name c.args.registration c.args.store.now a place
+    unknown_due c.args.limit.names c.args.self.now c.args.name c.args.registration c.args.store.now a place
     c.in-Err.ensures.unknown.1 ∙ ap Some (sym c.in-Err.ensures.unknown.0)))
 
 pub returns-then-not-has_room-clause-answer : goal.returns-then-not-has_room-clause-answer
@@ -38,10 +38,10 @@ returns-then-not-has_room-clause-answer c =
     let held = held_now programs c.self.inside.rows.entries c.args.self.now c.self.view_is c.self.invariant.held in
     let count = c.len.ensures.len ∙ sym (count_of programs c.self.inside.rows.entries c.len.ensures.ordered)
     ∙ ap len c.self.view_is in
-    let place = has_place c.len.result (len c.args.self.now) count held.0.few c.if-len-eq-MAX_NAMES.false in
-    inl (refused_first c.args.self.now c.args.name c.args.registration c.args.store.now OtherCode
+    let place : len c.args.self.now < c.args.limit.names = omega (arith, count, c.if-len-names.false, c.names.ensures) in
+    inl (refused_first c.args.limit.names c.args.self.now c.args.name c.args.registration c.args.store.now OtherCode
     c.refusal-then-not-has_room.result c.refusal-then-not-has_room.ensures (λ a.
-    other_due c.args.self.now c.args.name c.args.registration c.args.store.now a place
+    other_due c.args.limit.names c.args.self.now c.args.name c.args.registration c.args.store.now a place
     c.in-Ok.ensures.known
     (ap (λ code. agrees_with c.args.self.now record {
       registration = c.args.registration;
@@ -57,7 +57,7 @@ keep-requires-clause-room c =
     let held = held_now programs c.self.inside.rows.entries c.args.self.now c.self.view_is c.self.invariant.held in
     let count = c.len.ensures.len ∙ sym (count_of programs c.self.inside.rows.entries c.len.ensures.ordered)
     ∙ ap len c.self.view_is in
-    has_place c.len.result (len c.args.self.now) count held.0.few c.if-len-eq-MAX_NAMES.false
+    omega (arith, count, c.if-len-names.false, c.names.ensures, c.args.limit.few)
 
 pub keep-requires-clause-agrees : goal.keep-requires-clause-agrees
 keep-requires-clause-agrees c =
@@ -73,8 +73,8 @@ returns-clause-answer c =
     let held = held_now programs c.self.inside.rows.entries c.args.self.now c.self.view_is c.self.invariant.held in
     let count = c.len.ensures.len ∙ sym (count_of programs c.self.inside.rows.entries c.len.ensures.ordered)
     ∙ ap len c.self.view_is in
-    let place = has_place c.len.result (len c.args.self.now) count held.0.few c.if-len-eq-MAX_NAMES.false in
-    answered c.args.self.now c.args.name c.args.registration c.args.store.now place
+    let place : len c.args.self.now < c.args.limit.names = omega (arith, count, c.if-len-names.false, c.names.ensures) in
+    answered c.args.limit.names c.args.self.now c.args.name c.args.registration c.args.store.now place
     c.in-Ok.ensures.known
     (ap (λ code. agrees_with c.args.self.now record {
       registration = c.args.registration;

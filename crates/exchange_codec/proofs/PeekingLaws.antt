@@ -1,0 +1,66 @@
+-- The head of a message that bytes spell.
+use Rattle.std.proofs.Common.{◌≡◌, ℕ, ◌^◌, List, ◌∷◌, ◌++◌, length, Result, Ok, Err, inl, inr, refl, sym, ap, ◌∙◌, append_assoc, lit<}
+use Rattle.std.specs.List.{flat_map}
+use Rattle.std.specs.Int.{w32, w64, to_le_bytes}
+use Rattle.numbered.specs.Answers.{ReturnsOrRunsOut}
+use Rattle.exchange_core.specs.Sides.{Offer, Withdrawals}
+use Rattle.exchange_codec.specs.declared.fault.Fault.{Fault}
+use Rattle.exchange_codec.specs.declared.fault.ReadError.{ReadError}
+use Rattle.exchange_codec.specs.declared.fault.ReadError.TheVariants as errors
+use Rattle.exchange_codec.specs.declared.fault.MessageFault.{MessageFault}
+use Rattle.exchange_codec.specs.declared.head.MessageHead.{MessageHead}
+use Rattle.exchange_codec.specs.Faults.{message_fault_number}
+use Rattle.exchange_codec.specs.Placing.{told_of}
+use Rattle.exchange_codec.specs.Reading.{Fails}
+use Rattle.exchange_codec.specs.Names.{side_byte, name_bytes}
+use Rattle.exchange_codec.specs.Rows.{row_bytes}
+use Rattle.exchange_codec.specs.Offers.{offers_header, head_bytes, text_of, SpellsOffer}
+use Rattle.exchange_codec.specs.Withdrawals.{withdrawals_header, SpellsWithdrawals}
+use Rattle.exchange_codec.specs.Peeking.{head_of_offer, head_of_list, peeked_offer, peeked_list, peeked}
+use Rattle.exchange_codec.proofs.FieldLaws.{wide64, number_again, eqb_same}
+use Rattle.exchange_codec.proofs.NameLaws.{side_again}
+
+pub offer_peeked : (bytes : List ℕ) (o : Offer) → SpellsOffer bytes o → peeked bytes ≡ Ok (head_of_offer o)
+unfolding peeked peeked_offer
+offer_peeked bytes o spells =
+    let text = text_of o in
+    let more = to_le_bytes w32 (length text.rows) ++ flat_map row_bytes text.rows in
+    let uptime = to_le_bytes w64 o.uptime ++ more in
+    let seed = to_le_bytes w64 o.seed ++ uptime in
+    let number = to_le_bytes w64 o.number ++ seed in
+    let regrouped : head_bytes text.head ++ more ≡ side_byte o.side ∷ number =
+    ap (λ (x : List ℕ). side_byte o.side ∷ x)
+    (append_assoc (to_le_bytes w64 o.number) (to_le_bytes w64 o.seed ++ to_le_bytes w64 o.uptime) more
+    ∙ ap (λ (x : List ℕ). to_le_bytes w64 o.number ++ x) (append_assoc (to_le_bytes w64 o.seed) (to_le_bytes w64 o.uptime) more)) in
+    let head = spells.is_text.head in
+    ap peeked (spells.spelling ∙ ap (λ (x : List ℕ). to_le_bytes w64 offers_header ++ x) regrouped)
+    ∙ rw (
+      number_again w64 (2 ^ 64) wide64 offers_header (side_byte o.side ∷ number) (lit< tt),
+      side_again o.side number,
+      number_again w64 (2 ^ 64) wide64 o.number seed head.number,
+      number_again w64 (2 ^ 64) wide64 o.seed uptime head.seed,
+    ) refl
+
+pub list_peeked : (bytes : List ℕ) (w : Withdrawals) → SpellsWithdrawals bytes w → peeked bytes ≡ Ok (head_of_list w)
+unfolding peeked peeked_list
+list_peeked bytes w spells =
+    let more = to_le_bytes w32 (length w.names) ++ flat_map name_bytes w.names in
+    let number = to_le_bytes w64 w.number ++ more in
+    ap peeked spells.spelling
+    ∙ rw (
+      number_again w64 (2 ^ 64) wide64 withdrawals_header (side_byte w.side ∷ number) (lit< tt),
+      side_again w.side number,
+      number_again w64 (2 ^ 64) wide64 w.number more spells.is_list.number,
+    ) refl
+
+-- a head that is read is the one that is spelled
+pub head_is : (read : Result MessageHead Fault) (head due : MessageHead) → read ≡ Ok head → read ≡ Ok due →
+    ReturnsOrRunsOut message_fault_number (Ok head) (Ok due)
+head_is read head due e h = inl (cc)
+
+-- where a head is spelled, reading fails only when out of memory
+pub never_fails : (len : ℕ) (read : Result MessageHead Fault) (due : MessageHead) (error : ReadError) (fault : MessageFault)
+    → Fails error read → fault ≡ told_of len error → read ≡ Ok due →
+    ReturnsOrRunsOut message_fault_number (Err fault) (Ok due)
+never_fails len read due errors.Memory fault h is e = inr (ap message_fault_number is)
+never_fails len read due (errors.Fault f) fault h is e = absurd (cc)

@@ -1,0 +1,18 @@
+use Rattle.std.proofs.Common.{subst}
+use Rattle.numbered.specs.Answers.{IsAnswered}
+use Rattle.partition_table.specs.Faults.{table_fault_number}
+use Rattle.partition_table.specs.Tables.{Table}
+use Rattle.exchange_core.specs.Sides.{Side}
+use Rattle.exchange_core.specs.model.Pairing.{fit_fault_for}
+use Rattle.exchange_core.proofs.state.State.clashes_with.Goals as goal
+
+pub returns-clause-answer : goal.returns-clause-answer
+returns-clause-answer c =
+    let limit = c.args.limit.names in
+    let other = c.args.offer.now.table in
+    subst (λ (s : Side). IsAnswered table_fault_number (fit_fault_for limit s.id s.table other) c.clashes_own.result)
+    c.self.view_is
+    (subst (λ (t : Table). IsAnswered table_fault_number (fit_fault_for limit c.self.inside.id t other) c.clashes_own.result)
+    c.table.ensures
+    (subst (λ (t : Table). IsAnswered table_fault_number (fit_fault_for limit c.self.inside.id c.table.result.now t)
+    c.clashes_own.result) c.table-2.ensures (c.clashes_own.ensures.answer c.self.inside.id)))

@@ -1,0 +1,20 @@
+use Rattle.std.proofs.Common.{◌≡◌, ◌+◌, ◌++◌, map, length}
+use Rattle.std.specs.List.{filter_map, AllByRecursion}
+use Rattle.std.specs.FinMap.{keys}
+use Rattle.partition_table.specs.model.Merging.{names_without}
+use Rattle.partition_table.specs.model.Walking.{pairs_left, IsPaired}
+use Rattle.partition_table.specs.model.Judging.{clash_by_name}
+use Rattle.partition_table.proofs.clashing.walk.Given as goal
+
+-- the clashes so far and those of the names that are left are all, and so are the names that the first table has alone
+abbrev pub invariant-loop-name : goal.invariant-loop-name
+invariant-loop-name l =
+    let a = l.a in
+    let b = l.b in
+    let by_name = clash_by_name l.half_a.facts a l.half_b.facts b in
+    let left = map (λ item. item.0) (pairs_left l.name-iterator) in
+    record {
+      told : l.found.items ++ filter_map by_name left ≡ filter_map by_name (keys a);
+      counted : l.alone + length (names_without b left) ≡ length (names_without b (keys a));
+      met : AllByRecursion (IsPaired a b) (pairs_left l.name-iterator);
+    }
