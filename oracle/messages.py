@@ -13,7 +13,7 @@ import verifier
 from machine import Refused
 
 MAGIC, VERSION, OFFER, LIST = b"HEALXC", 1, 1, 2
-MAX_ROWS, MAX_CODE = 4096, 8192
+MAX_ROWS, MAX_CODE = 1048576, 8192
 BY_ID, BY_CODE = 3, 4
 
 # `rows` has pairs of a name and a registration, in the order of names; `programs` the code of each id that they name.

@@ -98,7 +98,7 @@ refusals_of_an_exchange_test() ->
     ?assertMatch({error, {35, _}}, heal:begin_exchange(A, 5, 1, 0)).
 
 words_test() ->
-    ?assertEqual(<<"the table is full: 4,096 names">>, heal:refusal_words(32)),
+    ?assertEqual(<<"the table is full: 4,096 names, or the side's limit">>, heal:refusal_words(32)),
     ?assertEqual(<<"unknown refusal">>, heal:refusal_words(4294967295)).
 
 program_test() ->

@@ -16,7 +16,7 @@ const ROWS: [Row; 17] = [
     (Kind::Offer, 8, 2, 74, Place::Byte(8)),
     (Kind::Offer, 33, 3, 72, Place::Byte(242)),
     (Kind::Offer, 33, 5, 70, Place::Byte(285)),
-    (Kind::Offer, 34, 0x11, 73, Place::Byte(33)),
+    (Kind::Offer, 35, 0x11, 73, Place::Byte(33)),
     (Kind::Offer, 37, 0, 75, Place::Byte(37)),
     (Kind::Offer, 38, 0x20, 75, Place::Byte(37)),
     (Kind::Offer, 80, 5, 76, Place::Byte(80)),

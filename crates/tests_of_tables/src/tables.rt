@@ -145,11 +145,15 @@ fn refuses_in_words(rt: HostRuntime) -> Result<(), Fail> {
     let rows = [
         (TableFault::NameTaken, 30, "the name is already registered"),
         (TableFault::NoSuchName, 31, "the name isn't registered"),
-        (TableFault::Full, 32, "the table is full: 4,096 names"),
+        (
+            TableFault::Full,
+            32,
+            "the table is full: 4,096 names, or the side's limit",
+        ),
         (
             TableFault::TooManyNames,
             37,
-            "the two tables have more than 4,096 names together",
+            "the two tables have more names together than one may have: 4,096, or the side's limit",
         ),
         (
             TableFault::UnknownProgram,

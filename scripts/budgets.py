@@ -1,0 +1,82 @@
+#!/usr/bin/env python3
+"""budgets.py [--write]: compares the instructions that the program takes with those in bench/budgets.
+
+Counts, by callgrind, the instructions of `heal judge` for each resolver of resolvers/ on the record of crates/heal_main/args,
+and of `heal run` with one worker on a script in which 1,024 names clash. Fails if a count is more than 3 percent above its
+budget, and reports each that is as far below. --write writes the counts down. Needs the proved program and valgrind.
+"""
+
+import glob
+import os
+import re
+import subprocess
+import sys
+import tempfile
+
+TOP = os.path.join(os.path.dirname(os.path.abspath(__file__)), "..")
+HEAL = os.path.join(TOP, "crates", "heal_main", "out", "heal_main")
+BUDGETS = os.path.join(TOP, "bench", "budgets")
+CLASHES = 1024
+PART = 0.03
+
+
+def instructions(work, *words):
+    """The instructions that heal takes with these words."""
+    counted = os.path.join(work, "counted")
+    # An empty environment: its size would count.
+    subprocess.run(["valgrind", "-q", "--tool=callgrind", f"--callgrind-out-file={counted}", HEAL, *words],
+                   check=True, stdout=subprocess.DEVNULL, env={"PATH": os.environ["PATH"]})
+    with open(counted, encoding="utf-8") as file:
+        return int(re.search(r"^summary: (\d+)", file.read(), re.MULTILINE).group(1))
+
+
+def script():
+    """The text of a script in which every name clashes, and a healing."""
+    lines = [f"register {side} name{i} {node}.{i} 5 0 - notify" for i in range(CLASHES) for side, node in ("a1", "b2")]
+    return "\n".join(lines + ["heal 7"]) + "\n"
+
+
+def counts():
+    """The name and the count of each run, in the order of the file."""
+    found = {}
+    with open(os.path.join(TOP, "crates", "heal_main", "args"), encoding="utf-8") as file:
+        record = file.read().split()[-1]
+    with tempfile.TemporaryDirectory() as work:
+        for path in sorted(glob.glob(os.path.join(TOP, "resolvers", "*.hex"))):
+            name = os.path.basename(path)[:-len(".hex")]
+            with open(path, encoding="utf-8") as file:
+                found[f"judge {name}"] = instructions(work, "judge", file.read().strip(), record)
+        path = os.path.join(work, "script")
+        with open(path, "w", encoding="utf-8") as file:
+            file.write(script())
+        found[f"run {CLASHES} clashes"] = instructions(work, "run", path, "--workers", "1")
+    return found
+
+
+def budgets():
+    with open(BUDGETS, encoding="utf-8") as file:
+        rows = [line.rsplit(None, 1) for line in file if line.strip()]
+    return {name: int(count) for name, count in rows}
+
+
+def main():
+    found = counts()
+    if sys.argv[1:] == ["--write"]:
+        with open(BUDGETS, "w", encoding="utf-8") as file:
+            file.writelines(f"{name} {count}\n" for name, count in found.items())
+        return
+    agreed = budgets()
+    if agreed.keys() != found.keys():
+        sys.exit(f"budgets.py: bench/budgets has {sorted(agreed)}, and these were counted: {sorted(found)}")
+    over = [f"{name}: {count}, budget {agreed[name]}" for name, count in found.items()
+            if count > agreed[name] * (1 + PART)]
+    for name, count in found.items():
+        if count < agreed[name] * (1 - PART):
+            print(f"{name}: {count}, below the budget of {agreed[name]}; write it down by budgets.py --write")
+    if over:
+        sys.exit("budgets.py: over the budget: " + "; ".join(over))
+    print(f"{len(found)} runs are within their budgets of instructions")
+
+
+if __name__ == "__main__":
+    main()
