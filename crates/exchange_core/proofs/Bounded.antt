@@ -148,8 +148,12 @@ module _ (limit : ℕ) (side : Side) (h : IsWithin limit side) where
       let f = found side new e in
       let few = h.union f.exchange f.heard f.opened f.was_heard in
       subst (IsWithin limit) f.new_is
-      (with_table (merged_table side f.exchange f.heard f.theirs) (omega (arith, few, len_merged merges side.id side.table
-      f.heard.table (map answer_in f.heard.rulings) f.exchange.withdrawn f.theirs)))
+      (with_table (merged_table side f.exchange f.heard f.theirs) (omega (
+        arith,
+        few,
+        len_merged merges side.id side.table
+            f.heard.table (map answer_in f.heard.rulings) f.exchange.withdrawn f.theirs,
+      )))
 
   pub call_within : (call : Call) (new : Side) → HasRoom limit side call → carried_out side call ≡ Some new →
       IsWithin limit new

@@ -218,7 +218,10 @@ impl Side {
         ensures done { OnOk result (IsDone self.old (call.Hear offer.now) self.new) }
         ensures untouched { OnErr result (IsUntouched self.old self.new) }
     {
-        if let Some(fault) = self.state.early_hear_fault(self.limit, self.is_full(), offer) {
+        if let Some(fault) = self
+            .state
+            .early_hear_fault(self.limit, self.is_full(), offer)
+        {
             return Err(fault);
         }
         self.state.hear(alloc, self.limit, offer)?;

@@ -12,8 +12,8 @@ ghost use Rattle.exchange_core.specs.model.Pairing.{fit_fault_for};
 use builtin_resolvers::Verdict3;
 use clash_record::Name;
 use partition_table::{
-    ClashList, NameLimit, Table, TableFault, clashes_theorem, clashes_within, fit_theorem, fit_within,
-    merge_fitting, merge_theorem,
+    ClashList, NameLimit, Table, TableFault, clashes_theorem, clashes_within, fit_theorem,
+    fit_within, merge_fitting, merge_theorem,
 };
 use std::alloc::{AllocError, Global};
 

@@ -8,8 +8,8 @@ ghost use Rattle.exchange_core.specs.Journal.{calls_of, most_events};
 
 use crate::exchange::Exchange;
 use crate::fault::{MissingPart, SideFault};
-use crate::limits::max_events;
 use crate::journal::{Event, Journal};
+use crate::limits::max_events;
 use crate::state::State;
 use interpreter::Scratch;
 use partition_table::{Clash, ClashList, Judged, NameLimit, Verdict, word};

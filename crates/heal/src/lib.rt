@@ -34,8 +34,8 @@ pub use clash_record::{
 };
 pub use cluster::{Cluster, HealFault, Healing, Plan};
 pub use exchange_codec::{
-    FieldFault, ItemFault, MessageFault, MessageHead, MessageKind, decode_offer, decode_withdrawals,
-    encode_offer, encode_withdrawals, one_message_theorem, peek,
+    FieldFault, ItemFault, MessageFault, MessageHead, MessageKind, decode_offer,
+    decode_withdrawals, encode_offer, encode_withdrawals, one_message_theorem, peek,
 };
 pub use exchange_core::{
     Finished, Judged, ListFault, MAX_EVENTS, MissingPart, Offer, ShownRows, Side, SideFault,

@@ -93,7 +93,6 @@ module _ (limit : ℕ) (table : Table) (name : Name) (r : Registration) (store :
       by true a = taken_due a
       by false a = none_due a room k g
 
-
 module _ (programs : Programs) (table : Table) (held : IsHeld programs table) (looked : IsLookedUp programs table)
     (r : Registration) (code : Option (List Insn)) (b : Bool)
     (tested : IsTrue b ↔ has_room_for programs r.resolver code) where

@@ -6,8 +6,8 @@ ghost use Rattle.partition_table.specs.Tables.{IsTable, fit_within, max_names, t
 ghost use Rattle.partition_table.specs.Faults.{IsRefused, fit_fault};
 
 use crate::fault::TableFault;
-use crate::paired::Paired;
 use crate::limit::NameLimit;
+use crate::paired::Paired;
 use crate::table::Table;
 
 /// Checks that two tables have a merge of at most 4,096 names. See `fit_within`.

@@ -27,7 +27,7 @@ pub use fitting::{fit, fit_within};
 pub use judged::Judged;
 pub use judging::word;
 pub use laws::{clashes_theorem, fit_theorem, merge_theorem};
-pub use merging::{merge, merge_fitting};
 pub use limit::{MAX_NAMES, NameLimit};
+pub use merging::{merge, merge_fitting};
 pub use table::{Rows, RowsAfter, Table};
 pub use verdict::{Ruling, Verdict};

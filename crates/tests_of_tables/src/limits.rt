@@ -40,7 +40,9 @@ fn number(result: Result<(), SideFault>) -> Option<u32> {
 
 #[test]
 fn a_limit_is_from_1_to_1048576(rt: HostRuntime) -> Result<(), Fail> {
-    let found = [0, 1, 4096, 1_048_576, 1_048_577].map(|names| NameLimit::new(names).map(|limit| limit.names()));
+    let found = [0, 1, 4096, 1_048_576, 1_048_577].map(|names| NameLimit::new(names).map(
+        |limit| limit.names(),
+    ));
     assert_eq!(rt; found, [None, Some(1), Some(4096), Some(1_048_576), None]);
     assert_eq!(rt; NameLimit::default().names(), MAX_NAMES);
     Ok(())
@@ -103,9 +105,21 @@ fn a_side_has_more_than_4096_names(rt: HostRuntime) -> Result<(), Fail> {
 
 #[test]
 fn a_table_fits_into_the_limit_of_its_side(rt: HostRuntime) -> Result<(), Fail> {
-    let too_few = Side::with_table(rt.alloc(), SideId::A, limit(1)?, two_names(rt.alloc())?, None);
+    let too_few = Side::with_table(
+        rt.alloc(),
+        SideId::A,
+        limit(1)?,
+        two_names(rt.alloc())?,
+        None,
+    );
     assert_eq!(rt; too_few.err().map(|fault| fault.number()), Some(32));
-    let side = Side::with_table(rt.alloc(), SideId::A, limit(2)?, two_names(rt.alloc())?, Some(7))?;
+    let side = Side::with_table(
+        rt.alloc(),
+        SideId::A,
+        limit(2)?,
+        two_names(rt.alloc())?,
+        Some(7),
+    )?;
     assert_eq!(rt; (side.latest(), side.table().len()), (Some(7), 2));
     Ok(())
 }

@@ -9,16 +9,21 @@ use Rattle.partition_table.proofs.clashing.clashes_within.Goals as goal
 
 pub overflow_add-len : goal.overflow_add-len
 overflow_add-len c =
-    omega (arith, c.len.ensures.count, c.len.ensures.kept.few, c.in_ok-walked.ensures.alone,
-    alone_few c.args.b.now c.args.a.now c.in_ok-walked.ensures.kept.0)
+    omega (
+      arith,
+      c.len.ensures.count,
+      c.len.ensures.kept.few,
+      c.in_ok-walked.ensures.alone,
+      alone_few c.args.b.now c.args.a.now c.in_ok-walked.ensures.kept.0,
+    )
 
 pub returns-then-len-walked-clause-answer : goal.returns-then-len-walked-clause-answer
 returns-then-len-walked-clause-answer c = inl (
-  fits_by_count c.args.limit.names c.args.a.now c.args.b.now _
-  (union_by_alone c.args.a.now c.args.b.now c.len.result c.in_ok-walked.walked.alone c.len.ensures.count c.in_ok-walked.ensures.alone)
-  (sym c.agrees_with.ensures ∙ c.if-not-agrees_with.false) false
-  (lt-leb _ _ (omega (arith, c.if-len-walked.true, c.names.ensures)))
-)
+    fits_by_count c.args.limit.names c.args.a.now c.args.b.now _
+    (union_by_alone c.args.a.now c.args.b.now c.len.result c.in_ok-walked.walked.alone c.len.ensures.count c.in_ok-walked.ensures.alone)
+    (sym c.agrees_with.ensures ∙ c.if-not-agrees_with.false) false
+    (lt-leb _ _ (omega (arith, c.if-len-walked.true, c.names.ensures)))
+    )
 
 pub new-requires-clause-few : goal.new-requires-clause-few
 new-requires-clause-few c =
@@ -33,10 +38,10 @@ new-requires-clause-coded c =
 
 pub returns-clause-answer : goal.returns-clause-answer
 returns-clause-answer c =
-  fits_by_count c.args.limit.names c.args.a.now c.args.b.now _
-  (union_by_alone c.args.a.now c.args.b.now c.len.result c.in_ok-walked.walked.alone c.len.ensures.count c.in_ok-walked.ensures.alone)
-  (sym c.agrees_with.ensures ∙ c.if-not-agrees_with.false) true
-  (le-leb _ _ (omega (arith, c.if-len-walked.false, c.names.ensures)))
+    fits_by_count c.args.limit.names c.args.a.now c.args.b.now _
+    (union_by_alone c.args.a.now c.args.b.now c.len.result c.in_ok-walked.walked.alone c.len.ensures.count c.in_ok-walked.ensures.alone)
+    (sym c.agrees_with.ensures ∙ c.if-not-agrees_with.false) true
+    (le-leb _ _ (omega (arith, c.if-len-walked.false, c.names.ensures)))
 
 pub returns-clause-clashes : goal.returns-clause-clashes
 returns-clause-clashes c = c.new.ensures ∙ c.in_ok-walked.ensures.clashes

@@ -27,9 +27,9 @@ pub invariant_of-self : goal.invariant_of-self
 invariant_of-self c =
     let side = c.args.self.now in
     let k = kept_by side.limit.names (calls side) _ (call.Take c.args.ruling.number c.args.ruling.k (record {
-        word = c.word.result;
-        answer = c.answer.result;
-      })) side.state _ (c.push.ensures) side.replayed side.within
+      word = c.word.result;
+      answer = c.answer.result;
+    })) side.state _ (c.push.ensures) side.replayed side.within
     (has_room c.args.self.now.limit.names (calls c.args.self.now) c.is_full.result c.is_full.ensures (room_take c.is_full.result c.args.self.now.state c.args.ruling.number c.args.ruling.k c.args.ruling.verdict.clash.now c.args.ruling.verdict.word (sym c.take_fault.ensures ∙ c.in_default.is))) tt
     c.take.ensures in
     record { replayed = k.replayed; within = k.within; few = k.few }
