@@ -1,0 +1,3 @@
+mod Agreement
+mod Calls
+mod Tied

@@ -1,0 +1,7 @@
+-- What contracts see of an entry.
+use Rattle.replica_law.specs.Worlds as law
+use Rattle.replica.specs.declared.messages.Entry.{Entry}
+use Rattle.replica.specs.Halves.{Edit}
+
+abbrev pub entry_seen : Entry → law.Entry Edit
+entry_seen e = record { at = e.at; edit = e.edit }

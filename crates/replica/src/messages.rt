@@ -1,0 +1,61 @@
+//! What replicas send each other and write to disks.
+ghost use Rattle.std.specs.Prelude.{◌≡◌};
+ghost use Rattle.std.specs.Arc.{arc_value};
+
+use crate::edit::Edit;
+use crate::half::Half;
+use replica_law::Position;
+use std::marker::Model;
+use std::sync::Arc;
+
+/// An edit that a primary carried out, with the position that it leads to.
+#[derive(Debug, Drop)]
+pub struct Entry {
+    /// The view of the primary, and the operation number of the edit, from 1.
+    pub at: Position,
+    /// The edit.
+    pub edit: Edit,
+}
+
+/// A position, and the half that each replica has there.
+#[derive(Debug)]
+pub struct Snapshot {
+    pub(crate) at: Position,
+    pub(crate) half: Arc<Half>,
+}
+
+// Written out, so that a drop is one call in the proofs of callers.
+impl Drop for Snapshot {
+    fn drop(self) {
+        let Snapshot { at: _, half: _ } = self;
+    }
+}
+
+impl Model for Snapshot {
+    ghost use Rattle.std.specs.Arc.{arc_value};
+    ghost use Rattle.replica_law.specs.Worlds.{Snapshot};
+    ghost use Rattle.replica.specs.Halves.{Half};
+    ghost use Rattle.replica.specs.Codings.{coded_snapshot};
+
+    ghost Value = { Snapshot Half };
+
+    ghost coded = { coded_snapshot };
+
+    ghost view = { λ s. record { at = s.at; state = arc_value s.half } };
+}
+
+impl Snapshot {
+    /// Returns the position. Allocates nothing.
+    pub fn position(&self) -> Position
+        ensures { result ≡ self.now.at }
+    {
+        self.at
+    }
+
+    /// Returns the half. Allocates nothing.
+    pub fn half(&self) -> &Half
+        ensures { result.now ≡ self.now.state }
+    {
+        &self.half
+    }
+}

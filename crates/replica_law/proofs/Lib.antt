@@ -1,0 +1,10 @@
+pub mod Tests
+pub mod Invariant
+pub mod Kept
+pub mod Lasting
+pub mod Exact
+pub mod Careful
+pub mod Theorem
+pub mod Lax
+pub mod Happens
+pub mod Serves

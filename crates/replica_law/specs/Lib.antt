@@ -1,0 +1,4 @@
+pub mod Histories
+pub mod Rules
+pub mod Worlds
+pub mod laws

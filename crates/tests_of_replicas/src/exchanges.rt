@@ -1,0 +1,89 @@
+//! Two primaries heal a split, and the nodes of both parts follow the outcome.
+use crate::builders::{carry, life, pair, refusal, register, serial_of};
+use exchange_core::{Finished, Side, SideId};
+use partition_table::NameLimit;
+use replica::Replica;
+use std::alloc::Global;
+use std::test::Fail;
+
+// Exchanges the tables under this number, and returns what A finished with.
+fn exchange(alloc: Global, number: u64, a: &mut Side, b: &mut Side) -> Result<Finished, Fail> {
+    let of_a = a.begin(alloc, number, 0, 0)?;
+    let of_b = b.begin(alloc, number, 0, 0)?;
+    a.hear(alloc, &of_b)?;
+    b.hear(alloc, &of_a)?;
+    a.settle()?;
+    b.settle()?;
+    let list_a = a.close_list(alloc)?;
+    let list_b = b.close_list(alloc)?;
+    a.hear_list(&list_b)?;
+    b.hear_list(&list_a)?;
+    let finished = a.finish(alloc)?;
+    b.finish(alloc)?;
+    Ok(finished)
+}
+
+// Each of four nodes in two parts registers what its primary does; then the primaries heal the split, and the nodes of
+// both parts follow the first.
+fn healed(alloc: Global) -> Result<[[u32; 3]; 4], Fail> {
+    let (mut one, mut two) = pair(alloc, 1, 2)?;
+    let (mut three, mut four) = pair(alloc, 3, 4)?;
+    carry(&mut one, &mut two, register(b'a', 1)?)?;
+    carry(&mut three, &mut four, register(b'b', 2)?)?;
+    carry(&mut one, &mut two, register(b'c', 3)?)?;
+    carry(&mut three, &mut four, register(b'c', 3)?)?;
+    let mut a = one.side(alloc, SideId::A, NameLimit::default())?;
+    let mut b = three.side(alloc, SideId::B, NameLimit::default())?;
+    let finished = exchange(alloc, 8, &mut a, &mut b)?;
+    let from = one.position();
+    one.change(alloc, from, finished.table(), Some(finished.number()))?;
+    let snapshot = one.snapshot()?;
+    two.follow(&snapshot)?;
+    three.follow(&snapshot)?;
+    four.follow(&snapshot)?;
+    Ok([rows(&one)?, rows(&two)?, rows(&three)?, rows(&four)?])
+}
+
+fn rows(replica: &Replica) -> Result<[u32; 3], Fail> {
+    Ok([
+        serial_of(replica, b'a')?,
+        serial_of(replica, b'b')?,
+        serial_of(replica, b'c')?,
+    ])
+}
+
+#[test]
+fn all_nodes_hold_the_merge(rt: HostRuntime) -> Result<(), Fail> {
+    assert_eq!(rt; healed(rt.alloc())?, [[1, 2, 3]; 4]);
+    Ok(())
+}
+
+#[test]
+fn the_latest_number_comes_back(rt: HostRuntime) -> Result<(), Fail> {
+    let mut replica = Replica::start(rt.alloc(), life(1))?;
+    let from = replica.position();
+    let mut side = replica.side(rt.alloc(), SideId::A, NameLimit::default())?;
+    side.begin(rt.alloc(), 5, 0, 0)?;
+    side.abandon()?;
+    replica.change(rt.alloc(), from, side.table(), Some(5))?;
+    let mut again = replica.side(rt.alloc(), SideId::A, NameLimit::default())?;
+    assert!(rt; again.begin(rt.alloc(), 5, 0, 0).is_err());
+    assert!(rt; again.begin(rt.alloc(), 6, 0, 0).is_ok());
+    Ok(())
+}
+
+// An edit of a primary whose exchange is open, and the change after it.
+fn changed_after_edit(alloc: Global) -> Result<(u32, u32), Fail> {
+    let mut replica = Replica::start(alloc, life(1))?;
+    let from = replica.position();
+    let side = replica.side(alloc, SideId::A, NameLimit::default())?;
+    replica.edit(register(b'a', 7)?)?;
+    let refused = refusal(replica.change(alloc, from, side.table(), None));
+    Ok((refused, serial_of(&replica, b'a')?))
+}
+
+#[test]
+fn a_change_loses_no_edit(rt: HostRuntime) -> Result<(), Fail> {
+    assert_eq!(rt; changed_after_edit(rt.alloc())?, (49, 7));
+    Ok(())
+}
