@@ -1,5 +1,6 @@
 #!/bin/sh
-# Tests the bindings for C, Python, Rust and Erlang. Prints what it skips because a tool is missing.
+# Tests the bindings for C, Python, Rust and Erlang. Prints what it skips because a tool is missing; with HEAL_NO_SKIP=1 it fails
+# instead.
 #
 # HEAL_OUT is the folder with libheal.a, libheal.so and heal.pc. Unless it is set, this builds them first in bindings/c/out, by
 # c/build.sh with these arguments.
@@ -7,15 +8,29 @@ set -e
 cd "$(dirname "$0")"
 version=$(cat ../VERSION)
 
+# Prints what a missing tool leaves untested, or fails if nothing may be skipped.
+skip() {
+    echo "$1"
+    [ "${HEAL_NO_SKIP-}" != 1 ] || { echo "HEAL_NO_SKIP is 1, so nothing may be skipped" >&2; exit 1; }
+}
+
 # Ends the tests unless the file has this line: states FILE LINE.
 states() {
     grep -qxF "$2" "$1" || { echo "$1 doesn't state the version of the file VERSION: $2" >&2; exit 1; }
 }
 
+# The refusals by name are those of the tables.
+if command -v python3 > /dev/null; then
+    ./refusals.py --check
+fi
+# heal_version returns HEAL_VERSION, which c/stated.c checks.
+states c/heal.h "#define HEAL_VERSION 0x$(echo "$version" | awk -F. '{ printf "%02x%02x%02x", $1, $2, $3 }')"
 states rust/Cargo.toml "version = \"$version\""
 states erlang/src/heal.app.src "  {vsn, \"$version\"},"
+states rust/heal/Cargo.toml "heal-sys = { path = \"../heal-sys\", version = \"$version\" }"
+states python/pyproject.toml "version = \"$version\""
 if ! command -v cc > /dev/null; then
-    echo "there is no C compiler, so the bindings were not tested"
+    skip "there is no C compiler, so the bindings were not tested"
     exit 0
 fi
 if [ -z "${HEAL_OUT-}" ]; then
@@ -59,12 +74,12 @@ check_shared() {
     diff "$work/declared" "$work/exported"
 }
 
-# Compiles first.c by pkg-config, and runs it with the shared library.
+# Compiles first.c by the heal.pc of a folder, and runs it with the shared library of another: check_package FOLDER LIBRARIES.
 check_package() {
-    states "$HEAL_OUT/heal.pc" "Version: $version"
-    export PKG_CONFIG_PATH="$HEAL_OUT"
-    cc $flags c/first.c $(pkg-config --cflags --libs heal) -o "$work/first_shared"
-    LD_LIBRARY_PATH=$HEAL_OUT "$work/first_shared" > "$work/printed"
+    states "$1/heal.pc" "Version: $version"
+    cp c/first.c "$work/packaged.c"
+    (export PKG_CONFIG_PATH="$1" && cc $flags "$work/packaged.c" $(pkg-config --cflags --libs heal) -o "$work/first_shared")
+    LD_LIBRARY_PATH=$2 "$work/first_shared" > "$work/printed"
     cmp "$work/printed" "$work/first.out"
     readelf -d "$work/first_shared" | grep -qF "[libheal.so.${version%%.*}]"
 }
@@ -84,6 +99,15 @@ check_first() {
     done
 }
 
+# Builds the wheel, unpacks it elsewhere, and runs first.py with the library that the wheel has.
+check_wheel() {
+    (cd python && python3 -c "import wheel_of_heal; print(wheel_of_heal.build_wheel('$work'))") > "$work/wheel"
+    python3 -m zipfile -e "$work/$(cat "$work/wheel")" "$work/site"
+    cp python/first.py "$work/site"
+    (unset HEAL_LIBRARY && python3 "$work/site/first.py") > "$work/printed"
+    cmp "$work/printed" "$work/first.out"
+}
+
 # Succeeds if the Erlang of Debian's erlang-base, erlang-dev and erlang-eunit is installed.
 has_erlang() {
     command -v erl > /dev/null && command -v erlc > /dev/null && command -v make > /dev/null && erl -noshell -eval '
@@ -91,7 +115,7 @@ has_erlang() {
         halt(case filelib:is_file(Header) andalso code:which(eunit) =/= non_existing of true -> 0; false -> 1 end).'
 }
 
-command -v valgrind > /dev/null || echo "there is no valgrind, so leaks were left to the sanitizers"
+command -v valgrind > /dev/null || skip "there is no valgrind, so leaks were left to the sanitizers"
 # The owner that each half has in the first programs of docs/EMBEDDING.md: word 7 is odd, so `exit` keeps the second.
 printf 'db 2.20\ndb 2.20\n' > "$work/first.out"
 compile first first.c
@@ -99,10 +123,12 @@ checked "$work/first" > "$work/printed"
 cmp "$work/printed" "$work/first.out"
 check_shared
 check_first
-if command -v pkg-config > /dev/null; then
-    check_package
+if command -v pkg-config > /dev/null && command -v make > /dev/null; then
+    check_package "$HEAL_OUT" "$HEAL_OUT"
+    make -s -C c install PREFIX="$work/usr" OUT="$HEAL_OUT"
+    check_package "$work/usr/lib/pkgconfig" "$work/usr/lib"
 else
-    echo "there is no pkg-config, so heal.pc was not tested"
+    skip "there is no pkg-config or no make, so heal.pc was not tested"
 fi
 compile example example.c
 checked "$work/example" > "$work/printed"
@@ -111,13 +137,19 @@ compile sweep sweep.c -Wl,--wrap=malloc,--wrap=realloc
 checked "$work/sweep"
 compile stated stated.c
 checked "$work/stated"
+# Calls that only read write nothing, and run at the same time; helgrind watches the threads for less long.
+compile readers readers.c -D_DEFAULT_SOURCE -Wl,--wrap=malloc,--wrap=realloc,--wrap=free
+"$work/readers" 2
+if command -v valgrind > /dev/null; then
+    valgrind -q --tool=helgrind --error-exitcode=9 "$work/readers" 0
+fi
 compile growth growth.c -Wl,--wrap=malloc,--wrap=realloc,--wrap=free
 "$work/growth"
 if command -v valgrind > /dev/null && command -v python3 > /dev/null; then
     compile cost cost.c
     c/cost.py "$work/cost"
 else
-    echo "there is no valgrind or no Python, so no instructions were counted"
+    skip "there is no valgrind or no Python, so no instructions were counted"
 fi
 compile inputs fuzz.c -DFUZZ_FILES
 checked "$work/inputs" c/corpus/*
@@ -130,7 +162,7 @@ if echo 'int main(void){return 0;}' | cc -fsanitize=address,undefined -x c - -o 
     compile sane_inputs fuzz.c -DFUZZ_FILES -fsanitize=address,undefined -fno-sanitize-recover=all
     "$work/sane_inputs" c/corpus/* > /dev/null
 else
-    echo "the C compiler has no sanitizers, so none was used"
+    skip "the C compiler has no sanitizers, so none was used"
 fi
 if command -v c++ > /dev/null; then
     echo '#include "heal.h"
@@ -138,27 +170,28 @@ if command -v c++ > /dev/null; then
     c++ -std=c++11 -Wall -Wextra -Werror -Ic "$work/cpp.cc" "$HEAL_OUT/libheal.a" -lpthread -o "$work/cpp"
     "$work/cpp"
 else
-    echo "there is no C++ compiler, so the header was not compiled as C++"
+    skip "there is no C++ compiler, so the header was not compiled as C++"
 fi
 if command -v python3 > /dev/null; then
     export HEAL_LIBRARY="$HEAL_OUT/libheal.so" PYTHONDONTWRITEBYTECODE=1
     (cd python && python3 -m unittest -q)
     python3 python/first.py > "$work/printed"
     cmp "$work/printed" "$work/first.out"
+    check_wheel
 else
-    echo "there is no Python, so its bindings were not tested"
+    skip "there is no Python, so its bindings were not tested"
 fi
 if command -v cargo > /dev/null; then
     export HEAL_LIB_DIR="$HEAL_OUT" CARGO_TARGET_DIR="$work/target"
     (cd rust && cargo test -q --offline)
-    (cd rust && cargo run -q --offline --example first) > "$work/printed"
+    (cd rust && cargo run -q --offline -p heal --example first) > "$work/printed"
     cmp "$work/printed" "$work/first.out"
 else
-    echo "there is no cargo, so the bindings for Rust were not tested"
+    skip "there is no cargo, so the bindings for Rust were not tested"
 fi
 if has_erlang; then
     make -s -C erlang HEAL="$HEAL_OUT" test sanitize
 else
-    echo "there is no Erlang with erl_nif.h and eunit, so the OTP application was not tested"
+    skip "there is no Erlang with erl_nif.h and eunit, so the OTP application was not tested"
 fi
 echo "the bindings passed their tests"

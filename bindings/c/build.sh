@@ -2,7 +2,7 @@
 # Proves the crate heal_c, and makes libheal.a, libheal.so and heal.pc of it in bindings/c/out (link.sh). Requires rt, cc and ar.
 #
 # With --gate, right after `rt ci`, takes the libraries that `rt ci` has just proved, and proves heal_c alone again.
-# Otherwise rt proves each library that isn't built yet.
+# Otherwise proves each crate that isn't proved yet, and prints one line for each (scripts/prove.py).
 set -e
 cd "$(dirname "$0")"
 root=$(cd ../.. && pwd)
@@ -34,12 +34,15 @@ libraries() {
 
 if [ "${1-}" = --gate ] && [ ! -e "$root/crates/exchange_codec/out/rlib/stamp" ]; then
     mkdir -p "$crate/out"
+    log=$crate/out/build.log
+    echo "heal_c: proving it again over the libraries of the gate" >&2
     # shellcheck disable=SC2046
     (cd "$crate" && "$kit/bin/rattle" build --crate-name heal_c src/lib.rt \
         --extern std="$kit/rlibs/std.rlib" -L dependency="$kit/rlibs" $(libraries) \
         --antt-project "$kit/rattle/logic/antt-project.json" --logic-built "$kit/logic_built" --links heal_c= \
-        --crate-type staticlib --toolchain "$kit/toolchain" --backend llvm -o out/libheal_c.a)
+        --crate-type staticlib --toolchain "$kit/toolchain" --backend llvm -o out/libheal_c.a) \
+        > "$log" 2>&1 < /dev/null || { tail -n 20 "$log" >&2; exit 125; }
 else
-    (cd "$crate" && rt lib)
+    "$root/scripts/prove.py" heal_c
 fi
 ./link.sh

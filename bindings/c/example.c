@@ -1,9 +1,11 @@
 /*
  * Two processes, each with one half of a cluster, heal a split: they exchange two messages each over pipes, and nothing else.
- * Prints the clashes and the one table that both halves have afterwards.
+ * Prints the clashes and the one table that both halves have afterwards. The winner of one clash has died, so nobody keeps its
+ * name: the half of the survivor registers it again.
  */
 #include "heal.h"
 
+#include <stdbool.h>
 #include <stdio.h>
 #include <stdlib.h>
 #include <string.h>
@@ -125,20 +127,20 @@ static void live_apart(heal_side *side, uint32_t node)
         add_name(side, "web", (heal_owner){node, 4}, 100 * node, NULL);
 }
 
-/* Carries out exchange 1 with the half at the other end of the pipes. The owner of A's `mail` has died meanwhile. */
-static void heal(heal_side *side, bool second, struct link link, heal_outcome *outcome)
+/* Carries out exchange 1 with the half at the other end of the pipes. The owner of B's `mail` has died meanwhile. */
+static void heal(heal_side *side, uint32_t half, struct link link, heal_outcome *outcome)
 {
     heal_bytes message = {0};
     uint8_t *theirs;
     size_t len = 0;
 
-    must("heal_side_begin", heal_side_begin(side, 1, 7, second ? 60 : 3600, &message));
+    must("heal_side_begin", heal_side_begin(side, 1, 7, half == HEAL_B ? 60 : 3600, &message));
     send_message(link.to, &message);
     theirs = receive(link.from, &len);
     must("heal_side_hear", heal_side_hear(side, theirs, len));
     free(theirs);
     must("heal_side_settle", heal_side_settle(side));
-    if (!second)
+    if (half == HEAL_B)
         must("heal_side_withdraw", heal_side_withdraw(side, (const uint8_t *)"mail", 4));
     must("heal_side_close_list", heal_side_close_list(side, &message));
     send_message(link.to, &message);
@@ -148,7 +150,7 @@ static void heal(heal_side *side, bool second, struct link link, heal_outcome *o
     must("heal_side_finish", heal_side_finish(side, outcome));
 }
 
-static void print_notices(heal_outcome *outcome, size_t i, uint32_t count)
+static void print_notices(const heal_outcome *outcome, size_t i, uint32_t count)
 {
     static const char *const kinds[] = {"exit", "conflict", "conflict with another"};
     heal_notice notice;
@@ -159,21 +161,39 @@ static void print_notices(heal_outcome *outcome, size_t i, uint32_t count)
     }
 }
 
-static void print_clashes(heal_outcome *outcome)
+static void print_clashes(const heal_outcome *outcome)
 {
-    static const char *const verdicts[] = {"neither", "the first", "the second"};
+    static const char *const owners[] = {"neither", "the first", "the second"};
     heal_clash clash;
     size_t count = 0;
 
     must("heal_outcome_clashes", heal_outcome_clashes(outcome, &count));
     for (size_t i = 0; i < count; i++) {
         must("heal_outcome_clash", heal_outcome_clash(outcome, i, &clash));
-        printf("%.*s: %s keeps it\n", (int)clash.name.len, (const char *)clash.name.bytes, verdicts[clash.verdict]);
+        printf("%.*s: %s keeps it\n", (int)clash.name.len, (const char *)clash.name.bytes, owners[clash.keeps]);
         print_notices(outcome, i, clash.notices);
     }
 }
 
-static void print_names(heal_side *side, const char *half)
+/* Registers again what this half had in clashes whose winner was withdrawn by the other half. */
+static void register_survivors(heal_side *side, uint32_t half, const heal_outcome *outcome)
+{
+    heal_clash clash;
+    size_t count = 0;
+
+    must("heal_outcome_clashes", heal_outcome_clashes(outcome, &count));
+    for (size_t i = 0; i < count; i++) {
+        must("heal_outcome_clash", heal_outcome_clash(outcome, i, &clash));
+        if (clash.keeps == clash.verdict)
+            continue;
+        bool is_first = clash.verdict == HEAL_SECOND;
+        if ((clash.first_half == half) != is_first)
+            continue;
+        must("heal_side_register", heal_side_register(side, clash.name.bytes, clash.name.len, is_first ? &clash.first : &clash.second));
+    }
+}
+
+static void print_names(const heal_side *side, const char *half)
 {
     heal_row row;
     size_t count = 0;
@@ -195,10 +215,11 @@ static void run_a(struct link link)
     heal_side side = {0};
     heal_outcome outcome = {0};
 
-    must("heal_side_new", heal_side_new(false, &side));
+    must("heal_side_new", heal_side_new(HEAL_A, &side));
     live_apart(&side, 1);
-    heal(&side, false, link, &outcome);
+    heal(&side, HEAL_A, link, &outcome);
     print_clashes(&outcome);
+    register_survivors(&side, HEAL_A, &outcome);
     print_names(&side, "a");
     heal_outcome_free(&outcome);
     heal_side_free(&side);
@@ -211,9 +232,10 @@ static int run_b(struct link link, pid_t child)
     heal_outcome outcome = {0};
     int status = 0;
 
-    must("heal_side_new", heal_side_new(true, &side));
+    must("heal_side_new", heal_side_new(HEAL_B, &side));
     live_apart(&side, 2);
-    heal(&side, true, link, &outcome);
+    heal(&side, HEAL_B, link, &outcome);
+    register_survivors(&side, HEAL_B, &outcome);
     check("waitpid", waitpid(child, &status, 0) == child);
     print_names(&side, "b");
     heal_outcome_free(&outcome);

@@ -39,7 +39,7 @@ int main(void)
     heal_registration found, owned[2] = {{.owner = {1, 10}}, {.owner = {2, 20}}};
 
     for (int i = 0; i < 2; i++) {
-        must(heal_side_new(i == 1, &half[i]));
+        must(heal_side_new(i == 0 ? HEAL_A : HEAL_B, &half[i]));
         must(heal_side_register(&half[i], (const uint8_t *)"db", 2, &owned[i]));
         must(heal_side_begin(&half[i], 1, 7, 0, &message[i]));
     }

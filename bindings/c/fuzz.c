@@ -7,6 +7,7 @@
  */
 #include "heal.h"
 
+#include <stdbool.h>
 #include <stdio.h>
 #include <stdlib.h>
 #include <string.h>
@@ -33,7 +34,7 @@ static bool is_of_message(uint32_t number)
 static void load(const uint8_t *data, size_t len)
 {
     heal_program program = {0};
-    heal_ended ended = {0, 0};
+    heal_ended ended = {0};
     uint8_t record[HEAL_RECORD_LEN];
     uint32_t slot = 77;
     uint32_t number = heal_program_load(data, len, &program, &slot);

@@ -5,19 +5,20 @@
  *           refusals may apply: 91 comes first, then 44 and 76 for arguments, then the least number of the call itself;
  *           heal_side_hear and heal_side_hear_list state their own order. 90, out of memory, may replace any other.
  *           A refused call leaves every handle unchanged, also the one that it would fill, and writes no result; the
- *           exception is `slot`.
+ *           exceptions are `slot` and `fault`.
  * HANDLES   A handle is one word. Start it with `{0}`, which is empty; pass it by its address; never copy it while both
  *           copies are used. A call that fills a handle frees what the handle held. The function ending in `_free` frees
  *           what it holds and leaves it empty; freeing an empty handle does nothing. Calls on an empty handle return 91.
- * EVENTS    A side counts events, at most 65,536. register, unregister, begin, hear, withdraw, close_list, hear_list, finish
+ * EVENTS    A side counts events, at most 16 for each name that it may have: 65,536 by default. register, unregister, begin, hear, withdraw, close_list, hear_list, finish
  *           and abandon add one event each time they return 0, also for a repeated message; settle adds one for each clash
  *           that it judges; the other calls add none. So an exchange adds five events, and one for each clash, each name
  *           that the side withdraws, and each repeated message: at most 8,197 without repeated ones. These calls return 40
  *           when the count is full. heal_side_renew starts a fresh count, but only while no exchange is open: call it
  *           before each heal_side_begin, and an exchange has room for 53,000 repeated messages. If the count is full while
  *           an exchange is open, heal_side_give_up closes the exchange and starts a fresh count. An event holds no memory.
- * THREADS   No two concurrent calls on one handle, also of calls that only read. Calls on different handles may run in
- *           parallel. No call starts a thread, waits, or does input or output.
+ * THREADS   Calls that take a handle as `const` only read it: any number of them may run on one handle at the same time. A call
+ *           that takes it without `const` must be the only one that runs on it. Calls on different handles may run in parallel.
+ *           No call starts a thread, waits, or does input or output.
  * YOU OWE   Valid pointers: each argument points to as many readable bytes (results: writable) as its comment states, and
  *           results don't overlap other arguments. A pointer with length 0 may be NULL. Every other pointer isn't NULL.
  *           A handle holds only what a call here has put there.
@@ -26,7 +27,6 @@
 #ifndef HEAL_H
 #define HEAL_H
 
-#include <stdbool.h>
 #include <stddef.h>
 #include <stdint.h>
 
@@ -35,16 +35,101 @@ extern "C" {
 #endif
 
 enum { HEAL_RECORD_LEN = 160, HEAL_ID_LEN = 32, HEAL_NAME_LEN = 32, HEAL_EXTRA_LEN = 16 };
-enum { HEAL_MAX_NAMES = 4096, HEAL_MAX_PROGRAMS = 256, HEAL_MAX_EVENTS = 65536 };
+enum { HEAL_MAX_NAMES = 4096, HEAL_MOST_NAMES = 1048576, HEAL_MAX_PROGRAMS = 256, HEAL_MAX_EVENTS = 65536 };
 
+/* The version of this header: three numbers, eight bits each. heal_version returns that of the library. */
+#define HEAL_VERSION 0x000100
+
+/* The two halves. */
+enum { HEAL_A = 0, HEAL_B = 1 };
 /* Kinds of resolvers. */
 enum { HEAL_EXIT = 0, HEAL_NOTIFY = 1, HEAL_NOTIFY_ALL = 2, HEAL_PROGRAM = 3 };
 /* Verdicts, as programs return them in R0; every other value of R0 is HEAL_NEITHER. */
 enum { HEAL_NEITHER = 0, HEAL_FIRST = 1, HEAL_SECOND = 2 };
 /* Kinds of notices. */
 enum { HEAL_NOTICE_EXIT = 0, HEAL_NOTICE_CONFLICT = 1, HEAL_NOTICE_CONFLICT_WITH = 2 };
-/* What heal_side_row and heal_side_row_after return if no such row exists. */
+/* Kinds of messages. */
+enum { HEAL_OFFER = 1, HEAL_LIST = 2 };
+/* What an open exchange lacks before heal_side_finish. */
+enum {
+    HEAL_LACKS_NOTHING = 0,
+    HEAL_LACKS_OFFER = 1,    /* the other side's offer */
+    HEAL_LACKS_RULING = 2,   /* the ruling of a clash: heal_side_settle */
+    HEAL_LACKS_OWN_LIST = 3, /* heal_side_close_list */
+    HEAL_LACKS_LIST = 4      /* the other side's list */
+};
+/* Places of faults. */
+enum { HEAL_AT_NONE = 0, HEAL_AT_BYTE = 1, HEAL_AT_ITEM = 2 };
+/* What calls that return a row return if no such row exists. */
 enum { HEAL_NO_ROW = 92 };
+
+/* What calls return: 0, or the number of a refusal. */
+/* refusals.py writes these. */
+enum {
+    HEAL_OK = 0,
+    HEAL_E_EMPTY = 1, /* empty: no byte, or a text without an instruction */
+    HEAL_E_TOO_LONG = 2, /* more than 1,024 slots */
+    HEAL_E_RAGGED = 3, /* an incomplete last slot */
+    HEAL_E_UNKNOWN_OPCODE = 4, /* an unknown opcode or operation */
+    HEAL_E_BAD_REGISTER = 5, /* a register above R10 */
+    HEAL_E_FIELD_NOT_ZERO = 6, /* an unused field that isn't zero */
+    HEAL_E_CUT_WIDE = 7, /* a wide load without its second slot */
+    HEAL_E_BACKWARD = 10, /* a backward jump */
+    HEAL_E_OUTSIDE = 11, /* a jump to the end or past it */
+    HEAL_E_INTO_WIDE = 12, /* a jump into a wide load */
+    HEAL_E_FALLS_OFF = 13, /* the last instruction neither exits nor jumps */
+    HEAL_E_NO_EDGE = 14, /* an unreachable instruction */
+    HEAL_E_UNREADABLE = 15, /* a read of a register that may be unset, or may be an address or a number */
+    HEAL_E_WRITES_R10 = 16, /* a write to R10 */
+    HEAL_E_POINTER_OPERATION = 17, /* an address in an operation that addresses don't have */
+    HEAL_E_POINTER_RANGE = 18, /* an address moved too far, or by an unknown amount */
+    HEAL_E_POINTER_COMPARED = 19, /* an address in a test */
+    HEAL_E_POINTER_STORED = 20, /* a store of an address */
+    HEAL_E_OUTSIDE_RECORD = 21, /* an access that may leave the record */
+    HEAL_E_WRITES_RECORD = 22, /* a store into the record */
+    HEAL_E_OUTSIDE_STACK = 23, /* an access that may leave the stack */
+    HEAL_E_UNWRITTEN_STACK = 24, /* a load of stack bytes that may be unwritten */
+    HEAL_E_SCALAR_ADDRESS = 25, /* a number used as an address */
+    HEAL_E_POINTER_RESULT = 26, /* an address as the answer */
+    HEAL_E_NAME_TAKEN = 30, /* the name is already registered */
+    HEAL_E_NO_SUCH_NAME = 31, /* the name isn't registered */
+    HEAL_E_FULL = 32, /* the table is full: 4,096 names, or the side's limit */
+    HEAL_E_HEALING = 33, /* an exchange is open */
+    HEAL_E_NOT_HEALING = 34, /* no exchange is open */
+    HEAL_E_STALE_NUMBER = 35, /* the number isn't above every number begun so far */
+    HEAL_E_SEED_DIFFERS = 36, /* the seeds differ */
+    HEAL_E_TOO_MANY_NAMES = 37, /* the two tables have more names together than one may have: 4,096, or the side's limit */
+    HEAL_E_MISSING = 39, /* the exchange isn't complete */
+    HEAL_E_JOURNAL_FULL = 40, /* the journal is full: 65,536 events, or 16 for each name of the side's limit */
+    HEAL_E_UNKNOWN_PROGRAM = 41, /* an unknown program, or a word that is neither a built-in resolver nor a label */
+    HEAL_E_OTHER_CODE = 42, /* other code has the same program id */
+    HEAL_E_STORE_FULL = 43, /* the store is full: 256 programs */
+    HEAL_E_BAD_NAME = 44, /* an invalid name: not 1 to 32 bytes from 0x21 to 0x7e */
+    HEAL_E_OTHER_NUMBER = 45, /* the exchange numbers differ */
+    HEAL_E_OWN_OFFER = 46, /* a message from the side itself */
+    HEAL_E_WITHDRAWN = 47, /* the name is already withdrawn */
+    HEAL_E_LIST_CLOSED = 48, /* the list of withdrawn names is closed */
+    HEAL_E_CUT = 70, /* a message that ends too early */
+    HEAL_E_HEADER = 71, /* not a message of this kind */
+    HEAL_E_TRAILING = 72, /* extra bytes after the message */
+    HEAL_E_COUNT = 73, /* a count above its limit: 1,048,576 rows or names, 8,192 bytes of code */
+    HEAL_E_SIDE = 74, /* an unknown side */
+    HEAL_E_NAME = 75, /* an invalid name in a message */
+    HEAL_E_RESOLVER = 76, /* an unknown kind of resolver */
+    HEAL_E_NAME_AGAIN = 77, /* a name that the list already has */
+    HEAL_E_NAME_ORDER = 78, /* a name that isn't above the one before it */
+    HEAL_E_NO_PROGRAM = 79, /* a program without code in this row or an earlier one */
+    HEAL_E_PROGRAM_AGAIN = 80, /* code that an earlier row already has */
+    HEAL_E_PROGRAM = 81, /* code in a message that the verifier rejects */
+    HEAL_E_VERSION = 82, /* an unsupported version of messages */
+    HEAL_E_OTHER_MESSAGE = 83, /* a message that differs from the one of its kind and number that was heard */
+    HEAL_E_OUT_OF_MEMORY = 90, /* out of memory */
+    HEAL_E_EMPTY_HANDLE = 91, /* an empty handle */
+    HEAL_E_OUT_OF_RANGE = 92, /* an index out of range */
+    HEAL_E_OTHER_LENGTH = 93, /* a buffer of another length */
+    HEAL_E_STILL_NAMED = 94, /* a registered name has the program as its resolver */
+};
+/* The end of what refusals.py writes. */
 
 typedef struct { void *at; } heal_program; /* a verified program */
 typedef struct { void *at; } heal_side;    /* one half's side of exchanges, with its table and its uploads */
@@ -63,6 +148,7 @@ typedef struct {
     uint8_t extra[16];   /* read by programs only */
     uint32_t resolver;   /* HEAL_EXIT to HEAL_PROGRAM; 76 otherwise */
     uint8_t program[32]; /* the id of the program; not read for other resolvers, and zero in results */
+    uint32_t reserved;   /* not read, and zero in results */
 } heal_registration;
 
 typedef struct {
@@ -83,6 +169,7 @@ typedef struct {
 typedef struct {
     uint64_t r0;
     uint32_t steps;
+    uint32_t reserved; /* zero */
 } heal_ended;
 
 typedef struct {
@@ -90,8 +177,10 @@ typedef struct {
     heal_registration first;  /* the registration that precedes in the order of registrations */
     heal_registration second;
     uint64_t word;            /* at which the clash was judged */
-    uint32_t verdict;         /* HEAL_NEITHER, HEAL_FIRST or HEAL_SECOND */
-    uint32_t notices;         /* how many: 0, 1 or 2 */
+    uint32_t verdict;         /* the resolver's: HEAL_NEITHER, HEAL_FIRST or HEAL_SECOND */
+    uint32_t keeps;           /* who keeps the name: the verdict, or HEAL_NEITHER if the winner was withdrawn */
+    uint32_t first_half;      /* HEAL_A if half A registered `first`, HEAL_B if half B did */
+    uint32_t notices;         /* how many to deliver: 0, 1 or 2 */
 } heal_clash;
 
 typedef struct {
@@ -101,6 +190,44 @@ typedef struct {
     heal_owner other; /* zero unless HEAL_NOTICE_CONFLICT_WITH */
 } heal_notice;
 
+/* What a side knows. Flags are 0 or 1. Without an open exchange `number` and `missing` are 0. */
+typedef struct {
+    uint32_t side;           /* HEAL_A or HEAL_B */
+    uint32_t is_open;        /* an exchange is open */
+    uint32_t has_heard;      /* the other side's offer was heard in it */
+    uint32_t has_closed;     /* the list of this side is closed */
+    uint32_t has_heard_list; /* the other side's list was heard */
+    uint32_t missing;        /* the first thing that the exchange lacks: HEAL_LACKS_NOTHING to HEAL_LACKS_LIST */
+    uint32_t has_begun;      /* the side has begun a number */
+    uint32_t reserved;       /* zero */
+    uint64_t number;         /* of the open exchange */
+    uint64_t latest;         /* the greatest number begun, or 0 */
+    uint64_t missing_clash;  /* the first clash without a ruling for HEAL_LACKS_RULING, or 0 */
+    uint64_t withdrawn;      /* how many names the side withdrew in the open exchange */
+} heal_side_state;
+
+/* The first fields of a message. */
+typedef struct {
+    uint32_t kind;     /* HEAL_OFFER or HEAL_LIST */
+    uint32_t version;  /* of the format: 1 */
+    uint32_t side;     /* the sender: HEAL_A or HEAL_B */
+    uint32_t reserved; /* zero */
+    uint64_t number;   /* of the exchange */
+    uint64_t seed;     /* of an offer; 0 of a list */
+} heal_head;
+
+typedef struct {
+    uint32_t number; /* of the refusal, or 0 */
+    uint32_t place;  /* HEAL_AT_BYTE: `at` is the byte where the faulty field begins. HEAL_AT_ITEM: `at` is the faulty row of an
+                        offer, or the faulty name of a list. HEAL_AT_NONE: `at` is 0. All count from 0. */
+    uint64_t at;
+    uint32_t reason; /* for 81 the refusal of the row's code; otherwise 0 */
+    uint32_t slot;   /* for 81 the slot of that refusal, or 0 */
+} heal_fault;
+
+/* Returns the version of the library: HEAL_VERSION of its header. */
+uint32_t heal_version(void);
+
 /* ---- Programs ---- */
 
 /* Reads `len` bytes as a program (RFC 9669), verifies it, and puts it into the handle.
@@ -109,10 +236,10 @@ typedef struct {
 uint32_t heal_program_load(const uint8_t *code, size_t len, heal_program *program, uint32_t *slot);
 
 /* Runs the program on the record of a clash. It ends after at most as many steps as it has instructions. */
-uint32_t heal_program_judge(heal_program *program, const uint8_t record[160], heal_ended *ended);
+uint32_t heal_program_judge(const heal_program *program, const uint8_t record[160], heal_ended *ended);
 
 /* Returns the program's id: the SHA-256 digest of its bytes. */
-uint32_t heal_program_id(heal_program *program, uint8_t id[32]);
+uint32_t heal_program_id(const heal_program *program, uint8_t id[32]);
 
 void heal_program_free(heal_program *program);
 
@@ -126,14 +253,26 @@ size_t heal_refusal_words(uint32_t number, uint8_t *words, size_t capacity);
 
 /* ---- A side ---- */
 
-/* Creates an idle side without names: side A, or side B if `second`. Two halves that meet are one A and one B. */
-uint32_t heal_side_new(bool second, heal_side *side);
+/* Creates an idle side without names: HEAL_A or HEAL_B. Two halves that meet are one A and one B. Returns 74 for another id. */
+uint32_t heal_side_new(uint32_t id, heal_side *side);
+
+/* Creates a side like heal_side_new, which may have `names` names, from 1 to HEAL_MOST_NAMES; heal_side_new is that of
+   HEAL_MAX_NAMES. The side counts 16 events for each of these names. No call changes the limit. Returns 92 for another number of
+   names. The two sides of an exchange may have different limits: each refuses a union above its own (37). */
+uint32_t heal_side_new_within(uint32_t id, size_t names, heal_side *side);
 
 void heal_side_free(heal_side *side);
 
 /* Verifies a program, keeps it for registrations of this side, and returns its id.
    Rejects what heal_program_load rejects, an id that other code has (42), and a 257th program (43). */
 uint32_t heal_side_upload(heal_side *side, const uint8_t *code, size_t len, uint8_t id[32], uint32_t *slot);
+
+/* Forgets an uploaded program that no row of the side's table names, so that another one has room. The id can't be registered any
+   more. Returns 94 if a row names it, 41 if it isn't uploaded. Needs no memory. */
+uint32_t heal_side_forget(heal_side *side, const uint8_t id[32]);
+
+/* Returns the id of uploaded program i, from 0, in the order of ids. Returns 92 for an index that is too big. */
+uint32_t heal_side_program(const heal_side *side, size_t i, uint8_t id[32]);
 
 /* Registers a name on an idle side. Returns 30 for a registered name, 32 if the table is full, 33 if an exchange is open,
    40 if the count of events is full, 41 for a program that isn't uploaded, 42 if the table has other code under its id. */
@@ -143,30 +282,40 @@ uint32_t heal_side_register(heal_side *side, const uint8_t *name, size_t len, co
 uint32_t heal_side_unregister(heal_side *side, const uint8_t *name, size_t len);
 
 /* Looks a name up. Returns 31 for a name that isn't registered, or that the side withdrew in the open exchange. */
-uint32_t heal_side_whereis(heal_side *side, const uint8_t *name, size_t len, heal_registration *registration);
+uint32_t heal_side_whereis(const heal_side *side, const uint8_t *name, size_t len, heal_registration *registration);
 
 /* Returns the number of names in the side's table; in an open exchange, with the withdrawn ones. */
-uint32_t heal_side_count(heal_side *side, size_t *count);
+uint32_t heal_side_count(const heal_side *side, size_t *count);
 
 /* Returns row i of the side's table in the order of names, from 0; in an open exchange, with the withdrawn ones. Walks the
    i rows before it: to list rows use heal_side_row_after. Returns 92 for an index of `count` or more. */
-uint32_t heal_side_row(heal_side *side, size_t i, heal_row *row);
+uint32_t heal_side_row(const heal_side *side, size_t i, heal_row *row);
 
 /* Returns the first row of the side's table whose name is above this one, in the order of names; in an open exchange, also
    a withdrawn one. Names are in the order of their bytes, so row 0 and then the row after each name list the table. Takes
    logarithmic time. Returns 44 for an invalid name, 92 if no name is above it. */
-uint32_t heal_side_row_after(heal_side *side, const uint8_t *name, size_t len, heal_row *row);
+uint32_t heal_side_row_after(const heal_side *side, const uint8_t *name, size_t len, heal_row *row);
+
+/* Like heal_side_row and heal_side_row_after, without the names that the side withdrew in the open exchange. */
+uint32_t heal_side_live(const heal_side *side, size_t i, heal_row *row);
+uint32_t heal_side_live_after(const heal_side *side, const uint8_t *name, size_t len, heal_row *row);
+
+/* Returns what the side knows. After 39 `missing` says what is missing. */
+uint32_t heal_side_query(const heal_side *side, heal_side_state *state);
+
+/* Returns name i, from 0, of those that the side withdrew in the open exchange, the earliest first. Returns 92 for an index
+   that is too big; without an open exchange each is. */
+uint32_t heal_side_withdrawn(const heal_side *side, size_t i, heal_name *name);
 
 /* Opens an exchange and puts the offer to be sent into `offer`. Until finish or abandon the table doesn't change.
    Both halves use the same number and seed; each gives its own uptime. Returns 33 if an exchange is open, 35 for a number
    that isn't above every number this side began, 40. Call heal_side_renew before it: see EVENTS. */
 uint32_t heal_side_begin(heal_side *side, uint64_t number, uint64_t seed, uint64_t uptime, heal_bytes *offer);
 
-/* Hears the other side's offer: the bytes that its heal_side_begin returned. Once the side has heard an offer of its open
-   number, it ignores every further one of the other side and that number, also a different one: it returns 0 and adds an
-   event. Rejects bytes that aren't an offer (70 to 82) before all else; then returns 34 if no exchange is open. For the
-   other side's first offer of the open number: 36 if the seeds differ, 37 if both tables have more than 4,096 names
-   together, 40, 42 if the tables have two codes under one id. For any other offer: 40, 45 for another number, 46 for an
+/* Hears the other side's offer: the bytes that its heal_side_begin returned. The same offer again changes nothing but the count of
+   events; another one of the other side and the open number is refused with 83. Rejects bytes that aren't an offer (70 to 82) before all else; then returns 34 if no exchange is open. For the
+   other side's first offer of the open number: 36 if the seeds differ, 37 if both tables have more names
+   together than the side may have, 40, 42 if the tables have two codes under one id. For any other offer: 40, 45 for another number, 46 for an
    offer of the side itself. */
 uint32_t heal_side_hear(heal_side *side, const uint8_t *offer, size_t len);
 
@@ -181,9 +330,8 @@ uint32_t heal_side_withdraw(heal_side *side, const uint8_t *name, size_t len);
 /* Closes the list of withdrawn names and puts the list to be sent into `list`. Returns 34, 40, 48 if already closed. */
 uint32_t heal_side_close_list(heal_side *side, heal_bytes *list);
 
-/* Hears the other side's list: the bytes that its heal_side_close_list returned. Once the side has heard a list of its open
-   number, it ignores every further one of the other side and that number, also a different one: it returns 0 and adds an
-   event. Rejects bytes that aren't a list (70 to 82) before all else; then returns 34, 40, 45, 46. */
+/* Hears the other side's list: the bytes that its heal_side_close_list returned. The same list again changes nothing but the count
+   of events; another one of the other side and the open number is refused with 83. Rejects bytes that aren't a list (70 to 82) before all else; then returns 34, 40, 45, 46. */
 uint32_t heal_side_hear_list(heal_side *side, const uint8_t *list, size_t len);
 
 /* Replaces the table by the merge, closes the exchange, and puts its outcome into `outcome`. Returns 34, 39 if a part is
@@ -193,8 +341,8 @@ uint32_t heal_side_finish(heal_side *side, heal_outcome *outcome);
 /* Closes the exchange and keeps the table, without the withdrawn names. Returns 34, 40. */
 uint32_t heal_side_abandon(heal_side *side);
 
-/* Returns the side's count of events, at most 65,536. */
-uint32_t heal_side_events(heal_side *side, size_t *events);
+/* Returns the side's count of events, at most 16 for each name that it may have. */
+uint32_t heal_side_events(const heal_side *side, size_t *events);
 
 /* Starts a fresh count of events on an idle side: as many as it has names, and at most two more. Names, uploads and the
    greatest number begun stay. Returns 33 if an exchange is open. Needs no memory. */
@@ -207,29 +355,45 @@ uint32_t heal_side_give_up(heal_side *side);
 /* ---- A message ---- */
 
 /* Returns the number of bytes. */
-uint32_t heal_bytes_len(heal_bytes *bytes, size_t *len);
+uint32_t heal_bytes_len(const heal_bytes *bytes, size_t *len);
 
 /* Copies the message to `to`. Returns 93 unless `len` is the number of its bytes. */
-uint32_t heal_bytes_copy(heal_bytes *bytes, uint8_t *to, size_t len);
+uint32_t heal_bytes_copy(const heal_bytes *bytes, uint8_t *to, size_t len);
 
 void heal_bytes_free(heal_bytes *bytes);
 
+/* Reads the first fields of a received message, 25 bytes of an offer and 17 of a list, and nothing else. Returns 70 if the bytes end
+   within them, 71 for no message, 74, 82. */
+uint32_t heal_message_peek(const uint8_t *message, size_t len, heal_head *head);
+
+/* Says what is wrong with a received message: reads it as an offer or as a list, without a side, writes its first fault in full,
+   and returns the number of it: 70 to 82, or 0 for a message without fault. Takes as long as hearing it. Also returns 90. */
+uint32_t heal_offer_fault(const uint8_t *offer, size_t len, heal_fault *fault);
+uint32_t heal_list_fault(const uint8_t *list, size_t len, heal_fault *fault);
+
 /* ---- An outcome ---- */
 
+/* Returns the number of the exchange. */
+uint32_t heal_outcome_number(const heal_outcome *outcome, uint64_t *number);
+
 /* Returns the number of names in the merged table. */
-uint32_t heal_outcome_merged(heal_outcome *outcome, size_t *names);
+uint32_t heal_outcome_merged(const heal_outcome *outcome, size_t *names);
+
+/* Returns name i, from 0, of those that half HEAL_A or HEAL_B withdrew, the earliest first. Returns 74 for another half, and 92 for an
+   index that is too big. */
+uint32_t heal_outcome_withdrawn(const heal_outcome *outcome, uint32_t half, size_t i, heal_name *name);
 
 /* Returns the number of clashes. */
-uint32_t heal_outcome_clashes(heal_outcome *outcome, size_t *clashes);
+uint32_t heal_outcome_clashes(const heal_outcome *outcome, size_t *clashes);
 
 /* Returns clash i in the order of names, from 0. Returns 92 for an index of `clashes` or more. */
-uint32_t heal_outcome_clash(heal_outcome *outcome, size_t i, heal_clash *clash);
+uint32_t heal_outcome_clash(const heal_outcome *outcome, size_t i, heal_clash *clash);
 
 /* Returns notice n, from 0, of clash i. Only verdicts of built-in resolvers have notices. Returns 92 for an index that is
-   too big. Look the name up before you deliver a notice: a withdrawn registration still takes part in its clash, and may
-   win. If the verdict is HEAL_FIRST or HEAL_SECOND and heal_side_whereis returns 31, the winner was withdrawn. Then deliver
-   no notice, and register the other owner again on its half. */
-uint32_t heal_outcome_notice(heal_outcome *outcome, size_t i, size_t n, heal_notice *notice);
+   too big. A withdrawn registration still takes part in its clash, and may win. Then nobody keeps the name: `keeps` differs from
+   `verdict`, and the clash has no notices. The other owner is alive: register it again on its half, which is `first_half` if
+   the verdict is HEAL_SECOND, and the other half if it is HEAL_FIRST. */
+uint32_t heal_outcome_notice(const heal_outcome *outcome, size_t i, size_t n, heal_notice *notice);
 
 void heal_outcome_free(heal_outcome *outcome);
 

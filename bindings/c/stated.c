@@ -4,6 +4,7 @@
  */
 #include "heal.h"
 
+#include <stdbool.h>
 #include <stdio.h>
 #include <stdlib.h>
 #include <string.h>
@@ -51,6 +52,7 @@ AT(heal_registration, weight, 16);
 AT(heal_registration, extra, 24);
 AT(heal_registration, resolver, 40);
 AT(heal_registration, program, 44);
+AT(heal_registration, reserved, 76);
 SIZE(heal_name, 36);
 AT(heal_name, bytes, 4);
 SIZE(heal_row, 120);
@@ -59,12 +61,38 @@ SIZE(heal_facts, 16);
 AT(heal_facts, uptime, 8);
 SIZE(heal_ended, 16);
 AT(heal_ended, steps, 8);
-SIZE(heal_clash, 216);
+AT(heal_ended, reserved, 12);
+SIZE(heal_clash, 224);
 AT(heal_clash, first, 40);
 AT(heal_clash, second, 120);
 AT(heal_clash, word, 200);
 AT(heal_clash, verdict, 208);
-AT(heal_clash, notices, 212);
+AT(heal_clash, keeps, 212);
+AT(heal_clash, first_half, 216);
+AT(heal_clash, notices, 220);
+SIZE(heal_side_state, 64);
+AT(heal_side_state, is_open, 4);
+AT(heal_side_state, has_heard, 8);
+AT(heal_side_state, has_closed, 12);
+AT(heal_side_state, has_heard_list, 16);
+AT(heal_side_state, missing, 20);
+AT(heal_side_state, has_begun, 24);
+AT(heal_side_state, reserved, 28);
+AT(heal_side_state, number, 32);
+AT(heal_side_state, latest, 40);
+AT(heal_side_state, missing_clash, 48);
+AT(heal_side_state, withdrawn, 56);
+SIZE(heal_head, 32);
+AT(heal_head, version, 4);
+AT(heal_head, side, 8);
+AT(heal_head, reserved, 12);
+AT(heal_head, number, 16);
+AT(heal_head, seed, 24);
+SIZE(heal_fault, 24);
+AT(heal_fault, place, 4);
+AT(heal_fault, at, 8);
+AT(heal_fault, reason, 16);
+AT(heal_fault, slot, 20);
 SIZE(heal_notice, 20);
 AT(heal_notice, to, 4);
 AT(heal_notice, other, 12);
@@ -374,7 +402,7 @@ static void check_order_of_hear(void)
     RETURNS(36, hear(&side, sent[SEED_AND_SIZE]));
     RETURNS(37, hear(&side, sent[SIZE]));
     RETURNS(0, hear(&side, sent[VALID]));
-    RETURNS(0, hear(&side, sent[SEED_AND_SIZE]));
+    RETURNS(83, hear(&side, sent[SEED_AND_SIZE]));
     RETURNS(45, hear(&side, sent[NUMBER]));
     RETURNS(46, hear(&side, sent[OWN]));
     heal_side_free(&side);
@@ -405,7 +433,7 @@ static void check_order_of_hear_list(void)
     discard(sent, KINDS);
 }
 
-/* After the first offer and the first list of the number, other ones are ignored. */
+/* After the first offer and the first list of the number, the same ones change nothing, and others are refused. */
 static void check_second_messages(void)
 {
     heal_side side = side_with_db(false);
@@ -414,12 +442,14 @@ static void check_second_messages(void)
     size_t merged = 0;
 
     free(begun(&side, 1, 0).bytes);
-    RETURNS(0, hear(&side, sent[0]));
-    RETURNS(0, hear(&side, sent[1]));
+    ADDS(1, 0, &side, hear(&side, sent[0]));
+    ADDS(1, 0, &side, hear(&side, sent[0]));
+    ADDS(0, 83, &side, hear(&side, sent[1]));
     RETURNS(0, heal_side_settle(&side));
     free(closed(&side).bytes);
-    RETURNS(0, hear_list(&side, sent[2]));
-    RETURNS(0, hear_list(&side, sent[3]));
+    ADDS(1, 0, &side, hear_list(&side, sent[2]));
+    ADDS(1, 0, &side, hear_list(&side, sent[2]));
+    ADDS(0, 83, &side, hear_list(&side, sent[3]));
     RETURNS(0, heal_side_finish(&side, &outcome));
     RETURNS(0, heal_outcome_merged(&outcome, &merged));
     REQUIRE(merged == 3);
@@ -456,20 +486,30 @@ static void heal(heal_side side[2], heal_outcome outcome[2], bool withdraws)
     discard(list, 2);
 }
 
-/* A withdrawn registration takes part in its clash. If it wins, nobody has the name, and the outcome has the loser's notice. */
+/* A withdrawn registration takes part in its clash. If it wins, nobody keeps the name, and the outcome has no notice. */
 static void check_withdrawn_winner(bool withdraws)
 {
     heal_side side[2] = {{0}, {0}};
     heal_outcome outcome[2] = {{0}, {0}};
     heal_clash clash;
     heal_notice notice;
+    heal_name name;
+    uint64_t number = 0;
 
     heal(side, outcome, withdraws);
     for (int i = 0; i < 2; i++) {
         RETURNS(0, heal_outcome_clash(&outcome[i], 0, &clash));
-        REQUIRE(clash.verdict == HEAL_FIRST && clash.first.owner.node == 1 && clash.notices == 1);
-        RETURNS(0, heal_outcome_notice(&outcome[i], 0, 0, &notice));
-        REQUIRE(notice.kind == HEAL_NOTICE_EXIT && notice.to.node == 2);
+        REQUIRE(clash.verdict == HEAL_FIRST && clash.first.owner.node == 1 && clash.first_half == HEAL_A);
+        REQUIRE(clash.keeps == (withdraws ? HEAL_NEITHER : HEAL_FIRST) && clash.notices == (withdraws ? 0 : 1));
+        RETURNS(withdraws ? 92 : 0, heal_outcome_notice(&outcome[i], 0, 0, &notice));
+        REQUIRE(withdraws || (notice.kind == HEAL_NOTICE_EXIT && notice.to.node == 2));
+        RETURNS(0, heal_outcome_number(&outcome[i], &number));
+        REQUIRE(number == 1);
+        RETURNS(withdraws ? 0 : 92, heal_outcome_withdrawn(&outcome[i], HEAL_A, 0, &name));
+        REQUIRE(!withdraws || (name.len == 2 && memcmp(name.bytes, "db", 2) == 0));
+        RETURNS(92, heal_outcome_withdrawn(&outcome[i], HEAL_A, 1, &name));
+        RETURNS(92, heal_outcome_withdrawn(&outcome[i], HEAL_B, 0, &name));
+        RETURNS(74, heal_outcome_withdrawn(&outcome[i], 2, 0, &name));
         RETURNS(withdraws ? 31 : 0, find(&side[i], "db"));
         RETURNS(withdraws ? 0 : 30, add(&side[i], "db", (heal_owner){2, 1}));
         heal_side_free(&side[i]);
@@ -477,8 +517,266 @@ static void check_withdrawn_winner(bool withdraws)
     }
 }
 
+/* The half of the first registration is the one that registered it, whichever half that is. */
+static void check_first_half(void)
+{
+    heal_side side[2] = {{0}, {0}};
+    heal_outcome outcome[2] = {{0}, {0}};
+    heal_registration early = {.owner = {1, 1}}, late = {.owner = {3, 1}};
+    struct message offer[2], list[2];
+    heal_clash clash;
+
+    for (int i = 0; i < 2; i++) {
+        side[i] = side_with_db(i == 1);
+        RETURNS(0, heal_side_register(&side[i], text("x"), 1, i == 0 ? &late : &early));
+        offer[i] = begun(&side[i], 1, 0);
+    }
+    for (int i = 0; i < 2; i++) {
+        RETURNS(0, hear(&side[i], offer[1 - i]));
+        RETURNS(0, heal_side_settle(&side[i]));
+        list[i] = closed(&side[i]);
+    }
+    for (int i = 0; i < 2; i++) {
+        RETURNS(0, hear_list(&side[i], list[1 - i]));
+        RETURNS(0, heal_side_finish(&side[i], &outcome[i]));
+        RETURNS(0, heal_outcome_clash(&outcome[i], 0, &clash));
+        REQUIRE(clash.name.len == 2 && clash.first_half == HEAL_A && clash.first.owner.node == 1);
+        RETURNS(0, heal_outcome_clash(&outcome[i], 1, &clash));
+        REQUIRE(clash.name.len == 1 && clash.first_half == HEAL_B && clash.first.owner.node == 1);
+        heal_side_free(&side[i]);
+        heal_outcome_free(&outcome[i]);
+    }
+    discard(offer, 2);
+    discard(list, 2);
+}
+
+/* In an open exchange the withdrawn names can be listed, and the others without them. */
+static void check_withdrawn_names(void)
+{
+    heal_side side = side_with_db(false), none = {0};
+    heal_name name;
+    heal_row row;
+
+    RETURNS(0, add(&side, "a", (heal_owner){1, 2}));
+    RETURNS(0, add(&side, "x", (heal_owner){1, 3}));
+    RETURNS(92, heal_side_withdrawn(&side, 0, &name));
+    free(begun(&side, 1, 0).bytes);
+    RETURNS(0, heal_side_withdraw(&side, text("db"), 2));
+    RETURNS(0, heal_side_withdraw(&side, text("a"), 1));
+    RETURNS(0, heal_side_withdrawn(&side, 0, &name));
+    REQUIRE(name.len == 2 && memcmp(name.bytes, "db", 2) == 0);
+    RETURNS(0, heal_side_withdrawn(&side, 1, &name));
+    REQUIRE(name.len == 1 && name.bytes[0] == 'a');
+    RETURNS(92, heal_side_withdrawn(&side, 2, &name));
+    RETURNS(0, heal_side_live(&side, 0, &row));
+    REQUIRE(row.name.len == 1 && row.name.bytes[0] == 'x' && row.registration.owner.serial == 3);
+    RETURNS(92, heal_side_live(&side, 1, &row));
+    RETURNS(0, heal_side_live_after(&side, text("a"), 1, &row));
+    REQUIRE(row.name.bytes[0] == 'x');
+    RETURNS(HEAL_NO_ROW, heal_side_live_after(&side, text("x"), 1, &row));
+    RETURNS(44, heal_side_live_after(&side, text(""), 0, &row));
+    RETURNS(91, heal_side_live_after(&none, text("a"), 1, &row));
+    RETURNS(91, heal_side_live(&none, 0, &row));
+    RETURNS(91, heal_side_withdrawn(&none, 0, &name));
+    heal_side_free(&side);
+}
+
+/* A program that no row names can be forgotten, and leaves room for another one. */
+static void check_forget(void)
+{
+    uint8_t code[] = {0xb7, 0, 0, 0, 0, 0, 0, 0, 0x95, 0, 0, 0, 0, 0, 0, 0};
+    uint8_t ids[HEAL_MAX_PROGRAMS][HEAL_ID_LEN], id[HEAL_ID_LEN];
+    heal_side side = side_with_db(false), none = {0};
+    heal_registration registration = {.owner = {1, 1}, .resolver = HEAL_PROGRAM};
+    uint32_t slot;
+
+    RETURNS(92, heal_side_program(&side, 0, id));
+    for (unsigned i = 0; i < HEAL_MAX_PROGRAMS; i++) {
+        code[4] = (uint8_t)i;
+        RETURNS(0, heal_side_upload(&side, code, sizeof code, ids[i], &slot));
+    }
+    code[5] = 1;
+    RETURNS(43, heal_side_upload(&side, code, sizeof code, id, &slot));
+    memcpy(registration.program, ids[7], sizeof id);
+    RETURNS(0, heal_side_register(&side, text("x"), 1, &registration));
+    ADDS(0, 94, &side, heal_side_forget(&side, ids[7]));
+    ADDS(0, 0, &side, heal_side_forget(&side, ids[8]));
+    RETURNS(41, heal_side_forget(&side, ids[8]));
+    RETURNS(0, heal_side_upload(&side, code, sizeof code, id, &slot));
+    RETURNS(43, heal_side_upload(&side, (code[5] = 2, code), sizeof code, id, &slot));
+    RETURNS(0, heal_side_unregister(&side, text("x"), 1));
+    RETURNS(0, heal_side_forget(&side, ids[7]));
+    RETURNS(41, heal_side_register(&side, text("x"), 1, &registration));
+    RETURNS(0, heal_side_program(&side, 0, ids[0]));
+    for (size_t i = 1; i < HEAL_MAX_PROGRAMS - 1; i++) {
+        RETURNS(0, heal_side_program(&side, i, ids[i]));
+        REQUIRE(memcmp(ids[i - 1], ids[i], sizeof id) < 0);
+    }
+    RETURNS(92, heal_side_program(&side, HEAL_MAX_PROGRAMS - 1, id));
+    RETURNS(91, heal_side_forget(&none, id));
+    RETURNS(91, heal_side_program(&none, 0, id));
+    heal_side_free(&side);
+}
+
+/* What the exchange lacks at each step, and what else the side knows. */
+static void check_state(void)
+{
+    heal_side side = side_with_db(false), other = side_with_db(true), none = {0};
+    heal_outcome outcome = {0};
+    heal_side_state state;
+    struct message offer = begun(&other, 7, 0), list;
+
+    RETURNS(91, heal_side_query(&none, &state));
+    RETURNS(0, heal_side_query(&side, &state));
+    REQUIRE(state.side == HEAL_A && !state.is_open && !state.has_begun && state.missing == HEAL_LACKS_NOTHING);
+    free(begun(&side, 7, 0).bytes);
+    RETURNS(0, heal_side_query(&side, &state));
+    REQUIRE(state.is_open && state.number == 7 && state.has_begun && state.latest == 7 && state.missing == HEAL_LACKS_OFFER);
+    RETURNS(0, hear(&side, offer));
+    RETURNS(0, heal_side_query(&side, &state));
+    REQUIRE(state.has_heard && state.missing == HEAL_LACKS_RULING && state.missing_clash == 0 && !state.has_closed);
+    RETURNS(39, heal_side_finish(&side, &outcome));
+    RETURNS(0, heal_side_settle(&side));
+    RETURNS(0, heal_side_withdraw(&side, text("db"), 2));
+    RETURNS(0, heal_side_query(&side, &state));
+    REQUIRE(state.missing == HEAL_LACKS_OWN_LIST && state.withdrawn == 1);
+    free(closed(&side).bytes);
+    RETURNS(0, heal_side_query(&side, &state));
+    REQUIRE(state.has_closed && state.missing == HEAL_LACKS_LIST && !state.has_heard_list);
+    list = closed(&other);
+    RETURNS(0, hear_list(&side, list));
+    RETURNS(0, heal_side_query(&side, &state));
+    REQUIRE(state.has_heard_list && state.missing == HEAL_LACKS_NOTHING);
+    RETURNS(0, heal_side_finish(&side, &outcome));
+    RETURNS(0, heal_side_query(&other, &state));
+    REQUIRE(state.side == HEAL_B && state.is_open);
+    RETURNS(0, heal_side_query(&side, &state));
+    REQUIRE(!state.is_open && state.number == 0 && state.latest == 7 && state.withdrawn == 0 && !state.has_heard);
+    heal_side_free(&side);
+    heal_side_free(&other);
+    heal_outcome_free(&outcome);
+    free(offer.bytes);
+    free(list.bytes);
+}
+
+/* The first fields of messages are read without the rest. */
+static void check_heads(void)
+{
+    struct message offer = offer_of(true, 0x0102030405060708, 9, 3), list = list_of(false, 5, true);
+    heal_head head;
+
+    RETURNS(0, heal_message_peek(offer.bytes, 25, &head));
+    REQUIRE(head.kind == HEAL_OFFER && head.version == 1 && head.side == HEAL_B && head.reserved == 0);
+    REQUIRE(head.number == 0x0102030405060708 && head.seed == 9);
+    RETURNS(70, heal_message_peek(offer.bytes, 24, &head));
+    RETURNS(0, heal_message_peek(list.bytes, 17, &head));
+    REQUIRE(head.kind == HEAL_LIST && head.side == HEAL_A && head.number == 5 && head.seed == 0);
+    RETURNS(70, heal_message_peek(list.bytes, 16, &head));
+    RETURNS(70, heal_message_peek(NULL, 0, &head));
+    list.bytes[8] = 3;
+    RETURNS(74, heal_message_peek(list.bytes, list.len, &head));
+    list.bytes[6] = 2;
+    RETURNS(82, heal_message_peek(list.bytes, list.len, &head));
+    list.bytes[0] = 0;
+    RETURNS(71, heal_message_peek(list.bytes, list.len, &head));
+    REQUIRE(head.kind == HEAL_LIST && head.number == 5);
+    free(offer.bytes);
+    free(list.bytes);
+}
+
+/* Whether the fault is this one. */
+static bool is_fault(heal_fault fault, uint32_t number, uint32_t place, uint64_t at, uint32_t reason, uint32_t slot)
+{
+    return fault.number == number && fault.place == place && fault.at == at && fault.reason == reason && fault.slot == slot;
+}
+
+/* Faults of messages have their place; for rejected code also the code's refusal and its slot. */
+static void check_faults(void)
+{
+    static const uint8_t first[] = {0xb7, 0, 0, 0, 1, 0, 0, 0, 0x95, 0, 0, 0, 0, 0, 0, 0};
+    heal_side side = {0};
+    struct message offer, list = list_of(true, 1, true);
+    heal_registration registration = {.owner = {1, 1}, .resolver = HEAL_PROGRAM};
+    heal_fault fault;
+    uint32_t slot;
+
+    RETURNS(0, heal_side_new(HEAL_A, &side));
+    RETURNS(0, heal_side_upload(&side, first, sizeof first, registration.program, &slot));
+    RETURNS(0, add(&side, "a", (heal_owner){1, 2}));
+    RETURNS(0, heal_side_register(&side, text("b"), 1, &registration));
+    offer = begun(&side, 1, 0);
+    RETURNS(0, heal_offer_fault(offer.bytes, offer.len, &fault));
+    REQUIRE(is_fault(fault, 0, HEAL_AT_NONE, 0, 0, 0));
+    RETURNS(70, heal_offer_fault(NULL, 0, &fault));
+    REQUIRE(is_fault(fault, 70, HEAL_AT_BYTE, 0, 0, 0));
+    RETURNS(71, heal_offer_fault(list.bytes, list.len, &fault));
+    REQUIRE(is_fault(fault, 71, HEAL_AT_BYTE, 0, 0, 0));
+    /* The code ends the message. Its last instruction becomes a copy of R1 to R2, after which nothing comes. */
+    offer.bytes[offer.len - 8] = 0xbf;
+    offer.bytes[offer.len - 7] = 0x12;
+    RETURNS(81, heal_offer_fault(offer.bytes, offer.len, &fault));
+    REQUIRE(is_fault(fault, 81, HEAL_AT_ITEM, 1, 13, 1));
+    RETURNS(0, heal_list_fault(list.bytes, list.len, &fault));
+    REQUIRE(is_fault(fault, 0, HEAL_AT_NONE, 0, 0, 0));
+    RETURNS(70, heal_list_fault(list.bytes, list.len - 1, &fault));
+    REQUIRE(fault.place == HEAL_AT_BYTE && fault.at < list.len);
+    list.bytes[8] = 2;
+    RETURNS(74, heal_list_fault(list.bytes, list.len, &fault));
+    REQUIRE(is_fault(fault, 74, HEAL_AT_BYTE, 8, 0, 0));
+    heal_side_free(&side);
+    free(offer.bytes);
+    free(list.bytes);
+}
+
+/* The version is that of the header, and there are two ids of sides. */
+static void check_version_and_ids(void)
+{
+    heal_side side = {0};
+
+    REQUIRE(heal_version() == HEAL_VERSION);
+    RETURNS(74, heal_side_new(2, &side));
+    REQUIRE(side.at == NULL);
+}
+
+/* A side has the names and the events of its limit, which is from 1 to 1,048,576. */
+static void check_limits(void)
+{
+    heal_registration registration = {.resolver = HEAL_EXIT};
+    heal_side side = {0};
+    size_t events = 0;
+
+    RETURNS(74, heal_side_new_within(2, 0, &side));
+    RETURNS(92, heal_side_new_within(HEAL_A, 0, &side));
+    RETURNS(92, heal_side_new_within(HEAL_A, HEAL_MOST_NAMES + 1, &side));
+    REQUIRE(side.at == NULL);
+    RETURNS(0, heal_side_new_within(HEAL_A, HEAL_MOST_NAMES, &side));
+    RETURNS(0, heal_side_new_within(HEAL_A, 1, &side));
+    RETURNS(0, heal_side_register(&side, (const uint8_t *)"a", 1, &registration));
+    RETURNS(32, heal_side_register(&side, (const uint8_t *)"b", 1, &registration));
+    for (int i = 0; i < 7; i++) {
+        RETURNS(0, heal_side_unregister(&side, (const uint8_t *)"a", 1));
+        RETURNS(0, heal_side_register(&side, (const uint8_t *)"a", 1, &registration));
+    }
+    RETURNS(0, heal_side_unregister(&side, (const uint8_t *)"a", 1));
+    RETURNS(0, heal_side_events(&side, &events));
+    REQUIRE(events == 16);
+    RETURNS(40, heal_side_register(&side, (const uint8_t *)"a", 1, &registration));
+    RETURNS(0, heal_side_renew(&side));
+    RETURNS(0, heal_side_register(&side, (const uint8_t *)"a", 1, &registration));
+    RETURNS(32, heal_side_register(&side, (const uint8_t *)"b", 1, &registration));
+    heal_side_free(&side);
+}
+
 int main(void)
 {
+    check_version_and_ids();
+    check_limits();
+    check_first_half();
+    check_withdrawn_names();
+    check_faults();
+    check_forget();
+    check_state();
+    check_heads();
     check_events();
     check_events_of_settle();
     check_full_and_idle();

@@ -168,7 +168,7 @@ static void heal(struct state *state, uint64_t number)
 
 static void judge(struct state *state)
 {
-    heal_ended ended = {0, 0};
+    heal_ended ended = {0};
     uint8_t record[HEAL_RECORD_LEN] = {0};
     uint8_t id[HEAL_ID_LEN];
     uint32_t slot;

@@ -1,14 +1,17 @@
-"""Tests of heal.py: python3 -m unittest, with the library built (../c/build.sh)."""
+"""Tests of the package heal: python3 -m unittest, with the library built (../c/build.sh)."""
 
 import array
 import copy
 import gc
+import inspect
+import os
 import pickle
 import struct
 import threading
 import time
 import unittest
 
+import heal as package
 from heal import (
     Builtin,
     Clash,
@@ -18,6 +21,7 @@ from heal import (
     NoticeKind,
     Owner,
     Program,
+    Refusal,
     Refused,
     Registration,
     Side,
@@ -124,7 +128,41 @@ class Programs(unittest.TestCase):
                 record("db", other, self.SECOND, 0, Facts(0, 0), Facts(0, 0))
 
 
+class Types(unittest.TestCase):
+    """What a type checker reads: every public function states its types."""
+
+    def functions(self):
+        for name in package.__all__:
+            found = getattr(package, name)
+            if inspect.isfunction(found):
+                yield found
+            elif inspect.isclass(found) and found.__module__ == "heal":
+                for name, part in vars(found).items():
+                    if name.startswith("__"):
+                        continue
+                    part = part.fget if isinstance(part, property) else part
+                    if inspect.isfunction(part) and part.__module__ == "heal":
+                        yield part
+
+    def test_every_function_states_its_types(self):
+        functions = list(self.functions())
+        self.assertGreater(len(functions), 20)
+        for function in functions:
+            with self.subTest(function=function.__qualname__):
+                stated = function.__annotations__
+                names = [name for name in inspect.signature(function).parameters if name != "self"]
+                self.assertEqual([name for name in [*names, "return"] if name not in stated], [])
+
+    def test_the_package_is_typed(self):
+        self.assertTrue(os.path.exists(os.path.join(os.path.dirname(package.__file__), "py.typed")))
+
+
 class Words(unittest.TestCase):
+    def test_names(self):
+        self.assertIs(Refused(30).refusal, Refusal.NAME_TAKEN)
+        self.assertIs(Refused(15, 3).refusal, Refusal.UNREADABLE)
+        self.assertIsNone(Refused(1000).refusal)
+
     def test_words(self):
         self.assertEqual(refusal_words(43), "the store is full: 256 programs")
         self.assertEqual(refusal_words(1000), "unknown refusal")
@@ -167,7 +205,7 @@ class Sides(unittest.TestCase):
         with a, b:
             first, second = heal(a, b, 1)
             self.assertEqual(first, second)
-            self.assertEqual(first.merged, 3)
+            self.assertEqual((first.number, first.merged, first.withdrawn), (1, 3, ((), ())))
             self.assertEqual(a.rows(), b.rows())
             self.assertEqual([name for name, _ in a.rows()], [b"cache", b"db", b"web"])
             self.assertEqual(a.whereis("db").owner, Owner(2, 2))
@@ -188,9 +226,21 @@ class Sides(unittest.TestCase):
         a, b = split()
         with a, b:
             a.register("mail", Registration(Owner(1, 3)))
-            heal(a, b, 1, gone=["mail"])
+            outcome, _ = heal(a, b, 1, gone=["mail"])
+            self.assertEqual(outcome.withdrawn, ((b"mail",), ()))
             self.assertIsNone(a.whereis("mail"))
             self.assertEqual(a.rows(), b.rows())
+
+    def test_a_withdrawn_winner_keeps_nothing(self):
+        a, b = Side("a"), Side("b")
+        with a, b:
+            a.register("db", Registration(Owner(1, 1)))
+            b.register("db", Registration(Owner(2, 1)))
+            (clash,) = heal(a, b, 1, gone=["db"])[0].clashes
+            # Word 0 is even, so `exit` chooses the first.
+            self.assertEqual((clash.verdict, clash.keeps, clash.first_half), (Verdict.FIRST, Verdict.NEITHER, "a"))
+            self.assertEqual((clash.notices, a.whereis("db"), b.whereis("db")), ((), None, None))
+            b.register("db", clash.second)
 
     def test_notify_all(self):
         a, b = Side("a"), Side("b")
@@ -244,6 +294,82 @@ class Sides(unittest.TestCase):
             self.refused(35, a.begin, 1, 0, 10)
             first, second = heal(a, b, 2)
             self.assertEqual(first, second)
+
+    def test_programs_are_forgotten(self):
+        with Side("a") as side:
+            later, none = side.upload(LATER_STAMP), bytes(32)
+            self.assertEqual(side.programs, [later])
+            side.register("db", Registration(Owner(1, 1), resolver=later))
+            self.refused(94, side.forget, later)
+            self.refused(41, side.forget, none)
+            side.unregister("db")
+            side.forget(later)
+            self.assertEqual(side.programs, [])
+            self.refused(41, side.register, "db", Registration(Owner(1, 1), resolver=later))
+
+    def test_a_side_says_what_it_knows(self):
+        a, b = split()
+        with a, b:
+            self.assertEqual(a.state, package.State(None, None, False, False, False, package.Missing.NOTHING))
+            a.begin(3, 0, 0)
+            offer = b.begin(3, 0, 20)
+            self.assertEqual(a.state, package.State(3, 3, False, False, False, package.Missing.OFFER))
+            self.assertEqual(package.peek(offer[:25]), package.Head("b", 3, 0))
+            a.hear(offer)
+            self.assertEqual(a.state.missing, package.Missing.RULING)
+            a.settle()
+            a.close_list()
+            self.assertEqual(a.state, package.State(3, 3, True, True, False, package.Missing.LIST))
+            sent = b.close_list()
+            self.assertEqual(package.peek(sent), package.Head("b", 3, None))
+            self.refused(71, package.peek, bytes(25))
+            a.hear_list(sent)
+            a.finish()
+            self.assertEqual((a.state.number, a.state.latest), (None, 3))
+
+    def test_another_offer_of_the_number_is_refused(self):
+        a, b = split()
+        with a, b, Side("b") as other:
+            a.begin(1, 0, 0)
+            offer, another = b.begin(1, 0, 20), other.begin(1, 0, 20)
+            a.hear(offer)
+            a.hear(offer)
+            self.refused(83, a.hear, another)
+
+    def test_faults_have_their_place(self):
+        a, b = split()
+        with a, b:
+            offer = b.begin(1, 0, 20)
+            self.assertIsNone(package.offer_fault(offer))
+            self.assertEqual(package.offer_fault(b""), package.Fault(70, byte=0))
+            self.assertEqual(package.offer_fault(offer[:8] + b"\2" + offer[9:]), package.Fault(74, byte=8))
+            self.assertEqual(package.list_fault(offer), package.Fault(71, byte=0))
+            # `exit` becomes a copy, after which nothing comes. Row 1 has the code.
+            fault = package.offer_fault(offer.replace(bytes.fromhex("9500000000000000"), bytes.fromhex("bf12000000000000")))
+            self.assertEqual((fault.number, fault.item, fault.byte), (81, 1, None))
+            self.assertEqual((fault.code.number, fault.code.slot), (13, 5))
+            self.assertIsNone(package.list_fault(b.close_list()))
+
+    def test_withdrawn_names_are_listed(self):
+        a, b = split()
+        with a, b:
+            self.assertEqual(b.withdrawn, [])
+            b.begin(1, 0, 20)
+            b.withdraw("web")
+            b.withdraw("cache")
+            self.assertEqual(b.withdrawn, [b"web", b"cache"])
+            self.assertEqual([name for name, _ in b.live_rows()], [b"db"])
+            self.assertEqual([name for name, _ in b.rows()], [b"cache", b"db", b"web"])
+
+    def test_a_side_has_the_names_of_its_limit(self):
+        registration = Registration(Owner(1, 10))
+        side = Side("a", 2)
+        side.register(b"x", registration)
+        side.register(b"y", registration)
+        self.refused(32, side.register, b"z", registration)
+        for names in (0, -1, 1_048_577, 1 << 64):
+            self.refused(92, Side, "a", names)
+        Side("a", 1_048_576).close()
 
     def test_renewed(self):
         with Side("a") as side:

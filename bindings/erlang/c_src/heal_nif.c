@@ -4,10 +4,11 @@
  * Programs, sides and outcomes are resources: the garbage collector frees them. Calls whose time grows with a table, a message
  * or a program run on dirty schedulers.
  *
- * Calls of libheal on one handle must not overlap. A call that finds the handle taken returns `busy` at once, and the module
- * heal makes it again a moment later: the process waits, and no scheduler does. The first process that finds a handle taken
- * has the next turn, so a process that calls again and again can't keep the others away. The turn is lost after a while, in
- * case its process is dead.
+ * Programs and outcomes never change, so any number of processes read them at the same time, without a lock. Calls on one side
+ * take turns, since a call that changes it must be the only one. A call that finds the side taken returns `busy` at once, and
+ * the module heal makes it again a moment later: the process waits, and no scheduler does. The first process that finds a side
+ * taken has the next turn, so a process that calls again and again can't keep the others away. The turn is lost after a while,
+ * in case its process is dead.
  */
 #include <erl_nif.h>
 #include <stdbool.h>
@@ -25,7 +26,7 @@ enum { FIRST_WITH_SLOT = 4, LAST_WITH_SLOT = 26 };
 /* How long a process keeps the next turn since its last call, in milliseconds. */
 enum { TURN = 50 };
 
-/* A resource: whose turn it is, and one handle. All handles of libheal are one word. */
+/* A resource: whose turn it is, if it is a side, and one handle. All handles of libheal are one word. */
 typedef struct {
     ErlNifMutex *lock; /* of the next three fields; held for a few instructions only */
     bool taken;
@@ -42,8 +43,8 @@ static ErlNifResourceType *program_type, *side_type, *outcome_type;
 
 #define ATOMS(X) \
     X(ok) X(error) X(a) X(b) X(owner) X(stamp) X(weight) X(extra) X(resolver) X(exit) X(notify) X(notify_all) \
-    X(program) X(size) X(uptime) X(name) X(first) X(second) X(neither) X(word) X(verdict) X(notices) X(conflict) \
-    X(conflict_with) X(busy)
+    X(program) X(size) X(uptime) X(name) X(first) X(second) X(neither) X(word) X(verdict) X(keeps) X(first_half) X(notices) \
+    X(conflict) X(conflict_with) X(busy)
 
 #define DECLARE(NAME) static term atom_##NAME;
 ATOMS(DECLARE)
@@ -195,7 +196,24 @@ static term in_turn(ErlNifEnv *env, const term argv[], ErlNifResourceType *type,
     return result;
 }
 
-/* Defines the NIF `NAME`, whose first argument is a resource, from `NAME_body`. */
+/* Runs a call that only reads its first argument, which no call changes. */
+static term reading(ErlNifEnv *env, const term argv[], ErlNifResourceType *type, body *run)
+{
+    resource *held;
+    if (!enif_get_resource(env, argv[0], type, (void **)&held))
+        return enif_make_badarg(env);
+    return run(env, held, argv);
+}
+
+/* Defines the NIF `NAME`, whose first argument is a program or an outcome, from `NAME_body`. */
+#define READING(NAME, TYPE) \
+    static term NAME(ErlNifEnv *env, int argc, const term argv[]) \
+    { \
+        (void)argc; \
+        return reading(env, argv, TYPE, NAME##_body); \
+    }
+
+/* Defines the NIF `NAME`, whose first argument is a side, from `NAME_body`. */
 #define IN_TURN(NAME, TYPE) \
     static term NAME(ErlNifEnv *env, int argc, const term argv[]) \
     { \
@@ -383,7 +401,7 @@ static term judge_body(ErlNifEnv *env, resource *held, const term argv[])
         return refused(env, number);
     return enif_make_tuple3(env, atom_ok, enif_make_uint64(env, ended.r0), enif_make_uint(env, ended.steps));
 }
-IN_TURN(judge, program_type)
+READING(judge, program_type)
 
 static term program_id_body(ErlNifEnv *env, resource *held, const term argv[])
 {
@@ -392,7 +410,7 @@ static term program_id_body(ErlNifEnv *env, resource *held, const term argv[])
     uint32_t number = heal_program_id(&held->handle.program, id);
     return number == 0 ? ok(env, copy_of(env, id, ID_LEN)) : refused(env, number);
 }
-IN_TURN(program_id, program_type)
+READING(program_id, program_type)
 
 static term record(ErlNifEnv *env, int argc, const term argv[])
 {
@@ -431,7 +449,7 @@ static term side(ErlNifEnv *env, int argc, const term argv[])
     resource *made = new_resource(side_type);
     if (made == NULL)
         return refused(env, OUT_OF_MEMORY);
-    return handed(env, heal_side_new(second, &made->handle.side), 0, made);
+    return handed(env, heal_side_new(second ? HEAL_B : HEAL_A, &made->handle.side), 0, made);
 }
 
 static term upload_body(ErlNifEnv *env, resource *held, const term argv[])
@@ -622,9 +640,9 @@ static term merged_body(ErlNifEnv *env, resource *held, const term argv[])
     uint32_t number = heal_outcome_merged(&held->handle.outcome, &names);
     return number == 0 ? ok(env, enif_make_uint64(env, names)) : refused(env, number);
 }
-IN_TURN(merged, outcome_type)
+READING(merged, outcome_type)
 
-static uint32_t notices_of(ErlNifEnv *env, heal_outcome *outcome, size_t i, uint32_t count, term *notices)
+static uint32_t notices_of(ErlNifEnv *env, const heal_outcome *outcome, size_t i, uint32_t count, term *notices)
 {
     uint32_t number = 0;
     *notices = enif_make_list(env, 0);
@@ -637,7 +655,7 @@ static uint32_t notices_of(ErlNifEnv *env, heal_outcome *outcome, size_t i, uint
     return number;
 }
 
-static uint32_t clash_of(ErlNifEnv *env, heal_outcome *outcome, size_t i, term *clash)
+static uint32_t clash_of(ErlNifEnv *env, const heal_outcome *outcome, size_t i, term *clash)
 {
     heal_clash read;
     term notices;
@@ -646,9 +664,10 @@ static uint32_t clash_of(ErlNifEnv *env, heal_outcome *outcome, size_t i, term *
         number = notices_of(env, outcome, i, read.notices, &notices);
     if (number != 0)
         return number;
-    term keys[] = {atom_name, atom_first, atom_second, atom_word, atom_verdict, atom_notices};
+    term keys[] = {atom_name, atom_first, atom_second, atom_word, atom_verdict, atom_keeps, atom_first_half, atom_notices};
     term values[] = {name_term(env, &read.name), registration_term(env, &read.first), registration_term(env, &read.second),
-        enif_make_uint64(env, read.word), verdict_term(read.verdict), notices};
+        enif_make_uint64(env, read.word), verdict_term(read.verdict), verdict_term(read.keeps),
+        read.first_half == HEAL_A ? atom_a : atom_b, notices};
     *clash = map_of(env, keys, values, sizeof keys / sizeof *keys);
     return 0;
 }
@@ -666,7 +685,7 @@ static term clashes_body(ErlNifEnv *env, resource *held, const term argv[])
     }
     return number == 0 ? ok(env, clashes) : refused(env, number);
 }
-IN_TURN(clashes, outcome_type)
+READING(clashes, outcome_type)
 
 /* ---- Loading ---- */
 
@@ -697,8 +716,8 @@ static int on_upgrade(ErlNifEnv *env, void **private, void **old, term info)
 
 static ErlNifFunc functions[] = {
     {"load", 1, load, DIRTY},
-    {"judge_in_turn", 2, judge, 0},
-    {"program_id_in_turn", 1, program_id, DIRTY},
+    {"judge", 2, judge, 0},
+    {"program_id", 1, program_id, DIRTY},
     {"record", 6, record, 0},
     {"refusal_words", 1, refusal_words, 0},
     {"side", 1, side, 0},
@@ -720,8 +739,8 @@ static ErlNifFunc functions[] = {
     {"events_in_turn", 1, events, 0},
     {"renew_in_turn", 1, renew, DIRTY},
     {"give_up_in_turn", 1, give_up, DIRTY},
-    {"merged_in_turn", 1, merged, 0},
-    {"clashes_in_turn", 1, clashes, DIRTY},
+    {"merged", 1, merged, 0},
+    {"clashes", 1, clashes, DIRTY},
 };
 
 ERL_NIF_INIT(heal, functions, on_load, NULL, on_upgrade, NULL)

@@ -1,7 +1,7 @@
 %% @doc The calls of libheal: programs, sides of exchanges, and their outcomes.
 %%
-%% A program, a side and an outcome are references that the garbage collector frees. Every process may use them; calls on one
-%% of them take turns. A call returns what its type shows, or `{error, {Number, Words}}' with the number of a
+%% A program, a side and an outcome are references that the garbage collector frees. Every process may use them. Calls on one
+%% side take turns; any number of processes read a program or an outcome at the same time. A call returns what its type shows, or `{error, {Number, Words}}' with the number of a
 %% refusal and its words; docs/REFUSALS.md lists them. A refused call changes nothing. A term of another type is a `badarg'.
 %%
 %% Two halves that meet carry out an exchange. One is side `a', the other side `b':
@@ -48,8 +48,11 @@
     second := registration(),
     word := word(),
     verdict := first | second | neither,
+    keeps := first | second | neither,
+    first_half := a | b,
     notices := [notice()]
 }.
+%% `keeps' is the verdict, or `neither' if the winner was withdrawn; then there are no notices. `first_half' registered `first'.
 -type refusal() :: {Number :: pos_integer(), Words :: binary()}.
 -type result() :: ok | {error, refusal()}.
 -type result(Value) :: {ok, Value} | {error, refusal()}.
@@ -74,11 +77,11 @@ load(_Code) -> missing().
 
 %% @doc Runs the program on the record of a clash. It ends after at most as many steps as it has instructions.
 -spec judge(program(), Record :: <<_:1280>>) -> {ok, R0 :: word(), Steps :: non_neg_integer()} | {error, refusal()}.
-judge(Program, Record) -> turn(fun() -> judge_in_turn(Program, Record) end).
+judge(_Program, _Record) -> missing().
 
 %% @doc Returns the program's id: the SHA-256 digest of its bytes.
 -spec program_id(program()) -> result(id()).
-program_id(Program) -> turn(fun() -> program_id_in_turn(Program) end).
+program_id(_Program) -> missing().
 
 %% @doc Builds the record of a clash of two registrations of a name at a word.
 -spec record(name(), First :: registration(), Second :: registration(), word(), OfFirst :: facts(), OfSecond :: facts()) ->
@@ -167,18 +170,18 @@ give_up(Side) -> turn(fun() -> give_up_in_turn(Side) end).
 
 %% @doc Returns the number of names in the merged table.
 -spec merged(outcome()) -> result(non_neg_integer()).
-merged(Outcome) -> turn(fun() -> merged_in_turn(Outcome) end).
+merged(_Outcome) -> missing().
 
 %% @doc Returns the clashes in the order of names, each with its verdict and its notices.
 -spec clashes(outcome()) -> result([clash()]).
-clashes(Outcome) -> turn(fun() -> clashes_in_turn(Outcome) end).
+clashes(_Outcome) -> missing().
 
 %% @private Returns the counter of heal_names:serial/0.
 -spec serials() -> atomics:atomics_ref().
 serials() ->
     persistent_term:get(?SERIALS).
 
-%% Makes a call on a program, a side or an outcome. While a call of another process runs on it, this one waits: it lets other
+%% Makes a call on a side. While a call of another process runs on it, this one waits: it lets other
 %% processes run, and then sleeps.
 turn(Call) ->
     turn(Call, ?YIELDS).
@@ -191,8 +194,6 @@ turn(Call, Yields) ->
     end.
 
 %% The functions of the NIF that return `busy' while another call runs on their first argument.
-judge_in_turn(_Program, _Record) -> missing().
-program_id_in_turn(_Program) -> missing().
 upload_in_turn(_Side, _Code) -> missing().
 register_in_turn(_Side, _Name, _Registration) -> missing().
 unregister_in_turn(_Side, _Name) -> missing().
@@ -211,8 +212,6 @@ abandon_in_turn(_Side) -> missing().
 events_in_turn(_Side) -> missing().
 renew_in_turn(_Side) -> missing().
 give_up_in_turn(_Side) -> missing().
-merged_in_turn(_Outcome) -> missing().
-clashes_in_turn(_Outcome) -> missing().
 
 missing() ->
     erlang:nif_error(nif_not_loaded).

@@ -80,8 +80,8 @@ uptime() ->
     erlang:convert_time_unit(erlang:monotonic_time() - erlang:system_info(start_time), native, millisecond).
 
 %% Returns the notices of a clash, each with the position of the owner that receives it. Two owners may be equal by mistake,
-%% so the verdict gives the positions. libheal has no notices for a program's verdict: its losers are notified as by `notify'
-%% and `notify_all'.
+%% so the verdict gives the positions. libheal has no notices for a program's verdict, whose losers are notified as by `notify'
+%% and `notify_all', nor for a loser whose rival was withdrawn, which heal_losers registers again.
 -spec notices(heal:clash()) -> [notice()].
 notices(Clash = #{verdict := Verdict}) ->
     [{kind(Clash), Position} || Position <- losers(Verdict)].
@@ -90,9 +90,9 @@ losers(first) -> [second];
 losers(second) -> [first];
 losers(neither) -> [first, second].
 
-kind(#{notices := [Notice | _]}) -> element(1, Notice);
 kind(#{verdict := neither}) -> conflict_with;
-kind(_ByProgram) -> conflict.
+kind(#{first := #{resolver := exit}}) -> exit;
+kind(_ByNotifyOrProgram) -> conflict.
 
 %% Delivers a notice as the resolvers of `global' do. A process that is `undefined' isn't notified.
 -spec deliver(Name :: term(), notice(), {First :: pid() | undefined, Second :: pid() | undefined}) -> ok.

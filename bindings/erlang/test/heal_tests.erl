@@ -145,7 +145,7 @@ hostile_bytes_test() ->
     {ok, List} = heal:close_list(A),
     B = side(b, []),
     {ok, _} = heal:begin_exchange(B, 1, 1, 0),
-    Known = [ok | lists:seq(30, 48)] ++ lists:seq(70, 82),
+    Known = [ok | lists:seq(30, 48)] ++ lists:seq(70, 83),
     Number = fun(ok) -> ok; ({error, {N, Words}}) when byte_size(Words) > 0 -> N end,
     [?assert(lists:member(Number(Hear(B, changed(Bytes, At, Value))), Known))
      || {Bytes, Hear} <- [{Offer, fun heal:hear/2}, {List, fun heal:hear_list/2}], At <- lists:seq(0, byte_size(Bytes) - 1),
@@ -172,6 +172,30 @@ shared_side_test_() ->
         [receive {done, Node} -> ok end || Node <- lists:seq(1, 8)],
         [receive looked -> ok end || _ <- lists:seq(1, 2)],
         ?assertEqual({ok, 800}, heal:count(Side))
+    end}.
+
+%% Eight processes judge with one program and read one outcome, again and again for two seconds.
+readers_share_test_() ->
+    {timeout, 60, fun() ->
+        {ok, Program} = heal:load(later()),
+        {ok, Id} = heal:program_id(Program),
+        A = side(a, [{<<"x">>, registration(1, 1, 1, exit)}]),
+        B = side(b, [{<<"x">>, registration(2, 1, 1, exit)}]),
+        {Outcome, _} = healed(A, B, 1, []),
+        {ok, Clashes} = heal:clashes(Outcome),
+        End = erlang:monotonic_time(millisecond) + 2000,
+        Self = self(),
+        Read = fun Read() ->
+            {ok, 1, 6} = heal:judge(Program, <<0:1280>>),
+            {ok, Id} = heal:program_id(Program),
+            {{ok, 1}, {ok, Clashes}} = {heal:merged(Outcome), heal:clashes(Outcome)},
+            case erlang:monotonic_time(millisecond) < End of
+                true -> Read();
+                false -> Self ! read
+            end
+        end,
+        [spawn_link(Read) || _ <- lists:seq(1, 8)],
+        [receive read -> ok end || _ <- lists:seq(1, 8)]
     end}.
 
 %% A side with this many names, whose rows take long to read.

@@ -11,7 +11,7 @@ use Rattle.exchange_core.specs.Sides.{Heard, Exchange, Side, clashes_for, clashe
 use Rattle.exchange_core.specs.Finished.{Finished, clashes_merged, finished_at, finished_in, finished_of, finished_from}
 use Rattle.heal_c.specs.declared.outcome.Outcome.{Outcome}
 use Rattle.heal_c.specs.Exchanges.{IsFinishedFrom}
-use Rattle.heal_c.specs.Outcomes.{IsOutcome, IsRoomFor}
+use Rattle.heal_c.specs.Outcomes.{IsOutcome, IsRoomFor, gone_for, gone_of}
 
 by_side : (id : SideId) (own : Table) (x : Exchange) (h : Heard) (theirs : List Name) (rulings : List Judged) (table : Table)
     → clashes_for id own x.uptime h.table h.uptime ≡ clashes_merged (finished_at id own x h theirs rulings table)
@@ -30,10 +30,28 @@ at_side : (s : Side) (opened : Option Exchange) (f : Finished) → s.exchange �
 at_side s None f is e = absurd (cc)
 at_side s (Some x) f is e = rw is (in_exchange s x x.heard x.their_list f (subst (λ (o : Option Exchange). option_and_then (λ y. finished_in s y y.heard y.their_list) o ≡ Some f) is e))
 
--- the clashes that were copied before a finish are those that it merged
-pub room_fits : (s : Side) (f : Finished) (room : Outcome) → finished_from s ≡ Some f → IsRoomFor (clashes_of s) room
-    → IsRoomFor (clashes_merged f) room
-room_fits s f room e fits = subst (λ clashes. IsRoomFor clashes room) (at_side s s.exchange f refl e) fits
+gone_by_side : (id : SideId) (own : Table) (x : Exchange) (h : Heard) (theirs : List Name) (rulings : List Judged) (table : Table)
+    → gone_for id x.withdrawn theirs ≡ (finished_at id own x h theirs rulings table).gone
+gone_by_side A own x h theirs rulings table = refl
+gone_by_side B own x h theirs rulings table = refl
+
+gone_in : (s : Side) (x : Exchange) (heard : Option Heard) (theirs : Option (List Name)) (f : Finished)
+    → finished_in s x heard theirs ≡ Some f → gone_for s.id x.withdrawn (option_map_or (λ names. names) theirs []) ≡ f.gone
+gone_in s x (Some h) (Some theirs) f e =
+    let same : finished_of s x h theirs ≡ f = cc in
+    gone_by_side s.id s.table x h theirs _ _ ∙ ap (λ (f : Finished). f.gone) same
+gone_in s x (Some h) None f e = absurd (cc)
+gone_in s x None theirs f e = absurd (cc)
+
+gone_at : (s : Side) (opened : Option Exchange) (f : Finished) → s.exchange ≡ opened → finished_from s ≡ Some f → gone_of s ≡ f.gone
+gone_at s None f is e = absurd (cc)
+gone_at s (Some x) f is e = rw is (gone_in s x x.heard x.their_list f (subst (λ (o : Option Exchange). option_and_then (λ y. finished_in s y y.heard y.their_list) o ≡ Some f) is e))
+
+-- the clashes and names that were copied before a finish are those that it merged
+pub room_fits : (s : Side) (f : Finished) (room : Outcome) → finished_from s ≡ Some f → IsRoomFor (clashes_of s) (gone_of s) room
+    → IsRoomFor (clashes_merged f) f.gone room
+room_fits s f room e fits = subst (λ gone. IsRoomFor (clashes_merged f) gone room) (gone_at s s.exchange f refl e)
+    (subst (λ clashes. IsRoomFor clashes (gone_of s) room) (at_side s s.exchange f refl e) fits)
 
 pub finishes : (s : Side) (f : Finished) (outcome : Outcome) → finished_from s ≡ Some f → IsOutcome f outcome → IsFinishedFrom s outcome
 finishes s f outcome e is = (f, e, is)

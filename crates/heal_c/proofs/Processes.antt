@@ -24,6 +24,9 @@ use Rattle.heal_c.specs.Exchanges.{allowed, withdrawing}
 use Rattle.heal_c.specs.Sides.{CarriesOut, IsRenewed, Stays, registering, unregistering}
 use Rattle.heal_c.specs.Processes.{Processes, half_of, with_half, IsCall, AreNew, IsRun}
 use Rattle.heal_c.specs.Processes as call
+use Rattle.heal_c.specs.Kept.{HasForgotten, forgetting, id_from}
+use Rattle.clash_record.specs.declared.registrations.ProgramId.{ProgramId}
+use Rattle.heal_c.proofs.Repeating.{was_first}
 
 -- ---- answers of calls that returned 0
 
@@ -59,6 +62,12 @@ done (Some f) D S h = ⊎_elim (λ e. absurd (positive f e)) (λ e. absurd (cc))
 settled_so : (o : Option SideFault) (D : Unit {0} → Type 0) (S : Type 0) → Gives (allowed o) D S 0 → D tt
 settled_so None D S h = h.1
 settled_so (Some f) D S h = absurd (positive f h.0)
+
+-- a program is forgotten, or everything stays
+forgot : (r : Result (Unit {0}) ℕ) (id : ProgramId) (old new : Half) → Gives r (λ _. HasForgotten id old new) (new ≡ old) 0
+    → shown new.side ≡ shown old.side
+forgot (Ok x) id old new h = ap (λ s. shown s) h.1.side
+forgot (Err m) id old new h = ap (λ (x : Half). shown x.side) h.1
 
 -- it is done, or everything stays
 either : {X : Type 0} (r : Result X ℕ) {D : X → Type 0} {S : Type 0} → IsAnswer r D S 0 → ((x : X) × D x) ⊎ S
@@ -310,6 +319,8 @@ module _ {p : Processes} (l : Like p) (id : SideId) (new : Half) where
 step : (p after : Processes) (id : SideId) → Like p → IsCall p id after → Like after
 step p after id l (call.uploads new code id' id'' slot up e) = subst Like (sym e)
     (like_same l id new (⊎_elim (λ k. ap (λ s. shown s) k.side) (λ h. ap (λ (x : Half). shown x.side) h.1.0) up.answer))
+step p after id l (call.forgets new program r e) = subst Like (sym e)
+    (like_same l id new (forgot (forgetting (id_from program) (half_of p id)) (id_from program) (half_of p id) new r))
 step p after id l (call.registers new name registration r e) = subst Like (sym e)
     (⊎_elim (λ d. like_quiet l id new (Happens (Does id (Register _ _))) (does l id new (Register _ _) d.1)) (stays l id new)
     (either (registering name registration (half_of p id)) r))
@@ -320,7 +331,7 @@ step p after id l (call.begins new number seed uptime before bytes r e) = subst 
     (let d = done _ _ _ r in began l id new number seed uptime bytes d.0 d.1)
 step p after id l (call.hears new bytes sent r e) = subst Like (sym e)
     (let h = l.offers sent.0 bytes sent.1 in
-    heard l id new h.0 sent.0 h.1.0 (done _ _ _ (r.taken h.0 h.1.1)))
+    heard l id new h.0 sent.0 h.1.0 (done _ _ _ (was_first _ _ _ _ (r.taken h.0 h.1.1))))
 step p after id l (call.settles new r e) = subst Like (sym e)
     (let d = settled_so _ _ _ r in
     like_quiet l id new (Settles id)
@@ -333,7 +344,7 @@ step p after id l (call.closes new before bytes r e) = subst Like (sym e)
     (let d = done _ _ _ r in closed l id new bytes d.0 d.1)
 step p after id l (call.hears_list new bytes sent r e) = subst Like (sym e)
     (let h = l.lists sent.0 bytes sent.1 in
-    heard_list l id new h.0 sent.0 h.1.0 (done _ _ _ (r.taken h.0 h.1.1)))
+    heard_list l id new h.0 sent.0 h.1.0 (done _ _ _ (was_first _ _ _ _ (r.taken h.0 h.1.1))))
 step p after id l (call.finishes new before outcome f r given e) = subst Like (sym e)
     (let d = done _ _ _ r in finished l id new f d.0 given)
 step p after id l (call.abandons new r e) = subst Like (sym e)

@@ -3,6 +3,8 @@ use Rattle.std.specs.Prelude.{ℕ, ◌==◌, if◌then◌else◌, List, length, 
 use Rattle.clash_record.specs.Name.{Name, is_name, padded}
 use Rattle.clash_record.specs.Orders.{builtin_place}
 use Rattle.clash_record.specs.declared.records.Facts.{Facts}
+use Rattle.clash_record.specs.declared.side_id.SideId.{SideId}
+use Rattle.clash_record.specs.declared.side_id.SideId.TheVariants.{A, B}
 use Rattle.clash_record.specs.declared.registrations.Owner.{Owner}
 use Rattle.clash_record.specs.declared.registrations.Registration.{Registration}
 use Rattle.clash_record.specs.declared.registrations.ResolverId.{ResolverId}
@@ -80,6 +82,7 @@ registration_code r = record {
   extra = r.extra;
   resolver = resolver_kind r.resolver;
   program = resolver_program r.resolver;
+  reserved = 0;
 }
 
 abbrev pub row_code : Name × Registration → HealRow
@@ -89,6 +92,11 @@ abbrev pub verdict_code : Verdict3 → ℕ
 verdict_code Neither = 0
 verdict_code First = 1
 verdict_code Second = 2
+
+-- A is 0, and B 1
+abbrev pub side_code : SideId → ℕ
+side_code A = 0
+side_code B = 1
 
 abbrev pub nobody : HealOwner
 nobody = record { node = 0; serial = 0 }

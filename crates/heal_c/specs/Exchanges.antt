@@ -1,5 +1,5 @@
 -- The calls of a half in an exchange: what is due to each, and what it leaves.
-use Rattle.std.specs.Prelude.{◌≡◌, ◌⊎◌, ℕ, List, length, Option, Some, IsSomeAnd, Result, Ok, Err}
+use Rattle.std.specs.Prelude.{◌≡◌, ◌⊎◌, ℕ, Bool, true, false, List, length, Option, Some, IsSomeAnd, Result, Ok, Err}
 use Rattle.numbered.specs.Answers.{out_of_memory}
 use Rattle.clash_record.specs.Name.{Name}
 use Rattle.exchange_core.specs.Sides as sides
@@ -9,7 +9,7 @@ use Rattle.exchange_core.specs.Faults.{side_fault_number}
 use Rattle.exchange_core.specs.Finished.{Finished, finished_from}
 use Rattle.exchange_core.specs.Refusals as due
 use Rattle.exchange_core.specs.Settling.{IsSettled, the_round}
-use Rattle.exchange_core.specs.Shown.{shown, calls, is_full}
+use Rattle.exchange_core.specs.Shown.{shown, calls, limit_of, is_full}
 use Rattle.exchange_core.specs.Worlds.{offer_of, list_of}
 use Rattle.exchange_codec.specs.declared.fault.MessageFault.{MessageFault}
 use Rattle.exchange_codec.specs.Faults.{message_fault_number}
@@ -44,10 +44,19 @@ Closes old new list list' = IsAnswer
 
 -- ---- what the other side sent
 
+-- another message of its number was heard, which is refused with 83 unless memory runs out; otherwise this holds
+abbrev pub UnlessOther : Bool → Half → Half → ℕ → Type 0 → Type 0
+UnlessOther true old new n heard = ((n ≡ 83) ⊎ (n ≡ out_of_memory)) × Stays old new
+UnlessOther false old new n heard = heard
+
 -- the side's answer to an offer
-abbrev pub HearsOffer : sides.Offer → Half → Half → ℕ → Type 0
-HearsOffer offer old new = IsAnswer (allowed (due.hear_fault (is_full old.side) (shown old.side) offer))
+abbrev pub HearsFirst : sides.Offer → Half → Half → ℕ → Type 0
+HearsFirst offer old new = IsAnswer (allowed (due.hear_fault (limit_of old.side) (is_full old.side) (shown old.side) offer))
     (λ _. CarriesOut (Hear offer) old new) (Stays old new)
+
+abbrev pub HearsOffer : sides.Offer → Half → Half → ℕ → Type 0
+HearsOffer offer old new n =
+    UnlessOther (sides.heard_other_offer (shown old.side) offer) old new n (HearsFirst offer old new n)
 
 -- the number is that of the fault of a message, or of running out of memory, and everything stays
 abbrev pub Rejects : MessageFault → Half → Half → ℕ → Type 0
@@ -63,9 +72,13 @@ pub record Hears (bytes : List ℕ) (old new : Half) (n : ℕ) : Type 0 where
   pub told : (fault : MessageFault) → IsOfferFault bytes fault → Rejects fault old new n
 
 -- the side's answer to a list
-abbrev pub HearsNames : sides.Withdrawals → Half → Half → ℕ → Type 0
-HearsNames sent old new = IsAnswer (allowed (due.hear_list_fault (is_full old.side) (shown old.side) sent))
+abbrev pub HearsFirstNames : sides.Withdrawals → Half → Half → ℕ → Type 0
+HearsFirstNames sent old new = IsAnswer (allowed (due.hear_list_fault (is_full old.side) (shown old.side) sent))
     (λ _. CarriesOut (Hear_list sent) old new) (Stays old new)
+
+abbrev pub HearsNames : sides.Withdrawals → Half → Half → ℕ → Type 0
+HearsNames sent old new n =
+    UnlessOther (sides.heard_other_list (shown old.side) sent) old new n (HearsFirstNames sent old new n)
 
 -- the side's answer to bytes of which this is due: a list, or a fault
 abbrev pub HearsDue : Result sides.Withdrawals MessageFault → Half → Half → ℕ → Type 0
@@ -81,7 +94,7 @@ pub record HearsList (bytes : List ℕ) (old new : Half) (n : ℕ) : Type 0 wher
 -- ---- the other calls
 
 abbrev pub Settles : Half → Half → ℕ → Type 0
-Settles old new = Gives (allowed (due.settle_fault (length (calls old.side)) (shown old.side)))
+Settles old new = Gives (allowed (due.settle_fault (limit_of old.side) (length (calls old.side)) (shown old.side)))
     (λ _. IsSettled old.side the_round new.side × (new.store ≡ old.store)) (Stays old new)
 
 abbrev pub withdrawing : List ℕ → Half → Result Name ℕ

@@ -8,6 +8,7 @@ use Rattle.heal_c.specs.declared.codes.HealRegistration.{HealRegistration}
 use Rattle.heal_c.specs.declared.half.Half.{Half}
 use Rattle.heal_c.specs.declared.outcome.Outcome.{Outcome}
 use Rattle.heal_c.specs.Exchanges.{Begins, Hears, Settles, Withdraws, Closes, HearsList, Finishes, Abandons}
+use Rattle.heal_c.specs.Kept.{Forgets}
 use Rattle.heal_c.specs.Sides.{IsNew, IsUpload, Registers, Unregisters, Renews, GivesUp}
 
 -- the halves; the bytes of all offers and lists that calls returned; and all outcomes. The latest stand first
@@ -34,6 +35,8 @@ WasReturned all bytes = (which : ℕ) × (slice_get all which ≡ Some bytes)
 pub data IsCall (p : Processes) (id : SideId) (after : Processes) : Type 0 where
   uploads : (new : Half) (code id' id'' : List ℕ) (slot : ℕ) → IsUpload code (half_of p id) new id' id'' 0 slot →
       after ≡ with_half p id new → IsCall p id after
+  forgets : (new : Half) (program : List ℕ) → Forgets program (half_of p id) new 0 → after ≡ with_half p id new →
+      IsCall p id after
   registers : (new : Half) (name : List ℕ) (registration : HealRegistration) →
       Registers name registration (half_of p id) new 0 → after ≡ with_half p id new → IsCall p id after
   unregisters : (new : Half) (name : List ℕ) → Unregisters name (half_of p id) new 0 → after ≡ with_half p id new →
@@ -59,8 +62,10 @@ pub data IsCall (p : Processes) (id : SideId) (after : Processes) : Type 0 where
 
 -- two new halves, one of each side
 pub record AreNew (p : Processes) : Type 0 where
-  pub a : IsNew A p.a
-  pub b : IsNew B p.b
+  pub limit_a : ℕ
+  pub limit_b : ℕ
+  pub a : IsNew limit_a A p.a
+  pub b : IsNew limit_b B p.b
   pub offers : p.offers ≡ []
   pub lists : p.lists ≡ []
   pub outcomes : p.outcomes ≡ []

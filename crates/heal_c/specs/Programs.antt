@@ -48,3 +48,4 @@ pub record IsJudged (program : Loaded) (bytes : List ℕ) (ended : HealEnded) : 
   pub ends : Ends program.code bytes ended.r0 ended.steps
   pub means : ended.r0 ≡ meaning program.code bytes
   pub few : ended.steps ≤ length program.code
+  pub clear : ended.reserved ≡ 0

@@ -1,5 +1,5 @@
 -- The calls of a half on its table and its programs: what is due to each, and what it leaves.
-use Rattle.std.specs.Prelude.{◌≡◌, ◌≢◌, ◌≤◌, ◌+◌, ◌⊎◌, ℕ, Bool, true, false, List, [], length, Result, Ok, Err, slice_get}
+use Rattle.std.specs.Prelude.{◌≡◌, ◌≢◌, ◌≤◌, ◌+◌, ◌⊎◌, ◌&&◌, ℕ, nat_lt, nat_le, ◌==◌, if◌then◌else◌, List, [], length, Result, Ok, Err, slice_get}
 use Rattle.std.specs.Option.{option_map, ok_or}
 use Rattle.std.specs.FinMap as map
 use Rattle.numbered.specs.Answers.{out_of_memory}
@@ -11,11 +11,11 @@ use Rattle.clash_record.specs.declared.registrations.Registration.{Registration}
 use Rattle.upload_store.specs.declared.fault.UploadFault.{UploadFault}
 use Rattle.upload_store.specs.Faults.{upload_fault_number, upload_fault_place}
 use Rattle.upload_store.specs.Uploads.{Fits, IsKept, IsUploadFault}
-use Rattle.partition_table.specs.Tables.{row_for, rows_of, rows_above}
+use Rattle.partition_table.specs.Tables.{most_names, row_for, rows_of, rows_above}
 use Rattle.exchange_core.specs.Calls.{Call, Register, Unregister}
 use Rattle.exchange_core.specs.Faults.{side_fault_number}
 use Rattle.exchange_core.specs.Refusals.{register_fault, unregister_fault, renew_fault}
-use Rattle.exchange_core.specs.Shown.{shown, calls, is_full, IsDone, IsUntouched}
+use Rattle.exchange_core.specs.Shown.{shown, calls, limit_of, is_full, IsDone, IsUntouched}
 use Rattle.exchange_core.specs.Sides.{new_side, rested, shown_table, withdrawn_by}
 use Rattle.heal_c.specs.declared.half.Half.{Half}
 use Rattle.heal_c.specs.declared.codes.HealRegistration.{HealRegistration}
@@ -23,15 +23,23 @@ use Rattle.heal_c.specs.declared.codes.HealRow.{HealRow}
 use Rattle.heal_c.specs.Answers.{unless, and_then, slot_of, IsAnswer, Gives}
 use Rattle.heal_c.specs.Codes.{name_of, entry_of, registration_code, row_code}
 
--- side A, or side B if second
-abbrev pub side_id : Bool → SideId
-side_id false = A
-side_id true = B
+-- 0 is side A, and 1 is side B; or 74
+abbrev pub side_id : ℕ → Result SideId ℕ
+side_id id = if id == 0 then Ok A else (if id == 1 then Ok B else Err 74)
 
--- an idle half without names and programs
-pub record IsNew (id : SideId) (half : Half) : Type 0 where
+-- 1 to 1,048,576 names; or 92
+abbrev pub limit_in : ℕ → Result ℕ ℕ
+limit_in names = if nat_lt 0 names && nat_le names most_names then Ok names else Err 92
+
+-- a side and a limit
+abbrev pub side_within : ℕ → ℕ → Result (SideId × ℕ) ℕ
+side_within id names = and_then (side_id id) (λ id. and_then (limit_in names) (λ limit. Ok (id, limit)))
+
+-- an idle half of this limit without names and programs
+pub record IsNew (limit : ℕ) (id : SideId) (half : Half) : Type 0 where
   pub state : shown half.side ≡ new_side id
   pub journal : calls half.side ≡ []
+  pub limit_is : limit_of half.side ≡ limit
   pub store : half.store ≡ map.empty
 
 -- the programs stay, and neither the side's state nor its journal changed
@@ -49,7 +57,7 @@ pub record CarriesOut (call : Call) (old new : Half) : Type 0 where
 -- the name and its registration, or the refusal that is due
 abbrev pub registering : List ℕ → HealRegistration → Half → Result (Name × Registration) ℕ
 registering bytes r half = and_then (entry_of bytes r) (λ e. unless side_fault_number
-    (register_fault (is_full half.side) (shown half.side) e.0 e.1 half.store) e)
+    (register_fault (limit_of half.side) (is_full half.side) (shown half.side) e.0 e.1 half.store) e)
 
 abbrev pub Registers : List ℕ → HealRegistration → Half → Half → ℕ → Type 0
 Registers bytes r old new = IsAnswer (registering bytes r old)
@@ -84,6 +92,7 @@ row_after bytes half = and_then (name_of bytes) (λ name.
 -- the side is the same with a short journal, and the programs stay
 pub record IsRenewed (old new : Half) : Type 0 where
   pub same : shown new.side ≡ shown old.side
+  pub same_limit : limit_of new.side ≡ limit_of old.side
   pub short : length (calls new.side) ≤ map.len (shown old.side).table + 2
   pub store : new.store ≡ old.store
 
@@ -96,6 +105,7 @@ Renews old new = Gives (unless side_fault_number (renew_fault (shown old.side)) 
 -- the side is idle without the names that it withdrew, its journal is short, and the programs stay
 pub record GaveUp (old new : Half) : Type 0 where
   pub state : shown new.side ≡ rested (shown old.side)
+  pub same_limit : limit_of new.side ≡ limit_of old.side
   pub short : length (calls new.side) ≤ map.len (shown new.side).table + 2
   pub store : new.store ≡ old.store
 

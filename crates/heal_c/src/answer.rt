@@ -6,16 +6,24 @@ use numbered::{Numbered, OUT_OF_MEMORY, Place};
 
 /// 31: the name isn't registered.
 pub const NOT_REGISTERED: u32 = 31;
+/// 41: an unknown program.
+pub const UNKNOWN_PROGRAM: u32 = 41;
 /// 44: an invalid name.
 pub const INVALID_NAME: u32 = 44;
+/// 74: neither side.
+pub const UNKNOWN_SIDE: u32 = 74;
 /// 76: an unknown kind of resolver.
 pub const UNKNOWN_RESOLVER: u32 = 76;
+/// 83: another message of its kind and number was heard.
+pub const OTHER_MESSAGE: u32 = 83;
 /// 91: an empty handle.
 pub const EMPTY_HANDLE: u32 = 91;
 /// 92: an index out of range.
 pub const INDEX_OUT_OF_RANGE: u32 = 92;
 /// 93: a buffer of another length.
 pub const OTHER_LENGTH: u32 = 93;
+/// 94: a row names the program.
+pub const STILL_NAMED: u32 = 94;
 
 // Returns 0, or the number of the refusal.
 pub(crate) fn number_of<T, F: Numbered>(answer: &Result<T, F>) -> u32

@@ -1,11 +1,12 @@
 //! The structs that C reads and writes.
 ghost use Rattle.std.specs.Prelude.{◌≡◌};
 ghost use Rattle.heal_c.specs.Codes as code;
+ghost use Rattle.heal_c.specs.Sides.{side_id};
 
-use crate::answer::{INVALID_NAME, UNKNOWN_RESOLVER};
+use crate::answer::{INVALID_NAME, UNKNOWN_RESOLVER, UNKNOWN_SIDE};
 use builtin_resolvers::{Notice, Verdict3};
 use clash_record::{
-    Builtin, Facts, NAME_LEN, Name, Owner, ProgramId, Registration, ResolverId, name,
+    Builtin, Facts, NAME_LEN, Name, Owner, ProgramId, Registration, ResolverId, SideId, name,
 };
 
 /// The owner of a name.
@@ -17,6 +18,7 @@ pub struct HealOwner {
 }
 
 /// A registration. `resolver` is 0 for exit, 1 for notify, 2 for notify-all, and 3 for the program with the id `program`.
+/// `reserved` isn't read, and is written as 0.
 #[repr(C)]
 #[derive(Clone, Copy, Debug)]
 pub struct HealRegistration {
@@ -26,6 +28,7 @@ pub struct HealRegistration {
     pub extra: [u8; 16],
     pub resolver: u32,
     pub program: [u8; 32],
+    pub reserved: u32,
 }
 
 /// A name: `len` bytes, then zeros.
@@ -52,15 +55,17 @@ pub struct HealFacts {
     pub uptime: u64,
 }
 
-/// The result of a program's run.
+/// The result of a program's run. `reserved` is written as 0.
 #[repr(C)]
 #[derive(Clone, Copy, Debug)]
 pub struct HealEnded {
     pub r0: u64,
     pub steps: u32,
+    pub reserved: u32,
 }
 
-/// A clash with its ruling. `verdict` is 0 for neither, 1 for the first, and 2 for the second.
+/// A clash with its ruling. `verdict` and `keeps` are 0 for neither, 1 for the first, and 2 for the second; `keeps` is 0 also if
+/// the winner was withdrawn. `first_half` is 0 if half A registered `first`, and 1 if half B did.
 #[repr(C)]
 #[derive(Clone, Copy, Debug)]
 pub struct HealClash {
@@ -69,6 +74,8 @@ pub struct HealClash {
     pub second: HealRegistration,
     pub word: u64,
     pub verdict: u32,
+    pub keeps: u32,
+    pub first_half: u32,
     pub notices: u32,
 }
 
@@ -157,6 +164,17 @@ pub(crate) fn registration_code(registration: &Registration) -> HealRegistration
         extra: registration.extra,
         resolver: resolver_kind(registration.resolver),
         program: resolver_program(registration.resolver),
+        reserved: 0,
+    }
+}
+
+// Writes a row.
+pub(crate) fn row_code(name: &Name, registration: &Registration) -> HealRow
+    ensures { result ≡ code.row_code (name.now, registration.now) }
+{
+    HealRow {
+        name: name_code(name),
+        registration: registration_code(registration),
     }
 }
 
@@ -200,6 +218,27 @@ pub(crate) fn verdict_code(verdict: Verdict3) -> u32
         Verdict3::Neither => 0,
         Verdict3::First => 1,
         Verdict3::Second => 2,
+    }
+}
+
+// Reads a half, or returns 74.
+pub(crate) fn side_id(id: u32) -> Result<SideId, u32>
+    ensures { result ≡ side_id id }
+{
+    match id {
+        0 => Ok(SideId::A),
+        1 => Ok(SideId::B),
+        _ => Err(UNKNOWN_SIDE),
+    }
+}
+
+// Writes a half.
+pub(crate) fn side_code(id: SideId) -> u32
+    ensures { result ≡ code.side_code id }
+{
+    match id {
+        SideId::A => 0,
+        SideId::B => 1,
     }
 }
 

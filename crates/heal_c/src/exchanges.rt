@@ -26,12 +26,8 @@ pub extern "C" fn heal_side_begin(
         (λ old new. Begins number seed uptime old new offer.old.message offer.new.message)
         (offer.new.message ≡ offer.old.message) result }
 {
-    match side.take(alloc) {
-        Some(mut half) => {
-            let answer = half.begin(alloc, number, seed, uptime, offer);
-            side.put(half);
-            answer
-        }
+    match side.held() {
+        Some(half) => half.begin(alloc, number, seed, uptime, offer),
         None => EMPTY_HANDLE,
     }
 }
@@ -46,12 +42,8 @@ pub extern "C" fn heal_side_begin(
 pub extern "C" fn heal_side_hear(alloc: Global, side: &mut HealSide, offer: &[u8]) -> u32
     ensures { OnHandle side.old.half side.new.half (Hears offer.now) (Unit {0}) result }
 {
-    match side.take(alloc) {
-        Some(mut half) => {
-            let number = half.hear(alloc, offer);
-            side.put(half);
-            number
-        }
+    match side.held() {
+        Some(half) => half.hear(alloc, offer),
         None => EMPTY_HANDLE,
     }
 }
@@ -61,15 +53,11 @@ pub extern "C" fn heal_side_hear(alloc: Global, side: &mut HealSide, offer: &[u8
 /// Returns 91 for an empty handle; then 34 if no exchange is open, 39 if the other's offer isn't heard, and 40 if the
 /// journal has no room. Needs no memory.
 #[unsafe(no_mangle)]
-pub extern "C" fn heal_side_settle(alloc: Global, side: &mut HealSide) -> u32
+pub extern "C" fn heal_side_settle(side: &mut HealSide) -> u32
     ensures { OnHandle side.old.half side.new.half Settles (Unit {0}) result }
 {
-    match side.take(alloc) {
-        Some(mut half) => {
-            let number = number_of(&half.side.settle());
-            side.put(half);
-            number
-        }
+    match side.held() {
+        Some(half) => number_of(&half.side.settle()),
         None => EMPTY_HANDLE,
     }
 }
@@ -80,15 +68,11 @@ pub extern "C" fn heal_side_settle(alloc: Global, side: &mut HealSide) -> u32
 /// exchange is open, 40 if the journal is full, 47 for a name that is already withdrawn, and 48 if the list is closed.
 /// Returns 90 when out of memory.
 #[unsafe(no_mangle)]
-pub extern "C" fn heal_side_withdraw(alloc: Global, side: &mut HealSide, name: &[u8]) -> u32
+pub extern "C" fn heal_side_withdraw(side: &mut HealSide, name: &[u8]) -> u32
     ensures { OnHandle side.old.half side.new.half (Withdraws name.now) (Unit {0}) result }
 {
-    match side.take(alloc) {
-        Some(mut half) => {
-            let number = half.withdraw(name);
-            side.put(half);
-            number
-        }
+    match side.held() {
+        Some(half) => half.withdraw(name),
         None => EMPTY_HANDLE,
     }
 }
@@ -106,12 +90,8 @@ pub extern "C" fn heal_side_close_list(
     ensures { OnHandle side.old.half side.new.half
         (λ old new. Closes old new list.old.message list.new.message) (list.new.message ≡ list.old.message) result }
 {
-    match side.take(alloc) {
-        Some(mut half) => {
-            let number = half.close_list(alloc, list);
-            side.put(half);
-            number
-        }
+    match side.held() {
+        Some(half) => half.close_list(alloc, list),
         None => EMPTY_HANDLE,
     }
 }
@@ -124,12 +104,8 @@ pub extern "C" fn heal_side_close_list(
 pub extern "C" fn heal_side_hear_list(alloc: Global, side: &mut HealSide, list: &[u8]) -> u32
     ensures { OnHandle side.old.half side.new.half (HearsList list.now) (Unit {0}) result }
 {
-    match side.take(alloc) {
-        Some(mut half) => {
-            let number = half.hear_list(alloc, list);
-            side.put(half);
-            number
-        }
+    match side.held() {
+        Some(half) => half.hear_list(alloc, list),
         None => EMPTY_HANDLE,
     }
 }
@@ -148,12 +124,8 @@ pub extern "C" fn heal_side_finish(
         (λ old new. Finishes old new outcome.old.outcome outcome.new.outcome)
         (outcome.new.outcome ≡ outcome.old.outcome) result }
 {
-    match side.take(alloc) {
-        Some(mut half) => {
-            let number = half.finish(alloc, outcome);
-            side.put(half);
-            number
-        }
+    match side.held() {
+        Some(half) => half.finish(alloc, outcome),
         None => EMPTY_HANDLE,
     }
 }
@@ -163,15 +135,11 @@ pub extern "C" fn heal_side_finish(
 /// Returns 91 for an empty handle; then 34 if no exchange is open, and 40 if the journal is full. Returns 90 when out of
 /// memory.
 #[unsafe(no_mangle)]
-pub extern "C" fn heal_side_abandon(alloc: Global, side: &mut HealSide) -> u32
+pub extern "C" fn heal_side_abandon(side: &mut HealSide) -> u32
     ensures { OnHandle side.old.half side.new.half Abandons (Unit {0}) result }
 {
-    match side.take(alloc) {
-        Some(mut half) => {
-            let number = number_of(&half.side.abandon());
-            side.put(half);
-            number
-        }
+    match side.held() {
+        Some(half) => number_of(&half.side.abandon()),
         None => EMPTY_HANDLE,
     }
 }

@@ -13,7 +13,7 @@ use std::ptr::null_mut;
 /// A side, or nothing: one word, which is null where there is nothing.
 #[repr(C)]
 pub struct HealSide {
-    at: *mut u8,
+    pub(crate) at: *mut u8,
     alloc: Global,
     pub ghost half: { Option Half } by { coded_half },
 }

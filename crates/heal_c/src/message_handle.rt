@@ -4,14 +4,14 @@ ghost use Rattle.std.specs.Prelude.{◌≡◌, ℕ, List, Option, Some, None, Ma
 use crate::message::Message;
 use handles::BoxParts;
 use std::alloc::Global;
-use std::marker::Model;
+use std::marker::{Model, Send};
 use std::mem;
 use std::ptr::null_mut;
 
 /// A message, or nothing: one word, which is null where there is nothing.
 #[repr(C)]
 pub struct HealBytes {
-    at: *mut u8,
+    pub(crate) at: *mut u8,
     alloc: Global,
     pub ghost message: { Option (List ℕ) },
 }
@@ -87,3 +87,6 @@ impl Drop for HealBytes {
         }
     }
 }
+
+// It goes to another thread as its value does.
+unsafe impl Send for HealBytes {}

@@ -11,14 +11,13 @@ use std::alloc::Global;
 ///
 /// Returns 91 for an empty handle.
 #[unsafe(no_mangle)]
-pub extern "C" fn heal_bytes_len(alloc: Global, bytes: &mut HealBytes, len: &mut usize) -> u32
+pub extern "C" fn heal_bytes_len(bytes: &mut HealBytes, len: &mut usize) -> u32
     ensures { Reads bytes.old.message bytes.new.message (λ held n. (n ≡ 0) × (len.new ≡ length held))
         (len.new ≡ len.old) result }
 {
-    match bytes.take(alloc) {
+    match bytes.held() {
         Some(held) => {
             *len = held.bytes().len();
-            bytes.put(held);
             0
         }
         None => EMPTY_HANDLE,
@@ -29,16 +28,12 @@ pub extern "C" fn heal_bytes_len(alloc: Global, bytes: &mut HealBytes, len: &mut
 ///
 /// Returns 91 for an empty handle, and 93 unless `to` has as many bytes as the message.
 #[unsafe(no_mangle)]
-pub extern "C" fn heal_bytes_copy(alloc: Global, bytes: &mut HealBytes, to: &mut [u8]) -> u32
+pub extern "C" fn heal_bytes_copy(bytes: &mut HealBytes, to: &mut [u8]) -> u32
     ensures { Reads bytes.old.message bytes.new.message
         (λ held. Gives (copy_of held (length to.old)) (λ copy. to.new ≡ copy) (to.new ≡ to.old)) (to.new ≡ to.old) result }
 {
-    match bytes.take(alloc) {
-        Some(held) => {
-            let number = copy(held.bytes(), to);
-            bytes.put(held);
-            number
-        }
+    match bytes.held() {
+        Some(held) => copy(held.bytes(), to),
         None => EMPTY_HANDLE,
     }
 }

@@ -3,18 +3,19 @@ ghost use Rattle.std.specs.Prelude.{◌≡◌, IfOk, IsOkAnd};
 ghost use Rattle.std.specs.Option.{option_map_or};
 ghost use Rattle.exchange_core.specs.Shown.{shown};
 ghost use Rattle.exchange_core.specs.Sides.{clashes_of};
-ghost use Rattle.heal_c.specs.Exchanges.{Begins, Hears, HearsOffer, Withdraws, Closes, HearsList, Finishes};
-ghost use Rattle.heal_c.specs.Outcomes.{IsRoomFor};
+ghost use Rattle.heal_c.specs.Exchanges.{Begins, Hears, HearsFirst, HearsFirstNames, HearsNames, HearsOffer, Withdraws, Closes, HearsList, Finishes};
+ghost use Rattle.heal_c.specs.Outcomes.{IsRoomFor, gone_of, theirs_of};
 
-use crate::answer::number_of;
+use crate::answer::{OTHER_MESSAGE, number_of};
 use crate::codes::name_of;
 use crate::half::Half;
 use crate::message::Message;
 use crate::message_handle::HealBytes;
 use crate::outcome::{Outcome, pairs_of};
 use crate::outcome_handle::HealOutcome;
+use clash_record::{Name, SideId};
 use exchange_codec::{decode_offer, decode_withdrawals, spell_offer, spell_withdrawals};
-use exchange_core::Offer;
+use exchange_core::{Offer, Side, Withdrawals};
 use numbered::{Numbered, OUT_OF_MEMORY};
 use std::alloc::{AllocError, Global};
 
@@ -49,7 +50,7 @@ impl Half {
     }
 
     // Hears the other side's offer.
-    #[tactic(auto, using(crate::proofs::Hearing::heard))]
+    #[tactic(auto, using(crate::proofs::Hearing::heard, crate::proofs::Hearing::offer_refused))]
     pub(crate) fn hear(&mut self, alloc: Global, bytes: &[u8]) -> u32
         ensures { Hears bytes.now self.old self.new result }
     {
@@ -59,9 +60,20 @@ impl Half {
         }
     }
 
-    // Hears a decoded offer.
+    // Hears a decoded offer, unless another one of its number was heard.
+    #[tactic(auto, using(crate::proofs::Repeating::other, crate::proofs::Repeating::same))]
     fn hear_offer(&mut self, alloc: Global, offer: &Offer) -> u32
         ensures { HearsOffer offer.now self.old self.new result }
+    {
+        if self.side.heard_other_offer(offer) {
+            return OTHER_MESSAGE;
+        }
+        self.hear_first(alloc, offer)
+    }
+
+    // Hears the first offer of a number, or that offer again.
+    fn hear_first(&mut self, alloc: Global, offer: &Offer) -> u32
+        ensures { HearsFirst offer.now self.old self.new result }
     {
         number_of(&self.side.hear(alloc, offer))
     }
@@ -102,13 +114,32 @@ impl Half {
     }
 
     // Hears the other side's list.
+    #[tactic(auto, using(crate::proofs::Hearing::list_refused))]
     pub(crate) fn hear_list(&mut self, alloc: Global, bytes: &[u8]) -> u32
         ensures { HearsList bytes.now self.old self.new result }
     {
         match decode_withdrawals(alloc, bytes) {
-            Ok(list) => number_of(&self.side.hear_list(&list)),
+            Ok(list) => self.hear_names(&list),
             Err(fault) => fault.number(),
         }
+    }
+
+    // Hears a decoded list, unless another one of its number was heard.
+    #[tactic(auto, using(crate::proofs::Repeating::other, crate::proofs::Repeating::same))]
+    fn hear_names(&mut self, sent: &Withdrawals) -> u32
+        ensures { HearsNames sent.now self.old self.new result }
+    {
+        if self.side.heard_other_list(sent) {
+            return OTHER_MESSAGE;
+        }
+        self.hear_first_names(sent)
+    }
+
+    // Hears the first list of a number, or that list again.
+    fn hear_first_names(&mut self, sent: &Withdrawals) -> u32
+        ensures { HearsFirstNames sent.now self.old self.new result }
+    {
+        number_of(&self.side.hear_list(sent))
     }
 
     // Replaces the table by the merge, and fills the handle with the outcome.
@@ -143,13 +174,39 @@ fn boxed(alloc: Global, spelled: Result<Vec<u8>, AllocError>) -> Result<Box<Mess
     }
 }
 
-// Allocates an outcome with the clashes of the open exchange, and a place for each ruling.
+// Allocates an outcome with the clashes and the withdrawn names of the open exchange, and a place for each ruling.
 fn room_for(alloc: Global, half: &Half) -> Result<Box<Outcome>, AllocError>
-    ensures { IfOk result (λ room. IsRoomFor (clashes_of (shown half.now.side)) room.value) }
+    ensures { IfOk result (λ room. IsRoomFor (clashes_of (shown half.now.side)) (gone_of (shown half.now.side)) room.value) }
 {
-    let room = Outcome::new(alloc, pairs_of(alloc, half.side.clashes())?)?;
+    let pairs = pairs_of(alloc, half.side.clashes())?;
+    let own = copied(alloc, half.side.withdrawn())?;
+    let theirs = copied(alloc, theirs_of(&half.side))?;
+    let (gone_a, gone_b) = match half.side.id() {
+        SideId::A => (own, theirs),
+        SideId::B => (theirs, own),
+    };
+    let room = Outcome::new(alloc, pairs, gone_a, gone_b)?;
     match Box::new(alloc, room) {
         Ok(room) => Ok(room),
         Err(_) => Err(AllocError),
     }
+}
+
+// Returns the names of the other's list, if it was heard.
+fn theirs_of(side: &Side) -> &[Name]
+    ensures { result.now ≡ theirs_of (shown side.now) }
+{
+    match side.their_list() {
+        Some(names) => names,
+        None => &[],
+    }
+}
+
+// Copies names.
+fn copied(alloc: Global, names: &[Name]) -> Result<Vec<Name>, AllocError>
+    ensures { IfOk result (λ copy. copy.items ≡ names.now) }
+{
+    let mut copy = Vec::new(alloc);
+    copy.extend_from_slice(names)?;
+    Ok(copy)
 }

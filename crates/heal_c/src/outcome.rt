@@ -1,17 +1,19 @@
 //! The outcome of an exchange.
-ghost use Rattle.std.specs.Prelude.{◌≡◌, [], length, map, IfOk};
+ghost use Rattle.std.specs.Prelude.{◌≡◌, [], length, map, IfOk, is_some, if◌then◌else◌};
+ghost use Rattle.std.specs.FinMap.{get};
 ghost use Rattle.std.specs.Option.{option_map, option_map_or};
 ghost use Rattle.exchange_core.specs.Finished.{clashes_merged};
-ghost use Rattle.heal_c.specs.Outcomes.{IsOutcome, IsRoomFor, clash_at, judged_at, notice_at, notices_to, pair_of};
+ghost use Rattle.heal_c.specs.Outcomes.{IsOutcome, IsRoomFor, clash_at, first_half, has_first, judged_at, keeper, mark_of, names_of, notice_at, notices_by, notices_to, pair_of, wins, withdrawn_of};
 
 use crate::answer::INDEX_OUT_OF_RANGE;
 use crate::codes::{
-    HealClash, HealNotice, name_code, notice_code, registration_code, verdict_code,
+    HealClash, HealName, HealNotice, name_code, notice_code, registration_code, side_code, side_id,
+    verdict_code,
 };
 use builtin_resolvers::{Notices, Verdict3, notices};
-use clash_record::{Name, Registration, ResolverId};
+use clash_record::{Name, Registration, ResolverId, SideId};
 use exchange_core::{Finished, Judged};
-use partition_table::{Clash, ClashList};
+use partition_table::{Clash, ClashList, Table};
 use std::alloc::{AllocError, Global};
 
 /// A clash without its ruling.
@@ -22,12 +24,23 @@ pub struct Pair {
     second: Registration,
 }
 
-/// The number of names in the merged table, and each clash with its ruling.
+/// Whether the merged table has the name of a clash, and whether half A registered the first of the two.
+#[derive(Clone, Copy, Debug)]
+pub struct Mark {
+    kept: bool,
+    of_a: bool,
+}
+
+/// The exchange's number, the number of names in the merged table, each clash with its ruling, and the names that each half withdrew.
 #[derive(Debug, Drop)]
 pub struct Outcome {
+    pub(crate) number: u64,
     pub(crate) merged: usize,
     pub(crate) pairs: Vec<Pair>,
     pub(crate) rulings: Vec<Judged>,
+    pub(crate) marks: Vec<Mark>,
+    pub(crate) gone_a: Vec<Name>,
+    pub(crate) gone_b: Vec<Name>,
 }
 
 const UNJUDGED: Judged = Judged {
@@ -35,27 +48,47 @@ const UNJUDGED: Judged = Judged {
     answer: Verdict3::Neither,
 };
 
+const UNMARKED: Mark = Mark {
+    kept: false,
+    of_a: false,
+};
+
 impl Outcome {
-    // Returns an outcome of these clashes, with a place for each ruling.
-    pub(crate) fn new(alloc: Global, pairs: Vec<Pair>) -> Result<Outcome, AllocError>
+    // Returns an outcome of these clashes and withdrawn names, with a place for each ruling.
+    pub(crate) fn new(
+        alloc: Global,
+        pairs: Vec<Pair>,
+        gone_a: Vec<Name>,
+        gone_b: Vec<Name>,
+    ) -> Result<Outcome, AllocError>
+        ensures gone_a { IfOk result (λ room. room.gone_a.items ≡ gone_a.items) }
+        ensures gone_b { IfOk result (λ room. room.gone_b.items ≡ gone_b.items) }
         ensures pairs { IfOk result (λ room. room.pairs.items ≡ pairs.items) }
         ensures places { IfOk result (λ room. length room.rulings.items ≡ length pairs.items) }
+        ensures marks { IfOk result (λ room. length room.marks.items ≡ length pairs.items) }
     {
         let rulings = vec![in alloc; UNJUDGED; pairs.len()]?;
+        let marks = vec![in alloc; UNMARKED; pairs.len()]?;
         Ok(Outcome {
+            number: 0,
             merged: 0,
             pairs,
             rulings,
+            marks,
+            gone_a,
+            gone_b,
         })
     }
 
-    // Fills in the rulings and the number of names. Allocates nothing.
+    // Fills in the rulings, the marks and the numbers. Allocates nothing.
     pub(crate) fn fill(&mut self, finished: &Finished)
-        requires { IsRoomFor (clashes_merged finished.now) self.old }
+        requires { IsRoomFor (clashes_merged finished.now) finished.now.gone self.old }
         ensures { IsOutcome finished.now self.new }
     {
+        self.number = finished.number();
         self.merged = finished.table().len();
         self.rulings.copy_from_slice(finished.rulings());
+        mark_all(finished, &self.pairs, &mut self.marks);
     }
 
     // Returns the number of clashes.
@@ -65,21 +98,20 @@ impl Outcome {
         self.pairs.len()
     }
 
-    // Returns clash `i` with its ruling.
-    fn get(&self, i: usize) -> Option<(Pair, Judged)>
+    // Returns clash `i` with its ruling and its mark.
+    fn get(&self, i: usize) -> Option<(Pair, (Judged, Mark))>
         ensures { result ≡ judged_at self.now i }
     {
-        match (self.pairs.get(i), self.rulings.get(i)) {
-            (Some(pair), Some(judged)) => Some((*pair, *judged)),
-            _ => None,
-        }
+        let (pair, judged) = (self.pairs.get(i)?, self.rulings.get(i)?);
+        let mark = self.marks.get(i)?;
+        Some((*pair, (*judged, *mark)))
     }
 
     // Writes clash `i`, or returns 92.
     pub(crate) fn clash(&self, i: usize) -> Result<HealClash, u32>
         ensures { result ≡ clash_at self.now i }
     {
-        let Some((pair, judged)) = self.get(i) else {
+        let Some((pair, (judged, mark))) = self.get(i) else {
             return Err(INDEX_OUT_OF_RANGE);
         };
         Ok(HealClash {
@@ -88,18 +120,41 @@ impl Outcome {
             second: registration_code(&pair.second),
             word: judged.word,
             verdict: verdict_code(judged.answer),
-            notices: count_notices(&pair, judged.answer),
+            keeps: verdict_code(keeper(mark.kept, judged.answer)),
+            first_half: side_code(first_half(mark)),
+            notices: count_notices(&pair, judged.answer, mark.kept),
         })
+    }
+
+    // Writes name `i` of those that a half withdrew, or returns 74 or 92.
+    pub(crate) fn withdrawn(&self, half: u32, i: usize) -> Result<HealName, u32>
+        ensures { result ≡ withdrawn_of half i self.now }
+    {
+        let id = side_id(half)?;
+        match self.names_of(id).get(i) {
+            Some(name) => Ok(name_code(name)),
+            None => Err(INDEX_OUT_OF_RANGE),
+        }
+    }
+
+    // Returns the names that a half withdrew.
+    fn names_of(&self, id: SideId) -> &[Name]
+        ensures { result.now ≡ names_of id self.now }
+    {
+        match id {
+            SideId::A => &self.gone_a,
+            SideId::B => &self.gone_b,
+        }
     }
 
     // Writes notice `n` of clash `i`, or returns 92.
     pub(crate) fn notice(&self, i: usize, n: usize) -> Result<HealNotice, u32>
         ensures { result ≡ notice_at self.now i n }
     {
-        let Some((pair, judged)) = self.get(i) else {
+        let Some((pair, (judged, mark))) = self.get(i) else {
             return Err(INDEX_OUT_OF_RANGE);
         };
-        let Some(notices) = notices_of(&pair, judged.answer) else {
+        let Some(notices) = notices_to(&pair, judged.answer, mark.kept) else {
             return Err(INDEX_OUT_OF_RANGE);
         };
         match notices.as_slice().get(n) {
@@ -109,9 +164,44 @@ impl Outcome {
     }
 }
 
+// Returns who keeps the name.
+fn keeper(kept: bool, verdict: Verdict3) -> Verdict3
+    ensures { result ≡ keeper kept verdict }
+{
+    if kept { verdict } else { Verdict3::Neither }
+}
+
+// Returns the half that registered the first of the two.
+fn first_half(mark: Mark) -> SideId
+    ensures { result ≡ first_half mark }
+{
+    if mark.of_a { SideId::A } else { SideId::B }
+}
+
+// Checks that a winner keeps the name.
+fn wins(verdict: Verdict3, kept: bool) -> bool
+    ensures { result ≡ wins verdict kept }
+{
+    match verdict {
+        Verdict3::First | Verdict3::Second => kept,
+        Verdict3::Neither => true,
+    }
+}
+
+// Returns the notices to deliver, if the verdict is a built-in resolver's and its winner keeps the name.
+fn notices_to(pair: &Pair, verdict: Verdict3, kept: bool) -> Option<Notices>
+    ensures { option_map_or (λ notices. notices) result [] ≡ notices_to pair.now verdict kept }
+{
+    if wins(verdict, kept) {
+        notices_of(pair, verdict)
+    } else {
+        None
+    }
+}
+
 // Returns the notices of a verdict of a built-in resolver.
 fn notices_of(pair: &Pair, verdict: Verdict3) -> Option<Notices>
-    ensures { option_map_or (λ notices. notices) result [] ≡ notices_to pair.now verdict }
+    ensures { option_map_or (λ notices. notices) result [] ≡ notices_by pair.now.first.resolver pair.now verdict }
 {
     match pair.first.resolver {
         ResolverId::Builtin(builtin) => Some(notices(
@@ -125,13 +215,55 @@ fn notices_of(pair: &Pair, verdict: Verdict3) -> Option<Notices>
     }
 }
 
-// Counts the notices of a verdict.
-fn count_notices(pair: &Pair, verdict: Verdict3) -> u32
-    ensures { result ≡ length (notices_to pair.now verdict) }
+// Counts the notices to deliver.
+fn count_notices(pair: &Pair, verdict: Verdict3, kept: bool) -> u32
+    ensures { result ≡ length (notices_to pair.now verdict kept) }
 {
-    match notices_of(pair, verdict) {
+    match notices_to(pair, verdict, kept) {
         Some(notices) => notices.len() as u32,
         None => 0,
+    }
+}
+
+// Marks each clash.
+fn mark_all(finished: &Finished, pairs: &[Pair], marks: &mut [Mark])
+    requires { length marks.old ≡ length pairs.now }
+    ensures { marks.new ≡ map (mark_of finished.now) pairs.now }
+{
+    let mut i = 0;
+    while i < pairs.len() {
+        marks[i] = mark_of(finished, &pairs[i]);
+        i += 1;
+    }
+}
+
+// Marks a clash.
+fn mark_of(finished: &Finished, pair: &Pair) -> Mark
+    ensures { result ≡ mark_of finished.now pair.now }
+{
+    Mark {
+        kept: has_name(finished.table(), &pair.name),
+        of_a: has_first(finished.a(), pair),
+    }
+}
+
+// Checks whether the table has the name.
+fn has_name(table: &Table, name: &Name) -> bool
+    ensures { result ≡ is_some (get table.now name.now) }
+{
+    match table.whereis(name) {
+        Some(_) => true,
+        None => false,
+    }
+}
+
+// Checks whether the table has the name of a clash with its first registration.
+fn has_first(table: &Table, pair: &Pair) -> bool
+    ensures { result ≡ has_first table.now pair.now }
+{
+    match table.whereis(&pair.name) {
+        Some(registration) => registration.cmp(&pair.first).is_eq(),
+        None => false,
     }
 }
 

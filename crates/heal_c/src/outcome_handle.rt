@@ -6,14 +6,14 @@ ghost use Rattle.heal_c.specs.Held.{coded_outcome};
 use crate::outcome::Outcome;
 use handles::BoxParts;
 use std::alloc::Global;
-use std::marker::Model;
+use std::marker::{Model, Send};
 use std::mem;
 use std::ptr::null_mut;
 
 /// An outcome, or nothing: one word, which is null where there is nothing.
 #[repr(C)]
 pub struct HealOutcome {
-    at: *mut u8,
+    pub(crate) at: *mut u8,
     alloc: Global,
     pub ghost outcome: { Option Outcome } by { coded_outcome },
 }
@@ -90,3 +90,6 @@ impl Drop for HealOutcome {
         }
     }
 }
+
+// It goes to another thread as its value does.
+unsafe impl Send for HealOutcome {}

@@ -1,31 +1,63 @@
 //! Outcomes.
 ghost use Rattle.std.specs.Prelude.{◌≡◌, None, length};
 ghost use Rattle.heal_c.specs.Answers.{Gives, Reads};
-ghost use Rattle.heal_c.specs.Outcomes.{clash_at, notice_at};
+ghost use Rattle.heal_c.specs.Outcomes.{clash_at, notice_at, withdrawn_of};
 
 use crate::answer::{EMPTY_HANDLE, give};
-use crate::codes::{HealClash, HealNotice};
+use crate::codes::{HealClash, HealName, HealNotice};
 use crate::outcome_handle::HealOutcome;
 use std::alloc::Global;
+
+/// Returns the number of the exchange.
+///
+/// Returns 91 for an empty handle.
+#[unsafe(no_mangle)]
+pub extern "C" fn heal_outcome_number(outcome: &mut HealOutcome, number: &mut u64) -> u32
+    ensures { Reads outcome.old.outcome outcome.new.outcome (λ held n. (n ≡ 0) × (number.new ≡ held.number))
+        (number.new ≡ number.old) result }
+{
+    match outcome.held() {
+        Some(held) => {
+            *number = held.number;
+            0
+        }
+        None => EMPTY_HANDLE,
+    }
+}
 
 /// Returns the number of names in the merged table.
 ///
 /// Returns 91 for an empty handle.
 #[unsafe(no_mangle)]
-pub extern "C" fn heal_outcome_merged(
-    alloc: Global,
-    outcome: &mut HealOutcome,
-    names: &mut usize,
-) -> u32
+pub extern "C" fn heal_outcome_merged(outcome: &mut HealOutcome, names: &mut usize) -> u32
     ensures { Reads outcome.old.outcome outcome.new.outcome (λ held n. (n ≡ 0) × (names.new ≡ held.merged))
         (names.new ≡ names.old) result }
 {
-    match outcome.take(alloc) {
+    match outcome.held() {
         Some(held) => {
             *names = held.merged;
-            outcome.put(held);
             0
         }
+        None => EMPTY_HANDLE,
+    }
+}
+
+/// Returns name `i`, from 0, of those that a half withdrew, the earliest first: half A for 0, half B for 1.
+///
+/// Returns 91 for an empty handle, 74 for another half, and 92 for an index out of range.
+#[unsafe(no_mangle)]
+pub extern "C" fn heal_outcome_withdrawn(
+    outcome: &mut HealOutcome,
+    half: u32,
+    i: usize,
+    name: &mut HealName,
+) -> u32
+    ensures { Reads outcome.old.outcome outcome.new.outcome
+        (λ held. Gives (withdrawn_of half i held) (λ found. name.new ≡ found) (name.new ≡ name.old))
+        (name.new ≡ name.old) result }
+{
+    match outcome.held() {
+        Some(held) => give(held.withdrawn(half, i), name),
         None => EMPTY_HANDLE,
     }
 }
@@ -34,18 +66,13 @@ pub extern "C" fn heal_outcome_merged(
 ///
 /// Returns 91 for an empty handle.
 #[unsafe(no_mangle)]
-pub extern "C" fn heal_outcome_clashes(
-    alloc: Global,
-    outcome: &mut HealOutcome,
-    clashes: &mut usize,
-) -> u32
+pub extern "C" fn heal_outcome_clashes(outcome: &mut HealOutcome, clashes: &mut usize) -> u32
     ensures { Reads outcome.old.outcome outcome.new.outcome
         (λ held n. (n ≡ 0) × (clashes.new ≡ length held.pairs.items)) (clashes.new ≡ clashes.old) result }
 {
-    match outcome.take(alloc) {
+    match outcome.held() {
         Some(held) => {
             *clashes = held.len();
-            outcome.put(held);
             0
         }
         None => EMPTY_HANDLE,
@@ -57,7 +84,6 @@ pub extern "C" fn heal_outcome_clashes(
 /// Returns 91 for an empty handle, and 92 for an index out of range.
 #[unsafe(no_mangle)]
 pub extern "C" fn heal_outcome_clash(
-    alloc: Global,
     outcome: &mut HealOutcome,
     i: usize,
     clash: &mut HealClash,
@@ -66,12 +92,8 @@ pub extern "C" fn heal_outcome_clash(
         (λ held. Gives (clash_at held i) (λ found. clash.new ≡ found) (clash.new ≡ clash.old))
         (clash.new ≡ clash.old) result }
 {
-    match outcome.take(alloc) {
-        Some(held) => {
-            let found = held.clash(i);
-            outcome.put(held);
-            give(found, clash)
-        }
+    match outcome.held() {
+        Some(held) => give(held.clash(i), clash),
         None => EMPTY_HANDLE,
     }
 }
@@ -81,7 +103,6 @@ pub extern "C" fn heal_outcome_clash(
 /// Returns 91 for an empty handle, and 92 for an index out of range.
 #[unsafe(no_mangle)]
 pub extern "C" fn heal_outcome_notice(
-    alloc: Global,
     outcome: &mut HealOutcome,
     i: usize,
     n: usize,
@@ -91,12 +112,8 @@ pub extern "C" fn heal_outcome_notice(
         (λ held. Gives (notice_at held i n) (λ found. notice.new ≡ found) (notice.new ≡ notice.old))
         (notice.new ≡ notice.old) result }
 {
-    match outcome.take(alloc) {
-        Some(held) => {
-            let found = held.notice(i, n);
-            outcome.put(held);
-            give(found, notice)
-        }
+    match outcome.held() {
+        Some(held) => give(held.notice(i, n), notice),
         None => EMPTY_HANDLE,
     }
 }

@@ -6,14 +6,14 @@ ghost use Rattle.heal_c.specs.Held.{coded_program};
 use crate::loaded::Loaded;
 use handles::BoxParts;
 use std::alloc::Global;
-use std::marker::Model;
+use std::marker::{Model, Send};
 use std::mem;
 use std::ptr::null_mut;
 
 /// A program, or nothing: one word, which is null where there is nothing.
 #[repr(C)]
 pub struct HealProgram {
-    at: *mut u8,
+    pub(crate) at: *mut u8,
     alloc: Global,
     pub ghost program: { Option Loaded } by { coded_program },
 }
@@ -90,3 +90,6 @@ impl Drop for HealProgram {
         }
     }
 }
+
+// It goes to another thread as its value does.
+unsafe impl Send for HealProgram {}

@@ -67,7 +67,6 @@ pub extern "C" fn heal_program_load(
 /// Returns 91 for an empty handle.
 #[unsafe(no_mangle)]
 pub extern "C" fn heal_program_judge(
-    alloc: Global,
     program: &mut HealProgram,
     record: &[u8; 160],
     ended: &mut HealEnded,
@@ -75,13 +74,13 @@ pub extern "C" fn heal_program_judge(
     ensures { Reads program.old.program program.new.program
         (λ held n. (n ≡ 0) × IsJudged held «record».now ended.new) (ended.new ≡ ended.old) result }
 {
-    match program.take(alloc) {
+    match program.held() {
         Some(held) => {
             let run = run(&held.code, &record_of(*record));
-            program.put(held);
             *ended = HealEnded {
                 r0: run.r0,
                 steps: run.steps,
+                reserved: 0,
             };
             0
         }
@@ -93,19 +92,14 @@ pub extern "C" fn heal_program_judge(
 ///
 /// Returns 91 for an empty handle.
 #[unsafe(no_mangle)]
-pub extern "C" fn heal_program_id(
-    alloc: Global,
-    program: &mut HealProgram,
-    id: &mut [u8; 32],
-) -> u32
+pub extern "C" fn heal_program_id(program: &mut HealProgram, id: &mut [u8; 32]) -> u32
     ensures { Reads program.old.program program.new.program
         (λ held n. (n ≡ 0) × (id.new ≡ held.id.0)) (id.new ≡ id.old) result }
 {
-    match program.take(alloc) {
+    match program.held() {
         Some(held) => {
             let ProgramId(bytes) = held.id;
             *id = bytes;
-            program.put(held);
             0
         }
         None => EMPTY_HANDLE,

@@ -3,26 +3,25 @@ ghost use Rattle.std.specs.Prelude.{◌≡◌, slice_get};
 ghost use Rattle.std.specs.Option.{option_map};
 ghost use Rattle.std.specs.Map.Iter.{deref_pair};
 ghost use Rattle.heal_c.specs.Sides.{IsUpload, id_in, Registers, Unregisters, IsNew, found_at, row_after, row_at};
-ghost use Rattle.heal_c.specs.Codes as code;
 
 use crate::answer::{INDEX_OUT_OF_RANGE, NOT_REGISTERED, number_of, slot_in};
 use crate::codes::{
-    HealRegistration, HealRow, name_code, name_of, registration_code, registration_of,
+    HealRegistration, HealRow, name_of, registration_code, registration_of, row_code,
 };
 use crate::half::Half;
 use clash_record::{Name, ProgramId, Registration, SideId};
 use exchange_core::Side;
-use partition_table::Rows;
+use partition_table::{NameLimit, Rows};
 use std::alloc::Global;
 use upload_store::{UploadFault, UploadStore};
 
 impl Half {
-    // An idle half without names and programs.
-    pub(crate) fn new(alloc: Global, id: SideId) -> Half
-        ensures { IsNew id result }
+    // Returns an idle half of this limit without names and programs.
+    pub(crate) fn new(alloc: Global, id: SideId, limit: NameLimit) -> Half
+        ensures { IsNew limit.names id result }
     {
         Half {
-            side: Side::new(alloc, id),
+            side: Side::with_limit(alloc, id, limit),
             store: UploadStore::new(alloc),
         }
     }
@@ -100,16 +99,6 @@ impl Half {
             Some((name, registration)) => Ok(row_code(name, registration)),
             None => Err(INDEX_OUT_OF_RANGE),
         }
-    }
-}
-
-// Encodes a row.
-fn row_code(name: &Name, registration: &Registration) -> HealRow
-    ensures { result ≡ code.row_code (name.now, registration.now) }
-{
-    HealRow {
-        name: name_code(name),
-        registration: registration_code(registration),
     }
 }
 

@@ -2,28 +2,64 @@
 ghost use Rattle.std.specs.Prelude.{◌≡◌, ◌⊎◌, None, IsSomeAnd, length};
 ghost use Rattle.std.specs.FinMap.{len};
 ghost use Rattle.numbered.specs.Answers.{out_of_memory};
+ghost use Rattle.partition_table.specs.Tables.{max_names};
 ghost use Rattle.exchange_core.specs.Shown.{shown, calls};
-ghost use Rattle.heal_c.specs.Answers.{Gives, OnHandle, Reads};
-ghost use Rattle.heal_c.specs.Sides.{side_id, Registers, Unregisters, Renews, GivesUp, IsNew, IsUpload, found_at, row_after, row_at};
+ghost use Rattle.heal_c.specs.Answers.{Gives, IsAnswer, OnHandle, Reads};
+ghost use Rattle.heal_c.specs.Kept.{Forgets};
+ghost use Rattle.heal_c.specs.Sides.{side_id, side_within, Registers, Unregisters, Renews, GivesUp, IsNew, IsUpload, found_at, row_after, row_at};
 
-use crate::answer::{EMPTY_HANDLE, give, number_of};
-use crate::codes::{HealRegistration, HealRow};
+use crate::answer::{EMPTY_HANDLE, INDEX_OUT_OF_RANGE, give, number_of};
+use crate::codes::{HealRegistration, HealRow, side_id};
 use crate::half::Half;
 use crate::half_handle::HealSide;
-use exchange_core::SideId;
+use clash_record::SideId;
 use numbered::OUT_OF_MEMORY;
+use partition_table::NameLimit;
 use std::alloc::Global;
 
-/// Creates an idle side without names: side A, or side B if `second`.
+/// Creates an idle side without names: side A for 0, side B for 1.
 ///
-/// Returns 90 when out of memory.
+/// Returns 74 for another number. Returns 90 when out of memory.
 #[unsafe(no_mangle)]
-pub extern "C" fn heal_side_new(alloc: Global, second: bool, side: &mut HealSide) -> u32
-    ensures { ((result ≡ 0) × IsSomeAnd side.new.half (IsNew (side_id second)))
+pub extern "C" fn heal_side_new(alloc: Global, id: u32, side: &mut HealSide) -> u32
+    ensures { IsAnswer (side_id id) (λ id. IsSomeAnd side.new.half (IsNew max_names id)) (side.new.half ≡ side.old.half)
+        result }
+{
+    match side_id(id) {
+        Ok(id) => new_half(alloc, id, NameLimit::default(), side),
+        Err(number) => number,
+    }
+}
+
+/// Creates an idle side like `heal_side_new`, which may have `names` names: 1 to 1,048,576.
+///
+/// Returns 74 for another side, and 92 for another number of names: the first that applies. Returns 90 when out of memory.
+#[unsafe(no_mangle)]
+pub extern "C" fn heal_side_new_within(
+    alloc: Global,
+    id: u32,
+    names: usize,
+    side: &mut HealSide,
+) -> u32
+    ensures { IsAnswer (side_within id names) (λ at. IsSomeAnd side.new.half (IsNew at.1 at.0))
+        (side.new.half ≡ side.old.half) result }
+{
+    let id = match side_id(id) {
+        Ok(id) => id,
+        Err(number) => return number,
+    };
+    match NameLimit::new(names) {
+        Some(limit) => new_half(alloc, id, limit, side),
+        None => INDEX_OUT_OF_RANGE,
+    }
+}
+
+// Puts an idle side of this limit into the handle, or returns 90.
+fn new_half(alloc: Global, id: SideId, limit: NameLimit, side: &mut HealSide) -> u32
+    ensures { ((result ≡ 0) × IsSomeAnd side.new.half (IsNew limit.names id))
         ⊎ ((result ≡ out_of_memory) × (side.new.half ≡ side.old.half)) }
 {
-    let id = if second { SideId::B } else { SideId::A };
-    match Box::new(alloc, Half::new(alloc, id)) {
+    match Box::new(alloc, Half::new(alloc, id, limit)) {
         Ok(made) => {
             side.put(made);
             0
@@ -56,16 +92,25 @@ pub extern "C" fn heal_side_upload(
     ensures { OnHandle side.old.half side.new.half
         (λ old new n. IsUpload code.now old new id.old id.new n slot.new) ((id.new ≡ id.old) × (slot.new ≡ 0)) result }
 {
-    match side.take(alloc) {
-        Some(mut half) => {
-            let number = half.upload(alloc, code, id, slot);
-            side.put(half);
-            number
-        }
+    match side.held() {
+        Some(half) => half.upload(alloc, code, id, slot),
         None => {
             *slot = 0;
             EMPTY_HANDLE
         }
+    }
+}
+
+/// Forgets an uploaded program that no row of the side's table names.
+///
+/// Returns 91 for an empty handle; then 94 if a row names it, and 41 for an unknown program. Needs no memory.
+#[unsafe(no_mangle)]
+pub extern "C" fn heal_side_forget(side: &mut HealSide, id: &[u8; 32]) -> u32
+    ensures { OnHandle side.old.half side.new.half (Forgets id.now) (Unit {0}) result }
+{
+    match side.held() {
+        Some(half) => half.forget(id),
+        None => EMPTY_HANDLE,
     }
 }
 
@@ -76,19 +121,14 @@ pub extern "C" fn heal_side_upload(
 /// isn't uploaded, and 42 if the table has other code under its id. Returns 90 when out of memory.
 #[unsafe(no_mangle)]
 pub extern "C" fn heal_side_register(
-    alloc: Global,
     side: &mut HealSide,
     name: &[u8],
     registration: &HealRegistration,
 ) -> u32
     ensures { OnHandle side.old.half side.new.half (Registers name.now registration.now) (Unit {0}) result }
 {
-    match side.take(alloc) {
-        Some(mut half) => {
-            let number = half.register(name, registration);
-            side.put(half);
-            number
-        }
+    match side.held() {
+        Some(half) => half.register(name, registration),
         None => EMPTY_HANDLE,
     }
 }
@@ -98,15 +138,11 @@ pub extern "C" fn heal_side_register(
 /// Returns 91 for an empty handle, and 44 for an invalid name; then 31 for a name that isn't registered, 33 if an
 /// exchange is open, and 40 if the journal is full. Returns 90 when out of memory.
 #[unsafe(no_mangle)]
-pub extern "C" fn heal_side_unregister(alloc: Global, side: &mut HealSide, name: &[u8]) -> u32
+pub extern "C" fn heal_side_unregister(side: &mut HealSide, name: &[u8]) -> u32
     ensures { OnHandle side.old.half side.new.half (Unregisters name.now) (Unit {0}) result }
 {
-    match side.take(alloc) {
-        Some(mut half) => {
-            let number = half.unregister(name);
-            side.put(half);
-            number
-        }
+    match side.held() {
+        Some(half) => half.unregister(name),
         None => EMPTY_HANDLE,
     }
 }
@@ -117,7 +153,6 @@ pub extern "C" fn heal_side_unregister(alloc: Global, side: &mut HealSide, name:
 /// withdrew in the open exchange.
 #[unsafe(no_mangle)]
 pub extern "C" fn heal_side_whereis(
-    alloc: Global,
     side: &mut HealSide,
     name: &[u8],
     registration: &mut HealRegistration,
@@ -125,12 +160,8 @@ pub extern "C" fn heal_side_whereis(
     ensures { Reads side.old.half side.new.half (λ held. Gives (found_at name.now held) (λ found. registration.new ≡ found)
         (registration.new ≡ registration.old)) (registration.new ≡ registration.old) result }
 {
-    match side.take(alloc) {
-        Some(half) => {
-            let found = half.whereis(name);
-            side.put(half);
-            give(found, registration)
-        }
+    match side.held() {
+        Some(half) => give(half.whereis(name), registration),
         None => EMPTY_HANDLE,
     }
 }
@@ -139,14 +170,13 @@ pub extern "C" fn heal_side_whereis(
 ///
 /// Returns 91 for an empty handle.
 #[unsafe(no_mangle)]
-pub extern "C" fn heal_side_count(alloc: Global, side: &mut HealSide, count: &mut usize) -> u32
+pub extern "C" fn heal_side_count(side: &mut HealSide, count: &mut usize) -> u32
     ensures { Reads side.old.half side.new.half (λ held n. (n ≡ 0) × (count.new ≡ len (shown held.side).table))
         (count.new ≡ count.old) result }
 {
-    match side.take(alloc) {
+    match side.held() {
         Some(half) => {
             *count = half.side.table().len();
-            side.put(half);
             0
         }
         None => EMPTY_HANDLE,
@@ -157,21 +187,12 @@ pub extern "C" fn heal_side_count(alloc: Global, side: &mut HealSide, count: &mu
 ///
 /// Returns 91 for an empty handle, and 92 for an index out of range.
 #[unsafe(no_mangle)]
-pub extern "C" fn heal_side_row(
-    alloc: Global,
-    side: &mut HealSide,
-    i: usize,
-    row: &mut HealRow,
-) -> u32
+pub extern "C" fn heal_side_row(side: &mut HealSide, i: usize, row: &mut HealRow) -> u32
     ensures { Reads side.old.half side.new.half (λ held. Gives (row_at i held) (λ found. row.new ≡ found)
         (row.new ≡ row.old)) (row.new ≡ row.old) result }
 {
-    match side.take(alloc) {
-        Some(half) => {
-            let found = half.row(i);
-            side.put(half);
-            give(found, row)
-        }
+    match side.held() {
+        Some(half) => give(half.row(i), row),
         None => EMPTY_HANDLE,
     }
 }
@@ -181,21 +202,12 @@ pub extern "C" fn heal_side_row(
 ///
 /// Returns 91 for an empty handle, 44 for an invalid name, and 92 if no name is above it.
 #[unsafe(no_mangle)]
-pub extern "C" fn heal_side_row_after(
-    alloc: Global,
-    side: &mut HealSide,
-    name: &[u8],
-    row: &mut HealRow,
-) -> u32
+pub extern "C" fn heal_side_row_after(side: &mut HealSide, name: &[u8], row: &mut HealRow) -> u32
     ensures { Reads side.old.half side.new.half (λ held. Gives (row_after name.now held) (λ found. row.new ≡ found)
         (row.new ≡ row.old)) (row.new ≡ row.old) result }
 {
-    match side.take(alloc) {
-        Some(half) => {
-            let found = half.row_after(name);
-            side.put(half);
-            give(found, row)
-        }
+    match side.held() {
+        Some(half) => give(half.row_after(name), row),
         None => EMPTY_HANDLE,
     }
 }
@@ -204,14 +216,13 @@ pub extern "C" fn heal_side_row_after(
 ///
 /// Returns 91 for an empty handle.
 #[unsafe(no_mangle)]
-pub extern "C" fn heal_side_events(alloc: Global, side: &mut HealSide, events: &mut usize) -> u32
+pub extern "C" fn heal_side_events(side: &mut HealSide, events: &mut usize) -> u32
     ensures { Reads side.old.half side.new.half (λ held n. (n ≡ 0) × (events.new ≡ length (calls held.side)))
         (events.new ≡ events.old) result }
 {
-    match side.take(alloc) {
+    match side.held() {
         Some(half) => {
             *events = half.side.events();
-            side.put(half);
             0
         }
         None => EMPTY_HANDLE,
@@ -222,15 +233,11 @@ pub extern "C" fn heal_side_events(alloc: Global, side: &mut HealSide, events: &
 ///
 /// Returns 91 for an empty handle, and 33 if an exchange is open. Needs no memory.
 #[unsafe(no_mangle)]
-pub extern "C" fn heal_side_renew(alloc: Global, side: &mut HealSide) -> u32
+pub extern "C" fn heal_side_renew(side: &mut HealSide) -> u32
     ensures { OnHandle side.old.half side.new.half Renews (Unit {0}) result }
 {
-    match side.take(alloc) {
-        Some(mut half) => {
-            let number = number_of(&half.side.renew());
-            side.put(half);
-            number
-        }
+    match side.held() {
+        Some(half) => number_of(&half.side.renew()),
         None => EMPTY_HANDLE,
     }
 }
@@ -240,15 +247,11 @@ pub extern "C" fn heal_side_renew(alloc: Global, side: &mut HealSide) -> u32
 ///
 /// Returns 91 for an empty handle. Returns 90 when out of memory, which only withdrawn names need.
 #[unsafe(no_mangle)]
-pub extern "C" fn heal_side_give_up(alloc: Global, side: &mut HealSide) -> u32
+pub extern "C" fn heal_side_give_up(side: &mut HealSide) -> u32
     ensures { OnHandle side.old.half side.new.half GivesUp (Unit {0}) result }
 {
-    match side.take(alloc) {
-        Some(mut half) => {
-            let number = number_of(&half.side.give_up());
-            side.put(half);
-            number
-        }
+    match side.held() {
+        Some(half) => number_of(&half.side.give_up()),
         None => EMPTY_HANDLE,
     }
 }

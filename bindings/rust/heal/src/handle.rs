@@ -1,7 +1,7 @@
 //! Handles that are freed when they go out of scope.
-use crate::ffi;
 use crate::types::{bytes_of, verdict_of};
-use crate::{answer, Clash, Notice, Outcome, Refused};
+use crate::{answer, Clash, Notice, Outcome, Refused, SideId, NO_ROW};
+use heal_sys as ffi;
 
 /// What a handle holds.
 #[derive(Clone, Copy, Debug)]
@@ -18,8 +18,10 @@ pub(crate) struct Held {
     handle: ffi::Handle,
 }
 
-// SAFETY: the library keeps no state outside its handles, and every call needs `&mut Held`.
+// SAFETY: the library keeps no state outside its handles. Calls that change what a handle holds need `&mut Held`; those that need
+// only `&Held` read it, and any number of them may run at the same time.
 unsafe impl Send for Held {}
+unsafe impl Sync for Held {}
 
 impl std::fmt::Debug for Held {
     fn fmt(&self, f: &mut std::fmt::Formatter<'_>) -> std::fmt::Result {
@@ -35,13 +37,18 @@ impl Held {
         }
     }
 
-    /// The address of the handle, for one call.
-    pub(crate) fn at(&mut self) -> *mut ffi::Handle {
+    /// The address of the handle, for a call that reads it.
+    pub(crate) fn at(&self) -> *const ffi::Handle {
+        &self.handle
+    }
+
+    /// The address of the handle, for a call that changes what it holds.
+    pub(crate) fn at_mut(&mut self) -> *mut ffi::Handle {
         &mut self.handle
     }
 
     /// Returns the bytes of a message.
-    pub(crate) fn bytes(&mut self) -> Result<Vec<u8>, Refused> {
+    pub(crate) fn bytes(&self) -> Result<Vec<u8>, Refused> {
         let mut len = 0;
         // SAFETY: the handle is owned, and the copy has `len` writable bytes.
         answer(unsafe { ffi::heal_bytes_len(self.at(), &mut len) })?;
@@ -51,18 +58,40 @@ impl Held {
     }
 
     /// Returns the outcome of an exchange.
-    pub(crate) fn outcome(&mut self) -> Result<Outcome, Refused> {
-        let (mut merged, mut clashes) = (0, 0);
+    pub(crate) fn outcome(&self) -> Result<Outcome, Refused> {
+        let (mut number, mut merged, mut clashes) = (0, 0, 0);
         // SAFETY: the handle is owned.
+        answer(unsafe { ffi::heal_outcome_number(self.at(), &mut number) })?;
         answer(unsafe { ffi::heal_outcome_merged(self.at(), &mut merged) })?;
         answer(unsafe { ffi::heal_outcome_clashes(self.at(), &mut clashes) })?;
         let clashes = (0..clashes)
             .map(|i| self.clash(i))
             .collect::<Result<_, _>>()?;
-        Ok(Outcome { merged, clashes })
+        Ok(Outcome {
+            number,
+            merged,
+            withdrawn: [self.withdrawn(SideId::A)?, self.withdrawn(SideId::B)?],
+            clashes,
+        })
     }
 
-    fn clash(&mut self, i: usize) -> Result<Clash, Refused> {
+    fn withdrawn(&self, half: SideId) -> Result<Vec<Vec<u8>>, Refused> {
+        let mut names = Vec::new();
+        let mut found = ffi::Name::default();
+        // SAFETY: as in `outcome`.
+        let mut next = |i| unsafe {
+            match ffi::heal_outcome_withdrawn(self.at(), half as u32, i, &mut found) {
+                NO_ROW => Ok(None),
+                number => answer(number).map(|()| Some(bytes_of(&found))),
+            }
+        };
+        while let Some(name) = next(names.len())? {
+            names.push(name);
+        }
+        Ok(names)
+    }
+
+    fn clash(&self, i: usize) -> Result<Clash, Refused> {
         let mut found = ffi::Clash::default();
         // SAFETY: as in `outcome`.
         answer(unsafe { ffi::heal_outcome_clash(self.at(), i, &mut found) })?;
@@ -73,13 +102,18 @@ impl Held {
             second: found.second.into(),
             word: found.word,
             verdict: verdict_of(found.verdict),
+            keeps: verdict_of(found.keeps),
+            first_half: match found.first_half {
+                0 => SideId::A,
+                _ => SideId::B,
+            },
             notices: notices
                 .map(|n| self.notice(i, n))
                 .collect::<Result<_, _>>()?,
         })
     }
 
-    fn notice(&mut self, i: usize, n: usize) -> Result<Notice, Refused> {
+    fn notice(&self, i: usize, n: usize) -> Result<Notice, Refused> {
         let mut found = ffi::Notice::default();
         // SAFETY: as in `outcome`.
         answer(unsafe { ffi::heal_outcome_notice(self.at(), i, n, &mut found) })?;
@@ -96,6 +130,6 @@ impl Drop for Held {
             Kind::Outcome => ffi::heal_outcome_free,
         };
         // SAFETY: the handle is owned, and of the kind that `free` takes.
-        unsafe { free(self.at()) }
+        unsafe { free(self.at_mut()) }
     }
 }

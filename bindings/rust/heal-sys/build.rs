@@ -1,9 +1,9 @@
-//! Links libheal.a: from the folder that HEAL_LIB_DIR names, else from ../c/out.
+//! Links libheal.a: from the folder that HEAL_LIB_DIR names, else from ../../c/out.
 use std::env;
 use std::path::PathBuf;
 
 fn main() {
-    let default = PathBuf::from(env!("CARGO_MANIFEST_DIR")).join("../c/out");
+    let default = PathBuf::from(env!("CARGO_MANIFEST_DIR")).join("../../c/out");
     let folder = env::var_os("HEAL_LIB_DIR").map_or(default, PathBuf::from);
     println!("cargo:rerun-if-env-changed=HEAL_LIB_DIR");
     println!(

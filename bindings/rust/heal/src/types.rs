@@ -1,5 +1,6 @@
 //! Plain values that cross the boundary.
-use crate::ffi;
+use crate::SideId;
+use heal_sys as ffi;
 use std::fmt;
 
 /// The SHA-256 digest of a program's bytes.
@@ -8,6 +9,7 @@ pub struct ProgramId(pub [u8; 32]);
 
 /// The resolver of a name's clashes.
 #[derive(Clone, Copy, Debug, PartialEq, Eq)]
+#[non_exhaustive]
 pub enum Resolver {
     /// One of the two owners keeps the name, and the other exits.
     Exit,
@@ -71,6 +73,7 @@ pub struct Facts {
 
 /// The outcome of a run: the answer in R0, and the number of steps.
 #[derive(Clone, Copy, Debug, PartialEq, Eq)]
+#[non_exhaustive]
 pub struct Ended {
     pub r0: u64,
     pub steps: u32,
@@ -86,6 +89,7 @@ pub enum Verdict {
 
 /// A notice to an owner.
 #[derive(Clone, Copy, Debug, PartialEq, Eq)]
+#[non_exhaustive]
 pub enum Notice {
     /// This owner exits.
     Exit(Owner),
@@ -97,19 +101,29 @@ pub enum Notice {
 
 /// A clash of a finished exchange, with its ruling and the notices to deliver.
 #[derive(Clone, Debug, PartialEq, Eq)]
+#[non_exhaustive]
 pub struct Clash {
     pub name: Vec<u8>,
     pub first: Registration,
     pub second: Registration,
     pub word: u64,
     pub verdict: Verdict,
+    /// Who keeps the name: the verdict, or `Neither` if the winner was withdrawn. Then there are no notices, and the half of the
+    /// other owner registers it again.
+    pub keeps: Verdict,
+    /// The half that registered `first`.
+    pub first_half: SideId,
     pub notices: Vec<Notice>,
 }
 
-/// A finished exchange: the number of names in the merged table, and the clashes in the order of names.
+/// A finished exchange: its number, the number of names in the merged table, and the clashes in the order of names.
 #[derive(Clone, Debug, PartialEq, Eq)]
+#[non_exhaustive]
 pub struct Outcome {
+    pub number: u64,
     pub merged: usize,
+    /// The names that half A withdrew, and those that half B did, the earliest first.
+    pub withdrawn: [Vec<Vec<u8>>; 2],
     pub clashes: Vec<Clash>,
 }
 
@@ -155,6 +169,7 @@ impl From<Registration> for ffi::Registration {
             extra: registration.extra,
             resolver,
             program,
+            reserved: 0,
         }
     }
 }

@@ -3,6 +3,7 @@ use heal::{
     record, words_of, Facts, Notice, Outcome, Owner, Program, Refused, Registration, Resolver,
     Side, SideId, Verdict,
 };
+use std::time::{Duration, Instant};
 
 /// The registration with the later stamp keeps the name, or the first if the stamps are equal.
 const LATER_STAMP: [u8; 48] = [
@@ -61,7 +62,8 @@ fn both_halves_have_one_table() -> Result<(), Refused> {
     let mut halves = split()?;
     let [outcome, same] = heal(&mut halves, 1)?;
     assert_eq!(outcome, same);
-    let [a, b] = &mut halves;
+    assert_eq!(outcome.withdrawn, [vec![b"mail".to_vec()], vec![]]);
+    let [a, b] = &halves;
     assert_eq!(a.rows()?, b.rows()?);
     assert_eq!(outcome.merged, a.rows()?.len());
     assert_eq!(
@@ -86,7 +88,7 @@ fn both_halves_have_one_table() -> Result<(), Refused> {
 
 #[test]
 fn programs_judge_records() -> Result<(), Refused> {
-    let mut program = Program::load(&LATER_STAMP)?;
+    let program = Program::load(&LATER_STAMP)?;
     let facts = [Facts { size: 1, uptime: 2 }; 2];
     let later = record(b"db", [owned(1, 1, 5), owned(2, 1, 9)], 7, facts)?;
     assert_eq!(program.judge(&later)?.r0, 2);
@@ -120,6 +122,26 @@ fn refusals_have_numbers_and_words() -> Result<(), Refused> {
 }
 
 #[test]
+fn programs_are_forgotten() -> Result<(), Refused> {
+    let mut side = Side::new(SideId::A)?;
+    let id = side.upload(&LATER_STAMP)?;
+    assert_eq!(side.programs()?, [id]);
+    let resolver = Resolver::Program(id);
+    side.register(
+        b"db",
+        Registration {
+            resolver,
+            ..owned(1, 1, 1)
+        },
+    )?;
+    assert_eq!(refused(side.forget(id)), 94);
+    side.unregister(b"db")?;
+    side.forget(id)?;
+    assert_eq!((side.programs()?.len(), refused(side.forget(id))), (0, 41));
+    Ok(())
+}
+
+#[test]
 fn a_side_gives_up() -> Result<(), Refused> {
     let [mut side, _] = split()?;
     side.begin(1, 0, 0)?;
@@ -137,7 +159,68 @@ fn a_side_gives_up() -> Result<(), Refused> {
 fn sides_move_between_threads() -> Result<(), Refused> {
     let mut side = Side::new(SideId::B)?;
     let side = std::thread::spawn(move || side.register(b"db", owned(1, 1, 1)).map(|()| side));
-    let mut side = side.join().expect("no panic")?;
+    let side = side.join().expect("no panic")?;
     assert_eq!(side.rows()?.len(), 1);
+    Ok(())
+}
+
+/// Runs `read` in eight threads at once, again and again for two seconds.
+fn in_eight_threads(read: impl Fn() -> Result<(), Refused> + Sync) {
+    let end = Instant::now() + Duration::from_secs(2);
+    std::thread::scope(|scope| {
+        for _ in 0..8 {
+            scope.spawn(|| {
+                while Instant::now() < end {
+                    read().expect("no refusal");
+                }
+            });
+        }
+    });
+}
+
+#[test]
+fn eight_threads_judge_with_one_program() -> Result<(), Refused> {
+    let program = Program::load(&LATER_STAMP)?;
+    let id = program.id()?;
+    let facts = [Facts { size: 1, uptime: 2 }; 2];
+    let later = record(b"db", [owned(1, 1, 5), owned(2, 1, 9)], 7, facts)?;
+    let earlier = record(b"db", [owned(1, 1, 9), owned(2, 1, 5)], 7, facts)?;
+    in_eight_threads(|| {
+        assert_eq!(
+            (program.judge(&later)?.r0, program.judge(&earlier)?.r0),
+            (2, 1)
+        );
+        assert_eq!(program.id()?, id);
+        Ok(())
+    });
+    Ok(())
+}
+
+#[test]
+fn eight_threads_read_one_side() -> Result<(), Refused> {
+    let [side, _] = split()?;
+    in_eight_threads(|| {
+        for (name, serial) in [(&b"cache"[..], 1), (b"db", 2), (b"mail", 3)] {
+            let found = side.whereis(name)?.expect("a registered name");
+            assert_eq!(found.owner, Owner::new(1, serial));
+        }
+        assert_eq!(
+            (side.whereis(b"web")?, side.rows()?.len(), side.events()?),
+            (None, 3, 3)
+        );
+        Ok(())
+    });
+    Ok(())
+}
+
+#[test]
+fn a_side_has_the_names_of_its_limit() -> Result<(), Refused> {
+    let mut side = Side::with_limit(SideId::A, 1)?;
+    side.register(b"x", owned(1, 1, 5))?;
+    assert_eq!(refused(side.register(b"y", owned(1, 2, 5))), 32);
+    for names in [0, 1_048_577, usize::MAX] {
+        assert_eq!(refused(Side::with_limit(SideId::A, names)), 92);
+    }
+    Side::with_limit(SideId::B, 1_048_576)?;
     Ok(())
 }

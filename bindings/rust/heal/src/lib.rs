@@ -1,11 +1,23 @@
 //! heal for Rust: the name registry of two halves of a cluster, over the C library.
 //!
 //! `bindings/c/heal.h` describes each call, with its refusals. A refused call changes nothing.
-mod ffi;
+//!
+//! ```
+//! use heal::{Owner, Registration, Side, SideId};
+//!
+//! let mut side = Side::new(SideId::A)?;
+//! side.register(b"db", Registration::new(Owner::new(1, 10), 5))?;
+//! let found = side.whereis(b"db")?.expect("a registered name");
+//! assert_eq!(found.owner, Owner::new(1, 10));
+//! # Ok::<(), heal::Refused>(())
+//! ```
 mod handle;
+mod refusal;
 mod types;
 
 use handle::{Held, Kind};
+use heal_sys as ffi;
+pub use refusal::Refusal;
 use std::error::Error;
 use std::fmt;
 pub use types::{
@@ -19,10 +31,26 @@ pub const RECORD_LEN: usize = 160;
 const NO_ROW: u32 = 92;
 
 /// A refused call: its number, and the slot if the refusal concerns a slot of a program.
+///
+/// ```
+/// use heal::{Program, Refusal};
+///
+/// let refused = Program::load(&[0x95, 0, 0, 0, 0, 0, 0, 0]).expect_err("R0 is unset");
+/// assert_eq!(refused.refusal(), Some(Refusal::Unreadable));
+/// assert_eq!(refused.slot, Some(0));
+/// ```
 #[derive(Clone, Copy, Debug, PartialEq, Eq)]
+#[non_exhaustive]
 pub struct Refused {
     pub number: u32,
     pub slot: Option<u32>,
+}
+
+impl Refused {
+    /// Returns the refusal by name, unless this crate is older than its number.
+    pub fn refusal(&self) -> Option<Refusal> {
+        Refusal::try_from(self.number).ok()
+    }
 }
 
 impl fmt::Display for Refused {
@@ -103,16 +131,16 @@ impl Program {
         let mut slot = 0;
         // SAFETY: the code has `len` bytes; the handle is empty and owned.
         let number = unsafe {
-            ffi::heal_program_load(code.as_ptr(), code.len(), program.held.at(), &mut slot)
+            ffi::heal_program_load(code.as_ptr(), code.len(), program.held.at_mut(), &mut slot)
         };
         answer_at(number, slot)?;
         Ok(program)
     }
 
     /// Runs the program on the record of a clash.
-    pub fn judge(&mut self, record: &[u8; RECORD_LEN]) -> Result<Ended, Refused> {
+    pub fn judge(&self, record: &[u8; RECORD_LEN]) -> Result<Ended, Refused> {
         let mut ended = ffi::Ended::default();
-        // SAFETY: the handle is owned, and `&mut self` makes this the only call on it.
+        // SAFETY: the handle is owned, and no call changes it while `&self` lives.
         answer(unsafe { ffi::heal_program_judge(self.held.at(), record, &mut ended) })?;
         Ok(Ended {
             r0: ended.r0,
@@ -121,7 +149,7 @@ impl Program {
     }
 
     /// Returns the program's id.
-    pub fn id(&mut self) -> Result<ProgramId, Refused> {
+    pub fn id(&self) -> Result<ProgramId, Refused> {
         let mut id = [0; 32];
         // SAFETY: as in `judge`.
         answer(unsafe { ffi::heal_program_id(self.held.at(), &mut id) })?;
@@ -138,19 +166,28 @@ pub struct Side {
 /// Which of the two halves a side is.
 #[derive(Clone, Copy, Debug, PartialEq, Eq)]
 pub enum SideId {
-    A,
-    B,
+    A = 0,
+    B = 1,
 }
 
-// SAFETY in each call below: the handle is owned and `&mut self` makes the call the only one on it; slices have `len` bytes;
-// results are live values of their types.
+// SAFETY in each call below: the handle is owned; `&mut self` makes a call that changes it the only one on it, and calls with
+// `&self` only read it; slices have `len` bytes; results are live values of their types.
 impl Side {
     /// Creates an idle side without names.
     pub fn new(id: SideId) -> Result<Side, Refused> {
         let mut side = Side {
             held: Held::empty(Kind::Side),
         };
-        answer(unsafe { ffi::heal_side_new(id == SideId::B, side.held.at()) })?;
+        answer(unsafe { ffi::heal_side_new(id as u32, side.held.at_mut()) })?;
+        Ok(side)
+    }
+
+    /// Creates an idle side without names, which may have `names` names: 1 to 1,048,576. Another number is refused 92.
+    pub fn with_limit(id: SideId, names: usize) -> Result<Side, Refused> {
+        let mut side = Side {
+            held: Held::empty(Kind::Side),
+        };
+        answer(unsafe { ffi::heal_side_new_within(id as u32, names, side.held.at_mut()) })?;
         Ok(side)
     }
 
@@ -159,7 +196,7 @@ impl Side {
         let (mut id, mut slot) = ([0; 32], 0);
         let number = unsafe {
             ffi::heal_side_upload(
-                self.held.at(),
+                self.held.at_mut(),
                 code.as_ptr(),
                 code.len(),
                 &mut id,
@@ -170,21 +207,39 @@ impl Side {
         Ok(ProgramId(id))
     }
 
+    /// Forgets a program that no row names.
+    pub fn forget(&mut self, id: ProgramId) -> Result<(), Refused> {
+        answer(unsafe { ffi::heal_side_forget(self.held.at_mut(), &id.0) })
+    }
+
+    /// Returns the ids of the uploaded programs, in order.
+    pub fn programs(&self) -> Result<Vec<ProgramId>, Refused> {
+        let mut ids = Vec::new();
+        let mut id = [0; 32];
+        loop {
+            match unsafe { ffi::heal_side_program(self.held.at(), ids.len(), &mut id) } {
+                NO_ROW => return Ok(ids),
+                number => answer(number)?,
+            }
+            ids.push(ProgramId(id));
+        }
+    }
+
     /// Registers a name on an idle side.
     pub fn register(&mut self, name: &[u8], registration: Registration) -> Result<(), Refused> {
         let registration = registration.into();
         answer(unsafe {
-            ffi::heal_side_register(self.held.at(), name.as_ptr(), name.len(), &registration)
+            ffi::heal_side_register(self.held.at_mut(), name.as_ptr(), name.len(), &registration)
         })
     }
 
     /// Unregisters a name on an idle side.
     pub fn unregister(&mut self, name: &[u8]) -> Result<(), Refused> {
-        answer(unsafe { ffi::heal_side_unregister(self.held.at(), name.as_ptr(), name.len()) })
+        answer(unsafe { ffi::heal_side_unregister(self.held.at_mut(), name.as_ptr(), name.len()) })
     }
 
     /// Returns the registration of a name, or `None`.
-    pub fn whereis(&mut self, name: &[u8]) -> Result<Option<Registration>, Refused> {
+    pub fn whereis(&self, name: &[u8]) -> Result<Option<Registration>, Refused> {
         let mut found = ffi::Registration::default();
         let number = unsafe {
             ffi::heal_side_whereis(self.held.at(), name.as_ptr(), name.len(), &mut found)
@@ -196,7 +251,7 @@ impl Side {
     }
 
     /// Returns the names and registrations of the table, in the order of names.
-    pub fn rows(&mut self) -> Result<Vec<(Vec<u8>, Registration)>, Refused> {
+    pub fn rows(&self) -> Result<Vec<(Vec<u8>, Registration)>, Refused> {
         let mut count = 0;
         answer(unsafe { ffi::heal_side_count(self.held.at(), &mut count) })?;
         let mut rows = Vec::with_capacity(count);
@@ -216,51 +271,53 @@ impl Side {
     /// Opens an exchange, and returns the offer to be sent.
     pub fn begin(&mut self, number: u64, seed: u64, uptime: u64) -> Result<Vec<u8>, Refused> {
         let mut offer = Held::empty(Kind::Bytes);
-        answer(unsafe { ffi::heal_side_begin(self.held.at(), number, seed, uptime, offer.at()) })?;
+        answer(unsafe {
+            ffi::heal_side_begin(self.held.at_mut(), number, seed, uptime, offer.at_mut())
+        })?;
         offer.bytes()
     }
 
     /// Hears the other side's offer.
     pub fn hear(&mut self, offer: &[u8]) -> Result<(), Refused> {
-        answer(unsafe { ffi::heal_side_hear(self.held.at(), offer.as_ptr(), offer.len()) })
+        answer(unsafe { ffi::heal_side_hear(self.held.at_mut(), offer.as_ptr(), offer.len()) })
     }
 
     /// Judges every clash that has no ruling, at the word that both halves judge it at.
     pub fn settle(&mut self) -> Result<(), Refused> {
-        answer(unsafe { ffi::heal_side_settle(self.held.at()) })
+        answer(unsafe { ffi::heal_side_settle(self.held.at_mut()) })
     }
 
     /// Withdraws a name in the open exchange.
     pub fn withdraw(&mut self, name: &[u8]) -> Result<(), Refused> {
-        answer(unsafe { ffi::heal_side_withdraw(self.held.at(), name.as_ptr(), name.len()) })
+        answer(unsafe { ffi::heal_side_withdraw(self.held.at_mut(), name.as_ptr(), name.len()) })
     }
 
     /// Closes the list of withdrawn names, and returns the list to be sent.
     pub fn close_list(&mut self) -> Result<Vec<u8>, Refused> {
         let mut list = Held::empty(Kind::Bytes);
-        answer(unsafe { ffi::heal_side_close_list(self.held.at(), list.at()) })?;
+        answer(unsafe { ffi::heal_side_close_list(self.held.at_mut(), list.at_mut()) })?;
         list.bytes()
     }
 
     /// Hears the other side's list of withdrawn names.
     pub fn hear_list(&mut self, list: &[u8]) -> Result<(), Refused> {
-        answer(unsafe { ffi::heal_side_hear_list(self.held.at(), list.as_ptr(), list.len()) })
+        answer(unsafe { ffi::heal_side_hear_list(self.held.at_mut(), list.as_ptr(), list.len()) })
     }
 
     /// Replaces the table by the merge, and returns the outcome.
     pub fn finish(&mut self) -> Result<Outcome, Refused> {
         let mut outcome = Held::empty(Kind::Outcome);
-        answer(unsafe { ffi::heal_side_finish(self.held.at(), outcome.at()) })?;
+        answer(unsafe { ffi::heal_side_finish(self.held.at_mut(), outcome.at_mut()) })?;
         outcome.outcome()
     }
 
     /// Closes the exchange and keeps the table, without the withdrawn names.
     pub fn abandon(&mut self) -> Result<(), Refused> {
-        answer(unsafe { ffi::heal_side_abandon(self.held.at()) })
+        answer(unsafe { ffi::heal_side_abandon(self.held.at_mut()) })
     }
 
     /// Returns the number of events in the journal.
-    pub fn events(&mut self) -> Result<usize, Refused> {
+    pub fn events(&self) -> Result<usize, Refused> {
         let mut events = 0;
         answer(unsafe { ffi::heal_side_events(self.held.at(), &mut events) })?;
         Ok(events)
@@ -268,11 +325,11 @@ impl Side {
 
     /// Starts a fresh journal on an idle side.
     pub fn renew(&mut self) -> Result<(), Refused> {
-        answer(unsafe { ffi::heal_side_renew(self.held.at()) })
+        answer(unsafe { ffi::heal_side_renew(self.held.at_mut()) })
     }
 
     /// Gives the open exchange up, if there is one, and starts a fresh journal, also if the journal is full.
     pub fn give_up(&mut self) -> Result<(), Refused> {
-        answer(unsafe { ffi::heal_side_give_up(self.held.at()) })
+        answer(unsafe { ffi::heal_side_give_up(self.held.at_mut()) })
     }
 }

@@ -1,0 +1,173 @@
+//! The functions and structs of `bindings/c/heal.h`, which describes each. The crate `heal` has safe types over them.
+use std::ffi::c_void;
+
+/// A handle: one word. `EMPTY` holds nothing.
+#[repr(C)]
+pub struct Handle {
+    at: *mut c_void,
+}
+
+impl Handle {
+    pub const EMPTY: Handle = Handle {
+        at: std::ptr::null_mut(),
+    };
+}
+
+#[repr(C)]
+#[derive(Clone, Copy, Default)]
+pub struct Owner {
+    pub node: u32,
+    pub serial: u32,
+}
+
+#[repr(C)]
+#[derive(Clone, Copy, Default)]
+pub struct Registration {
+    pub owner: Owner,
+    pub stamp: u64,
+    pub weight: u64,
+    pub extra: [u8; 16],
+    pub resolver: u32,
+    pub program: [u8; 32],
+    pub reserved: u32,
+}
+
+#[repr(C)]
+#[derive(Clone, Copy, Default)]
+pub struct Name {
+    pub len: u32,
+    pub bytes: [u8; 32],
+}
+
+#[repr(C)]
+#[derive(Clone, Copy, Default)]
+pub struct Row {
+    pub name: Name,
+    pub registration: Registration,
+}
+
+#[repr(C)]
+#[derive(Clone, Copy, Default)]
+pub struct Facts {
+    pub size: u64,
+    pub uptime: u64,
+}
+
+#[repr(C)]
+#[derive(Clone, Copy, Default)]
+pub struct Ended {
+    pub r0: u64,
+    pub steps: u32,
+    pub reserved: u32,
+}
+
+#[repr(C)]
+#[derive(Clone, Copy, Default)]
+pub struct Clash {
+    pub name: Name,
+    pub first: Registration,
+    pub second: Registration,
+    pub word: u64,
+    pub verdict: u32,
+    pub keeps: u32,
+    pub first_half: u32,
+    pub notices: u32,
+}
+
+#[repr(C)]
+#[derive(Clone, Copy, Default)]
+pub struct Notice {
+    pub kind: u32,
+    pub to: Owner,
+    pub other: Owner,
+}
+
+#[repr(C)]
+#[derive(Clone, Copy, Default)]
+pub struct State {
+    pub side: u32,
+    pub is_open: u32,
+    pub has_heard: u32,
+    pub has_closed: u32,
+    pub has_heard_list: u32,
+    pub missing: u32,
+    pub has_begun: u32,
+    pub reserved: u32,
+    pub number: u64,
+    pub latest: u64,
+    pub missing_clash: u64,
+    pub withdrawn: u64,
+}
+
+#[repr(C)]
+#[derive(Clone, Copy, Default)]
+pub struct Head {
+    pub kind: u32,
+    pub version: u32,
+    pub side: u32,
+    pub reserved: u32,
+    pub number: u64,
+    pub seed: u64,
+}
+
+#[repr(C)]
+#[derive(Clone, Copy, Default)]
+pub struct Fault {
+    pub number: u32,
+    pub place: u32,
+    pub at: u64,
+    pub reason: u32,
+    pub slot: u32,
+}
+
+#[rustfmt::skip]
+extern "C" {
+    pub fn heal_version() -> u32;
+    pub fn heal_program_load(code: *const u8, len: usize, program: *mut Handle, slot: *mut u32) -> u32;
+    pub fn heal_program_judge(program: *const Handle, record: *const [u8; 160], ended: *mut Ended) -> u32;
+    pub fn heal_program_id(program: *const Handle, id: *mut [u8; 32]) -> u32;
+    pub fn heal_program_free(program: *mut Handle);
+    pub fn heal_record(name: *const u8, len: usize, first: *const Registration, second: *const Registration, word: u64,
+        of_first: *const Facts, of_second: *const Facts, record: *mut [u8; 160]) -> u32;
+    pub fn heal_refusal_words(number: u32, words: *mut u8, capacity: usize) -> usize;
+    pub fn heal_side_new(id: u32, side: *mut Handle) -> u32;
+    pub fn heal_side_new_within(id: u32, names: usize, side: *mut Handle) -> u32;
+    pub fn heal_side_free(side: *mut Handle);
+    pub fn heal_side_upload(side: *mut Handle, code: *const u8, len: usize, id: *mut [u8; 32], slot: *mut u32) -> u32;
+    pub fn heal_side_forget(side: *mut Handle, id: *const [u8; 32]) -> u32;
+    pub fn heal_side_program(side: *const Handle, i: usize, id: *mut [u8; 32]) -> u32;
+    pub fn heal_side_register(side: *mut Handle, name: *const u8, len: usize, registration: *const Registration) -> u32;
+    pub fn heal_side_unregister(side: *mut Handle, name: *const u8, len: usize) -> u32;
+    pub fn heal_side_whereis(side: *const Handle, name: *const u8, len: usize, registration: *mut Registration) -> u32;
+    pub fn heal_side_count(side: *const Handle, count: *mut usize) -> u32;
+    pub fn heal_side_row(side: *const Handle, i: usize, row: *mut Row) -> u32;
+    pub fn heal_side_row_after(side: *const Handle, name: *const u8, len: usize, row: *mut Row) -> u32;
+    pub fn heal_side_live(side: *const Handle, i: usize, row: *mut Row) -> u32;
+    pub fn heal_side_live_after(side: *const Handle, name: *const u8, len: usize, row: *mut Row) -> u32;
+    pub fn heal_side_query(side: *const Handle, state: *mut State) -> u32;
+    pub fn heal_side_withdrawn(side: *const Handle, i: usize, name: *mut Name) -> u32;
+    pub fn heal_side_begin(side: *mut Handle, number: u64, seed: u64, uptime: u64, offer: *mut Handle) -> u32;
+    pub fn heal_side_hear(side: *mut Handle, offer: *const u8, len: usize) -> u32;
+    pub fn heal_side_settle(side: *mut Handle) -> u32;
+    pub fn heal_side_withdraw(side: *mut Handle, name: *const u8, len: usize) -> u32;
+    pub fn heal_side_close_list(side: *mut Handle, list: *mut Handle) -> u32;
+    pub fn heal_side_hear_list(side: *mut Handle, list: *const u8, len: usize) -> u32;
+    pub fn heal_side_finish(side: *mut Handle, outcome: *mut Handle) -> u32;
+    pub fn heal_side_abandon(side: *mut Handle) -> u32;
+    pub fn heal_side_events(side: *const Handle, events: *mut usize) -> u32;
+    pub fn heal_side_renew(side: *mut Handle) -> u32;
+    pub fn heal_side_give_up(side: *mut Handle) -> u32;
+    pub fn heal_bytes_len(bytes: *const Handle, len: *mut usize) -> u32;
+    pub fn heal_bytes_copy(bytes: *const Handle, to: *mut u8, len: usize) -> u32;
+    pub fn heal_bytes_free(bytes: *mut Handle);
+    pub fn heal_message_peek(message: *const u8, len: usize, head: *mut Head) -> u32;
+    pub fn heal_offer_fault(offer: *const u8, len: usize, fault: *mut Fault) -> u32;
+    pub fn heal_list_fault(list: *const u8, len: usize, fault: *mut Fault) -> u32;
+    pub fn heal_outcome_number(outcome: *const Handle, number: *mut u64) -> u32;
+    pub fn heal_outcome_withdrawn(outcome: *const Handle, half: u32, i: usize, name: *mut Name) -> u32;
+    pub fn heal_outcome_merged(outcome: *const Handle, names: *mut usize) -> u32;
+    pub fn heal_outcome_clashes(outcome: *const Handle, clashes: *mut usize) -> u32;
+    pub fn heal_outcome_clash(outcome: *const Handle, i: usize, clash: *mut Clash) -> u32;
+    pub fn heal_outcome_notice(outcome: *const Handle, i: usize, n: usize, notice: *mut Notice) -> u32;
+    pub fn heal_outcome_free(outcome: *mut Handle);
+}

@@ -1,0 +1,21 @@
+-- Handles with another value in them.
+use Rattle.std.specs.Prelude.{ℕ, List, Some}
+use Rattle.heal_c.specs.declared.loaded.Loaded.{Loaded}
+use Rattle.heal_c.specs.declared.half.Half.{Half}
+use Rattle.heal_c.specs.declared.outcome.Outcome.{Outcome}
+use Rattle.heal_c.specs.declared.program_handle.HealProgram.{HealProgram}
+use Rattle.heal_c.specs.declared.half_handle.HealSide.{HealSide}
+use Rattle.heal_c.specs.declared.message_handle.HealBytes.{HealBytes}
+use Rattle.heal_c.specs.declared.outcome_handle.HealOutcome.{HealOutcome}
+
+abbrev pub with_half : HealSide → Half → HealSide
+with_half handle half = record handle { half = Some half }
+
+abbrev pub with_program : HealProgram → Loaded → HealProgram
+with_program handle program = record handle { program = Some program }
+
+abbrev pub with_message : HealBytes → List ℕ → HealBytes
+with_message handle message = record handle { message = Some message }
+
+abbrev pub with_outcome : HealOutcome → Outcome → HealOutcome
+with_outcome handle outcome = record handle { outcome = Some outcome }

@@ -1,0 +1,81 @@
+//! What handles hold, borrowed. Nothing here writes a handle.
+ghost use Rattle.std.specs.Prelude.{◌≡◌, Some, None, MatchOption};
+ghost use Rattle.std.specs.Borrow.{sem, LendsIf};
+ghost use Rattle.heal_c.specs.contracts.half.Half as half_row;
+ghost use Rattle.heal_c.specs.contracts.half_handle.HealSide as half_handle;
+ghost use Rattle.heal_c.specs.contracts.loaded.Loaded as program_row;
+ghost use Rattle.heal_c.specs.contracts.program_handle.HealProgram as program_handle;
+ghost use Rattle.heal_c.specs.contracts.message.Message as message_row;
+ghost use Rattle.heal_c.specs.contracts.message_handle.HealBytes as message_handle;
+ghost use Rattle.heal_c.specs.contracts.outcome.Outcome as outcome_row;
+ghost use Rattle.heal_c.specs.contracts.outcome_handle.HealOutcome as outcome_handle;
+ghost use Rattle.heal_c.specs.Lent.{with_half, with_program, with_message, with_outcome};
+
+use crate::half::Half;
+use crate::half_handle::HealSide;
+use crate::loaded::Loaded;
+use crate::message::Message;
+use crate::message_handle::HealBytes;
+use crate::outcome::Outcome;
+use crate::outcome_handle::HealOutcome;
+use crate::program_handle::HealProgram;
+
+impl HealSide {
+    // Borrows the side.
+    pub(crate) fn held(&mut self) -> Option<&mut Half>
+        ensures* writes_back { sem 𝓛 (LendsIf half_handle.the_row half_row.the_row self.entry result (with_half self.old) self.old) }
+        ensures value { MatchOption result (self.old.half ≡ None) (λ held. self.old.half ≡ Some held.now) }
+    {
+        let at = self.at;
+        if at.is_null() {
+            None
+        } else {
+            Some(unsafe { &mut *(at as *mut Half) })
+        }
+    }
+}
+
+impl HealProgram {
+    // Borrows the program.
+    pub(crate) fn held(&mut self) -> Option<&mut Loaded>
+        ensures* writes_back { sem 𝓛 (LendsIf program_handle.the_row program_row.the_row self.entry result (with_program self.old) self.old) }
+        ensures value { MatchOption result (self.old.program ≡ None) (λ held. self.old.program ≡ Some held.now) }
+    {
+        let at = self.at;
+        if at.is_null() {
+            None
+        } else {
+            Some(unsafe { &mut *(at as *mut Loaded) })
+        }
+    }
+}
+
+impl HealBytes {
+    // Borrows the message.
+    pub(crate) fn held(&mut self) -> Option<&mut Message>
+        ensures* writes_back { sem 𝓛 (LendsIf message_handle.the_row message_row.the_row self.entry result (with_message self.old) self.old) }
+        ensures value { MatchOption result (self.old.message ≡ None) (λ held. self.old.message ≡ Some held.now) }
+    {
+        let at = self.at;
+        if at.is_null() {
+            None
+        } else {
+            Some(unsafe { &mut *(at as *mut Message) })
+        }
+    }
+}
+
+impl HealOutcome {
+    // Borrows the outcome.
+    pub(crate) fn held(&mut self) -> Option<&mut Outcome>
+        ensures* writes_back { sem 𝓛 (LendsIf outcome_handle.the_row outcome_row.the_row self.entry result (with_outcome self.old) self.old) }
+        ensures value { MatchOption result (self.old.outcome ≡ None) (λ held. self.old.outcome ≡ Some held.now) }
+    {
+        let at = self.at;
+        if at.is_null() {
+            None
+        } else {
+            Some(unsafe { &mut *(at as *mut Outcome) })
+        }
+    }
+}
