@@ -1,2 +1,3 @@
 pub mod Wrongs
 pub mod Readings
+pub mod Decoded

@@ -2,3 +2,4 @@ pub mod Refusals
 pub mod Judging
 pub mod Sources
 pub mod Lines
+pub mod Details

@@ -1,5 +1,6 @@
 -- The answers to questions, what is printed for them, and the exit status.
-use Rattle.std.specs.Prelude.{◌≡◌, ◌⊎◌, ◌++◌, ℕ, List, length, codes, Option, None, Result, Ok, Err}
+use Rattle.std.specs.Prelude.{◌≡◌, ◌⊎◌, ◌++◌, ℕ, List, [], length, codes, Option, None, Result, Ok, Err}
+use Rattle.std.specs.Borrow.{Bor}
 use Rattle.std.specs.declared.alloc.AllocError.{AllocError}
 use Rattle.std.specs.Fmt.{decimal}
 use Rattle.std.specs.List.{flat_map}
@@ -23,6 +24,7 @@ use Rattle.answers.specs.declared.failures.Failure.{Failure}
 use Rattle.answers.specs.declared.failures.Failure.TheVariants as failure
 use Rattle.answers.specs.declared.printing.Answer.{Answer}
 use Rattle.answers.specs.declared.printing.Answer.TheVariants.{Accepted, Ruled, Assembled, Disassembled, Refused, DeviceFault}
+use Rattle.answers.specs.Details.{IsDetails}
 use Rattle.answers.specs.Sources.{OfBytes, IsSource, IsNoSource}
 use Rattle.answers.specs.Judging.{IsCodeText, IsCodeFault, IsProgram, IsProgramOver, IsProgramFault, IsProgramFaultOver, IsClashText, IsClashFault, Ruling, IsRuling, least}
 use Rattle.output.specs.Sending.{AppendsFront}
@@ -85,7 +87,7 @@ IsOfBytes known said = (said ≡ DeviceFault) ⊎ OfBytes known (λ bytes. IsAss
 
 -- the answer to a question; a file's content is known only by reading it
 abbrev pub IsAnswer : Question → Answer → Type 0
-IsAnswer (Check code profile) said = IsChecked profile code.now said
+IsAnswer (Check code profile explain) said = IsChecked profile code.now said
 IsAnswer (Judge code clash) said = IsJudged code.now clash.now said
 IsAnswer (Asm file) said = IsOfBytes None said
 IsAnswer (Dis code) said = IsDisassembled code.now said
@@ -117,18 +119,56 @@ status_of (Refused r) = 2
 status_of DeviceFault = 3
 status_of said = 0
 
--- the answer has this status and text
-abbrev pub IsPrinted : Result Answer AllocError → ℕ → List ℕ → Type 0
-IsPrinted (Ok said) status line = (status ≡ status_of said) × (line ≡ line_of said)
-IsPrinted (Err e) status line = ⊥
+-- the line that explains an answer to a person: a refusal with these words, or a fault. Other answers need none
+abbrev pub explained : Answer → List ℕ → List ℕ
+explained (Refused r) words = codes "heal: " ++ (refusal_text r ++ (codes ": " ++ (words ++ codes "\n")))
+explained DeviceFault words = codes "heal: the file can't be read\n"
+explained said words = []
+
+abbrev pub IsExplanation : Answer → List ℕ → Type 0
+IsExplanation said text = (words : List ℕ) × (text ≡ explained said words)
+
+-- the words about an answer: its explanation, and what the verifier knows about the code
+pub record IsTold (question : Question) (said : Answer) (words : List ℕ) : Type 0 where
+  pub line : List ℕ
+  pub details : List ℕ
+  pub explains : IsExplanation said line
+  pub knows : IsDetails question said details
+  pub are : words ≡ line ++ details
+
+-- the answer has this status and text, and these words
+abbrev pub IsPrinted : Question → Result Answer AllocError → ℕ → List ℕ → List ℕ → Type 0
+IsPrinted question (Ok said) status line words =
+    (status ≡ status_of said) × (line ≡ line_of said) × IsTold question said words
+IsPrinted question (Err e) status line words = ⊥
 
 -- ---- what is written
 
--- the whole text is written, with its status; or the status is 3, and a prefix of it is written, or of the line for out
--- of memory
-pub data IsReply (question : Question) (old new : Option (List ℕ)) (status : ℕ) : Type 0 where
-  replied : (said : Answer) → IsAnswer question said → status ≡ status_of said → Appends old new (line_of said)
-      → IsReply question old new status
-  cut : (said : Answer) → IsAnswer question said → status ≡ 3 → AppendsFront old new (line_of said)
-      → IsReply question old new status
-  no_memory : status ≡ 3 → AppendsFront old new (codes "refused 90\n") → IsReply question old new status
+-- the whole text is written, with this status; or the status is 3, and a prefix of it is written
+abbrev pub Prints : Option (List ℕ) → Option (List ℕ) → List ℕ → ℕ → ℕ → Type 0
+Prints old new text due status = (Appends old new text × (status ≡ due)) ⊎ (AppendsFront old new text × (status ≡ 3))
+
+-- words that explain the answer go to standard error, or a beginning of them
+abbrev pub Explains : Question → Answer → Option (List ℕ) → Option (List ℕ) → Type 0
+Explains question said old new = (words : List ℕ) × IsTold question said words × AppendsFront old new words
+
+-- the answer is printed with its status, and explained; or the status is 3, and a prefix of the line for out of memory
+-- is written
+pub data IsReply (question : Question) (old new told_old told_new : Option (List ℕ)) (status : ℕ) : Type 0 where
+  replied : (said : Answer) → IsAnswer question said → Prints old new (line_of said) (status_of said) status
+      → Explains question said told_old told_new → IsReply question old new told_old told_new status
+  no_memory : status ≡ 3 → AppendsFront old new (codes "refused 90\n")
+      → AppendsFront told_old told_new (codes "heal: out of memory\n")
+      → IsReply question old new told_old told_new status
+
+-- ---- the list of refusals
+
+-- a row, as `24 a load of stack bytes that may be unwritten`
+abbrev pub refusal_row : ℕ → List ℕ → List ℕ
+refusal_row number words = decimal number ++ (codes " " ++ (words ++ codes "\n"))
+
+-- a table of refusals is printed row by row, or memory ran out
+abbrev pub IsListing : Option (List ℕ) → Option (List ℕ) → ℕ → Type 0
+IsListing old new status =
+    ((rows : List (ℕ × Bor (List ℕ))) × Prints old new (flat_map (λ row. refusal_row row.0 row.1.now) rows) 0 status)
+    ⊎ ((status ≡ 3) × AppendsFront old new (codes "refused 90\n"))

@@ -1,15 +1,18 @@
-//! Answers questions: judges a clash, checks a program, assembles and disassembles.
+//! Answers questions: judges a clash, checks a program, assembles and disassembles; and lists the refusals.
 #![tactic(auto)]
 
 mod arguments;
+mod details;
 mod failures;
 mod files;
+mod listing;
 mod printing;
 mod replying;
 mod ruling;
 
 pub use failures::{Failure, InputFault};
 pub use files::MAX_FILE_LEN;
+pub use listing::{VERSION_LINE, print_refusals, print_version};
 pub use printing::Answer;
-pub use replying::{asm_from, refuse_memory, reply_to, status_and_text};
+pub use replying::{Printed, asm_from, refuse_memory, reply_to, texts_of};
 pub use ruling::{Answered, judge_one};

@@ -1,13 +1,13 @@
 //! Answers to questions, and how they are printed.
 ghost use Rattle.std.specs.Prelude.{◌≡◌, IfOk, string_bytes};
-ghost use Rattle.answers.specs.Lines.{hex_line, line_of, status_of, answer_unless_memory};
+ghost use Rattle.answers.specs.Lines.{IsExplanation, explained, hex_line, line_of, status_of, answer_unless_memory};
 
 use crate::failures::Failure;
 use assembler_text::disassemble;
 use builtin_resolvers::Verdict3;
 use insn_codec::encode;
 use instruction_set::Code;
-use numbered::NumberedRefusal;
+use numbered::{NumberedRefusal, words_of};
 use std::alloc::{AllocError, Global};
 
 /// The answer to a question.
@@ -62,6 +62,32 @@ pub fn line(alloc: Global, said: &Answer) -> Result<String, AllocError>
         Answer::Refused(refusal) => format!(in alloc; "{refusal}\n"),
         Answer::DeviceFault => String::from_str(alloc, "device fault\n"),
     }
+}
+
+// Returns the words of a refusal, and nothing for other answers.
+fn words_for(said: &Answer) -> &'static str {
+    match said {
+        Answer::Refused(refusal) => words_of(refusal.number),
+        _ => "",
+    }
+}
+
+// Returns the explanation of an answer with these words.
+fn explained(alloc: Global, said: &Answer, words: &str) -> Result<String, AllocError>
+    ensures { IfOk result (λ text. string_bytes text ≡ explained said.now words.now) }
+{
+    match said {
+        Answer::Refused(refusal) => format!(in alloc; "heal: {refusal}: {words}\n"),
+        Answer::DeviceFault => String::from_str(alloc, "heal: the file can't be read\n"),
+        _ => Ok(String::new(alloc)),
+    }
+}
+
+/// Returns the line that explains an answer to a person: a refusal with its words, or a fault. Other answers need none.
+pub fn explanation(alloc: Global, said: &Answer) -> Result<String, AllocError>
+    ensures { IfOk result (λ text. IsExplanation said.now (string_bytes text)) }
+{
+    explained(alloc, said, words_for(said))
 }
 
 /// Returns the exit status: 0, or 2 for a refusal, or 3 for a file that can't be read.

@@ -2,17 +2,18 @@
 ghost use Rattle.std.specs.Prelude.{◌≡◌, ◌≢◌, None, IfOk, IfErr, codes, string_bytes};
 ghost use Rattle.answers.specs.Judging.{first};
 ghost use Rattle.output.specs.Sending.{AppendsFront};
-ghost use Rattle.answers.specs.Lines.{IsAnswer, IsChecked, IsCheckedOver, IsDisassembled, IsOfBytes, IsJudged, IsPrinted, IsReply, answer_unless_memory};
+ghost use Rattle.answers.specs.Lines.{IsAnswer, IsChecked, IsCheckedOver, IsDisassembled, IsOfBytes, IsJudged, IsPrinted, IsReply, IsTold, Prints, answer_unless_memory};
 ghost use Rattle.answers.specs.declared.failures.Failure.TheVariants.{OutOfMemory};
 ghost use Rattle.answers.specs.declared.printing.Answer.TheVariants.{DeviceFault};
 
 use crate::arguments::{clash_of, code_of, program_of};
+use crate::details::details;
 use crate::failures::Failure;
 use crate::files::{code_in, read_whole};
-use crate::printing::{Answer, answer_unless_memory, line, status};
+use crate::printing::{Answer, answer_unless_memory, explanation, line, status};
 use crate::ruling::judge_one;
 use abstract_value::{Both, Domain, Interval};
-use output::send;
+use output::{deliver, send};
 use std::alloc::{AllocError, Global};
 use std::io::{ErrorKind, Input, Read, Write};
 use std::rt::Files;
@@ -132,48 +133,92 @@ fn answer_to<R: Files + Input + AllocGlobal>(
 {
     let alloc = rt.alloc();
     match question {
-        Question::Check { code, profile } => check(alloc, code, *profile),
+        Question::Check { code, profile, .. } => check(alloc, code, *profile),
         Question::Judge { code, clash } => judge(alloc, code, clash),
         Question::Asm { file } => asm(rt, file),
         Question::Dis { code } => dis(alloc, code),
     }
 }
 
-/// Returns the exit status and the printed text of an answer.
-pub fn status_and_text(
+/// An answer as heal prints it.
+#[derive(Debug, Drop)]
+pub struct Printed {
+    /// The exit status.
+    pub status: u8,
+    /// The text on standard output.
+    pub text: String,
+    /// The words on standard error.
+    pub words: String,
+}
+
+/// Returns the exit status and the printed texts of an answer.
+pub fn texts_of(
     alloc: Global,
+    question: &Question<'_>,
     said: Result<Answer, Failure>,
-) -> Result<(u8, String), AllocError>
-    ensures { IfOk result (λ r. IsPrinted (answer_unless_memory said) r.0 (string_bytes r.1)) }
+) -> Result<Printed, AllocError>
+    ensures { IfOk result (λ p. IsPrinted question.now (answer_unless_memory said) p.status (string_bytes p.text)
+        (string_bytes p.words)) }
 {
     let said = answer_unless_memory(said)?;
-    Ok((status(&said), line(alloc, &said)?))
+    Ok(Printed {
+        status: status(&said),
+        text: line(alloc, &said)?,
+        words: words_about(alloc, question, &said)?,
+    })
+}
+
+// Returns the words about an answer: its explanation, and what the verifier knows about the code.
+fn words_about(alloc: Global, question: &Question<'_>, said: &Answer) -> Result<String, AllocError>
+    ensures { IfOk result (λ words. IsTold question.now said.now (string_bytes words)) }
+{
+    let line = explanation(alloc, said)?;
+    let known = details(alloc, question, said)?;
+    format!(in alloc; "{line}{known}")
 }
 
 /// Prints that memory ran out, and returns the exit status for that.
-pub fn refuse_memory<W: Write>(writer: &mut W) -> u8
+pub fn refuse_memory<W: Write, E: Write>(writer: &mut W, errors: &mut E) -> u8
     ensures status { result ≡ 3 }
     ensures text { AppendsFront (W.contents writer.old) (W.contents writer.new) (codes "refused 90\n") }
+    ensures words { AppendsFront (E.contents errors.old) (E.contents errors.new) (codes "heal: out of memory\n") }
 {
     // A failing writer doesn't change the status.
-    let _ = send(writer, b"refused 90\n");
+    let _ = deliver(writer, b"refused 90\n");
+    let _ = send(errors, b"heal: out of memory\n");
     3
+}
+
+// Prints an answer: its text, and then its words.
+fn print_answer<W: Write, E: Write>(said: &Printed, writer: &mut W, errors: &mut E) -> u8
+    ensures text { Prints (W.contents writer.old) (W.contents writer.new) (string_bytes said.now.text)
+        said.now.status result }
+    ensures words { AppendsFront (E.contents errors.old) (E.contents errors.new) (string_bytes said.now.words) }
+{
+    let sent = deliver(writer, said.text.as_bytes());
+    // Failing words don't change the status.
+    let _ = send(errors, said.words.as_bytes());
+    match sent {
+        Ok(()) => said.status,
+        Err(_) => 3,
+    }
 }
 
 /// Replies to a question, and returns the exit status: 0, or 2 for a refusal, or 3 when out of memory, when the file
 /// can't be read or when the writer fails.
-pub fn reply_to<R: Files + Input + AllocGlobal, W: Write>(
+///
+/// The answer goes to `writer`, which is flushed; the words that explain a refusal or a fault follow on `errors`.
+pub fn reply_to<R: Files + Input + AllocGlobal, W: Write, E: Write>(
     rt: &R,
     question: &Question<'_>,
     writer: &mut W,
+    errors: &mut E,
 ) -> u8
-    ensures { IsReply question.now (W.contents writer.old) (W.contents writer.new) result }
+    ensures { IsReply question.now (W.contents writer.old) (W.contents writer.new) (E.contents errors.old)
+        (E.contents errors.new) result }
 {
-    match status_and_text(rt.alloc(), answer_to(rt, question)) {
-        Ok((status, text)) => match send(writer, text.as_bytes()) {
-            Ok(()) => status,
-            Err(_) => 3,
-        },
-        Err(AllocError) => refuse_memory(writer),
+    match texts_of(rt.alloc(), question, answer_to(rt, question)) {
+        Ok(said) => print_answer(&said, writer, errors),
+        Err(AllocError) => refuse_memory(writer, errors),
     }
 }

@@ -1,5 +1,5 @@
 -- The request of a command line, in the terms of the crate that parses it.
-use Rattle.std.specs.Prelude.{◌≡◌, ℕ, true, List, codes, Option, Some, None, [], if◌then◌else◌, option_and_then, option_map}
+use Rattle.std.specs.Prelude.{◌≡◌, ◌⊎◌, ℕ, Bool, true, false, ◌&&◌, ◌||◌, List, codes, Option, Some, None, [], ◌∷◌, if◌then◌else◌, option_and_then, option_map}
 use Rattle.std.specs.Str.{bytes_eq}
 use Rattle.std.specs.declared.io.ErrorKind.{ErrorKind}
 use Rattle.std.specs.declared.io.ErrorKind.TheVariants as of_io
@@ -10,13 +10,13 @@ use Rattle.std.specs.Str.Parse.{digits_value, without_leading_plus}
 use Rattle.clap.specs.declared.error.kind.ErrorKind.TheVariants.{OutOfMemory}
 use Rattle.command_line.specs.declared.faults.CommandFault.{CommandFault}
 use Rattle.command_line.specs.declared.faults.CommandFault.TheVariants.{Parse, NoTask, NotText}
-use Rattle.clap.specs.declared.builder.action.ArgAction.TheVariants.{Set}
+use Rattle.clap.specs.declared.builder.action.ArgAction.TheVariants.{Set, SetTrue}
 use Rattle.clap.specs.declared.builder.value_parser.ValueParser.TheVariants as value
 use Rattle.task.specs.declared.Profile.{Profile}
 use Rattle.task.specs.declared.Profile.TheVariants.{Unsigned, Both}
 use Rattle.task.specs.declared.Question.TheVariants.{Check, Judge, Asm, Dis}
 use Rattle.task.specs.declared.Task.{Task}
-use Rattle.task.specs.declared.Task.TheVariants.{Answer, Run}
+use Rattle.task.specs.declared.Task.TheVariants.{Answer, Run, Version, Refusals}
 use Rattle.task.specs.Workers.{workers_if}
 
 -- ---- the command
@@ -42,9 +42,13 @@ profile_option = record (new_rule (codes "profile")) {
   parser = Some (value.Unsigned 1 2);
 }
 
--- check HEX [--profile 1|2]
+-- an option without a value
+abbrev pub explain_option : Rule
+explain_option = record (new_rule (codes "explain")) { long = Some (codes "explain"); action = Some SetTrue }
+
+-- check HEX [--profile 1|2] [--explain]
 abbrev pub check_app : App
-check_app = with_rule (one_app (codes "check") (codes "HEX")) profile_option
+check_app = with_rule (with_rule (one_app (codes "check") (codes "HEX")) profile_option) explain_option
 
 -- asm FILE
 abbrev pub asm_app : App
@@ -63,9 +67,9 @@ workers_option = record (new_rule (codes "workers")) {
   parser = Some (value.Unsigned 1 16);
 }
 
--- run FILE [--workers W]
+-- run FILE [--workers W] [--explain]
 abbrev pub run_app : App
-run_app = with_rule (one_app (codes "run") (codes "FILE")) workers_option
+run_app = with_rule (with_rule (one_app (codes "run") (codes "FILE")) workers_option) explain_option
 
 -- heal with its five subcommands
 abbrev pub subcommands_app : App
@@ -80,19 +84,23 @@ heal_app = on_top (λ s. record s { subcommand_required = true }) subcommands_ap
 
 -- a task without where its words lie in memory
 pub data Asked : Type 0 where
-  check : List ℕ → Profile → Asked
+  check : List ℕ → Profile → Bool → Asked
   judge : List ℕ → List ℕ → Asked
   asm : List ℕ → Asked
   dis : List ℕ → Asked
-  run : List ℕ → ℕ → Asked
+  run : List ℕ → ℕ → Bool → Asked
+  version : Asked
+  refusals : Asked
 
 -- the task, seen so
 abbrev pub asked_by : Task → Asked
-asked_by (Answer (Check code profile)) = check code.now profile
+asked_by (Answer (Check code profile explain)) = check code.now profile explain
 asked_by (Answer (Judge code clash)) = judge code.now clash.now
 asked_by (Answer (Asm file)) = asm file.now
 asked_by (Answer (Dis code)) = dis code.now
-asked_by (Run file workers) = run file.now workers.count
+asked_by (Run file workers explain) = run file.now workers.count explain
+asked_by Version = version
+asked_by Refusals = refusals
 
 -- the profile of a number, and the second one where none is named
 abbrev pub profile_named : Option Text → Option Profile
@@ -101,10 +109,17 @@ profile_named (Some number) =
     if bytes_eq number (codes "1") then Some Unsigned
     else (if bytes_eq number (codes "2") then Some Both else None)
 
+-- whether the option is given
+abbrev pub explain_named : Option Text → Bool
+explain_named None = false
+explain_named (Some given) = bytes_eq given (codes "true")
+
 -- the request of the values of check; and of judge, asm and dis
 abbrev pub check_asked : List Row → Option Asked
 check_asked rows =
-    option_and_then (λ code. option_map (check code) (profile_named (first_of (codes "profile") rows)))
+    option_and_then (λ code. option_map
+    (λ profile. check code profile (explain_named (first_of (codes "explain") rows)))
+    (profile_named (first_of (codes "profile") rows)))
     (first_of (codes "HEX") rows)
 
 abbrev pub judge_asked : List Row → Option Asked
@@ -126,7 +141,9 @@ workers_named (Some number) =
 
 abbrev pub run_asked : List Row → Option Asked
 run_asked rows =
-    option_and_then (λ file. option_map (run file) (workers_named (first_of (codes "workers") rows)))
+    option_and_then (λ file. option_map
+    (λ workers. run file workers (explain_named (first_of (codes "explain") rows)))
+    (workers_named (first_of (codes "workers") rows)))
     (first_of (codes "FILE") rows)
 
 -- the request of a subcommand of this name
@@ -138,9 +155,24 @@ asked_of sub =
     else (if bytes_eq sub.0 (codes "dis") then dis_asked sub.1
     else (if bytes_eq sub.0 (codes "run") then run_asked sub.1 else None))))
 
--- the words are valid, and request this
+-- the only word after the program's name is `--version` or `-V`
+abbrev pub asks_version : List Text → Bool
+asks_version (name ∷ flag ∷ []) = bytes_eq flag (codes "--version") || bytes_eq flag (codes "-V")
+asks_version words = false
+
+-- the words after the program's name are `help refusals`
+abbrev pub asks_refusals : List Text → Bool
+asks_refusals (name ∷ help ∷ topic ∷ []) = bytes_eq help (codes "help") && bytes_eq topic (codes "refusals")
+asks_refusals words = false
+
+-- the request of the words that need no subcommand
+abbrev pub own_asked : List Text → Option Asked
+own_asked words = if asks_version words then Some version else (if asks_refusals words then Some refusals else None)
+
+-- the words request this, by themselves or by a subcommand with valid words
 abbrev pub Asks : List Text → Asked → Type 0
-Asks words task = (fault_of heal_app words ≡ []) × (option_and_then asked_of (subcommand_of heal_app words) ≡ Some task)
+Asks words task = (own_asked words ≡ Some task)
+    ⊎ ((fault_of heal_app words ≡ []) × (option_and_then asked_of (subcommand_of heal_app words) ≡ Some task))
 
 -- the fault is out of memory, not a usage error
 abbrev pub IsForMemory : CommandFault → Type 0

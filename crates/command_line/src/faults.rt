@@ -6,7 +6,6 @@ ghost use Rattle.command_line.specs.Asked.{IsArgumentFault, IsForMemory};
 ghost use Rattle.command_line.specs.declared.faults.CommandFault.TheVariants.{Parse};
 
 use clap::error::ErrorKind;
-use numbered::REFUSALS;
 use std::alloc::AllocError;
 use std::{error, fmt, io};
 
@@ -71,29 +70,9 @@ impl From<io::Error> for CommandFault {
     }
 }
 
-// Prints the rows of a table of refusals, one per line.
-fn print_rows<W: fmt::Write>(
-    f: &mut fmt::Formatter<W>,
-    refusals: &[(u32, &'static str)],
-) -> fmt::Result {
-    for (number, words) in refusals {
-        writeln!(f, "{number:>4}  {words}")?;
-    }
-    Ok(())
-}
-
-// Prints the table of refusals.
-fn print_refusals<W: fmt::Write>(f: &mut fmt::Formatter<W>) -> fmt::Result {
-    print_rows(f, &REFUSALS)
-}
-
 impl fmt::Display for CommandFault {
     fn fmt<W: fmt::Write>(&self, f: &mut fmt::Formatter<W>) -> fmt::Result {
         match self {
-            CommandFault::Parse(error) if error.kind() == ErrorKind::DisplayHelp => {
-                write!(f, "{error}\nRefusals:\n")?;
-                print_refusals(f)
-            }
             CommandFault::Parse(error) => write!(f, "{error}"),
             CommandFault::NoTask => f.write_str("error: no task\n"),
             CommandFault::NotText => f.write_str("error: an argument isn't UTF-8\n"),

@@ -1,12 +1,52 @@
 //! The command line for clap.
-ghost use Rattle.std.specs.Prelude.{◌≡◌, IfOk, false};
-ghost use Rattle.clap.specs.Words.{App, app_of, rule_of, with_subcommand};
-ghost use Rattle.command_line.specs.Asked.{asm_app, check_app, dis_app, heal_app, judge_app, needed, one_app, profile_option, run_app, workers_option};
+ghost use Rattle.std.specs.Prelude.{◌≡◌, IfOk, codes, false};
+ghost use Rattle.clap.specs.Words.{App, app_of, new_app, rule_of, with_subcommand};
+ghost use Rattle.command_line.specs.Asked.{asm_app, check_app, dis_app, explain_option, heal_app, judge_app, needed, one_app, profile_option, run_app, workers_option};
 ghost use Rattle.command_line.specs.model.Apps.{IsApp};
 
 use clap::builder::ValueParser;
 use clap::{Arg, ArgAction, Command};
 use std::alloc::{AllocError, Global};
+
+// The examples that end each help.
+const EXAMPLES: &'static str = "\
+Examples:
+  heal run examples/split.heal           heals the split that a script describes
+  heal check b7000000010000009500000000000000
+                                         checks a program that always answers 1
+
+heal help COMMAND describes a command, heal help refusals lists the refusals, and
+heal --version prints the version.";
+
+const CHECK_EXAMPLE: &'static str = "\
+Example:
+  $ heal check b7000000010000009500000000000000
+  accepted 2 instructions";
+
+const JUDGE_EXAMPLE: &'static str = "\
+The record has 160 bytes, or 128 to which zeros are added.
+
+Example, with 320 zeros for the record:
+  $ heal judge b7000000010000009500000000000000 $(printf %0320d 0)
+  first in 2 steps";
+
+const ASM_EXAMPLE: &'static str = "\
+Example:
+  $ printf 'mov64 r0, 1\nexit\n' | heal asm -
+  b7000000010000009500000000000000";
+
+const DIS_EXAMPLE: &'static str = "\
+Example:
+  $ heal dis b7000000010000009500000000000000
+  mov64 r0, 1
+  exit";
+
+const RUN_EXAMPLE: &'static str = "\
+Example:
+  $ printf 'register a db 1.10 5 0 - exit\nheal 0\nwhereis b db\n' | heal run -
+  yes
+  healed 1 names
+  1.10";
 
 // Returns a required argument.
 fn needed_arg<'a>(alloc: Global, id: &'a str, help: &'a str) -> Arg<'a>
@@ -30,6 +70,17 @@ fn profile_arg<'a>(alloc: Global) -> Arg<'a>
         .value_name("1|2")
         .value_parser(ValueParser::unsigned(1, 2))
         .help("The ranges of the verifier. 1: unsigned; 2: unsigned and signed [default: 2]")
+}
+
+// Returns the option that asks for an explanation.
+fn explain_arg<'a>(alloc: Global, help: &'a str) -> Arg<'a>
+    ensures rule { rule_of result ≡ explain_option }
+    ensures global { result.global ≡ false }
+{
+    Arg::new(alloc, "explain")
+        .long("explain")
+        .action(ArgAction::SetTrue)
+        .help(help)
 }
 
 // Returns the option that sets the number of workers.
@@ -56,8 +107,10 @@ fn run_command<'a>(alloc: Global) -> Result<Command<'a>, AllocError>
         about,
         "FILE",
         "The file of the script, or - for standard input",
+        RUN_EXAMPLE,
     )?;
-    run.arg(workers_arg(alloc))
+    let help = "Narrates each healing on standard error";
+    run.arg(workers_arg(alloc))?.arg(explain_arg(alloc, help))
 }
 
 // Returns `check`: code, and an option.
@@ -65,8 +118,16 @@ fn check_command<'a>(alloc: Global) -> Result<Command<'a>, AllocError>
     ensures { IfOk result (λ c. IsApp c check_app) }
 {
     let about = "Checks whether the verifier accepts a program";
-    let check = one_command(alloc, "check", about, "HEX", "The program, in hex digits")?;
-    check.arg(profile_arg(alloc))
+    let check = one_command(
+        alloc,
+        "check",
+        about,
+        "HEX",
+        "The program, in hex digits",
+        CHECK_EXAMPLE,
+    )?;
+    let help = "Prints the verifier's state before each instruction on standard error";
+    check.arg(profile_arg(alloc))?.arg(explain_arg(alloc, help))
 }
 
 // Returns `judge`, the only subcommand with two arguments.
@@ -77,6 +138,7 @@ fn judge_command<'a>(alloc: Global) -> Result<Command<'a>, AllocError>
     let clash = needed_arg(alloc, "RECORDHEX", "The record of the clash, in hex digits");
     Command::new(alloc, "judge")
         .about("Judges a clash by a program: the first, the second or neither keeps the name")
+        .after_help(JUDGE_EXAMPLE)
         .arg(code)?
         .arg(clash)
 }
@@ -92,6 +154,7 @@ fn asm_command<'a>(alloc: Global) -> Result<Command<'a>, AllocError>
         "Assembles a text, and prints its code in hex digits",
         "FILE",
         file,
+        ASM_EXAMPLE,
     )
 }
 
@@ -100,7 +163,14 @@ fn dis_command<'a>(alloc: Global) -> Result<Command<'a>, AllocError>
     ensures { IfOk result (λ c. IsApp c dis_app) }
 {
     let about = "Disassembles code, and prints its text";
-    one_command(alloc, "dis", about, "HEX", "The code, in hex digits")
+    one_command(
+        alloc,
+        "dis",
+        about,
+        "HEX",
+        "The code, in hex digits",
+        DIS_EXAMPLE,
+    )
 }
 
 // Returns a subcommand with one argument.
@@ -110,11 +180,13 @@ fn one_command<'a>(
     about: &'a str,
     id: &'a str,
     help: &'a str,
+    example: &'a str,
 ) -> Result<Command<'a>, AllocError>
     ensures { IfOk result (λ c. IsApp c (one_app name.entry.now id.entry.now)) }
 {
     Command::new(alloc, name)
         .about(about)
+        .after_help(example)
         .arg(needed_arg(alloc, id, help))
 }
 
@@ -130,12 +202,21 @@ fn with_command<'a>(
     command.subcommand(subcommand?)
 }
 
+// Returns the command without its subcommands.
+fn bare_command<'a>(alloc: Global) -> Result<Command<'a>, AllocError>
+    ensures { IfOk result (λ c. app_of c ≡ new_app (codes "heal")) }
+{
+    Command::new(alloc, "heal")
+        .about("Heals splits of a cluster's names by proved code")
+        .after_help(EXAMPLES)
+        .bin_name("heal")
+}
+
 // Returns the whole command line.
 pub(crate) fn heal<'a>(alloc: Global) -> Result<Command<'a>, AllocError>
     ensures { IfOk result (λ c. app_of c ≡ heal_app) }
 {
-    let named = Command::new(alloc, "heal").bin_name("heal");
-    let checking = with_command(named, check_command(alloc));
+    let checking = with_command(bare_command(alloc), check_command(alloc));
     let judging = with_command(checking, judge_command(alloc));
     let assembling = with_command(judging, asm_command(alloc));
     let disassembling = with_command(assembling, dis_command(alloc));

@@ -1,8 +1,10 @@
 //! Reads the arguments as a task.
-ghost use Rattle.std.specs.Prelude.{◌≡◌, ◌∷◌, [], codes, ◌⊎◌, List, ℕ, IfOk, IfErr, map, option_map, option_and_then};
+ghost use Rattle.std.specs.Prelude.{◌≡◌, ◌∷◌, ◌&&◌, true, false, ◌||◌, [], codes, ◌⊎◌, List, ℕ, IfOk, IfErr, map, option_map, option_and_then};
 ghost use Rattle.clap.specs.Words.{first_of, found_of, rows_of, subcommand_rows_of};
 ghost use Rattle.command_line.specs.Asked.{Asked, Asks, IsForMemory, asked_by, asked_of};
-ghost use Rattle.command_line.specs.Asked.{asm, asm_asked, check, check_asked, dis, dis_asked, judge, judge_asked, profile_named, run, run_asked, workers_named};
+ghost use Rattle.command_line.specs.Asked as asked;
+ghost use Rattle.std.specs.Str.{bytes_eq};
+ghost use Rattle.command_line.specs.Asked.{asm, asm_asked, check, check_asked, dis, dis_asked, explain_named, judge, judge_asked, profile_named, refusals, run, run_asked, version, workers_named};
 ghost use Rattle.task.specs.declared.Profile.TheVariants.{Unsigned, Both};
 ghost use Rattle.command_line.specs.Plain.{IsPlain};
 
@@ -32,12 +34,27 @@ fn profile_of(number: Option<&str>) -> Option<Profile>
     }
 }
 
+// Checks whether the option for an explanation is given.
+fn explains(given: Option<&str>) -> bool
+    ensures { result ≡ explain_named (option_map (λ s. s.now) given.entry) }
+{
+    match given {
+        None => false,
+        Some(text) => text == "true",
+    }
+}
+
 fn check_of<'a>(found: &ArgMatches<'a>) -> Option<Task<'a>>
     ensures { option_map asked_by result ≡ check_asked (rows_of (found_of found.now)) }
 {
     let code = value(found, "HEX")?;
     let profile = profile_of(value(found, "profile"))?;
-    Some(Task::Answer(Question::Check { code, profile }))
+    let explain = explains(value(found, "explain"));
+    Some(Task::Answer(Question::Check {
+        code,
+        profile,
+        explain,
+    }))
 }
 
 fn judge_of<'a>(found: &ArgMatches<'a>) -> Option<Task<'a>>
@@ -80,7 +97,12 @@ fn run_of<'a>(found: &ArgMatches<'a>) -> Option<Task<'a>>
 {
     let file = value(found, "FILE")?;
     let workers = workers_of(value(found, "workers"))?;
-    Some(Task::Run { file, workers })
+    let explain = explains(value(found, "explain"));
+    Some(Task::Run {
+        file,
+        workers,
+        explain,
+    })
 }
 
 fn task_of<'a>(matches: &ArgMatches<'a>) -> Option<Task<'a>>
@@ -102,6 +124,42 @@ fn task_of<'a>(matches: &ArgMatches<'a>) -> Option<Task<'a>>
     }
 }
 
+// Checks whether a word is the flag for the version.
+fn is_version_flag(word: &str) -> bool
+    ensures { result ≡ (bytes_eq word.now (codes "--version") || bytes_eq word.now (codes "-V")) }
+{
+    word == "--version" || word == "-V"
+}
+
+// Checks whether the only argument after the program's name is the flag for the version.
+#[tactic(auto, using(crate::proofs::FewWords::few_words))]
+fn asks_version<S: AsStr>(words: &[S]) -> bool
+    ensures { result ≡ asked.asks_version (map S.text words.now) }
+{
+    match words {
+        [_, flag] => is_version_flag(flag.as_str()),
+        _ => false,
+    }
+}
+
+// Checks whether two words request the list of refusals.
+fn is_refusals_topic(help: &str, topic: &str) -> bool
+    ensures { result ≡ (bytes_eq help.now (codes "help") && bytes_eq topic.now (codes "refusals")) }
+{
+    help == "help" && topic == "refusals"
+}
+
+// Checks whether the arguments after the program's name request the list of refusals.
+#[tactic(auto, using(crate::proofs::FewWords::few_words))]
+fn asks_refusals<S: AsStr>(words: &[S]) -> bool
+    ensures { result ≡ asked.asks_refusals (map S.text words.now) }
+{
+    match words {
+        [_, help, topic] => is_refusals_topic(help.as_str(), topic.as_str()),
+        _ => false,
+    }
+}
+
 /// Reads the arguments as a task. The first is the program's name.
 ///
 /// Returns the answer of `clap` for arguments that don't parse, including help and out of memory.
@@ -111,25 +169,38 @@ pub fn command<'a, S: AsStr>(alloc: Global, words: &'a [S]) -> Result<Task<'a>, 
     // Arguments that give a task fail only when out of memory.
     ensures err { IfErr result (λ e. IsForMemory e ⊎ ((task : Asked) → Asks (map S.text words.now) task → ⊥)) }
 {
+    if asks_version(words) {
+        return Ok(Task::Version);
+    }
+    if asks_refusals(words) {
+        return Ok(Task::Refusals);
+    }
     let matches = heal(alloc)?.try_get_matches_from(words)?;
     task_of(&matches).ok_or(CommandFault::NoTask)
 }
 
-/// States that an argument without a leading hyphen is taken literally, and a single hyphen as a file. Does nothing at
-/// run time.
+/// States that an argument without a leading hyphen is taken literally, and a single hyphen as a file, and which words
+/// request the version and the refusals. Does nothing at run time.
 pub fn plain_words_theorem()
-    ensures check { (name code : List ℕ) → IsPlain code → Asks (name ∷ codes "check" ∷ code ∷ []) (check code Both) }
+    ensures check { (name code : List ℕ) → IsPlain code → Asks (name ∷ codes "check" ∷ code ∷ []) (check code Both false) }
     ensures unsigned { (name code : List ℕ) → IsPlain code
-        → Asks (name ∷ codes "check" ∷ code ∷ codes "--profile" ∷ codes "1" ∷ []) (check code Unsigned) }
+        → Asks (name ∷ codes "check" ∷ code ∷ codes "--profile" ∷ codes "1" ∷ []) (check code Unsigned false) }
     ensures both { (name code : List ℕ) → IsPlain code
-        → Asks (name ∷ codes "check" ∷ code ∷ codes "--profile" ∷ codes "2" ∷ []) (check code Both) }
+        → Asks (name ∷ codes "check" ∷ code ∷ codes "--profile" ∷ codes "2" ∷ []) (check code Both false) }
+    ensures explained { (name code : List ℕ) → IsPlain code
+        → Asks (name ∷ codes "check" ∷ code ∷ codes "--explain" ∷ []) (check code Both true) }
+    ensures narrated { (name file : List ℕ) → IsPlain file
+        → Asks (name ∷ codes "run" ∷ file ∷ codes "--explain" ∷ []) (run file 4 true) }
     ensures judge { (name code clash : List ℕ) → IsPlain code → IsPlain clash
         → Asks (name ∷ codes "judge" ∷ code ∷ clash ∷ []) (judge code clash) }
     ensures asm { (name file : List ℕ) → IsPlain file → Asks (name ∷ codes "asm" ∷ file ∷ []) (asm file) }
     ensures dis { (name code : List ℕ) → IsPlain code → Asks (name ∷ codes "dis" ∷ code ∷ []) (dis code) }
-    ensures run { (name file : List ℕ) → IsPlain file → Asks (name ∷ codes "run" ∷ file ∷ []) (run file 4) }
+    ensures run { (name file : List ℕ) → IsPlain file → Asks (name ∷ codes "run" ∷ file ∷ []) (run file 4 false) }
     ensures workers { (name file : List ℕ) → IsPlain file
-        → Asks (name ∷ codes "run" ∷ file ∷ codes "--workers" ∷ codes "16" ∷ []) (run file 16) }
+        → Asks (name ∷ codes "run" ∷ file ∷ codes "--workers" ∷ codes "16" ∷ []) (run file 16 false) }
+    ensures version { (name : List ℕ) → Asks (name ∷ codes "--version" ∷ []) version }
+    ensures version_letter { (name : List ℕ) → Asks (name ∷ codes "-V" ∷ []) version }
+    ensures refusals { (name : List ℕ) → Asks (name ∷ codes "help" ∷ codes "refusals" ∷ []) refusals }
     ensures asm_hyphen { (name : List ℕ) → Asks (name ∷ codes "asm" ∷ codes "-" ∷ []) (asm (codes "-")) }
-    ensures run_hyphen { (name : List ℕ) → Asks (name ∷ codes "run" ∷ codes "-" ∷ []) (run (codes "-") 4) }
+    ensures run_hyphen { (name : List ℕ) → Asks (name ∷ codes "run" ∷ codes "-" ∷ []) (run (codes "-") 4 false) }
 {}

@@ -5,8 +5,8 @@ use Rattle.std.specs.Io.KnownBytes.{Appends, Keeps}
 use Rattle.output.specs.Sending.{AppendsFront}
 use Rattle.task.specs.declared.Question.{Question}
 use Rattle.task.specs.declared.Task.{Task}
-use Rattle.task.specs.declared.Task.TheVariants.{Answer, Run}
-use Rattle.answers.specs.Lines.{IsReply, replied, cut, no_memory}
+use Rattle.task.specs.declared.Task.TheVariants.{Answer, Run, Version, Refusals}
+use Rattle.answers.specs.Lines.{IsListing, IsReply, Prints, replied, no_memory}
 use Rattle.script_machine.specs.Replies as said
 use Rattle.script_engine.specs.Runs.{IsScriptRun, Ending, Writes}
 use Rattle.heal_main.specs.Obeying.{Obeys, RunsFile, ran, unopened}
@@ -24,16 +24,32 @@ whole_front : (a b c : Option (List ℕ)) (text : List ℕ) → Appends a b text
 whole_front a b c text h k =
     (length text, subst (λ t. Appends a c t) (sym (take-length text)) (appends_kept a b c text h k))
 
-module _ (old mid new : Option (List ℕ)) (status : ℕ) (k : Keeps mid new) where
-  reply_kept : (question : Question) → IsReply question old mid status → IsReply question old new status
-  reply_kept question (replied said is s h) = replied said is s (appends_kept old mid new _ h k)
-  reply_kept question (cut said is s h) = cut said is s (front_kept old mid new _ h k)
-  reply_kept question (no_memory s h) = no_memory s (front_kept old mid new _ h k)
+module _ (old mid new told_old told_new : Option (List ℕ)) (status : ℕ) (k : Keeps mid new) where
+  prints_kept : (text : List ℕ) (due : ℕ) → Prints old mid text due status → Prints old new text due status
+  prints_kept text due (inl h) = inl (appends_kept old mid new _ h.0 k, h.1)
+  prints_kept text due (inr h) = inr (front_kept old mid new _ h.0 k, h.1)
 
-  reply_cut : (question : Question) → IsReply question old mid status → IsReply question old new 3
-  reply_cut question (replied said is s h) = cut said is refl (whole_front old mid new _ h k)
-  reply_cut question (cut said is s h) = cut said is refl (front_kept old mid new _ h k)
-  reply_cut question (no_memory s h) = no_memory refl (front_kept old mid new _ h k)
+  prints_cut : (text : List ℕ) (due : ℕ) → Prints old mid text due status → Prints old new text due 3
+  prints_cut text due (inl h) = inr (whole_front old mid new _ h.0 k, refl)
+  prints_cut text due (inr h) = inr (front_kept old mid new _ h.0 k, refl)
+
+  reply_kept : (question : Question) → IsReply question old mid told_old told_new status
+      → IsReply question old new told_old told_new status
+  reply_kept question (replied said is h e) = replied said is (prints_kept _ _ h) e
+  reply_kept question (no_memory s h e) = no_memory s (front_kept old mid new _ h k) e
+
+  reply_cut : (question : Question) → IsReply question old mid told_old told_new status
+      → IsReply question old new told_old told_new 3
+  reply_cut question (replied said is h e) = replied said is (prints_cut _ _ h) e
+  reply_cut question (no_memory s h e) = no_memory refl (front_kept old mid new _ h k) e
+
+  listing_kept : IsListing old mid status → IsListing old new status
+  listing_kept (inl h) = inl (h.0, prints_kept _ _ h.1)
+  listing_kept (inr h) = inr (h.0, front_kept old mid new _ h.1 k)
+
+  listing_cut : IsListing old mid status → IsListing old new 3
+  listing_cut (inl h) = inl (h.0, prints_cut _ _ h.1)
+  listing_cut (inr h) = inr (refl, front_kept old mid new _ h.1 k)
 
   writes_kept : (ending : Ending) (answers : List said.Answer) → Writes ending answers old mid status
       → Writes ending answers old new status
@@ -71,10 +87,16 @@ module _ (old mid new : Option (List ℕ)) (status : ℕ) (k : Keeps mid new) wh
   file_cut (unopened (inl front) three) = unopened (inl (front_kept old mid new _ front k)) refl
   file_cut (unopened (inr front) three) = unopened (inr (front_kept old mid new _ front k)) refl
 
-  pub obeyed_kept : (task : Task) → Obeys task old mid status → Obeys task old new status
+  pub obeyed_kept : (task : Task) → Obeys task old mid told_old told_new status
+      → Obeys task old new told_old told_new status
   obeyed_kept (Answer question) h = reply_kept question h
-  obeyed_kept (Run file workers) h = file_kept h
+  obeyed_kept (Run file workers explain) h = file_kept h
+  obeyed_kept Version h = prints_kept _ _ h
+  obeyed_kept Refusals h = listing_kept h
 
-  pub obeyed_cut : (task : Task) → Obeys task old mid status → Obeys task old new 3
+  pub obeyed_cut : (task : Task) → Obeys task old mid told_old told_new status
+      → Obeys task old new told_old told_new 3
   obeyed_cut (Answer question) h = reply_cut question h
-  obeyed_cut (Run file workers) h = file_cut h
+  obeyed_cut (Run file workers explain) h = file_cut h
+  obeyed_cut Version h = prints_cut _ _ h
+  obeyed_cut Refusals h = listing_cut h

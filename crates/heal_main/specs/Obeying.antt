@@ -2,8 +2,8 @@
 use Rattle.std.specs.Prelude.{◌≡◌, ◌⊎◌, ℕ, List, codes, Option}
 use Rattle.output.specs.Sending.{AppendsFront}
 use Rattle.task.specs.declared.Task.{Task}
-use Rattle.task.specs.declared.Task.TheVariants.{Answer, Run}
-use Rattle.answers.specs.Lines.{IsReply}
+use Rattle.task.specs.declared.Task.TheVariants.{Answer, Run, Version, Refusals}
+use Rattle.answers.specs.Lines.{IsListing, IsReply, Prints}
 use Rattle.script_engine.specs.Runs.{IsScriptRun}
 
 -- a file could not be opened, as the device failed or memory ran out
@@ -16,7 +16,9 @@ pub data RunsFile (old new : Option (List ℕ)) (status : ℕ) : Type 0 where
   ran : (read_old read_new : Option (List ℕ)) → IsScriptRun read_old read_new old new status → RunsFile old new status
   unopened : TellsUnopened old new → status ≡ 3 → RunsFile old new status
 
--- a question is answered, or a script is carried out
-abbrev pub Obeys : Task → Option (List ℕ) → Option (List ℕ) → ℕ → Type 0
-Obeys (Answer question) old new status = IsReply question old new status
-Obeys (Run file workers) old new status = RunsFile old new status
+-- a question is answered and explained, a script is carried out, or the version or the list of refusals is printed
+abbrev pub Obeys : Task → Option (List ℕ) → Option (List ℕ) → Option (List ℕ) → Option (List ℕ) → ℕ → Type 0
+Obeys (Answer question) old new told_old told_new status = IsReply question old new told_old told_new status
+Obeys (Run file workers explain) old new told_old told_new status = RunsFile old new status
+Obeys Version old new told_old told_new status = Prints old new (codes "heal 0.1.0\n") 0 status
+Obeys Refusals old new told_old told_new status = IsListing old new status

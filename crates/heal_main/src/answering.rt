@@ -7,6 +7,7 @@ ghost use Rattle.heal_main.specs.Answering.{IsAnswered, IsUnread};
 
 use crate::obeying::obey;
 use command_line::{CommandFault, command};
+use script_engine::Narrator;
 use std::convert::AsStr;
 use std::io;
 use std::io::{Input, Write};
@@ -29,30 +30,32 @@ fn answer_words<
     S: AsStr,
     O: Write,
     E: Write,
->(rt: &R, words: &[S], output: &mut O, errors: &mut E) -> u8
-    ensures { IsAnswered (map S.text words.now) (O.contents output.old) (O.contents output.new) result }
+    N: Narrator,
+>(rt: &R, words: &[S], output: &mut O, errors: &mut E, narrator: &N) -> u8
+    ensures { IsAnswered (map S.text words.now) (O.contents output.old) (O.contents output.new) (E.contents errors.old)
+        (E.contents errors.new) result }
 {
     match command(rt.alloc(), words) {
-        Ok(task) => obey(rt, &task, output),
+        Ok(task) => obey(rt, &task, output, errors, narrator),
         Err(fault) => refuse(&fault, errors),
     }
 }
 
 /// Like `answer_words`, for words that may be unreadable. A usage error is printed as an error, with status 1 and no
 /// output; out of memory while the words are read is status 3.
-pub fn answer<R: Files + Input + Threads + Wait + Sync + AllocGlobal, O: Write, E: Write>(
-    rt: &R,
-    words: io::Result<Vec<String>>,
-    output: &mut O,
-    errors: &mut E,
-) -> u8
+pub fn answer<
+    R: Files + Input + Threads + Wait + Sync + AllocGlobal,
+    O: Write,
+    E: Write,
+    N: Narrator,
+>(rt: &R, words: io::Result<Vec<String>>, output: &mut O, errors: &mut E, narrator: &N) -> u8
     ensures answered { IfOk words (λ words. IsAnswered (map string_bytes words.items) (O.contents output.old)
-        (O.contents output.new) result) }
+        (O.contents output.new) (E.contents errors.old) (E.contents errors.new) result) }
     ensures unread { IfErr words (λ error. IsUnread (error_kind error) (O.contents output.old) (O.contents output.new)
         result) }
 {
     match words {
-        Ok(words) => answer_words(rt, words.as_slice(), output, errors),
+        Ok(words) => answer_words(rt, words.as_slice(), output, errors, narrator),
         Err(error) => refuse(&CommandFault::from(error), errors),
     }
 }

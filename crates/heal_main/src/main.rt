@@ -5,8 +5,14 @@ ghost use Rattle.std.specs.Prelude.{None};
 
 mod answering;
 mod obeying;
+mod person;
 
 use answering::answer;
+use cluster::Healing;
+use numbered::{NumberedRefusal, words_of};
+use person::print_refusal_words;
+use script_engine::Narrator;
+use script_machine::Machine;
 use std::io;
 use std::io::{BufWriter, ErrorKind, Write};
 use std::process::ExitCode;
@@ -35,6 +41,24 @@ impl Write for StandardError<'_> {
     }
 }
 
+/// Tells the person at standard error of refused lines and of healings. A failing device changes nothing.
+impl Narrator for StandardError<'_> {
+    fn listens(&self) -> bool {
+        true
+    }
+
+    fn hear_refusal(&self, line: u64, refusal: NumberedRefusal) {
+        let mut errors = StandardError { rt: self.rt };
+        let words = words_of(refusal.number);
+        let _ = print_refusal_words(Ok(()), &mut errors, line, refusal, words);
+    }
+
+    fn hear_healing(&self, machine: &Machine, healing: &Healing) {
+        let mut errors = StandardError { rt: self.rt };
+        let _ = machine.narrate(Ok(()), &mut errors, healing);
+    }
+}
+
 /// The words of the command line.
 fn words(rt: &HostRuntime) -> io::Result<Vec<String>> {
     Ok(std::env::args(rt)?.collect(rt.alloc())?)
@@ -44,9 +68,10 @@ fn words(rt: &HostRuntime) -> io::Result<Vec<String>> {
 fn main(rt: HostRuntime) -> ExitCode {
     let words = words(&rt);
     let mut errors = StandardError { rt: &rt };
+    let narrator = StandardError { rt: &rt };
     let status = match BufWriter::new(rt.alloc(), io::writer(&rt)) {
-        Ok(mut output) => answer(&rt, words, &mut output, &mut errors),
-        Err(_) => answer(&rt, words, &mut io::writer(&rt), &mut errors),
+        Ok(mut output) => answer(&rt, words, &mut output, &mut errors, &narrator),
+        Err(_) => answer(&rt, words, &mut io::writer(&rt), &mut errors, &narrator),
     };
     ExitCode::from(status)
 }

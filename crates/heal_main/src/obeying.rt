@@ -3,10 +3,11 @@ ghost use Rattle.std.specs.Prelude.{◌≡◌};
 ghost use Rattle.output.specs.Sending.{AppendsFront};
 ghost use Rattle.heal_main.specs.Obeying.{Obeys, RunsFile, TellsUnopened};
 
-use answers::reply_to;
+use crate::person::Listener;
+use answers::{print_refusals, print_version, reply_to};
 use judge_pool::OpenGate;
 use output::send;
-use script_engine::run_script;
+use script_engine::{Narrator, run_narrated};
 use std::fs;
 use std::io::{ErrorKind, Input, Read, Write};
 use std::rt::Files;
@@ -16,14 +17,18 @@ use task::{Task, Workers, is_standard_input};
 
 /// Carries out a task, and returns the program's status: 0, or 2 if it or a line of a script was refused, or 3 if memory
 /// ran out, a file couldn't be read, or the writer failed. Flushes the writer at the end.
-pub(crate) fn obey<R: Files + Input + Threads + Wait + Sync + AllocGlobal, W: Write>(
-    rt: &R,
-    task: &Task<'_>,
-    writer: &mut W,
-) -> u8
-    ensures { Obeys task.now (W.contents writer.old) (W.contents writer.new) result }
+///
+/// Words for a person go to `errors`, and a failure there changes nothing.
+pub(crate) fn obey<
+    R: Files + Input + Threads + Wait + Sync + AllocGlobal,
+    W: Write,
+    E: Write,
+    N: Narrator,
+>(rt: &R, task: &Task<'_>, writer: &mut W, errors: &mut E, narrator: &N) -> u8
+    ensures { Obeys task.now (W.contents writer.old) (W.contents writer.new) (E.contents errors.old)
+        (E.contents errors.new) result }
 {
-    let status = carry_out(rt, task, writer);
+    let status = carry_out(rt, task, writer, errors, narrator);
     match writer.flush() {
         Ok(()) => status,
         Err(_) => 3,
@@ -31,47 +36,63 @@ pub(crate) fn obey<R: Files + Input + Threads + Wait + Sync + AllocGlobal, W: Wr
 }
 
 // Carries out a task.
-fn carry_out<R: Files + Input + Threads + Wait + Sync + AllocGlobal, W: Write>(
-    rt: &R,
-    task: &Task<'_>,
-    writer: &mut W,
-) -> u8
-    ensures { Obeys task.now (W.contents writer.old) (W.contents writer.new) result }
+fn carry_out<
+    R: Files + Input + Threads + Wait + Sync + AllocGlobal,
+    W: Write,
+    E: Write,
+    N: Narrator,
+>(rt: &R, task: &Task<'_>, writer: &mut W, errors: &mut E, narrator: &N) -> u8
+    ensures { Obeys task.now (W.contents writer.old) (W.contents writer.new) (E.contents errors.old)
+        (E.contents errors.new) result }
 {
     match task {
-        Task::Answer(question) => reply_to(rt, question, writer),
-        Task::Run { file, workers } => run(rt, file, *workers, writer),
+        Task::Answer(question) => reply_to(rt, question, writer, errors),
+        Task::Run {
+            file,
+            workers,
+            explain,
+        } => {
+            let listener = Listener {
+                narrator,
+                explain: *explain,
+            };
+            run(rt, file, *workers, writer, &listener)
+        }
+        Task::Version => print_version(writer),
+        Task::Refusals => print_refusals(rt.alloc(), writer),
     }
 }
 
 // Carries out the script in a file or on standard input.
-fn run<R: Files + Input + Threads + Wait + Sync + AllocGlobal, W: Write>(
+fn run<R: Files + Input + Threads + Wait + Sync + AllocGlobal, W: Write, N: Narrator>(
     rt: &R,
     file: &str,
     workers: Workers,
     writer: &mut W,
+    narrator: &N,
 ) -> u8
     ensures { RunsFile (W.contents writer.old) (W.contents writer.new) result }
 {
     if is_standard_input(file) {
-        return run_from(rt, &mut rt.reader(), workers, writer);
+        return run_from(rt, &mut rt.reader(), workers, writer, narrator);
     }
     match fs::open(rt, file) {
-        Ok(mut file) => run_from(rt, &mut file, workers, writer),
+        Ok(mut file) => run_from(rt, &mut file, workers, writer, narrator),
         Err(error) => tell_unopened(error.kind(), writer),
     }
 }
 
 // Carries out the script that a reader yields.
-fn run_from<T: Threads + Wait + Sync + AllocGlobal, R: Read, W: Write>(
+fn run_from<T: Threads + Wait + Sync + AllocGlobal, R: Read, W: Write, N: Narrator>(
     rt: &T,
     reader: &mut R,
     workers: Workers,
     writer: &mut W,
+    narrator: &N,
 ) -> u8
     ensures { RunsFile (W.contents writer.old) (W.contents writer.new) result }
 {
-    run_script(rt, reader, writer, workers.count(), &OpenGate)
+    run_narrated(rt, reader, writer, workers.count(), &OpenGate, narrator)
 }
 
 // Reports that a file could not be opened, and returns the status.

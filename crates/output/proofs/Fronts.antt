@@ -1,8 +1,8 @@
 -- Beginnings of a text that goes on.
 use Rattle.std.proofs.Common.{◌≡◌, ℕ, ◌+◌, List, ◌++◌, length, take, drop, Option, Result, Ok, Err, OnOk, sym, ap, ◌∙◌, subst, append_assoc, take-append-drop}
-use Rattle.std.proofs.Math.Seq.{take-append_seam, take-append-add}
-use Rattle.std.specs.Io.KnownBytes.{Appends}
-use Rattle.std.proofs.KnownBytes.{Appends-trans}
+use Rattle.std.proofs.Math.Seq.{take-append_seam, take-append-add, take-length}
+use Rattle.std.specs.Io.KnownBytes.{Appends, Keeps}
+use Rattle.std.proofs.KnownBytes.{Appends-kept, Appends-trans}
 use Rattle.output.specs.Sending.{AppendsFront, Sends}
 
 still_front : (sent : ℕ) (text more : List ℕ) → take (length (take sent text)) (text ++ more) ≡ take sent text
@@ -31,3 +31,8 @@ pub sends_after : {A E : Type 0} (a b c : Option (List ℕ)) (text more : List �
     → Appends a b text → OnOk result (Appends b c more) → AppendsFront b c more → Sends a c (text ++ more) result
 sends_after a b c text more (Ok x) appended all front = Appends-trans a b c text more appended all
 sends_after a b c text more (Err e) appended all front = front_after a b c text more appended front
+
+-- a whole text is a beginning of it, and is kept where nothing more is written
+pub whole_front : (a b c : Option (List ℕ)) (text : List ℕ) → Appends a b text → Keeps b c → AppendsFront a c text
+whole_front a b c text h k =
+    (length text, subst (λ t. Appends a c t) (sym (take-length text)) (Appends-kept a b c text h k))

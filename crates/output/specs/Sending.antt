@@ -15,3 +15,8 @@ abbrev pub SendsOn : {A E : Type 0} →
     Result A E → Option (List ℕ) → Option (List ℕ) → List ℕ → Result A E → Type 0
 SendsOn sent old new bytes result = (start : Option (List ℕ)) (before : List ℕ) →
     Sends start old before sent → Sends start new (before ++ bytes) result
+
+-- nothing was sent after other bytes: these are written as before, or a beginning of them where the device failed
+abbrev pub FlushesOn : {A E : Type 0} → Result A E → Option (List ℕ) → Option (List ℕ) → Result A E → Type 0
+FlushesOn sent old new result = (start : Option (List ℕ)) (before : List ℕ) →
+    Sends start old before sent → Sends start new before result

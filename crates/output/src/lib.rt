@@ -3,4 +3,4 @@
 
 mod sending;
 
-pub use sending::{DeviceFault, send, send_after};
+pub use sending::{DeviceFault, deliver, flush_after, send, send_after};

@@ -1,7 +1,7 @@
 //! Writing to a device that may fail.
 ghost use Rattle.std.specs.Prelude.{OnOk};
 ghost use Rattle.std.specs.Io.KnownBytes.{Appends};
-ghost use Rattle.output.specs.Sending.{AppendsFront, SendsOn};
+ghost use Rattle.output.specs.Sending.{AppendsFront, FlushesOn, SendsOn};
 
 use std::io::{Error, ErrorKind, Write};
 
@@ -38,6 +38,34 @@ pub fn send<W: Write>(writer: &mut W, bytes: &[u8]) -> Result<(), DeviceFault>
 #[inline(never)]
 fn is_interruption(e: &Error) -> bool {
     e.kind() == ErrorKind::Interrupted
+}
+
+/// Writes the bytes, and flushes the writer. At a fault a beginning of them went out.
+pub fn deliver<W: Write>(writer: &mut W, bytes: &[u8]) -> Result<(), DeviceFault>
+    ensures all { OnOk result (Appends (W.contents writer.old) (W.contents writer.new) bytes.now) }
+    ensures front { AppendsFront (W.contents writer.old) (W.contents writer.new) bytes.now }
+{
+    send(writer, bytes)?;
+    match writer.flush() {
+        Ok(()) => Ok(()),
+        Err(_) => Err(DeviceFault),
+    }
+}
+
+/// Flushes the writer, unless the device failed before.
+pub fn flush_after<W: Write>(
+    sent: Result<(), DeviceFault>,
+    writer: &mut W,
+) -> Result<(), DeviceFault>
+    ensures { FlushesOn sent (W.contents writer.old) (W.contents writer.new) result }
+{
+    match sent {
+        Ok(()) => match writer.flush() {
+            Ok(()) => Ok(()),
+            Err(_) => Err(DeviceFault),
+        },
+        Err(fault) => Err(fault),
+    }
 }
 
 /// Goes on with further bytes, unless the device failed before. So a text is sent piece by piece, and at a fault a

@@ -3,7 +3,9 @@
 
 mod crew;
 mod fault;
+mod narrator;
 mod running;
 mod serving;
 
-pub use running::run_script;
+pub use narrator::{Narrator, Silence};
+pub use running::{run_narrated, run_script};

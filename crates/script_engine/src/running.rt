@@ -5,6 +5,7 @@ ghost use Rattle.script_machine.specs.Machines.{machine_of, new_machine};
 ghost use Rattle.script_engine.specs.Runs.{IsScriptRun};
 
 use crate::crew::Crew;
+use crate::narrator::{Narrator, Silence};
 use crate::serving::serve;
 use judge_pool::Gate;
 use output::{DeviceFault, send_after};
@@ -33,13 +34,43 @@ where
     ensures { IsScriptRun (R.remaining reader.old) (R.remaining reader.new) (W.contents writer.old)
         (W.contents writer.new) result }
 {
+    run_narrated(rt, reader, writer, workers, gate, &Silence)
+}
+
+/// Carries out a script like `run_script`, with a narrator.
+///
+/// If the narrator listens, it hears of each refused line and of each healing once their answer is written and flushed.
+/// What it does changes neither the output nor the status.
+pub fn run_narrated<T, R, W, G, N>(
+    rt: &T,
+    reader: &mut R,
+    writer: &mut W,
+    workers: u32,
+    gate: &G,
+    narrator: &N,
+) -> u8
+where
+    T: Threads + Wait + Sync + AllocGlobal,
+    R: Read,
+    W: Write,
+    G: Gate + Sync,
+    N: Narrator,
+    requires { (0 < workers) × (workers ≤ 16) }
+    ensures { IsScriptRun (R.remaining reader.old) (R.remaining reader.new) (W.contents writer.old)
+        (W.contents writer.new) result }
+{
     let alloc = rt.alloc();
     let Ok((mut buffer, mut line)) = buffers(alloc) else {
         // That the device takes less doesn't change the status.
         let _ = send_after(Ok(()), writer, b"refused 90\n");
         return 3;
     };
-    let crew = Crew { rt, workers, gate };
+    let crew = Crew {
+        rt,
+        workers,
+        gate,
+        narrator,
+    };
     let mut machine = Machine::new(alloc);
     run_lines(&crew, &mut machine, &mut buffer, &mut line, reader, writer)
 }
@@ -67,8 +98,14 @@ fn flush_before_read<W: Write>(buffer: &ReadBuffer, writer: &mut W) -> Result<()
 }
 
 // The lines, until the input or their numbers end, or a device fails.
-fn run_lines<T: Threads + Wait + Sync + AllocGlobal, R: Read, W: Write, G: Gate + Sync>(
-    crew: &Crew<'_, T, G>,
+fn run_lines<
+    T: Threads + Wait + Sync + AllocGlobal,
+    R: Read,
+    W: Write,
+    G: Gate + Sync,
+    N: Narrator,
+>(
+    crew: &Crew<'_, T, G, N>,
     machine: &mut Machine,
     buffer: &mut ReadBuffer,
     line: &mut LineBuffer,

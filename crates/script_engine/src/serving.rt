@@ -1,6 +1,6 @@
 //! A line and its answer.
 ghost use Rattle.std.specs.Prelude.{◌≡◌, ◌<◌, ◌-◌, ◌^◌, ℕ, List, Option, IfOk};
-ghost use Rattle.output.specs.Sending.{Sends};
+ghost use Rattle.output.specs.Sending.{FlushesOn, Sends};
 ghost use Rattle.script_text.specs.Reading.{seen_line};
 ghost use Rattle.script_text.specs.Commands.{asked};
 ghost use Rattle.script_text.specs.Asking.{Heal};
@@ -10,9 +10,11 @@ ghost use Rattle.script_engine.specs.model.Progress.{SendsNext, Serves, ServesLi
 
 use crate::crew::Crew;
 use crate::fault::LineTooLong;
+use crate::narrator::Narrator;
 use clash_record::{Uptimes, Withdrawal};
+use cluster::Healing;
 use judge_pool::Gate;
-use output::DeviceFault;
+use output::{DeviceFault, flush_after};
 use script_machine::{Machine, Reply, print_healing, print_reply};
 use script_text::{Command, LineBuffer, command_of};
 use std::io::Write;
@@ -20,8 +22,8 @@ use std::sync::Wait;
 use std::thread::Threads;
 
 // Carries out the line of this number and writes its answer. Returns the status of the line.
-pub(crate) fn serve<T: Threads + Wait + Sync + AllocGlobal, G: Gate + Sync, W: Write>(
-    crew: &Crew<'_, T, G>,
+pub(crate) fn serve<T: Threads + Wait + Sync + AllocGlobal, G: Gate + Sync, N: Narrator, W: Write>(
+    crew: &Crew<'_, T, G, N>,
     machine: &mut Machine,
     writer: &mut W,
     number: u64,
@@ -37,8 +39,8 @@ pub(crate) fn serve<T: Threads + Wait + Sync + AllocGlobal, G: Gate + Sync, W: W
 }
 
 // Carries out a line on a machine whose long journals are renewed, and writes its answer.
-fn answer<T: Threads + Wait + Sync + AllocGlobal, G: Gate + Sync, W: Write>(
-    crew: &Crew<'_, T, G>,
+fn answer<T: Threads + Wait + Sync + AllocGlobal, G: Gate + Sync, N: Narrator, W: Write>(
+    crew: &Crew<'_, T, G, N>,
     machine: &mut Machine,
     writer: &mut W,
     number: u64,
@@ -50,18 +52,18 @@ fn answer<T: Threads + Wait + Sync + AllocGlobal, G: Gate + Sync, W: Write>(
         (W.contents writer.old) (W.contents writer.new) result }
 {
     if is_long {
-        return say(writer, number, &Reply::refused(&LineTooLong));
+        return say(crew.narrator, writer, number, &Reply::refused(&LineTooLong));
     }
     match command_of(crew.rt.alloc(), line.as_slice()) {
-        Err(fault) => say(writer, number, &Reply::refused(&fault)),
-        Ok(None) => say(writer, number, &Reply::Silent),
+        Err(fault) => say(crew.narrator, writer, number, &Reply::refused(&fault)),
+        Ok(None) => say(crew.narrator, writer, number, &Reply::Silent),
         Ok(Some(command)) => obey(crew, machine, writer, number, &command),
     }
 }
 
 // Carries out a command and writes its answer.
-fn obey<T: Threads + Wait + Sync + AllocGlobal, G: Gate + Sync, W: Write>(
-    crew: &Crew<'_, T, G>,
+fn obey<T: Threads + Wait + Sync + AllocGlobal, G: Gate + Sync, N: Narrator, W: Write>(
+    crew: &Crew<'_, T, G, N>,
     machine: &mut Machine,
     writer: &mut W,
     number: u64,
@@ -74,7 +76,12 @@ fn obey<T: Threads + Wait + Sync + AllocGlobal, G: Gate + Sync, W: Write>(
     let alloc = crew.rt.alloc();
     match command {
         Command::Upload { label, code } => {
-            say(writer, number, &machine.upload(alloc, label, code))
+            say(
+                crew.narrator,
+                writer,
+                number,
+                &machine.upload(alloc, label, code),
+            )
         }
         Command::Register {
             side,
@@ -82,12 +89,23 @@ fn obey<T: Threads + Wait + Sync + AllocGlobal, G: Gate + Sync, W: Write>(
             terms,
             resolver,
         } => say(
+            crew.narrator,
             writer,
             number,
             &machine.register(*side, *name, *terms, resolver),
         ),
-        Command::Unregister { side, name } => say(writer, number, &machine.unregister(*side, name)),
-        Command::Whereis { side, name } => say(writer, number, &machine.whereis(*side, name)),
+        Command::Unregister { side, name } => say(
+            crew.narrator,
+            writer,
+            number,
+            &machine.unregister(*side, name),
+        ),
+        Command::Whereis { side, name } => say(
+            crew.narrator,
+            writer,
+            number,
+            &machine.whereis(*side, name),
+        ),
         Command::Show { side } => with_status(machine.print_rows(Ok(()), writer, *side), 0),
         Command::Heal {
             seed,
@@ -98,8 +116,8 @@ fn obey<T: Threads + Wait + Sync + AllocGlobal, G: Gate + Sync, W: Write>(
 }
 
 // Heals the split and writes the outcome.
-fn heal<T: Threads + Wait + Sync + AllocGlobal, G: Gate + Sync, W: Write>(
-    crew: &Crew<'_, T, G>,
+fn heal<T: Threads + Wait + Sync + AllocGlobal, G: Gate + Sync, N: Narrator, W: Write>(
+    crew: &Crew<'_, T, G, N>,
     machine: &mut Machine,
     writer: &mut W,
     number: u64,
@@ -121,17 +139,70 @@ fn heal<T: Threads + Wait + Sync + AllocGlobal, G: Gate + Sync, W: Write>(
         gone,
     );
     match healed {
-        Ok(healing) => with_status(print_healing(Ok(()), writer, &healing), 0),
-        Err(refusal) => say(writer, number, &Reply::Refused(refusal)),
+        Ok(healing) => {
+            let sent = print_healing(Ok(()), writer, &healing);
+            with_status(
+                tell_healing(crew.narrator, sent, writer, machine, &healing),
+                0,
+            )
+        }
+        Err(refusal) => say(crew.narrator, writer, number, &Reply::Refused(refusal)),
     }
 }
 
-// Says a reply. Answers its status.
-fn say<W: Write>(writer: &mut W, number: u64, reply: &Reply) -> Result<u8, DeviceFault>
+// Says a reply, and tells the narrator of a refusal. Answers its status.
+fn say<N: Narrator, W: Write>(
+    narrator: &N,
+    writer: &mut W,
+    number: u64,
+    reply: &Reply,
+) -> Result<u8, DeviceFault>
     ensures sends { SendsNext (W.contents writer.old) (W.contents writer.new) (reply_text number reply.now) result }
     ensures status { IfOk result (λ status. status ≡ reply_status reply.now) }
 {
-    with_status(print_reply(Ok(()), writer, number, reply), reply.status())
+    let sent = print_reply(Ok(()), writer, number, reply);
+    with_status(
+        tell_reply(narrator, sent, writer, number, reply),
+        reply.status(),
+    )
+}
+
+// Tells the narrator of a refusal, once the answer is flushed.
+fn tell_reply<N: Narrator, W: Write>(
+    narrator: &N,
+    sent: Result<(), DeviceFault>,
+    writer: &mut W,
+    number: u64,
+    reply: &Reply,
+) -> Result<(), DeviceFault>
+    ensures { FlushesOn sent (W.contents writer.old) (W.contents writer.new) result }
+{
+    match reply {
+        Reply::Refused(refusal) if narrator.listens() => {
+            let sent = flush_after(sent, writer);
+            narrator.hear_refusal(number, *refusal);
+            sent
+        }
+        _ => sent,
+    }
+}
+
+// Tells the narrator of a healing, once the answer is flushed.
+fn tell_healing<N: Narrator, W: Write>(
+    narrator: &N,
+    sent: Result<(), DeviceFault>,
+    writer: &mut W,
+    machine: &Machine,
+    healing: &Healing,
+) -> Result<(), DeviceFault>
+    ensures { FlushesOn sent (W.contents writer.old) (W.contents writer.new) result }
+{
+    if !narrator.listens() {
+        return sent;
+    }
+    let sent = flush_after(sent, writer);
+    narrator.hear_healing(machine, healing);
+    sent
 }
 
 // What was sent, with a status.

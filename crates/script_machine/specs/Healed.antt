@@ -23,11 +23,14 @@ judged_text clash judged =
     clash_line clash.name judged.answer judged.word
     ++ flat_map notice_line (notices_by clash.first.resolver clash judged.answer)
 
--- the clashes in their order, each with its ruling
+-- the clashes in their order, each with its ruling, as texts
+abbrev pub each_text : (Clash → Judged → List ℕ) → List Clash → List Judged → List ℕ
+each_text f (clash ∷ clashes) (judged ∷ rulings) = f clash judged ++ each_text f clashes rulings
+each_text f (clash ∷ clashes) [] = []
+each_text f [] rulings = []
+
 abbrev pub clashes_text : List Clash → List Judged → List ℕ
-clashes_text (clash ∷ clashes) (judged ∷ rulings) = judged_text clash judged ++ clashes_text clashes rulings
-clashes_text (clash ∷ clashes) [] = []
-clashes_text [] rulings = []
+clashes_text = each_text judged_text
 
 abbrev pub gone_text : List Withdrawal → List ℕ
 gone_text gone = flat_map (λ withdrawal. withdrawal_line withdrawal.side withdrawal.name) gone

@@ -1,4 +1,5 @@
 pub mod Healed
+pub mod Narrated
 pub mod Machines
 pub mod Replies
 pub mod Steps

@@ -115,7 +115,7 @@ registration_of terms resolver = record {
 abbrev pub Registers : Machine → SideId → Name → Registration → Reply → Machine → Type 0
 Registers old id name registration reply new =
     let standing = at old.cluster id in
-    let call = Register name (row_for old.programs registration) in
+    let call : Call = Register name (row_for old.programs registration) in
     Edits old id call
     (register_fault standing.limit (is_full_at standing) standing.side name registration old.programs)
     (carried_out standing.side call) Registered reply new

@@ -7,6 +7,7 @@ mod healed;
 mod healing;
 mod labels;
 mod machine;
+mod narrating;
 mod reply;
 mod showing;
 mod uploading;

@@ -14,6 +14,6 @@ pub use fault::LineFault;
 pub use input::{Found, LINE_LIMIT, LineBuffer, ReadBuffer, ReadFailed, Stop, next_line};
 pub use parsing::command_of;
 pub use printing::{
-    print_clash, print_code_count, print_healed, print_notice, print_owner_line, print_refusal,
-    print_row, print_withdrawal,
+    print_at_place, print_clash, print_code_count, print_healed, print_notice, print_number,
+    print_owner, print_owner_line, print_refusal, print_row, print_withdrawal,
 };

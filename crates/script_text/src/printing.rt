@@ -164,8 +164,8 @@ pub fn print_refusal<W: Write>(
     send_after(sent, writer, b"\n")
 }
 
-// Prints the place of a refusal, if any.
-fn print_at_place<W: Write>(
+/// Prints the place of a refusal, if any.
+pub fn print_at_place<W: Write>(
     sent: Result<(), DeviceFault>,
     writer: &mut W,
     place: Option<Place>,
@@ -245,8 +245,9 @@ fn put_number(text: &mut [u8], end: usize, byte: u8, number: u64) -> usize
     start
 }
 
+/// Prints an owner.
 #[tactic(auto, using(crate::proofs::Pieces::digits_at_most))]
-fn print_owner<W: Write>(
+pub fn print_owner<W: Write>(
     sent: Result<(), DeviceFault>,
     writer: &mut W,
     owner: Owner,
@@ -259,7 +260,8 @@ fn print_owner<W: Write>(
     send_after(sent, writer, &text[node..])
 }
 
-fn print_number<W: Write>(
+/// Prints a number in decimal digits.
+pub fn print_number<W: Write>(
     sent: Result<(), DeviceFault>,
     writer: &mut W,
     number: u64,

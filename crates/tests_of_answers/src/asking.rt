@@ -78,8 +78,11 @@ pub(crate) fn is_answered(
     text: &str,
 ) -> bool {
     let mut out = Vec::new(rt.alloc());
-    let got = reply_to(rt, question, &mut out);
-    got == status && out.as_slice() == text.as_bytes()
+    let mut errors = Vec::new(rt.alloc());
+    let got = reply_to(rt, question, &mut out, &mut errors);
+    // Refusals and faults alone are explained.
+    let is_explained = errors.is_empty() == (status == 0);
+    got == status && is_explained && out.as_slice() == text.as_bytes()
 }
 
 /// Code of these slots, without the blanks.
@@ -105,7 +108,12 @@ pub(crate) fn is_said(
         Ask::Judge(clash) => is_judged(rt, clash, code.as_str(), status, text),
         Ask::Check(profile) => {
             let code = code.as_str();
-            Ok(is_answered(rt, &Question::Check { code, profile }, status, text))
+            let question = Question::Check {
+                code,
+                profile,
+                explain: false,
+            };
+            Ok(is_answered(rt, &question, status, text))
         }
         Ask::Dis => Ok(is_answered(
             rt,

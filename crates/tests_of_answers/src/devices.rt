@@ -2,7 +2,7 @@
 ghost use Rattle.std.specs.Prelude.{Some};
 
 use crate::asking::ON_DB;
-use answers::{Failure, asm_from, refuse_memory, reply_to, status_and_text};
+use answers::{Failure, asm_from, refuse_memory, reply_to, texts_of};
 use std::alloc::Global;
 use std::io;
 use std::io::{ErrorKind, Read, Write};
@@ -54,7 +54,8 @@ fn reply_to_device(rt: &HostRuntime, calls: usize, line: &[u8]) -> Result<(u8, b
         calls_left: calls,
         interrupts: 2,
     };
-    let status = reply_to(rt, &question, &mut device);
+    let mut errors = Vec::new(rt.alloc());
+    let status = reply_to(rt, &question, &mut device, &mut errors);
     Ok((
         status,
         device.held.as_slice() == &line[..calls.min(line.len())],
@@ -104,8 +105,8 @@ fn is_exit_assembled(alloc: Global, calls: usize, status: u8, text: &str) -> Res
         step: 1,
         calls_left: calls,
     };
-    let (got, line) = status_and_text(alloc, asm_from(alloc, reader))?;
-    Ok(got == status && line.as_str() == text)
+    let said = texts_of(alloc, &Question::Asm { file: "-" }, asm_from(alloc, reader))?;
+    Ok(said.status == status && said.text.as_str() == text)
 }
 
 #[test]
@@ -127,15 +128,27 @@ fn a_failing_source(rt: HostRuntime) -> Result<(), Fail> {
     Ok(())
 }
 
-// Returns the status for running out of memory, and whether the right line is written.
+// Returns the status for running out of memory, and whether the right line and the right words are written.
 fn refused_memory(alloc: Global) -> (u8, bool) {
     let mut held = Vec::new(alloc);
-    let status = refuse_memory(&mut held);
-    (status, held.as_slice() == b"refused 90\n".as_slice())
+    let mut errors = Vec::new(alloc);
+    let status = refuse_memory(&mut held, &mut errors);
+    let is_line = held.as_slice() == b"refused 90\n".as_slice();
+    (
+        status,
+        is_line && errors.as_slice() == b"heal: out of memory\n".as_slice(),
+    )
 }
 
 #[test]
 fn out_of_memory(rt: HostRuntime) {
     assert_eq!(rt; refused_memory(rt.alloc()), (3, true));
-    assert!(rt; status_and_text(rt.alloc(), Err(Failure::OutOfMemory)).is_err());
+    assert!(rt;
+        texts_of(
+            rt.alloc(),
+            &Question::Asm { file: "-" },
+            Err(Failure::OutOfMemory)
+        )
+        .is_err()
+    );
 }

@@ -2,7 +2,7 @@
 use crate::asking::is_answered;
 use crate::codes::LISTING;
 use crate::devices::Source;
-use answers::{InputFault, MAX_FILE_LEN, asm_from, status_and_text};
+use answers::{InputFault, MAX_FILE_LEN, asm_from, texts_of};
 use std::alloc::Global;
 use std::test::Fail;
 use std::{env, fs};
@@ -19,8 +19,8 @@ fn is_assembled(alloc: Global, bytes: &[u8], status: u8, text: &str) -> Result<b
         step: usize::MAX,
         calls_left: usize::MAX,
     };
-    let (got, line) = status_and_text(alloc, asm_from(alloc, reader))?;
-    Ok(got == status && line.as_str() == text)
+    let said = texts_of(alloc, &Question::Asm { file: "-" }, asm_from(alloc, reader))?;
+    Ok(said.status == status && said.text.as_str() == text)
 }
 
 // Texts, and the status and the line of each.

@@ -30,12 +30,12 @@ fn letter_of(id: SideId) -> u8 {
 // The number with which a side refuses one more name.
 fn refused(alloc: Global, side: &mut Side, text: &str) -> Result<Option<u32>, Fail> {
     let name = name(text.as_bytes())?;
-    let result = side.register(name, exit_registration(1, 1), &UploadStore::new(alloc));
-    Ok(result.err().map(|fault| fault.number()))
+    let answer = side.register(name, exit_registration(1, 1), &UploadStore::new(alloc));
+    Ok(number(answer))
 }
 
-fn number(result: Result<(), SideFault>) -> Option<u32> {
-    result.err().map(|fault| fault.number())
+fn number(answer: Result<(), SideFault>) -> Option<u32> {
+    answer.err().map(|fault| fault.number())
 }
 
 #[test]

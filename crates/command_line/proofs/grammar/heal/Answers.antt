@@ -1,5 +1,4 @@
-use Rattle.std.proofs.Common.{◌≡◌, ◌∙◌, ap, true, IfOk}
-use Rattle.std.proofs.lemmas.Result.{IfOk-weaker}
+use Rattle.std.proofs.Common.{◌≡◌, ◌∙◌, ap, true}
 use Rattle.clap.specs.Words.{App, app_of, new_app, with_subcommand}
 use Rattle.clap.specs.Simple.{app_of_fields}
 use Rattle.std.specs.Prelude.{codes}
@@ -17,9 +16,7 @@ returns c =
     let two = with judge_app one in
     let three = with asm_app two in
     let four = with dis_app three in
-    let named : IfOk c.bin_name-named.result (λ k. app_of k ≡ zero) =
-    IfOk-weaker c.bin_name-named.result _ _ (λ k h. ap app_of_fields h.0 ∙ c.new.ensures.app) c.bin_name-named.ensures in
-    let checking = c.with_command-checking.ensures zero check_app named c.check_command.ensures in
+    let checking = c.with_command-checking.ensures zero check_app c.bare_command.ensures c.check_command.ensures in
     let judging = c.with_command-judging.ensures one judge_app checking c.judge_command.ensures in
     let assembling = c.with_command-assembling.ensures two asm_app judging c.asm_command.ensures in
     let disassembling = c.with_command-disassembling.ensures three dis_app assembling c.dis_command.ensures in

@@ -7,5 +7,6 @@ pub returns-in-Ok-clause-answered : goal.returns-in-Ok-clause-answered
 returns-in-Ok-clause-answered g c =
     rw c.in-Ok.is
     (subst (λ words. IsAnswered (map string_bytes words) (g.O.Write.contents c.args.output.now)
-    (g.O.Write.contents c.answer_words.new.output) c.answer_words.result)
+    (g.O.Write.contents c.answer_words.new.output) (g.E.Write.contents c.args.errors.now)
+    (g.E.Write.contents c.answer_words.new.errors) c.answer_words.result)
     c.as_slice.ensures.value c.answer_words.ensures)

@@ -9,7 +9,8 @@ pub returns-in-Ok : goal.returns-in-Ok
 returns-in-Ok g c = record {
   answer = Heals (healing_of c.in-Ok.healing);
   is_answer = c.in-Ok.ensures.healed;
-  sends = λ start before h. c.with_status.ensures.sent start _ _ (c.print_healing.ensures start before h);
+  sends = λ start before h. c.with_status.ensures.sent start _ _
+      (c.tell_healing.ensures start _ (c.print_healing-sent.ensures start before h));
   status = c.with_status.ensures.status;
 }
 

@@ -29,7 +29,7 @@ loop-clash-preserved g c =
     let both = then_sent c.args.sent c.loop-clash.sent c.print_judged-sent.result old middle new
     (clashes_text (take n clashes) (take n rulings)) (judged_text clash judged) c.loop-clash.invariant
     c.print_judged-sent.ensures in
-    let more = one_judged n clashes rulings clash judged turn.0 turn.1 (turn.2 clash) (turn.3 judged)
+    let more = one_judged judged_text n clashes rulings clash judged turn.0 turn.1 (turn.2 clash) (turn.3 judged)
     ∙ ap (λ (m : ℕ). clashes_text (take m clashes) (take m rulings))
     (sym (length_push c.loop-clash.yielded (c.in-Some.clash, c.in-Some.judged))) in
     subst (λ (l : List ℕ). SendsOn c.args.sent old new l c.print_judged-sent.result) more both
@@ -47,4 +47,4 @@ returns g c =
     c.next.ensures.steps in
     subst (λ (l : List ℕ). SendsOn c.args.sent (g.W.Write.contents c.args.writer.now)
     (g.W.Write.contents c.loop-clash.writer) l c.loop-clash.sent)
-    (all_judged (length c.loop-clash.yielded) clashes rulings all) c.loop-clash.invariant
+    (all_judged judged_text (length c.loop-clash.yielded) clashes rulings all) c.loop-clash.invariant

@@ -1,0 +1,11 @@
+-- The words about a refused line.
+use Rattle.std.specs.Prelude.{ℕ, List, ◌++◌, codes}
+use Rattle.std.specs.Fmt.{decimal}
+use Rattle.numbered.specs.Texts.{at_place}
+use Rattle.numbered.specs.declared.NumberedRefusal.{NumberedRefusal}
+
+-- the refusal of the line with this number, and its words
+abbrev pub refusal_words : ℕ → NumberedRefusal → List ℕ → List ℕ
+refusal_words line refusal words =
+    codes "heal: line " ++ decimal line ++ codes ": refused " ++ decimal refusal.number ++ at_place refusal.place
+    ++ codes ": " ++ words ++ codes "\n"

@@ -1,0 +1,30 @@
+//! Words about a script for a person.
+use cluster::Healing;
+use numbered::NumberedRefusal;
+use script_machine::Machine;
+
+/// Hears what a script does, beyond its output.
+pub trait Narrator {
+    /// Returns whether it listens. If not, the script calls nothing else of it.
+    fn listens(&self) -> bool;
+
+    /// Hears that the line of this number is refused.
+    fn hear_refusal(&self, line: u64, refusal: NumberedRefusal);
+
+    /// Hears of a healing, after its lines are written.
+    fn hear_healing(&self, machine: &Machine, healing: &Healing);
+}
+
+/// A narrator that doesn't listen.
+#[derive(Clone, Copy, Debug)]
+pub struct Silence;
+
+impl Narrator for Silence {
+    fn listens(&self) -> bool {
+        false
+    }
+
+    fn hear_refusal(&self, _line: u64, _refusal: NumberedRefusal) {}
+
+    fn hear_healing(&self, _machine: &Machine, _healing: &Healing) {}
+}
