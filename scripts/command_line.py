@@ -11,20 +11,66 @@ import sys
 
 ROOT = os.path.dirname(os.path.dirname(os.path.realpath(__file__)))
 
+with open(f"{ROOT}/VERSION", encoding="utf-8") as file:
+    VERSION = file.read().strip()
+
 # Adds a signed byte to an address: only signed ranges accept it.
 SIGNED = (
     "9112080000000000b7000000000000007502030000000000bfa30000000000000f2300000000000072030000010000009500000000000000"
 )
 
-# Words, and the status and the output for them. Nothing goes to standard error.
+# Words, the status and the output for them, and the text on standard error.
 TASKS = [
-    (["check", "b7000000010000009500000000000000"], 0, "accepted 2 instructions\n"),
-    (["check", SIGNED, "--profile", "1"], 2, "refused 18 at slot 4\n"),
-    (["check", "--profile=2", SIGNED], 0, "accepted 7 instructions\n"),
-    (["dis", "9500000000000000"], 0, "exit\n"),
-    (["judge", "01", "00"], 2, "refused 3\n"),
-    (["asm", "/no/such/file"], 3, "device fault\n"),
-    (["run", "/no/such/file", "--workers", "1"], 3, "device fault\n"),
+    (["check", "b7000000010000009500000000000000"], 0, "accepted 2 instructions\n", ""),
+    (
+        ["check", SIGNED, "--profile", "1"],
+        2,
+        "refused 18 at slot 4\n",
+        "heal: refused 18 at slot 4: an address moved too far, or by an unknown amount\n"
+        "      r0=0 r1=record[0] r2=0..18446744073709551615 r3=stack[0] r10=stack[0]\n"
+        "4: add64 r3, r2\n",
+    ),
+    (["check", "--profile=2", SIGNED], 0, "accepted 7 instructions\n", ""),
+    (
+        ["check", "--explain", "7a0af8ff0200000079a0f8ff000000009500000000000000"],
+        0,
+        "accepted 3 instructions\n",
+        "      r1=record[0] r10=stack[0]\n"
+        "0: stdw [r10-8], 2\n"
+        "      r1=record[0] r10=stack[0] written[-8..-1]\n"
+        "1: ldxdw r0, [r10-8]\n"
+        "      r0=0..18446744073709551615 r1=record[0] r10=stack[0] written[-8..-1]\n"
+        "2: exit\n",
+    ),
+    # A wide load and a jump over an instruction that is never reached.
+    (
+        ["check", "--explain", "1800000001000000000000000200000015000100020000009500000000000000b7000000010000009500000000000000"],
+        0,
+        "accepted 5 instructions\n",
+        None,
+    ),
+    (["dis", "9500000000000000"], 0, "exit\n", ""),
+    (["judge", "01", "00"], 2, "refused 3\n", "heal: refused 3: an incomplete last slot\n"),
+    (["asm", "/no/such/file"], 3, "device fault\n", "heal: the file can't be read\n"),
+    (["run", "/no/such/file", "--workers", "1"], 3, "device fault\n", ""),
+    (["--version"], 0, f"heal {VERSION}\n", ""),
+    (["-V"], 0, f"heal {VERSION}\n", ""),
+    (["help", "refusals"], 0, None, ""),
+]
+
+# A script, the options of `run`, and the text on standard error for it.
+SPLIT = "register a db 1.10 5 0 - exit\nregister b db 2.20 9 0 - exit\n"
+SCRIPTS = [
+    ("unregister a nobody\n", [], "heal: line 1: refused 31: the name isn't registered\n"),
+    (SPLIT + "heal 0\n", [], ""),
+    (
+        SPLIT + "heal 0\nupload x 00\n",
+        ["--explain"],
+        "db: the first is 1.10 (stamp 5, weight 0), the second is 2.20 (stamp 9, weight 0)\n"
+        "db: exit answers at word 0 that the first keeps the name\n"
+        "db: notice exit 2.20\n"
+        "heal: line 4: refused 3: an incomplete last slot\n",
+    ),
 ]
 
 # Words that aren't a task: status 1, and a text on standard error alone.
@@ -61,14 +107,21 @@ TEXTS = [
     ),
     (
         ["--help"],
-        "Usage: heal <COMMAND>\n",
+        "Heals splits of a cluster's names by proved code\n\nUsage: heal <COMMAND>\n",
         "\n  judge  Judges a clash by a program: the first, the second or neither keeps the name\n",
-        "\n  93  a buffer of another length\n",
+        "heal --version prints the version.\n",
     ),
-    (["--help"], "Usage: heal <COMMAND>\n", "\n  21  an access that may leave the record\n", "\n"),
-    (["judge", "--help"], "Judges a clash", "\n  <RECORDHEX>  The record of the clash, in hex digits\n", "\n"),
+    (["judge", "--help"], "Judges a clash", "\n  <RECORDHEX>  The record of the clash, in hex digits\n", "first in 2 steps\n"),
+    (["help", "check"], "Checks whether", "--explain", "accepted 2 instructions\n"),
     ([b"\xff"], "error: an argument isn't UTF-8\n", "", "\n"),
 ]
+
+
+def refusals():
+    """Returns the number and the words of each row of docs/REFUSALS.md."""
+    with open(f"{ROOT}/docs/REFUSALS.md", encoding="utf-8") as page:
+        rows = [line.split("|") for line in page if line.startswith("| ") and line[2].isdigit()]
+    return [(row[1].strip(), row[3].strip()) for row in rows]
 
 
 def answered(program, words):
@@ -80,9 +133,18 @@ def answered(program, words):
 def main():
     program = sys.argv[1] if len(sys.argv) > 1 else f"{ROOT}/crates/heal_main/out/heal_main"
     wrong = []
-    for words, status, output in TASKS:
-        if answered(program, words) != (status, output, ""):
+    for words, status, output, text in TASKS:
+        got = answered(program, words)
+        due = (status, got[1] if output is None else output, got[2] if text is None else text)
+        if got != due:
             wrong.append(words)
+    for script, options, text in SCRIPTS:
+        done = subprocess.run([program, "run", "-", *options], input=script.encode(), capture_output=True, timeout=20, check=False)
+        if done.stderr.decode() != text:
+            wrong.append(["run", "-", *options])
+    # The list has each number of docs/REFUSALS.md with its words.
+    if answered(program, ["help", "refusals"])[1] != "".join(f"{number} {words}\n" for number, words in refusals()):
+        wrong.append(["help", "refusals"])
     for words in NO_TASKS:
         status, output, text = answered(program, words)
         if status != 1 or output or not text:

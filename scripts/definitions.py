@@ -130,7 +130,7 @@ class Source:
             if function:
                 name = function.group(1) if owner is None or not line.startswith(" ") else owner + "::" + function.group(1)
                 end = at
-                while not re.match(r"\s*\{(\})?$", lines[end]) and not lines[end].rstrip().endswith((" {", ";")):
+                while not re.match(r"\s*\{(\})?$", lines[end]) and not lines[end].rstrip().endswith((" {", " {}", ";")):
                     end += 1
                 text = [l for l in lines[at:end + 1] if not l.strip().startswith("//")]
                 self.functions[name] = "\n".join(text)

@@ -1,8 +1,9 @@
 #!/usr/bin/env python3
-"""Proves the crates that heal_main is built from, and builds it: crates/heal_main/out/heal_main.
+"""prove.py [CRATE]: proves the crates that heal_main, or heal_c, is built from, and builds it.
 
-Proves each crate as soon as the crates below it are proved, on all processors, and prints one line on standard error
-for each. Crates of the longest chain of dependencies go first, and large ones get most processors. `rt` locks the folders of a
+That is crates/heal_main/out/heal_main, or crates/heal_c/out/libheal_c.a. Proves each crate as soon as the crates below it
+are proved, on all processors, and prints one line on standard error for each, with its time and the crates that are
+being proved. Crates of the longest chain of dependencies go first, and large ones get most processors. `rt` locks the folders of a
 crate and of all crates below it, so each proof runs in a copy under out/prove: it takes the libraries below from
 crates/*/out, and leaves its own library and kept work there. If a proof fails, this prints the last lines of its log, and
 the status is 125.
@@ -19,13 +20,14 @@ from concurrent.futures import FIRST_COMPLETED, ThreadPoolExecutor, wait
 
 ROOT = os.path.dirname(os.path.dirname(os.path.realpath(__file__)))
 COPIES = f"{ROOT}/out/prove"
-PROGRAM = "heal_main"
+# What is built of the last crate, and the command that builds it.
+BUILT = {"heal_main": "heal_main", "heal_c": "libheal_c.a"}
 # A crate that the longest chain of dependencies waits for gets three of four processors, but no more than this.
 MOST_JOBS = 4
 # Two crates with fewer bytes of sources took longer with several jobs, each of which loads the libraries below.
 LARGE = 100_000
-# The question that `rt run` answers once the program is built.
-TRIAL = ["check", "b7000000010000009500000000000000"]
+# `rt run` builds the program, and then asks it a question.
+BUILDING = {"heal_main": ["rt", "run", "--", "check", "b7000000010000009500000000000000"], "heal_c": ["rt", "lib"]}
 
 
 def read_crates():
@@ -104,8 +106,8 @@ def prove(lines, uses, name, jobs, is_awaited):
     Crates that the longest chain doesn't wait for leave the processors to those that it does.
     """
     start = time.monotonic()
-    if name == PROGRAM:
-        status = run_logged(name, ["rt", "run", "--", *TRIAL], f"{ROOT}/crates/{name}")
+    if name in BUILDING:
+        status = run_logged(name, BUILDING[name], f"{ROOT}/crates/{name}")
     else:
         folder = copy_crates(lines, with_below(uses, name), name)
         status = run_logged(name, [*([] if is_awaited else ["nice"]), "rt", "lib", "--jobs", str(jobs)], folder)
@@ -114,9 +116,9 @@ def prove(lines, uses, name, jobs, is_awaited):
     return status, time.monotonic() - start
 
 
-def prove_all(lines, uses):
-    """Proves the program's crates, longest chains first, and returns whether all passed."""
-    names = with_below(uses, PROGRAM)
+def prove_all(lines, uses, last):
+    """Proves a crate and those below it, longest chains first, and returns whether all passed."""
+    names = with_below(uses, last)
     behind = {name: size(name) for name in names}
     for name in reversed(names):
         for below in uses[name]:
@@ -144,7 +146,8 @@ def prove_all(lines, uses):
                     show_failure(name)
                 else:
                     proved.append(name)
-                    print(f"[{len(proved)}/{len(names)}] {name}: proved in {seconds:.0f} s", file=sys.stderr, flush=True)
+                    now = "; now " + ", ".join(it for it, _ in running.values()) if running else ""
+                    print(f"[{len(proved)}/{len(names)}] {name}: proved in {seconds:.0f} s{now}", file=sys.stderr, flush=True)
     return not has_failed
 
 
@@ -156,22 +159,26 @@ def show_failure(name):
 
 
 def main():
+    last = sys.argv[1] if len(sys.argv) > 1 else "heal_main"
+    if last not in BUILT:
+        print(f"prove.py: no such crate to build: {last}", file=sys.stderr)
+        return 1
     signal.signal(signal.SIGTERM, lambda *_: sys.exit(143))
     os.makedirs(f"{ROOT}/out", exist_ok=True)
     turn = os.open(f"{ROOT}/out", os.O_RDONLY)
     try:
         fcntl.flock(turn, fcntl.LOCK_EX | fcntl.LOCK_NB)
     except BlockingIOError:
-        print("heal: another ./heal --prove runs here", file=sys.stderr)
+        print("heal: another ./heal --prove or bindings/c/build.sh runs here", file=sys.stderr)
         return 125
     shutil.rmtree(COPIES, ignore_errors=True)
     os.makedirs(COPIES)
     start = time.time()
     try:
-        if not prove_all(*read_crates()):
+        if not prove_all(*read_crates(), last):
             return 125
         # An edit during the proofs is newer than their start.
-        os.utime(f"{ROOT}/crates/{PROGRAM}/out/{PROGRAM}", (start, start))
+        os.utime(f"{ROOT}/crates/{last}/out/{BUILT[last]}", (start, start))
         return 0
     finally:
         shutil.rmtree(COPIES, ignore_errors=True)

@@ -85,7 +85,8 @@ def run(words, lines, shown):
     ran = subprocess.run([HEAL, *words], capture_output=True)
     text = ran.stdout.decode("ascii", "replace")
     wrong = [line for line in text.splitlines() if not lines.fullmatch(line)]
-    if ran.returncode not in (0, 2, 3) or wrong or ran.stderr:
+    # Refusals alone are explained on standard error.
+    if ran.returncode not in (0, 2, 3) or wrong or (ran.returncode == 0 and ran.stderr):
         sys.exit(f"{words}: status {ran.returncode}, lines {wrong}, errors {ran.stderr}, of {shown!r}")
 
 

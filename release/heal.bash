@@ -1,0 +1,18 @@
+# Completion of heal for bash.
+_heal() {
+    local word=${COMP_WORDS[COMP_CWORD]} command=${COMP_WORDS[1]} before=${COMP_WORDS[COMP_CWORD - 1]}
+    if [ "$COMP_CWORD" -eq 1 ]; then
+        COMPREPLY=($(compgen -W "check judge asm dis run help --help --version" -- "$word"))
+        return
+    fi
+    case $command:$before in
+        check:--profile) COMPREPLY=($(compgen -W "1 2" -- "$word")) ;;
+        run:--workers) COMPREPLY=($(compgen -W "1 2 4 8 16" -- "$word")) ;;
+        check:*) COMPREPLY=($(compgen -W "--profile --explain --help" -- "$word")) ;;
+        run:*) COMPREPLY=($(compgen -W "--workers --explain --help" -- "$word") $(compgen -f -- "$word")) ;;
+        asm:*) COMPREPLY=($(compgen -W "--help" -- "$word") $(compgen -f -- "$word")) ;;
+        help:*) COMPREPLY=($(compgen -W "check judge asm dis run refusals" -- "$word")) ;;
+        *) COMPREPLY=($(compgen -W "--help" -- "$word")) ;;
+    esac
+}
+complete -o filenames -F _heal heal
