@@ -5,8 +5,8 @@ use crate::fault::Fault;
 use crate::sweep::{Call, sweep};
 use std::alloc::Global;
 
-/// How many names a side has before the call. A node of its table holds 11, so that a further name needs another node.
-const SIZES: [u16; 2] = [1, 11];
+/// How many names a side has before the call. A node of its table holds 15, so that a further name needs another node.
+const SIZES: [u16; 2] = [1, 15];
 
 /// A call's name, the step that makes it, and the steps before it.
 type Row = (&'static str, Step, &'static [Step]);

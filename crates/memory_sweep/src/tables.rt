@@ -13,7 +13,7 @@ use std::alloc::Global;
 use upload_store::UploadStore;
 
 /// The counts of names before the call: none, and the count at which the next name splits a node of the tree.
-const SIZES: [u16; 2] = [0, 11];
+const SIZES: [u16; 2] = [0, 15];
 
 // Whether the two stores have as many programs, and the same ones under these ids.
 fn is_same_store(one: &UploadStore, other: &UploadStore, ids: &[ProgramId]) -> bool {
@@ -156,7 +156,7 @@ pub(crate) fn sweep_tables(rt: &HostRuntime) -> Result<(), Fault> {
             ],
         )?;
     }
-    for names in [1, 12] {
+    for names in [1, 16] {
         sweep_kinds(
             rt,
             names,
