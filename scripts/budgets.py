@@ -2,8 +2,9 @@
 """budgets.py [--write]: compares the instructions that the program takes with those in bench/budgets.
 
 Counts, by callgrind, the instructions of `heal judge` for each resolver of resolvers/ on the record of crates/heal_main/args,
-and of `heal run` with one worker on a script in which 1,024 names clash. Fails if a count is more than 3 percent above its
-budget, and reports each that is as far below. --write writes the counts down. Needs the proved program and valgrind.
+of `heal run` with one worker on a script in which 1,024 names clash, and of each call of a side with 1,024 and 2,048 names
+(bindings/c/cost.c). Fails if a count is more than 3 percent above its budget, and reports each that is as far below. --write
+writes the counts down. Needs the proved program, libheal (HEAL_OUT names its folder), a C compiler and valgrind.
 """
 
 import glob
@@ -13,10 +14,15 @@ import subprocess
 import sys
 import tempfile
 
-TOP = os.path.join(os.path.dirname(os.path.abspath(__file__)), "..")
+TOP = os.path.dirname(os.path.dirname(os.path.abspath(__file__)))
+sys.path.insert(0, os.path.join(TOP, "bindings", "c"))
+import cost  # noqa: E402
+
+C = os.path.join(TOP, "bindings", "c")
 HEAL = os.path.join(TOP, "crates", "heal_main", "out", "heal_main")
 BUDGETS = os.path.join(TOP, "bench", "budgets")
 CLASHES = 1024
+NAMES = [1024, 2048]
 PART = 0.03
 
 
@@ -36,6 +42,15 @@ def script():
     return "\n".join(lines + ["heal 7"]) + "\n"
 
 
+def of_sides(work):
+    """The name and the count of each call of a side."""
+    program = os.path.join(work, "cost")
+    library = os.path.join(os.environ.get("HEAL_OUT", os.path.join(C, "out")), "libheal.a")
+    subprocess.run(["cc", "-std=c11", "-O1", f"-I{C}", os.path.join(C, "cost.c"), library, "-lpthread", "-o", program], check=True)
+    found = {names: cost.instructions(program, names, work) for names in NAMES}
+    return {f"{call} of {names} names": found[names][call] for names in NAMES for call in cost.CALLS}
+
+
 def counts():
     """The name and the count of each run, in the order of the file."""
     found = {}
@@ -50,6 +65,7 @@ def counts():
         with open(path, "w", encoding="utf-8") as file:
             file.write(script())
         found[f"run {CLASHES} clashes"] = instructions(work, "run", path, "--workers", "1")
+        found.update(of_sides(work))
     return found
 
 

@@ -9,9 +9,9 @@
  * HANDLES   A handle is one word. Start it with `{0}`, which is empty; pass it by its address; never copy it while both
  *           copies are used. A call that fills a handle frees what the handle held. The function ending in `_free` frees
  *           what it holds and leaves it empty; freeing an empty handle does nothing. Calls on an empty handle return 91.
- * EVENTS    A side counts events, at most 16 for each name that it may have: 65,536 by default. register, unregister, begin, hear, withdraw, close_list, hear_list, finish
- *           and abandon add one event each time they return 0, also for a repeated message; settle adds one for each clash
- *           that it judges; the other calls add none. So an exchange adds five events, and one for each clash, each name
+ * EVENTS    A side counts events, at most 16 for each name that it may have: 65,536 by default. register, unregister, begin,
+ *           hear, withdraw, close_list, hear_list, finish and abandon add one event each time they return 0, also for a
+ *           repeated message; settle adds one for each clash that it judges; the other calls add none. So an exchange adds five events, and one for each clash, each name
  *           that the side withdraws, and each repeated message: at most 8,197 without repeated ones. These calls return 40
  *           when the count is full. heal_side_renew starts a fresh count, but only while no exchange is open: call it
  *           before each heal_side_begin, and an exchange has room for 53,000 repeated messages. If the count is full while
@@ -19,6 +19,13 @@
  * THREADS   Calls that take a handle as `const` only read it: any number of them may run on one handle at the same time. A call
  *           that takes it without `const` must be the only one that runs on it. Calls on different handles may run in parallel.
  *           No call starts a thread, waits, or does input or output.
+ * COST      With n names in the table: register, unregister, whereis, withdraw, row_after and live_after take O(log n) time;
+ *           begin, finish, forget and code O(n), and also close_list in the withdrawn names; hear O(n) and the names of the
+ *           offer, and the time to verify its programs; hear_list O(log n) for each name of the list; settle runs the
+ *           resolver of each clash once; row, live, program and withdrawn count to their index; heal_program_load and upload
+ *           take at most quadratic time in the slots of the code, and judge one step for each instruction. A message that is
+ *           refused by its head (heal_side_hear) takes constant time, and so do the other calls. begin and finish copy no
+ *           table; a side holds about 250 bytes for each name, and 500 while an exchange is open.
  * YOU OWE   Valid pointers: each argument points to as many readable bytes (results: writable) as its comment states, and
  *           results don't overlap other arguments. A pointer with length 0 may be NULL. Every other pointer isn't NULL.
  *           A handle holds only what a call here has put there.
@@ -271,6 +278,10 @@ uint32_t heal_side_upload(heal_side *side, const uint8_t *code, size_t len, uint
    more. Returns 94 if a row names it, 41 if it isn't uploaded. Needs no memory. */
 uint32_t heal_side_forget(heal_side *side, const uint8_t id[32]);
 
+/* Puts the code of a program into `code`: of an uploaded one, or of one that a row of the side's table names, also if it came from
+   the other half. Returns 41 for an unknown program. */
+uint32_t heal_side_code(const heal_side *side, const uint8_t id[32], heal_bytes *code);
+
 /* Returns the id of uploaded program i, from 0, in the order of ids. Returns 92 for an index that is too big. */
 uint32_t heal_side_program(const heal_side *side, size_t i, uint8_t id[32]);
 
@@ -313,10 +324,12 @@ uint32_t heal_side_withdrawn(const heal_side *side, size_t i, heal_name *name);
 uint32_t heal_side_begin(heal_side *side, uint64_t number, uint64_t seed, uint64_t uptime, heal_bytes *offer);
 
 /* Hears the other side's offer: the bytes that its heal_side_begin returned. The same offer again changes nothing but the count of
-   events; another one of the other side and the open number is refused with 83. Rejects bytes that aren't an offer (70 to 82) before all else; then returns 34 if no exchange is open. For the
-   other side's first offer of the open number: 36 if the seeds differ, 37 if both tables have more names
-   together than the side may have, 40, 42 if the tables have two codes under one id. For any other offer: 40, 45 for another number, 46 for an
-   offer of the side itself. */
+   events. Refusals come in this order:
+   - by the first 25 bytes alone: 70, 71, 74 or 82 if they aren't the head of a message; then 34 if no exchange is open, and 40, 45
+     for another number or 46 for a message of the side itself;
+   - by all bytes: 70 to 82 if they aren't an offer;
+   - 83 for an offer that differs from the one that was heard; for the first one 36 if the seeds differ, 37 if both tables have more
+     names together than the side may have, 40, and 42 if the tables have two codes under one id. */
 uint32_t heal_side_hear(heal_side *side, const uint8_t *offer, size_t len);
 
 /* Judges every clash that has no ruling, at the word that the other half judges it at too. Returns 34, 39 if the other's
@@ -331,7 +344,8 @@ uint32_t heal_side_withdraw(heal_side *side, const uint8_t *name, size_t len);
 uint32_t heal_side_close_list(heal_side *side, heal_bytes *list);
 
 /* Hears the other side's list: the bytes that its heal_side_close_list returned. The same list again changes nothing but the count
-   of events; another one of the other side and the open number is refused with 83. Rejects bytes that aren't a list (70 to 82) before all else; then returns 34, 40, 45, 46. */
+   of events. Refuses the head as heal_side_hear does; then rejects bytes that aren't a list (70 to 82), and returns 83 for a list
+   that differs from the one that was heard, and 40. */
 uint32_t heal_side_hear_list(heal_side *side, const uint8_t *list, size_t len);
 
 /* Replaces the table by the merge, closes the exchange, and puts its outcome into `outcome`. Returns 34, 39 if a part is

@@ -378,7 +378,14 @@ static void check_no_room(void)
     discard(sent, 2);
 }
 
-/* The bytes come first, then 34. 36, 37 and 42 are for the other side's first offer of the open number alone. */
+/* The first bytes of a message, so that it is refused by its head or, if that is fine, for its end. */
+static struct message cut(struct message sent)
+{
+    return (struct message){sent.bytes, 30 < sent.len ? 30 : sent.len - 1};
+}
+
+/* The head comes first, then 34, 45 and 46, then all bytes. 36, 37 and 42 are for the other side's first offer of the open number
+   alone. */
 static void check_order_of_hear(void)
 {
     enum { VALID, SEED_AND_SIZE, SIZE, NUMBER, NUMBER_AND_OWN, OWN, KINDS };
@@ -393,9 +400,14 @@ static void check_order_of_hear(void)
     };
 
     RETURNS(70, heal_side_hear(&side, NULL, 0));
+    RETURNS(70, heal_side_hear(&side, sent[VALID].bytes, 24));
     RETURNS(34, hear(&side, sent[VALID]));
+    RETURNS(34, hear(&side, cut(sent[VALID])));
     free(begun(&side, 1, 0).bytes);
     RETURNS(70, heal_side_hear(&side, NULL, 0));
+    RETURNS(70, hear(&side, cut(sent[VALID])));
+    RETURNS(45, hear(&side, cut(sent[NUMBER])));
+    RETURNS(46, hear(&side, cut(sent[OWN])));
     RETURNS(45, hear(&side, sent[NUMBER]));
     RETURNS(45, hear(&side, sent[NUMBER_AND_OWN]));
     RETURNS(46, hear(&side, sent[OWN]));
@@ -409,7 +421,7 @@ static void check_order_of_hear(void)
     discard(sent, KINDS);
 }
 
-/* The bytes come first, then 34, 45 and 46. The list may come before the offer. */
+/* The head comes first, then 34, 45 and 46, then all bytes. The list may come before the offer. */
 static void check_order_of_hear_list(void)
 {
     enum { VALID, NUMBER, NUMBER_AND_OWN, OWN, KINDS };
@@ -423,8 +435,12 @@ static void check_order_of_hear_list(void)
 
     RETURNS(70, heal_side_hear_list(&side, NULL, 0));
     RETURNS(34, hear_list(&side, sent[VALID]));
+    RETURNS(34, hear_list(&side, cut(sent[VALID])));
     free(begun(&side, 1, 0).bytes);
     RETURNS(70, heal_side_hear_list(&side, NULL, 0));
+    RETURNS(70, hear_list(&side, cut(sent[VALID])));
+    RETURNS(45, hear_list(&side, cut(sent[NUMBER])));
+    RETURNS(46, hear_list(&side, cut(sent[OWN])));
     RETURNS(45, hear_list(&side, sent[NUMBER]));
     RETURNS(45, hear_list(&side, sent[NUMBER_AND_OWN]));
     RETURNS(46, hear_list(&side, sent[OWN]));
@@ -461,15 +477,13 @@ static void check_second_messages(void)
     discard(sent, 4);
 }
 
-/* Side A withdraws `db` or not, and both heal at word 0, at which `exit` keeps the first. */
-static void heal(heal_side side[2], heal_outcome outcome[2], bool withdraws)
+/* Both heal at word 0. Side A withdraws `db` or not. */
+static void exchange(heal_side side[2], heal_outcome outcome[2], bool withdraws)
 {
     struct message offer[2], list[2];
 
-    for (int i = 0; i < 2; i++) {
-        side[i] = side_with_db(i == 1);
+    for (int i = 0; i < 2; i++)
         offer[i] = begun(&side[i], 1, 0);
-    }
     for (int i = 0; i < 2; i++) {
         RETURNS(0, hear(&side[i], offer[1 - i]));
         RETURNS(0, heal_side_settle(&side[i]));
@@ -484,6 +498,14 @@ static void heal(heal_side side[2], heal_outcome outcome[2], bool withdraws)
     }
     discard(offer, 2);
     discard(list, 2);
+}
+
+/* Both have `db`, and heal at word 0, at which `exit` keeps the first. */
+static void heal(heal_side side[2], heal_outcome outcome[2], bool withdraws)
+{
+    for (int i = 0; i < 2; i++)
+        side[i] = side_with_db(i == 1);
+    exchange(side, outcome, withdraws);
 }
 
 /* A withdrawn registration takes part in its clash. If it wins, nobody keeps the name, and the outcome has no notice. */
@@ -616,6 +638,40 @@ static void check_forget(void)
     RETURNS(91, heal_side_forget(&none, id));
     RETURNS(91, heal_side_program(&none, 0, id));
     heal_side_free(&side);
+}
+
+/* The code of a program can be read back: of an uploaded one, and of one that came with the other half's registration. */
+static void check_code(void)
+{
+    static const uint8_t code[] = {0xb7, 0, 0, 0, 1, 0, 0, 0, 0x95, 0, 0, 0, 0, 0, 0, 0};
+    heal_side side[2] = {side_with_db(false), {0}}, none = {0};
+    heal_outcome outcome[2] = {{0}, {0}};
+    heal_registration registration = {.owner = {2, 7}, .resolver = HEAL_PROGRAM};
+    heal_bytes read = {0};
+    uint8_t id[HEAL_ID_LEN], bytes[sizeof code];
+    uint32_t slot;
+
+    RETURNS(0, heal_side_new(HEAL_B, &side[1]));
+    RETURNS(0, heal_side_upload(&side[1], code, sizeof code, id, &slot));
+    memcpy(registration.program, id, sizeof id);
+    RETURNS(0, heal_side_register(&side[1], text("coin"), 4, &registration));
+    RETURNS(41, heal_side_code(&side[0], id, &read));
+    RETURNS(91, heal_bytes_copy(&read, bytes, sizeof bytes));
+    exchange(side, outcome, false);
+    for (int i = 0; i < 2; i++) {
+        memset(bytes, 0, sizeof bytes);
+        RETURNS(0, heal_side_code(&side[i], id, &read));
+        RETURNS(0, heal_bytes_copy(&read, bytes, sizeof bytes));
+        REQUIRE(memcmp(bytes, code, sizeof code) == 0);
+        RETURNS(0, heal_side_unregister(&side[i], text("coin"), 4));
+        RETURNS(i == 0 ? 41 : 0, heal_side_code(&side[i], id, &read));
+    }
+    RETURNS(91, heal_side_code(&none, id, &read));
+    heal_bytes_free(&read);
+    for (int i = 0; i < 2; i++) {
+        heal_side_free(&side[i]);
+        heal_outcome_free(&outcome[i]);
+    }
 }
 
 /* What the exchange lacks at each step, and what else the side knows. */
@@ -775,6 +831,7 @@ int main(void)
     check_withdrawn_names();
     check_faults();
     check_forget();
+    check_code();
     check_state();
     check_heads();
     check_events();

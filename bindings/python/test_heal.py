@@ -299,6 +299,8 @@ class Sides(unittest.TestCase):
         with Side("a") as side:
             later, none = side.upload(LATER_STAMP), bytes(32)
             self.assertEqual(side.programs, [later])
+            self.assertEqual(side.code(later), bytes(LATER_STAMP))
+            self.refused(41, side.code, none)
             side.register("db", Registration(Owner(1, 1), resolver=later))
             self.refused(94, side.forget, later)
             self.refused(41, side.forget, none)

@@ -4,10 +4,10 @@
  * Programs, sides and outcomes are resources: the garbage collector frees them. Calls whose time grows with a table, a message
  * or a program run on dirty schedulers.
  *
- * Programs and outcomes never change, so any number of processes read them at the same time, without a lock. Calls on one side
- * take turns, since a call that changes it must be the only one. A call that finds the side taken returns `busy` at once, and
+ * Programs and outcomes never change, so any number of processes read them at the same time, without a lock. So they read a side,
+ * until a call that changes it waits: that must be the only one. A call that finds the side taken returns `busy` at once, and
  * the module heal makes it again a moment later: the process waits, and no scheduler does. The first process that finds a side
- * taken has the next turn, so a process that calls again and again can't keep the others away. The turn is lost after a while,
+ * taken has the next turn, so processes that call again and again can't keep the others away. The turn is lost after a while,
  * in case its process is dead.
  */
 #include <erl_nif.h>
@@ -28,8 +28,9 @@ enum { TURN = 50 };
 
 /* A resource: whose turn it is, if it is a side, and one handle. All handles of libheal are one word. */
 typedef struct {
-    ErlNifMutex *lock; /* of the next three fields; held for a few instructions only */
-    bool taken;
+    ErlNifMutex *lock; /* of the next four fields; held for a few instructions only */
+    bool taken;        /* by a call that changes it */
+    unsigned readers;
     ErlNifPid next;
     ErlNifTime next_until;
     union {
@@ -44,7 +45,8 @@ static ErlNifResourceType *program_type, *side_type, *outcome_type;
 #define ATOMS(X) \
     X(ok) X(error) X(a) X(b) X(owner) X(stamp) X(weight) X(extra) X(resolver) X(exit) X(notify) X(notify_all) \
     X(program) X(size) X(uptime) X(name) X(first) X(second) X(neither) X(word) X(verdict) X(keeps) X(first_half) X(notices) \
-    X(conflict) X(conflict_with) X(busy)
+    X(conflict) X(conflict_with) X(busy) X(side) X(open) X(latest) X(missing) X(withdrawn) X(none) X(nothing) X(offer) \
+    X(ruling) X(own_list) X(list) X(kind) X(number) X(seed)
 
 #define DECLARE(NAME) static term atom_##NAME;
 ATOMS(DECLARE)
@@ -155,18 +157,19 @@ static void free_outcome(ErlNifEnv *env, void *held)
 
 typedef term body(ErlNifEnv *env, resource *held, const term argv[]);
 
-/* Takes the resource unless a call runs on it or another process has the next turn. If not, the caller gets the next turn,
-   unless another process has it. */
-static bool enter(ErlNifEnv *env, resource *held)
+/* Takes the resource, alone or with other readers, unless another process has the next turn or a call runs on it that excludes
+   this one. If not, the caller gets the next turn, unless another process has it. */
+static bool enter(ErlNifEnv *env, resource *held, bool reads)
 {
     ErlNifPid self;
     enif_self(env, &self);
     ErlNifTime now = enif_monotonic_time(ERL_NIF_MSEC);
     enif_mutex_lock(held->lock);
     bool may = now >= held->next_until || enif_compare_pids(&held->next, &self) == 0;
-    bool enters = may && !held->taken;
+    bool enters = may && !held->taken && (reads || held->readers == 0);
     if (enters) {
-        held->taken = true;
+        held->taken = !reads;
+        held->readers += reads;
         held->next_until = now;
     } else if (may) {
         held->next = self;
@@ -176,23 +179,24 @@ static bool enter(ErlNifEnv *env, resource *held)
     return enters;
 }
 
-static void leave(resource *held)
+static void leave(resource *held, bool reads)
 {
     enif_mutex_lock(held->lock);
     held->taken = false;
+    held->readers -= reads;
     enif_mutex_unlock(held->lock);
 }
 
-/* Runs a call on its first argument, or returns `busy`. */
-static term in_turn(ErlNifEnv *env, const term argv[], ErlNifResourceType *type, body *run)
+/* Runs a call on a side, its first argument, or returns `busy`. */
+static term in_turn(ErlNifEnv *env, const term argv[], bool reads, body *run)
 {
     resource *held;
-    if (!enif_get_resource(env, argv[0], type, (void **)&held))
+    if (!enif_get_resource(env, argv[0], side_type, (void **)&held))
         return enif_make_badarg(env);
-    if (!enter(env, held))
+    if (!enter(env, held, reads))
         return atom_busy;
     term result = run(env, held, argv);
-    leave(held);
+    leave(held, reads);
     return result;
 }
 
@@ -213,12 +217,20 @@ static term reading(ErlNifEnv *env, const term argv[], ErlNifResourceType *type,
         return reading(env, argv, TYPE, NAME##_body); \
     }
 
-/* Defines the NIF `NAME`, whose first argument is a side, from `NAME_body`. */
-#define IN_TURN(NAME, TYPE) \
+/* Defines the NIF `NAME`, which changes the side that is its first argument, from `NAME_body`. */
+#define IN_TURN(NAME) \
     static term NAME(ErlNifEnv *env, int argc, const term argv[]) \
     { \
         (void)argc; \
-        return in_turn(env, argv, TYPE, NAME##_body); \
+        return in_turn(env, argv, false, NAME##_body); \
+    }
+
+/* The same for one that only reads the side. */
+#define WITH_READERS(NAME) \
+    static term NAME(ErlNifEnv *env, int argc, const term argv[]) \
+    { \
+        (void)argc; \
+        return in_turn(env, argv, true, NAME##_body); \
     }
 
 /* ---- Arguments ---- */
@@ -442,14 +454,15 @@ static term refusal_words(ErlNifEnv *env, int argc, const term argv[])
 
 static term side(ErlNifEnv *env, int argc, const term argv[])
 {
+    uint64_t names;
     (void)argc;
     bool second = enif_is_identical(argv[0], atom_b);
-    if (!second && !enif_is_identical(argv[0], atom_a))
+    if ((!second && !enif_is_identical(argv[0], atom_a)) || !get_u64(env, argv[1], &names))
         return enif_make_badarg(env);
     resource *made = new_resource(side_type);
     if (made == NULL)
         return refused(env, OUT_OF_MEMORY);
-    return handed(env, heal_side_new(second ? HEAL_B : HEAL_A, &made->handle.side), 0, made);
+    return handed(env, heal_side_new_within(second ? HEAL_B : HEAL_A, names, &made->handle.side), 0, made);
 }
 
 static term upload_body(ErlNifEnv *env, resource *held, const term argv[])
@@ -462,7 +475,40 @@ static term upload_body(ErlNifEnv *env, resource *held, const term argv[])
     uint32_t number = heal_side_upload(&held->handle.side, code.data, code.size, id, &slot);
     return number == 0 ? ok(env, copy_of(env, id, ID_LEN)) : refused_at(env, number, slot);
 }
-IN_TURN(upload, side_type)
+IN_TURN(upload)
+
+static term forget_body(ErlNifEnv *env, resource *held, const term argv[])
+{
+    ErlNifBinary id;
+    if (!get_bytes(env, argv[1], &id) || id.size != ID_LEN)
+        return enif_make_badarg(env);
+    return done(env, heal_side_forget(&held->handle.side, id.data));
+}
+IN_TURN(forget)
+
+static term programs_body(ErlNifEnv *env, resource *held, const term argv[])
+{
+    uint8_t id[ID_LEN];
+    term reversed = enif_make_list(env, 0), programs;
+    uint32_t number;
+    (void)argv;
+    for (size_t i = 0; (number = heal_side_program(&held->handle.side, i, id)) == 0; i++)
+        reversed = enif_make_list_cell(env, copy_of(env, id, ID_LEN), reversed);
+    if (number != HEAL_NO_ROW || !enif_make_reverse_list(env, reversed, &programs))
+        return refused(env, number);
+    return ok(env, programs);
+}
+WITH_READERS(programs)
+
+static term code_body(ErlNifEnv *env, resource *held, const term argv[])
+{
+    ErlNifBinary id;
+    heal_bytes code = {0};
+    if (!get_bytes(env, argv[1], &id) || id.size != ID_LEN)
+        return enif_make_badarg(env);
+    return message(env, heal_side_code(&held->handle.side, id.data, &code), &code);
+}
+WITH_READERS(code)
 
 static term register_name_body(ErlNifEnv *env, resource *held, const term argv[])
 {
@@ -472,7 +518,7 @@ static term register_name_body(ErlNifEnv *env, resource *held, const term argv[]
         return enif_make_badarg(env);
     return done(env, heal_side_register(&held->handle.side, name.data, name.size, &registration));
 }
-IN_TURN(register_name, side_type)
+IN_TURN(register_name)
 
 static term unregister_name_body(ErlNifEnv *env, resource *held, const term argv[])
 {
@@ -481,7 +527,7 @@ static term unregister_name_body(ErlNifEnv *env, resource *held, const term argv
         return enif_make_badarg(env);
     return done(env, heal_side_unregister(&held->handle.side, name.data, name.size));
 }
-IN_TURN(unregister_name, side_type)
+IN_TURN(unregister_name)
 
 static term whereis_name_body(ErlNifEnv *env, resource *held, const term argv[])
 {
@@ -492,7 +538,7 @@ static term whereis_name_body(ErlNifEnv *env, resource *held, const term argv[])
     uint32_t number = heal_side_whereis(&held->handle.side, name.data, name.size, &found);
     return number == 0 ? ok(env, registration_term(env, &found)) : refused(env, number);
 }
-IN_TURN(whereis_name, side_type)
+WITH_READERS(whereis_name)
 
 static term count_body(ErlNifEnv *env, resource *held, const term argv[])
 {
@@ -501,7 +547,7 @@ static term count_body(ErlNifEnv *env, resource *held, const term argv[])
     uint32_t number = heal_side_count(&held->handle.side, &count);
     return number == 0 ? ok(env, enif_make_uint64(env, count)) : refused(env, number);
 }
-IN_TURN(count, side_type)
+WITH_READERS(count)
 
 static term rows_body(ErlNifEnv *env, resource *held, const term argv[])
 {
@@ -518,7 +564,7 @@ static term rows_body(ErlNifEnv *env, resource *held, const term argv[])
         return refused(env, number);
     return ok(env, rows);
 }
-IN_TURN(rows, side_type)
+WITH_READERS(rows)
 
 /* Looks many names up in one call. */
 static term owners_body(ErlNifEnv *env, resource *held, const term argv[])
@@ -537,7 +583,7 @@ static term owners_body(ErlNifEnv *env, resource *held, const term argv[])
     }
     return enif_is_empty_list(env, rest) ? ok(env, owners) : enif_make_badarg(env);
 }
-IN_TURN(owners, side_type)
+WITH_READERS(owners)
 
 static term begin_body(ErlNifEnv *env, resource *held, const term argv[])
 {
@@ -547,7 +593,7 @@ static term begin_body(ErlNifEnv *env, resource *held, const term argv[])
         return enif_make_badarg(env);
     return message(env, heal_side_begin(&held->handle.side, number, seed, uptime, &offer), &offer);
 }
-IN_TURN(begin, side_type)
+IN_TURN(begin)
 
 static term hear_body(ErlNifEnv *env, resource *held, const term argv[])
 {
@@ -556,14 +602,14 @@ static term hear_body(ErlNifEnv *env, resource *held, const term argv[])
         return enif_make_badarg(env);
     return done(env, heal_side_hear(&held->handle.side, offer.data, offer.size));
 }
-IN_TURN(hear, side_type)
+IN_TURN(hear)
 
 static term settle_body(ErlNifEnv *env, resource *held, const term argv[])
 {
     (void)argv;
     return done(env, heal_side_settle(&held->handle.side));
 }
-IN_TURN(settle, side_type)
+IN_TURN(settle)
 
 static term withdraw_body(ErlNifEnv *env, resource *held, const term argv[])
 {
@@ -572,7 +618,7 @@ static term withdraw_body(ErlNifEnv *env, resource *held, const term argv[])
         return enif_make_badarg(env);
     return done(env, heal_side_withdraw(&held->handle.side, name.data, name.size));
 }
-IN_TURN(withdraw, side_type)
+IN_TURN(withdraw)
 
 static term close_list_body(ErlNifEnv *env, resource *held, const term argv[])
 {
@@ -580,7 +626,7 @@ static term close_list_body(ErlNifEnv *env, resource *held, const term argv[])
     (void)argv;
     return message(env, heal_side_close_list(&held->handle.side, &list), &list);
 }
-IN_TURN(close_list, side_type)
+IN_TURN(close_list)
 
 static term hear_list_body(ErlNifEnv *env, resource *held, const term argv[])
 {
@@ -589,7 +635,7 @@ static term hear_list_body(ErlNifEnv *env, resource *held, const term argv[])
         return enif_make_badarg(env);
     return done(env, heal_side_hear_list(&held->handle.side, list.data, list.size));
 }
-IN_TURN(hear_list, side_type)
+IN_TURN(hear_list)
 
 static term finish_body(ErlNifEnv *env, resource *held, const term argv[])
 {
@@ -599,14 +645,14 @@ static term finish_body(ErlNifEnv *env, resource *held, const term argv[])
         return refused(env, OUT_OF_MEMORY);
     return handed(env, heal_side_finish(&held->handle.side, &made->handle.outcome), 0, made);
 }
-IN_TURN(finish, side_type)
+IN_TURN(finish)
 
 static term abandon_body(ErlNifEnv *env, resource *held, const term argv[])
 {
     (void)argv;
     return done(env, heal_side_abandon(&held->handle.side));
 }
-IN_TURN(abandon, side_type)
+IN_TURN(abandon)
 
 static term events_body(ErlNifEnv *env, resource *held, const term argv[])
 {
@@ -615,23 +661,96 @@ static term events_body(ErlNifEnv *env, resource *held, const term argv[])
     uint32_t number = heal_side_events(&held->handle.side, &events);
     return number == 0 ? ok(env, enif_make_uint64(env, events)) : refused(env, number);
 }
-IN_TURN(events, side_type)
+WITH_READERS(events)
+
+/* The withdrawn names, the earliest first. */
+static uint32_t withdrawn_names(ErlNifEnv *env, const heal_side *side, term *names)
+{
+    heal_name name;
+    term reversed = enif_make_list(env, 0);
+    uint32_t number;
+    for (size_t i = 0; (number = heal_side_withdrawn(side, i, &name)) == 0; i++)
+        reversed = enif_make_list_cell(env, name_term(env, &name), reversed);
+    return number == HEAL_NO_ROW && enif_make_reverse_list(env, reversed, names) ? 0 : number;
+}
+
+static term missing_term(ErlNifEnv *env, const heal_side_state *state)
+{
+    switch (state->missing) {
+    case HEAL_LACKS_OFFER:
+        return atom_offer;
+    case HEAL_LACKS_RULING:
+        return enif_make_tuple2(env, atom_ruling, enif_make_uint64(env, state->missing_clash));
+    case HEAL_LACKS_OWN_LIST:
+        return atom_own_list;
+    case HEAL_LACKS_LIST:
+        return atom_list;
+    default:
+        return atom_nothing;
+    }
+}
+
+static term query_body(ErlNifEnv *env, resource *held, const term argv[])
+{
+    heal_side_state state;
+    term names;
+    (void)argv;
+    uint32_t number = heal_side_query(&held->handle.side, &state);
+    if (number == 0)
+        number = withdrawn_names(env, &held->handle.side, &names);
+    if (number != 0)
+        return refused(env, number);
+    term keys[] = {atom_side, atom_open, atom_latest, atom_missing, atom_withdrawn};
+    term values[] = {state.side == HEAL_A ? atom_a : atom_b,
+        state.is_open ? enif_make_uint64(env, state.number) : atom_none,
+        state.has_begun ? enif_make_uint64(env, state.latest) : atom_none,
+        state.is_open ? missing_term(env, &state) : atom_none, names};
+    return ok(env, map_of(env, keys, values, sizeof keys / sizeof *keys));
+}
+WITH_READERS(query)
 
 static term renew_body(ErlNifEnv *env, resource *held, const term argv[])
 {
     (void)argv;
     return done(env, heal_side_renew(&held->handle.side));
 }
-IN_TURN(renew, side_type)
+IN_TURN(renew)
 
 static term give_up_body(ErlNifEnv *env, resource *held, const term argv[])
 {
     (void)argv;
     return done(env, heal_side_give_up(&held->handle.side));
 }
-IN_TURN(give_up, side_type)
+IN_TURN(give_up)
+
+/* ---- Messages ---- */
+
+static term peek(ErlNifEnv *env, int argc, const term argv[])
+{
+    ErlNifBinary bytes;
+    heal_head head;
+    (void)argc;
+    if (!get_bytes(env, argv[0], &bytes))
+        return enif_make_badarg(env);
+    uint32_t number = heal_message_peek(bytes.data, bytes.size, &head);
+    if (number != 0)
+        return refused(env, number);
+    term keys[] = {atom_kind, atom_side, atom_number, atom_seed};
+    term values[] = {head.kind == HEAL_OFFER ? atom_offer : atom_list, head.side == HEAL_A ? atom_a : atom_b,
+        enif_make_uint64(env, head.number), head.kind == HEAL_OFFER ? enif_make_uint64(env, head.seed) : atom_none};
+    return ok(env, map_of(env, keys, values, sizeof keys / sizeof *keys));
+}
 
 /* ---- Outcomes ---- */
+
+static term outcome_number_body(ErlNifEnv *env, resource *held, const term argv[])
+{
+    uint64_t of_exchange = 0;
+    (void)argv;
+    uint32_t number = heal_outcome_number(&held->handle.outcome, &of_exchange);
+    return number == 0 ? ok(env, enif_make_uint64(env, of_exchange)) : refused(env, number);
+}
+READING(outcome_number, outcome_type)
 
 static term merged_body(ErlNifEnv *env, resource *held, const term argv[])
 {
@@ -720,7 +839,12 @@ static ErlNifFunc functions[] = {
     {"program_id", 1, program_id, DIRTY},
     {"record", 6, record, 0},
     {"refusal_words", 1, refusal_words, 0},
-    {"side", 1, side, 0},
+    {"side", 2, side, 0},
+    {"peek", 1, peek, 0},
+    {"forget_in_turn", 2, forget, DIRTY},
+    {"programs_in_turn", 1, programs, DIRTY},
+    {"code_in_turn", 2, code, DIRTY},
+    {"query_in_turn", 1, query, DIRTY},
     {"upload_in_turn", 2, upload, DIRTY},
     {"register_in_turn", 3, register_name, 0},
     {"unregister_in_turn", 2, unregister_name, 0},
@@ -739,6 +863,7 @@ static ErlNifFunc functions[] = {
     {"events_in_turn", 1, events, 0},
     {"renew_in_turn", 1, renew, DIRTY},
     {"give_up_in_turn", 1, give_up, DIRTY},
+    {"number", 1, outcome_number, 0},
     {"merged", 1, merged, 0},
     {"clashes", 1, clashes, DIRTY},
 };

@@ -1,8 +1,9 @@
 %% @doc The calls of libheal: programs, sides of exchanges, and their outcomes.
 %%
-%% A program, a side and an outcome are references that the garbage collector frees. Every process may use them. Calls on one
-%% side take turns; any number of processes read a program or an outcome at the same time. A call returns what its type shows, or `{error, {Number, Words}}' with the number of a
-%% refusal and its words; docs/REFUSALS.md lists them. A refused call changes nothing. A term of another type is a `badarg'.
+%% A program, a side and an outcome are references that the garbage collector frees. Every process may use them. Any number of
+%% processes read one at the same time; a call that changes a side waits until the others have ended. A call returns what its type
+%% shows, or `{error, {Number, Words}}' with the number of a refusal and its words; docs/REFUSALS.md lists them. A refused call
+%% changes nothing. A term of another type is a `badarg'.
 %%
 %% Two halves that meet carry out an exchange. One is side `a', the other side `b':
 %%
@@ -14,16 +15,20 @@
 %% {@link abandon/1} ends an exchange without a merge, and {@link give_up/1} does so on any side.
 -module(heal).
 
--export([load/1, judge/2, program_id/1, record/6, refusal_words/1]).
--export([side/1, upload/2, register/3, unregister/2, whereis/2, count/1, rows/1, owners/2, events/1, renew/1, give_up/1]).
+-export([load/1, judge/2, program_id/1, record/6, refusal_words/1, peek/1]).
+-export([side/1, side/2, upload/2, forget/2, programs/1, code/2, register/3, unregister/2, whereis/2, count/1, rows/1, owners/2]).
+-export([query/1, events/1, renew/1, give_up/1]).
 -export([begin_exchange/4, hear/2, settle/1, withdraw/2, close_list/1, hear_list/2, finish/1, abandon/1]).
--export([merged/1, clashes/1]).
+-export([number/1, merged/1, clashes/1]).
 -export([serials/0]).
--export_type([program/0, side/0, outcome/0, name/0, owner/0, resolver/0, registration/0, facts/0, clash/0, notice/0, refusal/0]).
+-export_type([program/0, side/0, outcome/0, name/0, owner/0, resolver/0, registration/0, facts/0, clash/0, notice/0]).
+-export_type([state/0, head/0, refusal/0]).
 
 -on_load(init/0).
 
 -define(SERIALS, {?MODULE, serials}).
+%% How many names a side may have by default.
+-define(NAMES, 4096).
 %% A short call of another process ends while this one yields a few times.
 -define(YIELDS, 4).
 
@@ -53,6 +58,16 @@
     notices := [notice()]
 }.
 %% `keeps' is the verdict, or `neither' if the winner was withdrawn; then there are no notices. `first_half' registered `first'.
+-type state() :: #{
+    side := a | b,
+    open := word() | none,
+    latest := word() | none,
+    missing := offer | {ruling, Clash :: non_neg_integer()} | own_list | list | nothing | none,
+    withdrawn := [name()]
+}.
+%% `open' is the number of the open exchange, and `missing' the first thing that it lacks; `latest' is the greatest number begun.
+-type head() :: #{kind := offer | list, side := a | b, number := word(), seed := word() | none}.
+%% `seed' is that of an offer.
 -type refusal() :: {Number :: pos_integer(), Words :: binary()}.
 -type result() :: ok | {error, refusal()}.
 -type result(Value) :: {ok, Value} | {error, refusal()}.
@@ -92,13 +107,33 @@ record(_Name, _First, _Second, _Word, _OfFirst, _OfSecond) -> missing().
 -spec refusal_words(Number :: 0..16#ffffffff) -> binary().
 refusal_words(_Number) -> missing().
 
-%% @doc Creates an idle side without names.
+%% @doc Reads the first bytes of a message, and nothing else: its kind, its sender and its number.
+-spec peek(Message :: binary()) -> result(head()).
+peek(_Message) -> missing().
+
+%% @doc Creates an idle side without names, which may have 4,096.
 -spec side(a | b) -> result(side()).
-side(_Id) -> missing().
+side(Id) -> side(Id, ?NAMES).
+
+%% @doc Creates an idle side without names, which may have `Names', from 1 to 1,048,576.
+-spec side(a | b, Names :: word()) -> result(side()).
+side(_Id, _Names) -> missing().
 
 %% @doc Verifies a program, keeps it for registrations of this side, and returns its id.
 -spec upload(side(), Code :: binary()) -> result(id()).
 upload(Side, Code) -> turn(fun() -> upload_in_turn(Side, Code) end).
+
+%% @doc Forgets an uploaded program that no row names.
+-spec forget(side(), id()) -> result().
+forget(Side, Id) -> turn(fun() -> forget_in_turn(Side, Id) end).
+
+%% @doc Returns the ids of the uploaded programs, in order.
+-spec programs(side()) -> result([id()]).
+programs(Side) -> turn(fun() -> programs_in_turn(Side) end).
+
+%% @doc Returns the code of an uploaded program, or of one that a row names.
+-spec code(side(), id()) -> result(Code :: binary()).
+code(Side, Id) -> turn(fun() -> code_in_turn(Side, Id) end).
 
 %% @doc Registers a name on an idle side.
 -spec register(side(), name(), registration()) -> result().
@@ -116,7 +151,7 @@ whereis(Side, Name) -> turn(fun() -> whereis_in_turn(Side, Name) end).
 -spec count(side()) -> result(non_neg_integer()).
 count(Side) -> turn(fun() -> count_in_turn(Side) end).
 
-%% @doc Returns the side's table in the order of names. Its time grows with the square of the number of names, so far.
+%% @doc Returns the side's table in the order of names.
 -spec rows(side()) -> result([{name(), registration()}]).
 rows(Side) -> turn(fun() -> rows_in_turn(Side) end).
 
@@ -156,7 +191,11 @@ finish(Side) -> turn(fun() -> finish_in_turn(Side) end).
 -spec abandon(side()) -> result().
 abandon(Side) -> turn(fun() -> abandon_in_turn(Side) end).
 
-%% @doc Returns the number of events in the side's journal, at most 65,536.
+%% @doc Returns what the side knows of its exchange.
+-spec query(side()) -> result(state()).
+query(Side) -> turn(fun() -> query_in_turn(Side) end).
+
+%% @doc Returns the number of events in the side's journal, at most 16 for each name that it may have.
 -spec events(side()) -> result(non_neg_integer()).
 events(Side) -> turn(fun() -> events_in_turn(Side) end).
 
@@ -167,6 +206,10 @@ renew(Side) -> turn(fun() -> renew_in_turn(Side) end).
 %% @doc Closes the open exchange as {@link abandon/1} does, if there is one, and starts a fresh journal, also of a full side.
 -spec give_up(side()) -> result().
 give_up(Side) -> turn(fun() -> give_up_in_turn(Side) end).
+
+%% @doc Returns the number of the exchange.
+-spec number(outcome()) -> result(word()).
+number(_Outcome) -> missing().
 
 %% @doc Returns the number of names in the merged table.
 -spec merged(outcome()) -> result(non_neg_integer()).
@@ -195,6 +238,10 @@ turn(Call, Yields) ->
 
 %% The functions of the NIF that return `busy' while another call runs on their first argument.
 upload_in_turn(_Side, _Code) -> missing().
+forget_in_turn(_Side, _Id) -> missing().
+programs_in_turn(_Side) -> missing().
+code_in_turn(_Side, _Id) -> missing().
+query_in_turn(_Side) -> missing().
 register_in_turn(_Side, _Name, _Registration) -> missing().
 unregister_in_turn(_Side, _Name) -> missing().
 whereis_in_turn(_Side, _Name) -> missing().

@@ -198,18 +198,20 @@ readers_share_test_() ->
         [receive read -> ok end || _ <- lists:seq(1, 8)]
     end}.
 
-%% A side with this many names, whose rows take long to read.
+%% A side with this many names.
 big_side(Count) ->
     side(a, [{integer_to_binary(N), registration(1, N, 1, exit)} || N <- lists:seq(1, Count)]).
 
-%% Calls that wait for a side occupy no scheduler: a call on another side is served before them.
+%% Calls that wait to change a side occupy no scheduler: a call on another side is served before them.
 waiting_calls_test_() ->
     {timeout, 240, fun() ->
         Side = big_side(4000),
         Other = side(b, []),
         Self = self(),
         Calls = 10 * erlang:system_info(dirty_cpu_schedulers_online),
-        [spawn_link(fun() -> {ok, _} = heal:rows(Side), Self ! done end) || _ <- lists:seq(1, Calls)],
+        %% Each looks at every row.
+        Forget = fun() -> {error, {41, _}} = heal:forget(Side, <<0:256>>), Self ! done end,
+        [spawn_link(Forget) || _ <- lists:seq(1, Calls)],
         receive done -> ok end,
         ?assertEqual({ok, []}, heal:rows(Other)),
         {message_queue_len, Done} = process_info(self(), message_queue_len),
@@ -217,7 +219,7 @@ waiting_calls_test_() ->
         [receive done -> ok end || _ <- lists:seq(2, Calls)]
     end}.
 
-%% Processes that call again and again leave each other one a turn, after at most a few rounds of theirs.
+%% Processes that read a side again and again leave one that changes it a turn, after at most a few rounds of theirs.
 turns_test_() ->
     {timeout, 240, fun() ->
         Side = big_side(4000),
@@ -227,7 +229,7 @@ turns_test_() ->
         [begin
              Before = counters:get(Rounds, 1),
              heal_cluster:eventually(fun() -> counters:get(Rounds, 1) > Before end),
-             ?assertEqual({ok, 4000}, heal:count(Side)),
+             ?assertEqual(ok, heal:renew(Side)),
              ?assert(counters:get(Rounds, 1) - Before < 50)
          end || _ <- lists:seq(1, 10)],
         [begin Pid ! stop, receive {stopped, Pid} -> ok end end || Pid <- Busy]
@@ -246,9 +248,10 @@ read_rows(Side, Rounds, From) ->
 dead_caller_test() ->
     Side = big_side(4000),
     [begin
-         Callers = [spawn(fun() -> heal:rows(Side) end) || _ <- lists:seq(1, 4)],
+         Callers = [spawn(fun() -> Call(Side) end) || Call <- [fun heal:renew/1, fun heal:rows/1, fun heal:renew/1, fun heal:rows/1]],
          [exit(Caller, kill) || Caller <- Callers]
      end || _ <- lists:seq(1, 10)],
+    ?assertEqual(ok, heal:renew(Side)),
     ?assertEqual({ok, 4000}, heal:count(Side)).
 
 %% A new version of the module goes on with the programs, sides and outcomes of the old one.
@@ -322,3 +325,66 @@ given_up_test() ->
     ?assertEqual({ok, 3}, heal:events(A)),
     ?assertEqual(ok, heal:give_up(A)),
     ?assertMatch({error, {35, _}}, heal:begin_exchange(A, 9, 1, 1)).
+
+limit_test() ->
+    {ok, Side} = heal:side(a, 2),
+    [?assertEqual(Answer, heal:register(Side, Name, registration(1, Serial, 1, exit)))
+     || {Name, Serial, Answer} <- [{<<"x">>, 1, ok}, {<<"y">>, 2, ok}]],
+    ?assertMatch({error, {32, _}}, heal:register(Side, <<"z">>, registration(1, 3, 1, exit))),
+    [?assertMatch({error, {92, _}}, heal:side(b, Names)) || Names <- [0, 1048577]],
+    ?assertError(badarg, heal:side(b, -1)).
+
+kept_programs_test() ->
+    Side = side(a, []),
+    {ok, Id} = heal:upload(Side, later()),
+    ?assertEqual({ok, [Id]}, heal:programs(Side)),
+    ?assertEqual({ok, later()}, heal:code(Side, Id)),
+    ok = heal:register(Side, <<"db">>, registration(1, 1, 1, {program, Id})),
+    ?assertMatch({error, {94, _}}, heal:forget(Side, Id)),
+    ok = heal:unregister(Side, <<"db">>),
+    ?assertEqual(ok, heal:forget(Side, Id)),
+    ?assertEqual({ok, []}, heal:programs(Side)),
+    ?assertMatch({error, {41, _}}, heal:code(Side, Id)),
+    ?assertError(badarg, heal:code(Side, <<1>>)).
+
+%% What a side knows at each step, and what the first bytes of its messages show.
+query_test() ->
+    A = side(a, [{<<"db">>, registration(1, 1, 1, notify)}]),
+    B = side(b, [{<<"db">>, registration(2, 1, 1, notify)}]),
+    Knows = fun(Open, Missing, Withdrawn) ->
+        Latest = case Open of 0 -> none; _ -> 7 end,
+        {ok, #{side := a, open := Found, latest := Latest, missing := Missing, withdrawn := Withdrawn}} = heal:query(A),
+        ?assertEqual(case Open of 7 -> 7; _ -> none end, Found)
+    end,
+    Knows(0, none, []),
+    {ok, OfA} = heal:begin_exchange(A, 7, 4, 100),
+    {ok, OfB} = heal:begin_exchange(B, 7, 4, 100),
+    ?assertEqual({ok, #{kind => offer, side => a, number => 7, seed => 4}}, heal:peek(OfA)),
+    Knows(7, offer, []),
+    ok = heal:hear(A, OfB),
+    Knows(7, {ruling, 0}, []),
+    ok = heal:settle(A),
+    ok = heal:withdraw(A, <<"db">>),
+    Knows(7, own_list, [<<"db">>]),
+    {ok, ListA} = heal:close_list(A),
+    ?assertEqual({ok, #{kind => list, side => a, number => 7, seed => none}}, heal:peek(ListA)),
+    ?assertMatch({error, {70, _}}, heal:peek(binary:part(ListA, 0, 16))),
+    Knows(7, list, [<<"db">>]),
+    ok = heal:hear(B, OfA),
+    {ok, ListB} = heal:close_list(B),
+    ok = heal:hear_list(A, ListB),
+    Knows(7, nothing, [<<"db">>]),
+    {ok, Outcome} = heal:finish(A),
+    ?assertEqual({ok, 7}, heal:number(Outcome)),
+    Knows(done, none, []).
+
+%% A message that isn't of the open exchange is refused by its first bytes.
+head_first_test() ->
+    A = side(a, []),
+    B = side(b, [{<<"db">>, registration(2, 1, 1, exit)}]),
+    {ok, Offer} = heal:begin_exchange(B, 2, 0, 0),
+    Cut = binary:part(Offer, 0, 40),
+    ?assertMatch({error, {34, _}}, heal:hear(A, Cut)),
+    {ok, _} = heal:begin_exchange(A, 1, 0, 0),
+    ?assertMatch({error, {45, _}}, heal:hear(A, Cut)),
+    ?assertMatch({error, {70, _}}, heal:hear(A, binary:part(Offer, 0, 24))).

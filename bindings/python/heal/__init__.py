@@ -321,6 +321,7 @@ _ARGUMENTS = {
     "heal_side_upload": [_HANDLE, _BYTES, c_size_t, _BYTES, POINTER(c_uint32)],
     "heal_side_forget": [_HANDLE, _BYTES],
     "heal_side_program": [_HANDLE, c_size_t, _BYTES],
+    "heal_side_code": [_HANDLE, _BYTES, _HANDLE],
     "heal_side_register": [*_NAMED, POINTER(_Registration)],
     "heal_side_unregister": _NAMED,
     "heal_side_whereis": [*_NAMED, POINTER(_Registration)],
@@ -357,23 +358,35 @@ _ARGUMENTS = {
 
 
 def _load() -> ctypes.CDLL:
-    """Opens the library and declares its functions."""
+    """Opens the library."""
     here = os.path.dirname(os.path.realpath(__file__))
     beside = os.path.join(here, "libheal.so")
     built = beside if os.path.exists(beside) else os.path.join(here, "..", "..", "c", "out", "libheal.so")
     library = ctypes.CDLL(os.environ.get("HEAL_LIBRARY", built))
-    for name, arguments in _ARGUMENTS.items():
-        getattr(library, name).argtypes = arguments
-        getattr(library, name).restype = c_uint32
-    for kind in ("program", "side", "bytes", "outcome"):
-        free = getattr(library, f"heal_{kind}_free")
-        free.argtypes, free.restype = [_HANDLE], None
     library.heal_refusal_words.argtypes = [c_uint32, _BYTES, c_size_t]
     library.heal_refusal_words.restype = c_size_t
     return library
 
 
 _LIBRARY = _load()
+
+
+def _declare(arguments: dict[str, list[Any]]) -> None:
+    """Declares functions that return 0 or the number of a refusal."""
+    for name, types in arguments.items():
+        getattr(_LIBRARY, name).argtypes = types
+        getattr(_LIBRARY, name).restype = c_uint32
+
+
+def _declare_free(kind: str) -> None:
+    """Declares the function that frees an object of this kind."""
+    free = getattr(_LIBRARY, f"heal_{kind}_free")
+    free.argtypes, free.restype = [_HANDLE], None
+
+
+_declare(_ARGUMENTS)
+for _kind in ("program", "side", "bytes", "outcome"):
+    _declare_free(_kind)
 
 
 def _call(name: str, *arguments: Any) -> None:
@@ -508,8 +521,8 @@ class _Owned:
     _kind = ""
 
     def __init__(self) -> None:
-        # The library takes the object out of its handle during a call, so only one thread may call at once. The lock is one
-        # that its own thread may take again: a signal handler may call between two steps of `rows`.
+        # A call that changes the object must be the only one on it. The lock is one that its own thread may take again: a
+        # signal handler may call between two steps of `rows`.
         self._lock = threading.RLock()
         self._handle = _Handle()
 
@@ -647,6 +660,12 @@ class Side(_Owned):
     def forget(self, program: Buffer) -> None:
         """Forgets an uploaded program, by its id, that no row names."""
         self._call("forget", _fixed(program, ID_LEN, "the id of a program"))
+
+    def code(self, program: Buffer) -> bytes:
+        """Returns the code of an uploaded program, by its id, or of one that a row names."""
+        code = _Message()
+        self._call("code", _fixed(program, ID_LEN, "the id of a program"), byref(code._handle))
+        return code.take()
 
     @property
     def programs(self) -> list[bytes]:

@@ -6,7 +6,7 @@ use Rattle.exchange_codec.specs.declared.fault.MessageFault.{MessageFault}
 use Rattle.exchange_codec.specs.declared.head.MessageHead.{MessageHead}
 use Rattle.exchange_codec.specs.Faults.{message_fault_number}
 use Rattle.heal_c.specs.declared.heads.HealHead.{HealHead}
-use Rattle.heal_c.specs.Answers.{IsAnswer}
+use Rattle.c_calls.specs.Answers.{IsAnswer}
 use Rattle.heal_c.specs.Heads.{head_code, head_in}
 
 -- a head that was read is the one that is due

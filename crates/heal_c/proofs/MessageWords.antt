@@ -17,7 +17,7 @@ use Rattle.handles.specs.Handles.{handle_owns}
 use Rattle.handles.proofs.Values.{both}
 use Rattle.handles.proofs.Words.{Z, al}
 use Rattle.heal_c.specs.contracts.message_handle.HealBytes as held
-use Rattle.heal_c.specs.contracts.message.Message as inner
+use Rattle.c_calls.specs.contracts.message.Message as inner
 
 abbrev pub H : RattleType
 H = held.the_row

@@ -17,7 +17,7 @@ use Rattle.handles.specs.Handles.{handle_owns}
 use Rattle.handles.proofs.Values.{both}
 use Rattle.handles.proofs.Words.{Z, al}
 use Rattle.heal_c.specs.contracts.outcome_handle.HealOutcome as held
-use Rattle.heal_c.specs.contracts.outcome.Outcome as inner
+use Rattle.c_calls.specs.contracts.outcome.Outcome as inner
 
 abbrev pub H : RattleType
 H = held.the_row

@@ -1,5 +1,5 @@
 -- The calls of two processes are acts of their halves.
-use Rattle.std.proofs.Common.{◌≡◌, ◌⊎◌, ℕ, zero, suc, List, [], ◌∷◌, Option, Some, None, Result, Ok, Err, slice_get, refl, sym, ap, ◌∙◌, subst, ⊎_elim, inl, inr, option_map}
+use Rattle.std.proofs.Common.{◌≡◌, ◌⊎◌, Bool, true, false, ℕ, zero, suc, List, [], ◌∷◌, Option, Some, None, Result, Ok, Err, slice_get, length, refl, sym, ap, ◌∙◌, subst, ⊎_elim, inl, inr, option_map}
 use Rattle.clash_record.specs.declared.side_id.SideId.{SideId}
 use Rattle.clash_record.specs.declared.side_id.SideId.TheVariants.{A, B}
 use Rattle.partition_table.specs.declared.fault.TableFault.{TableFault}
@@ -13,20 +13,30 @@ use Rattle.exchange_core.specs.Calls.{Call, Register, Unregister, Begin, Hear, W
 use Rattle.exchange_core.specs.Worlds.{Past, World, Does, Hears, Hears_list, side_of, with_side, called_if, past_after, offer_of, list_of}
 use Rattle.exchange_core.specs.Finished.{Finished, finished_from}
 use Rattle.exchange_core.specs.Settling.{settled, the_round}
-use Rattle.exchange_core.specs.Shown.{shown}
+use Rattle.exchange_core.specs.Refusals.{message_fault}
+use Rattle.exchange_core.specs.Shown.{shown, is_full}
 use Rattle.exchange_core.specs.Halves.{Act, Happens, Settles, after_act, halves_after, FinishesWith}
 use Rattle.exchange_core.specs.laws.Carried.{when}
+use Rattle.exchange_codec.specs.declared.fault.FieldFault.{FieldFault}
+use Rattle.exchange_codec.specs.declared.fault.FieldFault.TheVariants as field
+use Rattle.exchange_codec.specs.declared.fault.ItemFault.{ItemFault}
+use Rattle.exchange_codec.specs.declared.fault.ItemFault.TheVariants as item
+use Rattle.exchange_codec.specs.declared.fault.MessageFault.{MessageFault}
+use Rattle.exchange_codec.specs.declared.fault.MessageFault.TheVariants as message
+use Rattle.exchange_codec.specs.declared.head.MessageHead.{MessageHead}
+use Rattle.exchange_codec.specs.Faults.{field_fault_number, item_fault_number, message_fault_number}
 use Rattle.exchange_codec.specs.Offers.{SpellsOffer}
+use Rattle.exchange_codec.specs.Peeking.{peeked}
+use Rattle.exchange_codec.specs.Reading as reading
 use Rattle.exchange_codec.specs.Withdrawals.{SpellsWithdrawals}
-use Rattle.heal_c.specs.declared.half.Half.{Half}
-use Rattle.heal_c.specs.Answers.{unless, IsAnswer, Gives}
-use Rattle.heal_c.specs.Exchanges.{allowed, withdrawing}
-use Rattle.heal_c.specs.Sides.{CarriesOut, IsRenewed, Stays, registering, unregistering}
+use Rattle.c_calls.specs.declared.half.Half.{Half}
+use Rattle.c_calls.specs.Answers.{unless, IsAnswer, Gives}
+use Rattle.c_calls.specs.Exchanges.{HearsWhole, HearsWholeList, UnlessOther, UnlessRefused, allowed, refusal_of, withdrawing}
+use Rattle.c_calls.specs.Sides.{CarriesOut, IsRenewed, Stays, registering, unregistering}
 use Rattle.heal_c.specs.Processes.{Processes, half_of, with_half, IsCall, AreNew, IsRun}
 use Rattle.heal_c.specs.Processes as call
-use Rattle.heal_c.specs.Kept.{HasForgotten, forgetting, id_from}
+use Rattle.c_calls.specs.Kept.{HasForgotten, forgetting, id_from}
 use Rattle.clash_record.specs.declared.registrations.ProgramId.{ProgramId}
-use Rattle.heal_c.proofs.Repeating.{was_first}
 
 -- ---- answers of calls that returned 0
 
@@ -53,6 +63,48 @@ positive fault.OwnOffer e = cc
 positive fault.Withdrawn e = cc
 positive fault.ListClosed e = cc
 positive fault.OutOfMemory e = cc
+
+field_positive : (f : FieldFault) → 0 ≡ field_fault_number f → ⊥
+field_positive field.Cut e = cc
+field_positive field.Header e = cc
+field_positive field.Trailing e = cc
+field_positive field.Count e = cc
+field_positive field.Side e = cc
+field_positive field.Name e = cc
+field_positive field.Resolver e = cc
+field_positive field.Version e = cc
+
+item_positive : (f : ItemFault) → 0 ≡ item_fault_number f → ⊥
+item_positive item.NameAgain e = cc
+item_positive item.NameOrder e = cc
+item_positive item.NoProgram e = cc
+item_positive item.ProgramAgain e = cc
+item_positive (item.Program f) e = cc
+
+message_positive : (f : MessageFault) → 0 ≡ message_fault_number f → ⊥
+message_positive (message.Field f at) e = field_positive f e
+message_positive (message.Item f at) e = item_positive f e
+message_positive message.OutOfMemory e = cc
+
+-- a message that was taken isn't refused
+unrefused : (m : ℕ) (old new : Half) (X : Type 0) → (0 ≡ m → ⊥) → UnlessRefused (Some m) old new 0 X → X
+unrefused m old new X positive h = absurd (⊎_elim positive (λ e. cc) h.0)
+
+-- by its head
+was_read : (half : Half) (head : Result MessageHead MessageFault) (old new : Half) (X : Type 0)
+    → UnlessRefused (refusal_of half head) old new 0 X → X
+was_read half (Err fault) old new X h = unrefused (message_fault_number fault) old new X (message_positive fault) h
+was_read half (Ok head) old new X h =
+    by (message_fault (is_full half.side) (shown half.side) head.side head.number) h
+  where
+    by : (d : Option SideFault) → UnlessRefused (option_map side_fault_number d) old new 0 X → X
+    by None x = x
+    by (Some fault) x = unrefused (side_fault_number fault) old new X (positive fault) x
+
+-- it is the first, or the same again
+was_first : (b : Bool) (old new : Half) (X : Type 0) → UnlessOther b old new 0 X → X
+was_first true old new X h = unrefused 83 old new X (λ e. cc) h
+was_first false old new X h = h
 
 -- nothing refused it, so it is done
 done : (o : Option SideFault) (D : Unit {0} → Type 0) (S : Type 0) → IsAnswer (allowed o) D S 0 → D tt
@@ -331,7 +383,9 @@ step p after id l (call.begins new number seed uptime before bytes r e) = subst 
     (let d = done _ _ _ r in began l id new number seed uptime bytes d.0 d.1)
 step p after id l (call.hears new bytes sent r e) = subst Like (sym e)
     (let h = l.offers sent.0 bytes sent.1 in
-    heard l id new h.0 sent.0 h.1.0 (done _ _ _ (was_first _ _ _ _ (r.taken h.0 h.1.1))))
+    let whole : HearsWhole bytes (half_of p id) new 0 =
+        was_read (half_of p id) (reading.due (length bytes) (peeked bytes)) _ _ _ r in
+    heard l id new h.0 sent.0 h.1.0 (done _ _ _ (was_first _ _ _ _ (whole.taken h.0 h.1.1))))
 step p after id l (call.settles new r e) = subst Like (sym e)
     (let d = settled_so _ _ _ r in
     like_quiet l id new (Settles id)
@@ -344,7 +398,9 @@ step p after id l (call.closes new before bytes r e) = subst Like (sym e)
     (let d = done _ _ _ r in closed l id new bytes d.0 d.1)
 step p after id l (call.hears_list new bytes sent r e) = subst Like (sym e)
     (let h = l.lists sent.0 bytes sent.1 in
-    heard_list l id new h.0 sent.0 h.1.0 (done _ _ _ (was_first _ _ _ _ (r.taken h.0 h.1.1))))
+    let whole : HearsWholeList bytes (half_of p id) new 0 =
+        was_read (half_of p id) (reading.due (length bytes) (peeked bytes)) _ _ _ r in
+    heard_list l id new h.0 sent.0 h.1.0 (done _ _ _ (was_first _ _ _ _ (whole.taken h.0 h.1.1))))
 step p after id l (call.finishes new before outcome f r given e) = subst Like (sym e)
     (let d = done _ _ _ r in finished l id new f d.0 given)
 step p after id l (call.abandons new r e) = subst Like (sym e)

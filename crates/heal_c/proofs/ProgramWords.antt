@@ -17,7 +17,7 @@ use Rattle.handles.specs.Handles.{handle_owns}
 use Rattle.handles.proofs.Values.{both}
 use Rattle.handles.proofs.Words.{Z, al}
 use Rattle.heal_c.specs.contracts.program_handle.HealProgram as held
-use Rattle.heal_c.specs.contracts.loaded.Loaded as inner
+use Rattle.upload_store.specs.contracts.accepted.Upload as inner
 
 abbrev pub H : RattleType
 H = held.the_row

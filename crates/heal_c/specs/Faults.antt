@@ -12,7 +12,7 @@ use Rattle.exchange_codec.specs.Offers.{SpellsOffer, IsOfferFault}
 use Rattle.exchange_codec.specs.Withdrawals.{list_due}
 use Rattle.exchange_codec.specs.Withdrawals as lists
 use Rattle.heal_c.specs.declared.faults.HealFault.{HealFault}
-use Rattle.heal_c.specs.Answers.{slot_of}
+use Rattle.c_calls.specs.Answers.{slot_of}
 
 -- a refusal without a place; 0 is none
 abbrev pub numbered : ℕ → HealFault

@@ -9,7 +9,7 @@ use Rattle.exchange_codec.specs.Faults.{message_fault_number}
 use Rattle.exchange_codec.specs.Peeking.{peeked}
 use Rattle.exchange_codec.specs.Reading.{due}
 use Rattle.heal_c.specs.declared.heads.HealHead.{HealHead}
-use Rattle.heal_c.specs.Codes.{side_code}
+use Rattle.c_calls.specs.Codes.{side_code}
 
 -- an offer is 1, and a list 2
 abbrev pub kind_code : MessageKind → ℕ

@@ -1,8 +1,8 @@
 -- Handles with another value in them.
 use Rattle.std.specs.Prelude.{ℕ, List, Some}
-use Rattle.heal_c.specs.declared.loaded.Loaded.{Loaded}
-use Rattle.heal_c.specs.declared.half.Half.{Half}
-use Rattle.heal_c.specs.declared.outcome.Outcome.{Outcome}
+use Rattle.upload_store.specs.Programs.{Upload}
+use Rattle.c_calls.specs.declared.half.Half.{Half}
+use Rattle.c_calls.specs.declared.outcome.Outcome.{Outcome}
 use Rattle.heal_c.specs.declared.program_handle.HealProgram.{HealProgram}
 use Rattle.heal_c.specs.declared.half_handle.HealSide.{HealSide}
 use Rattle.heal_c.specs.declared.message_handle.HealBytes.{HealBytes}
@@ -11,7 +11,7 @@ use Rattle.heal_c.specs.declared.outcome_handle.HealOutcome.{HealOutcome}
 abbrev pub with_half : HealSide → Half → HealSide
 with_half handle half = record handle { half = Some half }
 
-abbrev pub with_program : HealProgram → Loaded → HealProgram
+abbrev pub with_program : HealProgram → Upload → HealProgram
 with_program handle program = record handle { program = Some program }
 
 abbrev pub with_message : HealBytes → List ℕ → HealBytes

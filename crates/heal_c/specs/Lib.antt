@@ -1,16 +1,7 @@
-pub mod Answers
-pub mod Codes
-pub mod Exchanges
 pub mod Faults
 pub mod Heads
 pub mod Held
-pub mod Kept
 pub mod Lent
-pub mod Messages
-pub mod Outcomes
 pub mod Processes
-pub mod Programs
-pub mod Queries
 pub mod Records
-pub mod Sides
 pub mod Words

@@ -4,12 +4,12 @@ use Rattle.clash_record.specs.declared.side_id.SideId.{SideId}
 use Rattle.clash_record.specs.declared.side_id.SideId.TheVariants.{A, B}
 use Rattle.exchange_core.specs.Finished.{Finished, finished_from}
 use Rattle.exchange_core.specs.Shown.{shown}
-use Rattle.heal_c.specs.declared.codes.HealRegistration.{HealRegistration}
-use Rattle.heal_c.specs.declared.half.Half.{Half}
-use Rattle.heal_c.specs.declared.outcome.Outcome.{Outcome}
-use Rattle.heal_c.specs.Exchanges.{Begins, Hears, Settles, Withdraws, Closes, HearsList, Finishes, Abandons}
-use Rattle.heal_c.specs.Kept.{Forgets}
-use Rattle.heal_c.specs.Sides.{IsNew, IsUpload, Registers, Unregisters, Renews, GivesUp}
+use Rattle.c_calls.specs.declared.codes.HealRegistration.{HealRegistration}
+use Rattle.c_calls.specs.declared.half.Half.{Half}
+use Rattle.c_calls.specs.declared.outcome.Outcome.{Outcome}
+use Rattle.c_calls.specs.Exchanges.{Begins, Hears, Settles, Withdraws, Closes, HearsList, Finishes, Abandons}
+use Rattle.c_calls.specs.Kept.{Forgets}
+use Rattle.c_calls.specs.Sides.{IsNew, IsUpload, Registers, Unregisters, Renews, GivesUp}
 
 -- the halves; the bytes of all offers and lists that calls returned; and all outcomes. The latest stand first
 pub record Processes : Type 0 where

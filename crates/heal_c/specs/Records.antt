@@ -1,10 +1,10 @@
 -- Records of clashes from what C gives.
 use Rattle.std.specs.Prelude.{ℕ, List, Result, Ok}
 use Rattle.clash_record.specs.Record.{clash_bytes}
-use Rattle.heal_c.specs.declared.codes.HealFacts.{HealFacts}
-use Rattle.heal_c.specs.declared.codes.HealRegistration.{HealRegistration}
-use Rattle.heal_c.specs.Answers.{and_then}
-use Rattle.heal_c.specs.Codes.{name_of, registration_of, facts_of}
+use Rattle.c_calls.specs.declared.codes.HealFacts.{HealFacts}
+use Rattle.c_calls.specs.declared.codes.HealRegistration.{HealRegistration}
+use Rattle.c_calls.specs.Answers.{and_then}
+use Rattle.c_calls.specs.Codes.{name_of, registration_of, facts_of}
 
 -- the bytes of the record, or 44 for the name, or 76 for a registration
 abbrev pub record_for : List ℕ → HealRegistration → HealRegistration → ℕ → HealFacts → HealFacts → Result (List ℕ) ℕ

@@ -1,12 +1,12 @@
 //! Exchanges.
 ghost use Rattle.std.specs.Prelude.{◌≡◌};
-ghost use Rattle.heal_c.specs.Answers.{OnHandle};
-ghost use Rattle.heal_c.specs.Exchanges.{Begins, Hears, Settles, Withdraws, Closes, HearsList, Finishes, Abandons};
+ghost use Rattle.c_calls.specs.Answers.{OnHandle};
+ghost use Rattle.c_calls.specs.Exchanges.{Begins, Hears, Settles, Withdraws, Closes, HearsList, Finishes, Abandons};
 
-use crate::answer::{EMPTY_HANDLE, number_of};
 use crate::half_handle::HealSide;
 use crate::message_handle::HealBytes;
 use crate::outcome_handle::HealOutcome;
+use c_calls::{EMPTY_HANDLE, number_of};
 use std::alloc::Global;
 
 /// Opens an exchange, and puts the offer to be sent into `offer`.
@@ -27,7 +27,7 @@ pub extern "C" fn heal_side_begin(
         (offer.new.message ≡ offer.old.message) result }
 {
     match side.held() {
-        Some(half) => half.begin(alloc, number, seed, uptime, offer),
+        Some(half) => offer.fill(half.begin(alloc, number, seed, uptime)),
         None => EMPTY_HANDLE,
     }
 }
@@ -91,7 +91,7 @@ pub extern "C" fn heal_side_close_list(
         (λ old new. Closes old new list.old.message list.new.message) (list.new.message ≡ list.old.message) result }
 {
     match side.held() {
-        Some(half) => half.close_list(alloc, list),
+        Some(half) => list.fill(half.close_list(alloc)),
         None => EMPTY_HANDLE,
     }
 }
@@ -125,7 +125,7 @@ pub extern "C" fn heal_side_finish(
         (outcome.new.outcome ≡ outcome.old.outcome) result }
 {
     match side.held() {
-        Some(half) => half.finish(alloc, outcome),
+        Some(half) => outcome.fill(half.finish(alloc)),
         None => EMPTY_HANDLE,
     }
 }

@@ -4,7 +4,7 @@ ghost use Rattle.exchange_codec.specs.Faults.{item_fault_number};
 ghost use Rattle.heal_c.specs.Faults as spec;
 ghost use Rattle.heal_c.specs.Faults.{IsOfferRead, IsListRead};
 
-use crate::answer::slot_of;
+use c_calls::slot_of;
 use exchange_codec::{ItemFault, MessageFault, decode_offer, decode_withdrawals};
 use numbered::Numbered;
 use std::alloc::Global;

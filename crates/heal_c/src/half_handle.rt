@@ -1,9 +1,10 @@
 //! The handle of a side.
 ghost use Rattle.std.specs.Prelude.{◌≡◌, Option, Some, None, MatchOption};
-ghost use Rattle.heal_c.specs.declared.half.Half.{Half};
+ghost use Rattle.c_calls.specs.Answers.{filled, number_in};
+ghost use Rattle.c_calls.specs.declared.half.Half.{Half};
 ghost use Rattle.heal_c.specs.Held.{coded_half};
 
-use crate::half::Half;
+use c_calls::Half;
 use handles::BoxParts;
 use std::alloc::Global;
 use std::marker::Model;
@@ -20,8 +21,8 @@ pub struct HealSide {
 
 impl Model for HealSide {
     ghost use Rattle.std.specs.Prelude.{Option};
-    ghost use Rattle.heal_c.specs.declared.half.Half.{Half};
-    ghost use Rattle.heal_c.specs.contracts.half.Half.{the_row};
+    ghost use Rattle.c_calls.specs.declared.half.Half.{Half};
+    ghost use Rattle.c_calls.specs.contracts.half.Half.{the_row};
     ghost use Rattle.handles.specs.Handles.{handle_owns};
 
     ghost also_owns = { λ handle. handle_owns handle.alloc the_row handle.at handle.half };
@@ -80,6 +81,20 @@ impl HealSide {
         ensures { self.new.half ≡ Some inner.value }
     {
         *self = HealSide::from_parts(BoxParts::from_box(inner));
+    }
+
+    // Puts what a call made in and returns 0, or returns the number of its refusal.
+    pub(crate) fn fill(&mut self, made: Result<Box<Half>, u32>) -> u32
+        ensures held { self.new.half ≡ filled (λ inner. inner.value) self.old.half made }
+        ensures number { result ≡ number_in (λ n. n) made }
+    {
+        match made {
+            Ok(inner) => {
+                self.put(inner);
+                0
+            }
+            Err(number) => number,
+        }
     }
 }
 

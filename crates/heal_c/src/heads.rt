@@ -1,9 +1,9 @@
 //! The head of a message, read without the rest.
 ghost use Rattle.std.specs.Prelude.{◌≡◌};
-ghost use Rattle.heal_c.specs.Answers.{IsAnswer};
+ghost use Rattle.c_calls.specs.Answers.{IsAnswer};
 ghost use Rattle.heal_c.specs.Heads as spec;
 
-use crate::codes::side_code;
+use c_calls::side_code;
 use exchange_codec::{MessageHead, MessageKind, peek};
 use numbered::Numbered;
 

@@ -1,24 +1,22 @@
 //! What handles hold, borrowed. Nothing here writes a handle.
 ghost use Rattle.std.specs.Prelude.{◌≡◌, Some, None, MatchOption};
 ghost use Rattle.std.specs.Borrow.{sem, LendsIf};
-ghost use Rattle.heal_c.specs.contracts.half.Half as half_row;
+ghost use Rattle.c_calls.specs.contracts.half.Half as half_row;
 ghost use Rattle.heal_c.specs.contracts.half_handle.HealSide as half_handle;
-ghost use Rattle.heal_c.specs.contracts.loaded.Loaded as program_row;
+ghost use Rattle.upload_store.specs.contracts.accepted.Upload as program_row;
 ghost use Rattle.heal_c.specs.contracts.program_handle.HealProgram as program_handle;
-ghost use Rattle.heal_c.specs.contracts.message.Message as message_row;
+ghost use Rattle.c_calls.specs.contracts.message.Message as message_row;
 ghost use Rattle.heal_c.specs.contracts.message_handle.HealBytes as message_handle;
-ghost use Rattle.heal_c.specs.contracts.outcome.Outcome as outcome_row;
+ghost use Rattle.c_calls.specs.contracts.outcome.Outcome as outcome_row;
 ghost use Rattle.heal_c.specs.contracts.outcome_handle.HealOutcome as outcome_handle;
 ghost use Rattle.heal_c.specs.Lent.{with_half, with_program, with_message, with_outcome};
 
-use crate::half::Half;
 use crate::half_handle::HealSide;
-use crate::loaded::Loaded;
-use crate::message::Message;
 use crate::message_handle::HealBytes;
-use crate::outcome::Outcome;
 use crate::outcome_handle::HealOutcome;
 use crate::program_handle::HealProgram;
+use c_calls::{Half, Message, Outcome};
+use upload_store::Upload;
 
 impl HealSide {
     // Borrows the side.
@@ -37,7 +35,7 @@ impl HealSide {
 
 impl HealProgram {
     // Borrows the program.
-    pub(crate) fn held(&mut self) -> Option<&mut Loaded>
+    pub(crate) fn held(&mut self) -> Option<&mut Upload>
         ensures* writes_back { sem 𝓛 (LendsIf program_handle.the_row program_row.the_row self.entry result (with_program self.old) self.old) }
         ensures value { MatchOption result (self.old.program ≡ None) (λ held. self.old.program ≡ Some held.now) }
     {
@@ -45,7 +43,7 @@ impl HealProgram {
         if at.is_null() {
             None
         } else {
-            Some(unsafe { &mut *(at as *mut Loaded) })
+            Some(unsafe { &mut *(at as *mut Upload) })
         }
     }
 }

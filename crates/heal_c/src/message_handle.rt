@@ -1,7 +1,8 @@
 //! The handle of a message.
 ghost use Rattle.std.specs.Prelude.{◌≡◌, ℕ, List, Option, Some, None, MatchOption};
+ghost use Rattle.c_calls.specs.Answers.{filled, number_in};
 
-use crate::message::Message;
+use c_calls::Message;
 use handles::BoxParts;
 use std::alloc::Global;
 use std::marker::{Model, Send};
@@ -18,7 +19,7 @@ pub struct HealBytes {
 
 impl Model for HealBytes {
     ghost use Rattle.std.specs.Prelude.{ℕ, List, Option};
-    ghost use Rattle.heal_c.specs.contracts.message.Message.{the_row};
+    ghost use Rattle.c_calls.specs.contracts.message.Message.{the_row};
     ghost use Rattle.handles.specs.Handles.{handle_owns};
 
     ghost also_owns = { λ handle. handle_owns handle.alloc the_row handle.at handle.message };
@@ -77,6 +78,20 @@ impl HealBytes {
         ensures { self.new.message ≡ Some inner.value }
     {
         *self = HealBytes::from_parts(BoxParts::from_box(inner));
+    }
+
+    // Puts what a call made in and returns 0, or returns the number of its refusal.
+    pub(crate) fn fill(&mut self, made: Result<Box<Message>, u32>) -> u32
+        ensures held { self.new.message ≡ filled (λ inner. inner.value) self.old.message made }
+        ensures number { result ≡ number_in (λ n. n) made }
+    {
+        match made {
+            Ok(inner) => {
+                self.put(inner);
+                0
+            }
+            Err(number) => number,
+        }
     }
 }
 

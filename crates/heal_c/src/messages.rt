@@ -1,10 +1,10 @@
 //! Messages.
 ghost use Rattle.std.specs.Prelude.{◌≡◌, None, length};
-ghost use Rattle.heal_c.specs.Answers.{Gives, Reads};
-ghost use Rattle.heal_c.specs.Messages.{copy_of};
+ghost use Rattle.c_calls.specs.Answers.{Gives, Reads};
+ghost use Rattle.c_calls.specs.Messages.{copy_of};
 
-use crate::answer::{EMPTY_HANDLE, OTHER_LENGTH};
 use crate::message_handle::HealBytes;
+use c_calls::{EMPTY_HANDLE, copy};
 use std::alloc::Global;
 
 /// Returns the number of bytes.
@@ -36,17 +36,6 @@ pub extern "C" fn heal_bytes_copy(bytes: &mut HealBytes, to: &mut [u8]) -> u32
         Some(held) => copy(held.bytes(), to),
         None => EMPTY_HANDLE,
     }
-}
-
-// Copies bytes, or returns 93.
-fn copy(from: &[u8], to: &mut [u8]) -> u32
-    ensures { Gives (copy_of from.now (length to.old)) (λ copy. to.new ≡ copy) (to.new ≡ to.old) result }
-{
-    if from.len() != to.len() {
-        return OTHER_LENGTH;
-    }
-    to.copy_from_slice(from);
-    0
 }
 
 /// Frees the message, if the handle holds one, and leaves the handle empty.

@@ -1,9 +1,10 @@
 //! The handle of an outcome.
 ghost use Rattle.std.specs.Prelude.{◌≡◌, Option, Some, None, MatchOption};
-ghost use Rattle.heal_c.specs.declared.outcome.Outcome.{Outcome};
+ghost use Rattle.c_calls.specs.Answers.{filled, number_in};
+ghost use Rattle.c_calls.specs.declared.outcome.Outcome.{Outcome};
 ghost use Rattle.heal_c.specs.Held.{coded_outcome};
 
-use crate::outcome::Outcome;
+use c_calls::Outcome;
 use handles::BoxParts;
 use std::alloc::Global;
 use std::marker::{Model, Send};
@@ -20,8 +21,8 @@ pub struct HealOutcome {
 
 impl Model for HealOutcome {
     ghost use Rattle.std.specs.Prelude.{Option};
-    ghost use Rattle.heal_c.specs.declared.outcome.Outcome.{Outcome};
-    ghost use Rattle.heal_c.specs.contracts.outcome.Outcome.{the_row};
+    ghost use Rattle.c_calls.specs.declared.outcome.Outcome.{Outcome};
+    ghost use Rattle.c_calls.specs.contracts.outcome.Outcome.{the_row};
     ghost use Rattle.handles.specs.Handles.{handle_owns};
 
     ghost also_owns = { λ handle. handle_owns handle.alloc the_row handle.at handle.outcome };
@@ -80,6 +81,20 @@ impl HealOutcome {
         ensures { self.new.outcome ≡ Some inner.value }
     {
         *self = HealOutcome::from_parts(BoxParts::from_box(inner));
+    }
+
+    // Puts what a call made in and returns 0, or returns the number of its refusal.
+    pub(crate) fn fill(&mut self, made: Result<Box<Outcome>, u32>) -> u32
+        ensures held { self.new.outcome ≡ filled (λ inner. inner.value) self.old.outcome made }
+        ensures number { result ≡ number_in (λ n. n) made }
+    {
+        match made {
+            Ok(inner) => {
+                self.put(inner);
+                0
+            }
+            Err(number) => number,
+        }
     }
 }
 

@@ -1,11 +1,10 @@
 //! Outcomes.
 ghost use Rattle.std.specs.Prelude.{◌≡◌, None, length};
-ghost use Rattle.heal_c.specs.Answers.{Gives, Reads};
-ghost use Rattle.heal_c.specs.Outcomes.{clash_at, notice_at, withdrawn_of};
+ghost use Rattle.c_calls.specs.Answers.{Gives, Reads};
+ghost use Rattle.c_calls.specs.Outcomes.{clash_at, notice_at, withdrawn_of};
 
-use crate::answer::{EMPTY_HANDLE, give};
-use crate::codes::{HealClash, HealName, HealNotice};
 use crate::outcome_handle::HealOutcome;
+use c_calls::{EMPTY_HANDLE, HealClash, HealName, HealNotice, give};
 use std::alloc::Global;
 
 /// Returns the number of the exchange.

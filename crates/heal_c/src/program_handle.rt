@@ -1,27 +1,27 @@
 //! The handle of a program.
 ghost use Rattle.std.specs.Prelude.{◌≡◌, Option, Some, None, MatchOption};
-ghost use Rattle.heal_c.specs.declared.loaded.Loaded.{Loaded};
+ghost use Rattle.upload_store.specs.Programs.{Upload};
 ghost use Rattle.heal_c.specs.Held.{coded_program};
 
-use crate::loaded::Loaded;
 use handles::BoxParts;
 use std::alloc::Global;
 use std::marker::{Model, Send};
 use std::mem;
 use std::ptr::null_mut;
+use upload_store::Upload;
 
 /// A program, or nothing: one word, which is null where there is nothing.
 #[repr(C)]
 pub struct HealProgram {
     pub(crate) at: *mut u8,
     alloc: Global,
-    pub ghost program: { Option Loaded } by { coded_program },
+    pub ghost program: { Option Upload } by { coded_program },
 }
 
 impl Model for HealProgram {
     ghost use Rattle.std.specs.Prelude.{Option};
-    ghost use Rattle.heal_c.specs.declared.loaded.Loaded.{Loaded};
-    ghost use Rattle.heal_c.specs.contracts.loaded.Loaded.{the_row};
+    ghost use Rattle.upload_store.specs.Programs.{Upload};
+    ghost use Rattle.upload_store.specs.contracts.accepted.Upload.{the_row};
     ghost use Rattle.handles.specs.Handles.{handle_owns};
 
     ghost also_owns = { λ handle. handle_owns handle.alloc the_row handle.at handle.program };
@@ -39,7 +39,7 @@ impl HealProgram {
     }
 
     // The handle of the box with these parts.
-    fn from_parts(parts: BoxParts<Loaded, Global>) -> HealProgram
+    fn from_parts(parts: BoxParts<Upload, Global>) -> HealProgram
         ensures { result.program ≡ Some parts.value }
     {
         let BoxParts { at, alloc } = parts;
@@ -50,7 +50,7 @@ impl HealProgram {
     }
 
     // The parts of the handle's box, if it isn't empty.
-    fn into_parts(self) -> Option<BoxParts<Loaded, Global>>
+    fn into_parts(self) -> Option<BoxParts<Upload, Global>>
         ensures { MatchOption result (self.program ≡ None) (λ parts. self.program ≡ Some parts.value) }
     {
         let HealProgram { at, alloc } = self;
@@ -58,14 +58,14 @@ impl HealProgram {
             None
         } else {
             Some(BoxParts {
-                at: at as *mut Loaded,
+                at: at as *mut Upload,
                 alloc,
             })
         }
     }
 
     // Takes a program out, and leaves the handle empty.
-    pub(crate) fn take(&mut self, alloc: Global) -> Option<Box<Loaded>>
+    pub(crate) fn take(&mut self, alloc: Global) -> Option<Box<Upload>>
         ensures taken { MatchOption result (self.old.program ≡ None) (λ inner. self.old.program ≡ Some inner.value) }
         ensures left { self.new.program ≡ None }
     {
@@ -76,7 +76,7 @@ impl HealProgram {
     }
 
     // Puts a program in, and frees the one that was there.
-    pub(crate) fn put(&mut self, inner: Box<Loaded>)
+    pub(crate) fn put(&mut self, inner: Box<Upload>)
         ensures { self.new.program ≡ Some inner.value }
     {
         *self = HealProgram::from_parts(BoxParts::from_box(inner));

@@ -1,14 +1,12 @@
 //! Queries for what a side knows.
 ghost use Rattle.std.specs.Prelude.{◌≡◌};
-ghost use Rattle.heal_c.specs.Answers.{Gives, Reads};
+ghost use Rattle.c_calls.specs.Answers.{Gives, Reads};
 ghost use Rattle.exchange_core.specs.Shown.{shown};
-ghost use Rattle.heal_c.specs.Kept.{program_at};
-ghost use Rattle.heal_c.specs.Queries.{live_after, live_at, state_of, withdrawn_at};
+ghost use Rattle.c_calls.specs.Kept.{program_at};
+ghost use Rattle.c_calls.specs.Queries.{live_after, live_at, state_of, withdrawn_at};
 
-use crate::answer::{EMPTY_HANDLE, give};
-use crate::codes::{HealName, HealRow};
 use crate::half_handle::HealSide;
-use crate::knowledge::HealSideState;
+use c_calls::{EMPTY_HANDLE, HealName, HealRow, HealSideState, give};
 
 /// Returns what the side knows.
 ///

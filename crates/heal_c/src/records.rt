@@ -1,11 +1,11 @@
 //! Records of clashes, and the words of refusals.
 ghost use Rattle.std.specs.Prelude.{◌≡◌, length};
-ghost use Rattle.heal_c.specs.Answers.{Gives};
+ghost use Rattle.c_calls.specs.Answers.{Gives};
 ghost use Rattle.heal_c.specs.Records as spec;
 ghost use Rattle.heal_c.specs.Words.{as_bytes, words_in, words_of, copied};
 ghost use Rattle.numbered.specs.declared.table.TheConstants.{REFUSALS};
 
-use crate::codes::{HealFacts, HealRegistration, facts_of, name_of, registration_of};
+use c_calls::{HealFacts, HealRegistration, facts_of, name_of, registration_of};
 use clash_record::{ClashRecord, record};
 use numbered::{REFUSALS, words_in};
 

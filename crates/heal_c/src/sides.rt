@@ -4,14 +4,15 @@ ghost use Rattle.std.specs.FinMap.{len};
 ghost use Rattle.numbered.specs.Answers.{out_of_memory};
 ghost use Rattle.partition_table.specs.Tables.{max_names};
 ghost use Rattle.exchange_core.specs.Shown.{shown, calls};
-ghost use Rattle.heal_c.specs.Answers.{Gives, IsAnswer, OnHandle, Reads};
-ghost use Rattle.heal_c.specs.Kept.{Forgets};
-ghost use Rattle.heal_c.specs.Sides.{side_id, side_within, Registers, Unregisters, Renews, GivesUp, IsNew, IsUpload, found_at, row_after, row_at};
+ghost use Rattle.c_calls.specs.Answers.{Gives, IsAnswer, OnHandle, Reads};
+ghost use Rattle.c_calls.specs.Kept.{Forgets, GivesCode, id_from};
+ghost use Rattle.c_calls.specs.Sides.{side_id, side_within, Registers, Unregisters, Renews, GivesUp, IsNew, IsUpload, found_at, row_after, row_at};
 
-use crate::answer::{EMPTY_HANDLE, INDEX_OUT_OF_RANGE, give, number_of};
-use crate::codes::{HealRegistration, HealRow, side_id};
-use crate::half::Half;
 use crate::half_handle::HealSide;
+use crate::message_handle::HealBytes;
+use c_calls::{
+    EMPTY_HANDLE, Half, HealRegistration, HealRow, INDEX_OUT_OF_RANGE, give, number_of, side_id,
+};
 use clash_record::SideId;
 use numbered::OUT_OF_MEMORY;
 use partition_table::NameLimit;
@@ -110,6 +111,26 @@ pub extern "C" fn heal_side_forget(side: &mut HealSide, id: &[u8; 32]) -> u32
 {
     match side.held() {
         Some(half) => half.forget(id),
+        None => EMPTY_HANDLE,
+    }
+}
+
+/// Returns the code of an uploaded program, or of one that a row of the side's table names.
+///
+/// Returns 91 for an empty handle, and 41 for an unknown program. Returns 90 when out of memory.
+#[unsafe(no_mangle)]
+pub extern "C" fn heal_side_code(
+    alloc: Global,
+    side: &mut HealSide,
+    id: &[u8; 32],
+    code: &mut HealBytes,
+) -> u32
+    ensures { Reads side.old.half side.new.half
+        (λ held. GivesCode (id_from id.now) held code.old.message code.new.message)
+        (code.new.message ≡ code.old.message) result }
+{
+    match side.held() {
+        Some(half) => code.fill(half.code(alloc, id)),
         None => EMPTY_HANDLE,
     }
 }

@@ -136,6 +136,7 @@ extern "C" {
     pub fn heal_side_upload(side: *mut Handle, code: *const u8, len: usize, id: *mut [u8; 32], slot: *mut u32) -> u32;
     pub fn heal_side_forget(side: *mut Handle, id: *const [u8; 32]) -> u32;
     pub fn heal_side_program(side: *const Handle, i: usize, id: *mut [u8; 32]) -> u32;
+    pub fn heal_side_code(side: *const Handle, id: *const [u8; 32], code: *mut Handle) -> u32;
     pub fn heal_side_register(side: *mut Handle, name: *const u8, len: usize, registration: *const Registration) -> u32;
     pub fn heal_side_unregister(side: *mut Handle, name: *const u8, len: usize) -> u32;
     pub fn heal_side_whereis(side: *const Handle, name: *const u8, len: usize, registration: *mut Registration) -> u32;

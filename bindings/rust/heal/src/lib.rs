@@ -225,6 +225,13 @@ impl Side {
         }
     }
 
+    /// Returns the code of an uploaded program, or of one that a row names.
+    pub fn code(&self, id: ProgramId) -> Result<Vec<u8>, Refused> {
+        let mut code = Held::empty(Kind::Bytes);
+        answer(unsafe { ffi::heal_side_code(self.held.at(), &id.0, code.at_mut()) })?;
+        code.bytes()
+    }
+
     /// Registers a name on an idle side.
     pub fn register(&mut self, name: &[u8], registration: Registration) -> Result<(), Refused> {
         let registration = registration.into();

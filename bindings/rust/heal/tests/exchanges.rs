@@ -126,6 +126,7 @@ fn programs_are_forgotten() -> Result<(), Refused> {
     let mut side = Side::new(SideId::A)?;
     let id = side.upload(&LATER_STAMP)?;
     assert_eq!(side.programs()?, [id]);
+    assert_eq!(side.code(id)?, LATER_STAMP);
     let resolver = Resolver::Program(id);
     side.register(
         b"db",
@@ -138,6 +139,7 @@ fn programs_are_forgotten() -> Result<(), Refused> {
     side.unregister(b"db")?;
     side.forget(id)?;
     assert_eq!((side.programs()?.len(), refused(side.forget(id))), (0, 41));
+    assert_eq!(refused(side.code(id)), 41);
     Ok(())
 }
 

@@ -3,8 +3,8 @@ use denote.Struct.Owning.{shape, fields, to}
 use denote.Param.Send.{IsSend, AllSend, owning_send, struct_send, sendable}
 use Rattle.std.proofs.alloc.Global.TheSendSync as heap
 use Rattle.handles.proofs.Crossing.{owned, quiet}
-use Rattle.heal_c.specs.contracts.message.Message as inner
-use Rattle.heal_c.proofs.message.Message.TheSendSync.{the_send}
+use Rattle.c_calls.specs.contracts.message.Message as inner
+use Rattle.c_calls.proofs.message.Message.TheSendSync.{the_send}
 use Rattle.heal_c.specs.contracts.message_handle.HealBytes.{the_row, the_type}
 
 pub send : IsSend the_row

@@ -3,8 +3,8 @@ use denote.Struct.Owning.{shape, fields, to}
 use denote.Param.Send.{IsSend, AllSend, owning_send, struct_send, sendable}
 use Rattle.std.proofs.alloc.Global.TheSendSync as heap
 use Rattle.handles.proofs.Crossing.{owned, quiet}
-use Rattle.heal_c.specs.contracts.outcome.Outcome as inner
-use Rattle.heal_c.proofs.outcome.Outcome.TheSendSync.{the_send}
+use Rattle.c_calls.specs.contracts.outcome.Outcome as inner
+use Rattle.c_calls.proofs.outcome.Outcome.TheSendSync.{the_send}
 use Rattle.heal_c.specs.contracts.outcome_handle.HealOutcome.{the_row, the_type}
 
 pub send : IsSend the_row

@@ -3,8 +3,8 @@ use denote.Struct.Owning.{shape, fields, to}
 use denote.Param.Send.{IsSend, AllSend, owning_send, struct_send, sendable}
 use Rattle.std.proofs.alloc.Global.TheSendSync as heap
 use Rattle.handles.proofs.Crossing.{owned, quiet}
-use Rattle.heal_c.specs.contracts.loaded.Loaded as inner
-use Rattle.heal_c.proofs.loaded.Loaded.TheSendSync.{the_send}
+use Rattle.upload_store.specs.contracts.accepted.Upload as inner
+use Rattle.upload_store.proofs.accepted.Upload.TheSendSync.{the_send}
 use Rattle.heal_c.specs.contracts.program_handle.HealProgram.{the_row, the_type}
 
 pub send : IsSend the_row

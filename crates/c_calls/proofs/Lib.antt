@@ -1,0 +1,8 @@
+-- Proofs that calls share.
+pub mod Answering
+pub mod Finishing
+pub mod Heads
+pub mod Hearing
+pub mod Keeping
+pub mod Uploading
+pub mod Repeating

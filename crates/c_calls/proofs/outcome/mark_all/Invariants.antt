@@ -1,0 +1,13 @@
+use Rattle.std.proofs.Common.{◌≡◌, ◌-◌, length, map, take}
+use Rattle.c_calls.specs.Outcomes.{mark_of}
+use Rattle.c_calls.proofs.outcome.mark_all.Given as goal
+
+-- each clash so far has its mark
+abbrev pub invariant-loop-i : goal.invariant-loop-i
+invariant-loop-i l = record {
+  places : length l.marks ≡ length l.pairs;
+  marked : take l.i l.marks ≡ map (mark_of l.finished) (take l.i l.pairs);
+}
+
+abbrev pub decreases-loop-i : goal.decreases-loop-i
+decreases-loop-i l = length l.pairs - l.i

@@ -1,0 +1,12 @@
+-- What contracts of the calls cite.
+pub mod Answers
+pub mod Codes
+pub mod Exchanges
+pub mod Kept
+pub mod Messages
+pub mod Outcomes
+pub mod Programs
+pub mod Queries
+pub mod Rows
+pub mod Sides
+pub mod laws

@@ -1,0 +1,127 @@
+-- The outcome of a finished exchange.
+use Rattle.std.specs.Prelude.{◌≡◌, ℕ, Bool, true, false, List, [], length, map, Option, Some, None, is_some, Result, slice_get, if◌then◌else◌}
+use Rattle.std.specs.Option.{option_map, option_map_or, option_and_then, ok_or}
+use Rattle.std.specs.FinMap.{get, len}
+use Rattle.clash_record.specs.declared.side_id.SideId.{SideId}
+use Rattle.clash_record.specs.declared.side_id.SideId.TheVariants.{A, B}
+use Rattle.clash_record.specs.declared.registrations.ResolverId.{ResolverId}
+use Rattle.clash_record.specs.declared.registrations.ResolverId.TheVariants.{Builtin, Program}
+use Rattle.builtin_resolvers.specs.declared.notice.Notice.{Notice}
+use Rattle.builtin_resolvers.specs.Telling.{notices_of}
+use Rattle.builtin_resolvers.specs.declared.verdicts.Verdict3.{Verdict3}
+use Rattle.builtin_resolvers.specs.declared.verdicts.Verdict3.TheVariants.{First, Second, Neither}
+use Rattle.partition_table.specs.Tables.{Table, Clash, Gone, same_registration}
+use Rattle.partition_table.specs.declared.judged.Judged.{Judged}
+use Rattle.clash_record.specs.Name.{Name}
+use Rattle.exchange_core.specs.Finished.{Finished, clashes_merged}
+use Rattle.exchange_core.specs.Sides.{Side, withdrawn_by}
+use Rattle.c_calls.specs.declared.codes.HealClash.{HealClash}
+use Rattle.c_calls.specs.declared.codes.HealName.{HealName}
+use Rattle.c_calls.specs.declared.codes.HealNotice.{HealNotice}
+use Rattle.c_calls.specs.declared.outcome.Mark.{Mark}
+use Rattle.c_calls.specs.declared.outcome.Outcome.{Outcome}
+use Rattle.c_calls.specs.declared.outcome.Pair.{Pair}
+use Rattle.c_calls.specs.Answers.{and_then}
+use Rattle.c_calls.specs.Sides.{side_id}
+use Rattle.c_calls.specs.Codes.{name_code, registration_code, side_code, verdict_code, notice_code}
+
+-- what an outcome keeps of a clash
+abbrev pub pair_of : Clash → Pair
+pair_of clash = record { name = clash.name; first = clash.first; second = clash.second }
+
+-- the table has the name of a clash with its first registration
+abbrev pub has_first : Table → Pair → Bool
+has_first table pair = option_map_or (λ row. same_registration row.registration pair.first) (get table pair.name) false
+
+-- whether the merged table has the name, and whether half A registered the first of the two
+abbrev pub mark_of : Finished → Pair → Mark
+mark_of f pair = record { kept = is_some (get f.table pair.name); of_a = has_first f.a pair }
+
+-- the exchange's number, the number of names of the merged table, and each clash with its ruling
+pub record IsOutcome (f : Finished) (outcome : Outcome) : Type 0 where
+  pub number : outcome.number ≡ f.number
+  pub merged : outcome.merged ≡ len f.table
+  pub clashes : outcome.pairs.items ≡ map pair_of (clashes_merged f)
+  pub rulings : outcome.rulings.items ≡ f.rulings
+  pub marks : outcome.marks.items ≡ map (mark_of f) outcome.pairs.items
+  pub gone_a : outcome.gone_a.items ≡ f.gone.of_a
+  pub gone_b : outcome.gone_b.items ≡ f.gone.of_b
+
+-- the names that the two sides withdrew in an open exchange
+abbrev pub gone_for : SideId → List Name → List Name → Gone
+gone_for A own theirs = record { of_a = own; of_b = theirs }
+gone_for B own theirs = record { of_a = theirs; of_b = own }
+
+abbrev pub theirs_of : Side → List Name
+theirs_of side = option_map_or (λ names. names) (option_and_then (λ exchange. exchange.their_list) side.exchange) []
+
+abbrev pub gone_of : Side → Gone
+gone_of side = gone_for side.id (withdrawn_by side) (theirs_of side)
+
+-- these clashes and withdrawn names, and a place for the ruling of each clash
+pub record IsRoomFor (clashes : List Clash) (gone : Gone) (outcome : Outcome) : Type 0 where
+  pub gone_a : outcome.gone_a.items ≡ gone.of_a
+  pub gone_b : outcome.gone_b.items ≡ gone.of_b
+  pub pairs : outcome.pairs.items ≡ map pair_of clashes
+  pub places : length outcome.rulings.items ≡ length clashes
+  pub marks : length outcome.marks.items ≡ length outcome.pairs.items
+
+-- the notices of a verdict; a program's verdict brings none
+abbrev pub notices_by : ResolverId → Pair → Verdict3 → List Notice
+notices_by (Builtin builtin) pair verdict = notices_of builtin pair.name pair.first.owner pair.second.owner verdict
+notices_by (Program id) pair verdict = []
+
+-- who keeps the name: the winner, unless it was withdrawn
+abbrev pub keeper : Bool → Verdict3 → Verdict3
+keeper kept verdict = if kept then verdict else Neither
+
+-- a winner keeps the name
+abbrev pub wins : Verdict3 → Bool → Bool
+wins First kept = kept
+wins Second kept = kept
+wins Neither kept = true
+
+-- the notices to deliver: none if the winner was withdrawn
+abbrev pub notices_to : Pair → Verdict3 → Bool → List Notice
+notices_to pair verdict kept = if wins verdict kept then notices_by pair.first.resolver pair verdict else []
+
+-- clash i with its ruling and its mark
+abbrev pub judged_at : Outcome → ℕ → Option (Pair × (Judged × Mark))
+judged_at outcome i = option_and_then (λ pair. option_and_then (λ judged. option_map (λ mark. (pair, (judged, mark)))
+    (slice_get outcome.marks.items i)) (slice_get outcome.rulings.items i)) (slice_get outcome.pairs.items i)
+
+-- the half that registered the first of the two
+abbrev pub first_half : Mark → SideId
+first_half mark = if mark.of_a then A else B
+
+abbrev pub clash_code : Pair × (Judged × Mark) → HealClash
+clash_code x = record {
+  name = name_code x.0.name;
+  first = registration_code x.0.first;
+  second = registration_code x.0.second;
+  word = x.1.0.word;
+  verdict = verdict_code x.1.0.answer;
+  keeps = verdict_code (keeper x.1.1.kept x.1.0.answer);
+  first_half = side_code (first_half x.1.1);
+  notices = length (notices_to x.0 x.1.0.answer x.1.1.kept);
+}
+
+-- clash i, or 92
+abbrev pub clash_at : Outcome → ℕ → Result HealClash ℕ
+clash_at outcome i = ok_or (option_map clash_code (judged_at outcome i)) 92
+
+-- notice n of clash i, or 92
+abbrev pub notice_at : Outcome → ℕ → ℕ → Result HealNotice ℕ
+notice_at outcome i n = ok_or (option_and_then (λ (x : Pair × (Judged × Mark)).
+    option_map notice_code (slice_get (notices_to x.0 x.1.0.answer x.1.1.kept) n)) (judged_at outcome i)) 92
+
+-- ---- withdrawn names
+
+abbrev pub names_of : SideId → Outcome → List Name
+names_of A outcome = outcome.gone_a.items
+names_of B outcome = outcome.gone_b.items
+
+-- name i of those that a half withdrew, or 74 for neither half, or 92
+abbrev pub withdrawn_of : ℕ → ℕ → Outcome → Result HealName ℕ
+withdrawn_of half i outcome =
+    and_then (side_id half) (λ id. ok_or (option_map name_code (slice_get (names_of id outcome) i)) 92)

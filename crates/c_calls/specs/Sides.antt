@@ -1,0 +1,151 @@
+-- The calls of a half on its table and its programs: what is due to each, and what it leaves.
+use Rattle.std.specs.Prelude.{◌≡◌, ◌≢◌, ◌≤◌, ◌+◌, ◌⊎◌, ◌&&◌, ℕ, nat_lt, nat_le, ◌==◌, if◌then◌else◌, List, [], length, Result, Ok, Err, slice_get}
+use Rattle.std.specs.Option.{option_map, ok_or}
+use Rattle.std.specs.FinMap as map
+use Rattle.numbered.specs.Answers.{out_of_memory}
+use Rattle.clash_record.specs.Name.{Name}
+use Rattle.clash_record.specs.declared.side_id.SideId.{SideId}
+use Rattle.clash_record.specs.declared.side_id.SideId.TheVariants.{A, B}
+use Rattle.clash_record.specs.declared.registrations.ProgramId.{ProgramId}
+use Rattle.clash_record.specs.declared.registrations.Registration.{Registration}
+use Rattle.upload_store.specs.declared.fault.UploadFault.{UploadFault}
+use Rattle.upload_store.specs.Faults.{upload_fault_number, upload_fault_place}
+use Rattle.upload_store.specs.Uploads.{Fits, IsKept, IsUploadFault}
+use Rattle.partition_table.specs.Tables.{most_names, row_for, rows_of, rows_above}
+use Rattle.exchange_core.specs.Calls.{Call, Register, Unregister}
+use Rattle.exchange_core.specs.Faults.{side_fault_number}
+use Rattle.exchange_core.specs.Refusals.{register_fault, unregister_fault, renew_fault}
+use Rattle.exchange_core.specs.Shown.{shown, calls, limit_of, is_full, IsDone, IsUntouched}
+use Rattle.exchange_core.specs.Sides.{new_side, rested, shown_table, withdrawn_by}
+use Rattle.c_calls.specs.declared.half.Half.{Half}
+use Rattle.c_calls.specs.declared.codes.HealRegistration.{HealRegistration}
+use Rattle.c_calls.specs.declared.codes.HealRow.{HealRow}
+use Rattle.c_calls.specs.Answers.{unless, and_then, slot_of, IsAnswer, Gives}
+use Rattle.c_calls.specs.Codes.{name_of, entry_of, registration_code}
+use Rattle.c_calls.specs.Rows.{row_in, row_in_after}
+
+-- 0 is side A, and 1 is side B; or 74
+abbrev pub side_id : ℕ → Result SideId ℕ
+side_id id = if id == 0 then Ok A else (if id == 1 then Ok B else Err 74)
+
+-- 1 to 1,048,576 names; or 92
+abbrev pub limit_in : ℕ → Result ℕ ℕ
+limit_in names = if nat_lt 0 names && nat_le names most_names then Ok names else Err 92
+
+-- a side and a limit
+abbrev pub side_within : ℕ → ℕ → Result (SideId × ℕ) ℕ
+side_within id names = and_then (side_id id) (λ id. and_then (limit_in names) (λ limit. Ok (id, limit)))
+
+-- an idle half of this limit without names and programs
+pub record IsNew (limit : ℕ) (id : SideId) (half : Half) : Type 0 where
+  pub state : shown half.side ≡ new_side id
+  pub journal : calls half.side ≡ []
+  pub limit_is : limit_of half.side ≡ limit
+  pub store : half.store ≡ map.empty
+
+-- the programs stay, and neither the side's state nor its journal changed
+pub record Stays (old new : Half) : Type 0 where
+  pub side : IsUntouched old.side new.side
+  pub store : new.store ≡ old.store
+
+-- the side carried the call out, and the programs stay
+pub record CarriesOut (call : Call) (old new : Half) : Type 0 where
+  pub done : IsDone old.side call new.side
+  pub store : new.store ≡ old.store
+
+-- ---- registering
+
+-- the name and its registration, or the refusal that is due
+abbrev pub registering : List ℕ → HealRegistration → Half → Result (Name × Registration) ℕ
+registering bytes r half = and_then (entry_of bytes r) (λ e. unless side_fault_number
+    (register_fault (limit_of half.side) (is_full half.side) (shown half.side) e.0 e.1 half.store) e)
+
+abbrev pub Registers : List ℕ → HealRegistration → Half → Half → ℕ → Type 0
+Registers bytes r old new = IsAnswer (registering bytes r old)
+    (λ e. CarriesOut (Register e.0 (row_for old.store e.1)) old new) (Stays old new)
+
+abbrev pub unregistering : List ℕ → Half → Result Name ℕ
+unregistering bytes half = and_then (name_of bytes) (λ name. unless side_fault_number
+    (unregister_fault (is_full half.side) (shown half.side) name) name)
+
+abbrev pub Unregisters : List ℕ → Half → Half → ℕ → Type 0
+Unregisters bytes old new = IsAnswer (unregistering bytes old)
+    (λ name. CarriesOut (Unregister name) old new) (Stays old new)
+
+-- ---- looking up
+
+-- the registration that the side shows, or 44 or 31
+abbrev pub found_at : List ℕ → Half → Result HealRegistration ℕ
+found_at bytes half = and_then (name_of bytes) (λ name. ok_or
+    (option_map (λ row. registration_code row.registration) (map.get (shown_table (shown half.side)) name)) 31)
+
+-- row i of the table, or 92
+abbrev pub row_at : ℕ → Half → Result HealRow ℕ
+row_at i half = row_in i (shown half.side).table
+
+-- the first row of the table above this name, or the refusal that is due
+abbrev pub row_after : List ℕ → Half → Result HealRow ℕ
+row_after bytes half = row_in_after bytes (shown half.side).table
+
+-- ---- renewing
+
+-- the side is the same with a short journal, and the programs stay
+pub record IsRenewed (old new : Half) : Type 0 where
+  pub same : shown new.side ≡ shown old.side
+  pub same_limit : limit_of new.side ≡ limit_of old.side
+  pub short : length (calls new.side) ≤ map.len (shown old.side).table + 2
+  pub store : new.store ≡ old.store
+
+abbrev pub Renews : Half → Half → ℕ → Type 0
+Renews old new = Gives (unless side_fault_number (renew_fault (shown old.side)) (tt {0}))
+    (λ _. IsRenewed old new) (Stays old new)
+
+-- ---- giving an exchange up
+
+-- the side is idle without the names that it withdrew, its journal is short, and the programs stay
+pub record GaveUp (old new : Half) : Type 0 where
+  pub state : shown new.side ≡ rested (shown old.side)
+  pub same_limit : limit_of new.side ≡ limit_of old.side
+  pub short : length (calls new.side) ≤ map.len (shown new.side).table + 2
+  pub store : new.store ≡ old.store
+
+-- only withdrawn names need memory
+abbrev pub GivesUp : Half → Half → ℕ → Type 0
+GivesUp old new n = ((n ≡ 0) × GaveUp old new)
+    ⊎ ((n ≡ out_of_memory) × (withdrawn_by (shown old.side) ≢ []) × Stays old new)
+
+-- ---- uploading
+
+-- the program is kept under the id of its bytes, the side stays, and nothing is refused
+pub record Keeps (bytes : List ℕ) (old new : Half) (id : List ℕ) (n slot : ℕ) : Type 0 where
+  pub kept : IsKept old.store bytes (record { 0 = id }) new.store
+  pub side : new.side ≡ old.side
+  pub no_refusal : n ≡ 0
+  pub no_slot : slot ≡ 0
+
+-- the id of a kept program, or this one
+abbrev pub id_in : Result ProgramId UploadFault → List ℕ → List ℕ
+id_in (Ok kept) id = kept.0
+id_in (Err fault) id = id
+
+-- everything stays, also the id
+abbrev pub AllStays : Half → Half → List ℕ → List ℕ → Type 0
+AllStays old new id id' = (new ≡ old) × (id' ≡ id)
+
+abbrev pub RanOut : ℕ → ℕ → Type 0
+RanOut n slot = (n ≡ out_of_memory) × (slot ≡ 0)
+
+-- the number and the slot are those of the fault
+abbrev pub IsNumbered : UploadFault → ℕ → ℕ → Type 0
+IsNumbered fault n slot = (n ≡ upload_fault_number fault) × (slot ≡ slot_of (upload_fault_number fault) (upload_fault_place fault))
+
+-- what an upload returns and leaves
+pub record IsUpload (bytes : List ℕ) (old new : Half) (id id' : List ℕ) (n slot : ℕ) : Type 0 where
+  pub answer : Keeps bytes old new id' n slot
+      ⊎ ((((fault : UploadFault) × IsUploadFault old.store bytes fault × IsNumbered fault n slot) ⊎ RanOut n slot)
+      × AllStays old new id id')
+  -- accepted code that has a place is kept, unless memory runs out
+  pub taken : Fits old.store bytes → Keeps bytes old new id' n slot ⊎ (RanOut n slot × AllStays old new id id')
+  -- a cause of a refusal is returned, unless memory runs out
+  pub told : (fault : UploadFault) → IsUploadFault old.store bytes fault →
+      (IsNumbered fault n slot ⊎ RanOut n slot) × AllStays old new id id'

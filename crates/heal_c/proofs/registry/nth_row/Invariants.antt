@@ -1,9 +1,0 @@
-use Rattle.std.proofs.Common.{◌≡◌, length, slice_get}
-use Rattle.heal_c.proofs.registry.nth_row.Given as goal
-
--- the row that is left to be found is the one that is due
-abbrev pub invariant-loop-row : goal.invariant-loop-row
-invariant-loop-row l = slice_get l.rest l.left ≡ slice_get l.fn.rows l.i
-
-abbrev pub decreases-loop-row : goal.decreases-loop-row
-decreases-loop-row l = length l.rest
