@@ -1,12 +1,7 @@
-pub mod FieldLaws
-pub mod ManyLaws
 pub mod WrittenLaws
-pub mod NameLaws
 pub mod WithdrawalLaws
 pub mod EachLaws
 pub mod ListedLaws
-pub mod CodeLaws
-pub mod RowLaws
 pub mod OfferLaws
 pub mod IdLaws
 pub mod TableLaws
@@ -15,4 +10,5 @@ pub mod OneOffer
 pub mod OneFault
 pub mod RebuildingLaws
 pub mod OfferAnswers
+pub mod TableAnswers
 pub mod BuildingLaws

@@ -3,18 +3,6 @@ use Rattle.std.proofs.Common.{◌≡◌, ℕ, ◌-◌, List, [], length, Result,
 use Rattle.std.specs.Prelude.{IfOk, IfErr}
 use Rattle.std.specs.FinMap.{entries}
 use Rattle.numbered.specs.Answers.{HasCause, ReturnsOrRunsOut}
-use Rattle.instruction_set.specs.declared.insn.Insn.{Insn}
-use Rattle.insn_codec.specs.Encoding.{Spells}
-use Rattle.insn_codec.specs.Faults.{IsFirstFault}
-use Rattle.insn_codec.specs.declared.fault.CodecFault.{CodecFault}
-use Rattle.verifier.specs.Structure.{IsStructured}
-use Rattle.verifier.specs.Assignments.{IsTypable}
-use Rattle.verifier.specs.Refusals.{IsRefusedAt}
-use Rattle.verifier.specs.declared.refusal.Refusal.{Refusal}
-use Rattle.verifier.specs.declared.refusal.VerifyFault.TheVariants as verify
-use Rattle.program.specs.declared.fault.ProgramFault.{ProgramFault}
-use Rattle.program.specs.declared.fault.ProgramFault.TheVariants.{Codec, Verify}
-use Rattle.program.specs.Programs.{IsAccepted, IsProgramFault, profile}
 use Rattle.partition_table.specs.Tables.{Table, most_names}
 use Rattle.exchange_codec.specs.declared.offers.OfferText as lent
 use Rattle.exchange_codec.specs.OffersText.{view}
@@ -33,41 +21,11 @@ use Rattle.exchange_codec.specs.Reading.{Fails}
 use Rattle.exchange_codec.specs.Rows.{texts_of}
 use Rattle.exchange_codec.specs.Offers.{OfferText, text_of, offer_bytes, offer_of, IsText, SpellsOffer, IsFirstRowFault, IsOfferFault}
 use Rattle.exchange_codec.specs.model.Building.{IsOfferOf, IsRowsFault}
-use Rattle.exchange_codec.proofs.FieldLaws.{IsBytes, ok_is}
+use Rattle.exchange_codec.specs.laws.Fields.{IsBytes, ok_is}
 use Rattle.exchange_codec.proofs.OfferLaws.{text_spelled, text_read}
-use Rattle.exchange_codec.proofs.OneOffer.{Readings, same_table}
+use Rattle.exchange_codec.specs.laws.Programs.{Readings}
+use Rattle.exchange_codec.proofs.OneOffer.{same_table}
 use Rattle.exchange_codec.proofs.OneFault.{no_fault, one_row_fault}
-
--- ---- programs
-
-module _ (either : (bytes : List ℕ) → (code : List Insn) → (fault : CodecFault) → Spells bytes code → IsFirstFault bytes fault → ⊥)
-    (one_code : (bytes : List ℕ) → (code other : List Insn) → Spells bytes code → Spells bytes other → code ≡ other)
-    (one_fault : (bytes : List ℕ) → (fault other : CodecFault) → IsFirstFault bytes fault → IsFirstFault bytes other → fault ≡ other)
-    (judged : (code : List Insn) (refusal : Refusal) → IsStructured code → IsTypable profile code
-    → IsRefusedAt profile code refusal.slot refusal.rule → ⊥)
-    (one_refusal : (code : List Insn) (a b : Refusal) → IsRefusedAt profile code a.slot a.rule
-    → IsRefusedAt profile code b.slot b.rule → a ≡ b) where
-  accepted : (bytes : List ℕ) (code : List Insn) (fault : ProgramFault) → IsAccepted bytes code → IsProgramFault bytes fault → ⊥
-  accepted bytes code (Codec fault) is bad = either bytes code fault is.spelled bad
-  accepted bytes code (Verify (verify.Refused refusal)) is bad =
-      let same : code ≡ bad.code = one_code bytes code bad.code is.spelled bad.spelled in
-      judged bad.code refusal (subst IsStructured same is.structured) (subst (IsTypable profile) same is.typable) bad.refused
-  accepted bytes code (Verify verify.OutOfMemory) is bad = bad
-
-  one_program_fault : (bytes : List ℕ) (fault other : ProgramFault) → IsProgramFault bytes fault → IsProgramFault bytes other
-      → fault ≡ other
-  one_program_fault bytes (Codec f) (Codec g) p q = ap Codec (one_fault bytes f g p q)
-  one_program_fault bytes (Codec f) (Verify (verify.Refused s)) p q = absurd (either bytes q.code f q.spelled p)
-  one_program_fault bytes (Verify (verify.Refused r)) (Codec g) p q = absurd (either bytes p.code g p.spelled q)
-  one_program_fault bytes (Verify verify.OutOfMemory) g p q = absurd p
-  one_program_fault bytes f (Verify verify.OutOfMemory) p q = absurd q
-  one_program_fault bytes (Verify (verify.Refused r)) (Verify (verify.Refused s)) p q =
-      let same : q.code ≡ p.code = one_code bytes q.code p.code q.spelled p.spelled in
-      ap (λ (x : Refusal). Verify (verify.Refused x))
-      (one_refusal p.code r s p.refused (subst (λ (c : List Insn). IsRefusedAt profile c s.slot s.rule) same q.refused))
-
-  pub readings : Readings
-  readings = record { one_code = one_code; accepted = accepted; one_fault = one_program_fault }
 
 -- ---- offers
 
@@ -163,4 +121,4 @@ is_failed bytes (errors.Fault f) h = inl (f.left, h, refl)
 -- an offer that is read has at most 1,048,576 rows
 pub few_rows : (bytes : List ℕ) (text : lent.OfferText) → IsBytes bytes → offer_of bytes ≡ Ok (view text)
     → length text.rows.items ≤ most_names
-few_rows bytes text fits e = omega (arith, (text_spelled bytes (view text) fits e).0.few, views_len text.rows.items)
+few_rows bytes text fits e = omega (arith, (text_spelled bytes (view text) fits e).0.rows.few, views_len text.rows.items)

@@ -1,18 +1,15 @@
 -- The text of an offer that is read is spelled so, and what is spelled so is read.
-use Rattle.std.proofs.Common.{◌≡◌, ℕ, ◌^◌, ◌<◌, ◌≤◌, List, [], ◌∷◌, ◌++◌, length, Ok, refl, sym, ap, subst, ◌∙◌, append_assoc, arith, lit<}
-use Rattle.std.specs.List.{flat_map}
-use Rattle.std.specs.Int.{w32, w64, to_le_bytes}
+use Rattle.std.proofs.Common.{◌≡◌, ℕ, ◌^◌, ◌<◌, List, [], ◌∷◌, ◌++◌, Ok, refl, sym, ap, subst, ◌∙◌, append_assoc, lit<}
+use Rattle.std.specs.Int.{w64, to_le_bytes}
 use Rattle.std.proofs.lemmas.List.{append-nil}
-use Rattle.partition_table.specs.Tables.{most_names}
 use Rattle.exchange_codec.specs.declared.offers.OfferHead.{OfferHead}
-use Rattle.exchange_codec.specs.Reading.{◌>>=◌, number_at, header_at, count_at, many_at, ended}
+use Rattle.exchange_codec.specs.Reading.{◌>>=◌, number_at, header_at, ended}
 use Rattle.exchange_codec.specs.Names.{side_byte, side_at}
-use Rattle.exchange_codec.specs.Rows.{row_bytes, row_at, IsRow}
+use Rattle.exchange_codec.specs.Tables.{table_bytes, rows_at}
+use Rattle.exchange_codec.specs.laws.Tables.{rows_take, rows_again}
 use Rattle.exchange_codec.specs.Offers.{offers_header, OfferText, head_bytes, offer_bytes, IsText, head_at, offer_at, offer_of}
-use Rattle.exchange_codec.proofs.FieldLaws.{IsBytes, bind_ok, ok_is, Takes, Takes-then, wide64, number_takes, number_again, header_takes, header_again, count_takes, count_again, ended_ok}
-use Rattle.exchange_codec.proofs.NameLaws.{side_takes, side_again}
-use Rattle.exchange_codec.proofs.ManyLaws.{many_take, many_again}
-use Rattle.exchange_codec.proofs.RowLaws.{row_takes, row_again}
+use Rattle.exchange_codec.specs.laws.Fields.{IsBytes, bind_ok, ok_is, Takes, Takes-then, wide64, number_takes, number_again, header_takes, header_again, ended_ok}
+use Rattle.exchange_codec.specs.laws.Names.{side_takes, side_again}
 
 head_takes : (bytes : List ℕ) (x : OfferHead × List ℕ) → IsBytes bytes → head_at bytes ≡ Ok x
     → Takes bytes (head_bytes x.0) x.1 × (x.0.number < 2 ^ 64) × (x.0.seed < 2 ^ 64) × (x.0.uptime < 2 ^ 64)
@@ -53,39 +50,29 @@ offer_takes : (bytes : List ℕ) (x : OfferText × List ℕ) → IsBytes bytes �
     → Takes bytes (offer_bytes x.0) x.1 × IsText x.0
 unfolding offer_at
 offer_takes bytes x fits e =
-    let h = bind_ok (header_at offers_header bytes) (λ rest. head_at rest >>= λ head. count_at most_names head.1 >>= λ count. many_at row_at count.0 count.1 >>= λ rows. Ok (record { head = head.0; rows = rows.0 }, rows.1)) x e in
-    let d = bind_ok (head_at h.0) (λ head. count_at most_names head.1 >>= λ count. many_at row_at count.0 count.1 >>= λ rows. Ok (record { head = head.0; rows = rows.0 }, rows.1)) x h.2 in
-    let c = bind_ok (count_at most_names d.0.1) (λ count. many_at row_at count.0 count.1 >>= λ rows. Ok (record { head = d.0.0; rows = rows.0 }, rows.1)) x d.2 in
-    let m = bind_ok (many_at row_at c.0.0 c.0.1) (λ rows. Ok (record { head = d.0.0; rows = rows.0 }, rows.1)) x c.2 in
+    let h = bind_ok (header_at offers_header bytes) (λ rest. head_at rest >>= λ head. rows_at head.1 >>= λ rows. Ok (record { head = head.0; rows = rows.0 }, rows.1)) x e in
+    let d = bind_ok (head_at h.0) (λ head. rows_at head.1 >>= λ rows. Ok (record { head = head.0; rows = rows.0 }, rows.1)) x h.2 in
+    let m = bind_ok (rows_at d.0.1) (λ rows. Ok (record { head = d.0.0; rows = rows.0 }, rows.1)) x d.2 in
     let th = header_takes offers_header bytes h.0 fits h.1 in
     let td = head_takes h.0 d.0 th.rest_fits d.1 in
-    let tc = count_takes most_names d.0.1 c.0.0 c.0.1 td.0.rest_fits c.1 in
-    let tm = many_take row_at row_bytes IsRow row_takes c.0.0 c.0.1 m.0 tc.0.rest_fits m.1 in
-    let counted : Takes d.0.1 (to_le_bytes w32 (length m.0.0)) c.0.1 = subst (λ (k : ℕ). Takes d.0.1 (to_le_bytes w32 k) c.0.1) (sym tm.1) tc.0 in
-    let e2 = Takes-then d.0.1 (to_le_bytes w32 (length m.0.0)) c.0.1 (flat_map row_bytes m.0.0) m.0.1 counted tm.0 in
-    let e1 = Takes-then h.0 (head_bytes d.0.0) d.0.1 (to_le_bytes w32 (length m.0.0) ++ flat_map row_bytes m.0.0) m.0.1 td.0 e2 in
-    let e0 = Takes-then bytes (to_le_bytes w64 offers_header) h.0 (head_bytes d.0.0 ++ (to_le_bytes w32 (length m.0.0) ++ flat_map row_bytes m.0.0)) m.0.1 th e1 in
+    let tm = rows_take d.0.1 m.0 td.0.rest_fits m.1 in
+    let e1 = Takes-then h.0 (head_bytes d.0.0) d.0.1 (table_bytes m.0.0) m.0.1 td.0 tm.0 in
+    let e0 = Takes-then bytes (to_le_bytes w64 offers_header) h.0 (head_bytes d.0.0 ++ table_bytes m.0.0) m.0.1 th e1 in
     let made : OfferText × List ℕ = (record { head = d.0.0; rows = m.0.0 }, m.0.1) in
-    let few : length m.0.0 ≤ most_names = omega (arith, tm.1, tc.1) in
     subst (λ (y : OfferText × List ℕ). Takes bytes (offer_bytes y.0) y.1 × IsText y.0) {x = made} (ok_is made x m.2)
-    (e0, record { head = record { number = td.1; seed = td.2; uptime = td.3 }; few = few; each = tm.2 })
+    (e0, record { head = record { number = td.1; seed = td.2; uptime = td.3 }; rows = tm.1 })
 
 offer_again : (o : OfferText) (rest : List ℕ) → IsText o → offer_at (offer_bytes o ++ rest) ≡ Ok (o, rest)
 unfolding offer_at
 offer_again o rest fits =
-    let rows = flat_map row_bytes o.rows in
-    let count = to_le_bytes w32 (length o.rows) in
-    let regrouped : offer_bytes o ++ rest
-    ≡ to_le_bytes w64 offers_header ++ (head_bytes o.head ++ (to_le_bytes w32 (length o.rows) ++ (flat_map row_bytes o.rows ++ rest))) =
-    append_assoc (to_le_bytes w64 offers_header) (head_bytes o.head ++ (count ++ rows)) rest
-    ∙ ap (λ (x : List ℕ). to_le_bytes w64 offers_header ++ x) (append_assoc (head_bytes o.head) (count ++ rows) rest
-    ∙ ap (λ (x : List ℕ). head_bytes o.head ++ x) (append_assoc count rows rest)) in
+    let regrouped : offer_bytes o ++ rest ≡ to_le_bytes w64 offers_header ++ (head_bytes o.head ++ (table_bytes o.rows ++ rest)) =
+    append_assoc (to_le_bytes w64 offers_header) (head_bytes o.head ++ table_bytes o.rows) rest
+    ∙ ap (λ (x : List ℕ). to_le_bytes w64 offers_header ++ x) (append_assoc (head_bytes o.head) (table_bytes o.rows) rest) in
     ap offer_at regrouped
     ∙ rw (
-      header_again offers_header (head_bytes o.head ++ (to_le_bytes w32 (length o.rows) ++ (flat_map row_bytes o.rows ++ rest))) (lit< tt),
-      head_again o.head (to_le_bytes w32 (length o.rows) ++ (flat_map row_bytes o.rows ++ rest)) fits.head.number fits.head.seed fits.head.uptime,
-      count_again most_names (length o.rows) (flat_map row_bytes o.rows ++ rest) fits.few (lit< tt),
-      many_again row_at row_bytes IsRow row_again o.rows rest fits.each,
+      header_again offers_header (head_bytes o.head ++ (table_bytes o.rows ++ rest)) (lit< tt),
+      head_again o.head (table_bytes o.rows ++ rest) fits.head.number fits.head.seed fits.head.uptime,
+      rows_again o.rows rest fits.rows,
     ) refl
 
 pub text_spelled : (bytes : List ℕ) (o : OfferText) → IsBytes bytes → offer_of bytes ≡ Ok o → IsText o × (bytes ≡ offer_bytes o)

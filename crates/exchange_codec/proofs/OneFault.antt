@@ -22,7 +22,8 @@ use Rattle.exchange_codec.specs.declared.fault.ItemFault.TheVariants as item
 use Rattle.exchange_codec.specs.Faults.{item_fault_number}
 use Rattle.exchange_codec.specs.Rows.{RowText, Named, Code, has_id, ids_of, ids_after, texts_of, text_of, resolver_text, code_bytes}
 use Rattle.exchange_codec.specs.Offers.{is_above, IsRowFault, IsFirstRowFault}
-use Rattle.exchange_codec.proofs.OneOffer.{Readings, AreRows, rows_front, rows_of_table, same_rows, same_table}
+use Rattle.exchange_codec.specs.laws.Programs.{Readings}
+use Rattle.exchange_codec.proofs.OneOffer.{AreRows, rows_front, rows_of_table, same_rows, same_table}
 
 abbrev Entry : Type 0
 Entry = Name × Row

@@ -1,14 +1,12 @@
 -- Bytes spell one offer at most, or have one fault.
-use Rattle.std.proofs.Common.{◌≡◌, ℕ, Bool, true, false, cond, List, [], ◌∷◌, ◌++◌, Option, Some, None, refl, sym, ap, subst, ◌∙◌, append_assoc, ◌⊎◌, inl, inr}
+use Rattle.std.proofs.Common.{◌≡◌, Bool, true, false, cond, List, [], ◌∷◌, ◌++◌, Option, Some, None, refl, sym, ap, subst, ◌∙◌, append_assoc, ◌⊎◌, inl, inr}
 use Rattle.std.specs.Prelude.{not, ◌||◌, map as map_list}
 use Rattle.std.specs.List.{flat_map, AllByRecursion, list_all}
 use Rattle.std.specs.Ordering.{is_eq}
 use Rattle.std.specs.FinMap.{entries, same_entries_map}
 use Rattle.std.proofs.lemmas.Bool.{and_parts}
 use Rattle.instruction_set.specs.declared.insn.Insn.{Insn}
-use Rattle.insn_codec.specs.Encoding.{Spells, insn_bytes}
-use Rattle.program.specs.declared.fault.ProgramFault.{ProgramFault}
-use Rattle.program.specs.Programs.{IsAccepted, IsProgramFault}
+use Rattle.insn_codec.specs.Encoding.{insn_bytes}
 use Rattle.clash_record.specs.Name.{Name}
 use Rattle.clash_record.specs.Orders.{id_cmp}
 use Rattle.clash_record.specs.declared.registrations.ProgramId.{ProgramId}
@@ -19,16 +17,9 @@ use Rattle.upload_store.specs.Programs.{IsProgram, id_of}
 use Rattle.partition_table.specs.Tables.{Row, Table, IsTable, IsCodeOf, program_of, same_id, same_code, rows_agree, agrees_with}
 use Rattle.partition_table.specs.laws.Sameness.{code_decides}
 use Rattle.exchange_core.specs.laws.Entries.{has_entry}
+use Rattle.exchange_codec.specs.laws.Programs.{Readings}
 use Rattle.exchange_codec.specs.Rows.{RowText, ByBuiltin, Named, Code, has_id, ids_after, texts_of, text_of, resolver_text, code_bytes}
 use Rattle.exchange_codec.proofs.IdLaws.{is_by, after_has, same_id_is, id_itself}
-
--- what is known of code
-pub record Readings : Type 0 where
-  pub one_code : (bytes : List ℕ) (code other : List Insn) → Spells bytes code → Spells bytes other → code ≡ other
-  pub accepted : (bytes : List ℕ) (code : List Insn) (fault : ProgramFault) → IsAccepted bytes code
-      → IsProgramFault bytes fault → ⊥
-  pub one_fault : (bytes : List ℕ) (fault other : ProgramFault) → IsProgramFault bytes fault
-      → IsProgramFault bytes other → fault ≡ other
 
 abbrev pub Entry : Type 0
 Entry = Name × Row

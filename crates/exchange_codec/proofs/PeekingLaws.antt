@@ -1,5 +1,5 @@
 -- The head of a message that bytes spell.
-use Rattle.std.proofs.Common.{◌≡◌, ℕ, ◌^◌, List, ◌∷◌, ◌++◌, length, Result, Ok, Err, inl, inr, refl, sym, ap, ◌∙◌, append_assoc, lit<}
+use Rattle.std.proofs.Common.{◌≡◌, ℕ, ◌^◌, List, ◌∷◌, ◌++◌, length, Result, Ok, Err, inl, inr, refl, ap, ◌∙◌, append_assoc, lit<}
 use Rattle.std.specs.List.{flat_map}
 use Rattle.std.specs.Int.{w32, w64, to_le_bytes}
 use Rattle.numbered.specs.Answers.{ReturnsOrRunsOut}
@@ -17,8 +17,8 @@ use Rattle.exchange_codec.specs.Rows.{row_bytes}
 use Rattle.exchange_codec.specs.Offers.{offers_header, head_bytes, text_of, SpellsOffer}
 use Rattle.exchange_codec.specs.Withdrawals.{withdrawals_header, SpellsWithdrawals}
 use Rattle.exchange_codec.specs.Peeking.{head_of_offer, head_of_list, peeked_offer, peeked_list, peeked}
-use Rattle.exchange_codec.proofs.FieldLaws.{wide64, number_again, eqb_same}
-use Rattle.exchange_codec.proofs.NameLaws.{side_again}
+use Rattle.exchange_codec.specs.laws.Fields.{wide64, number_again}
+use Rattle.exchange_codec.specs.laws.Names.{side_again}
 
 pub offer_peeked : (bytes : List ℕ) (o : Offer) → SpellsOffer bytes o → peeked bytes ≡ Ok (head_of_offer o)
 unfolding peeked peeked_offer

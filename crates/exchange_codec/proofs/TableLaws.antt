@@ -1,6 +1,6 @@
 -- The rows of a table, written in the order of their names.
 use Rattle.std.proofs.Common.{◌≡◌, ℕ, length, List, [], ◌∷◌, ◌++◌, Option, Some, refl, sym, ap, subst, ◌∙◌, append_assoc, append-nil, arith}
-use Rattle.std.specs.Prelude.{map}
+use Rattle.std.specs.Prelude.{map, OnOk, Result, Ok, Err}
 use Rattle.std.specs.List.{flat_map}
 use Rattle.std.specs.FinMap.{get, len, entries, len-entries}
 use Rattle.std.proofs.lemmas.List.Concat.{flat_map-append}
@@ -17,6 +17,7 @@ use Rattle.std.specs.Int.{w32, w64, to_le_bytes}
 use Rattle.exchange_core.specs.Sides.{Offer}
 use Rattle.exchange_core.specs.laws.Entries.{has_entry}
 use Rattle.exchange_codec.proofs.IdLaws.{texts_more, ids_more, no_text, no_id, texts_len}
+use Rattle.exchange_codec.specs.Tables.{table_bytes, table_text, IsTableText}
 use Rattle.exchange_codec.specs.Offers.{offers_header, head_bytes, head_of, offer_bytes, IsHead, SpellsOffer}
 use Rattle.exchange_codec.specs.Offers.{text_of as offer_text}
 
@@ -116,32 +117,46 @@ pub all_written : (table : Table) (out now : List ℕ) (ids : BTreeSet ProgramId
 all_written table out now ids w =
     w.written ∙ ap (λ (es : List (Name × Row)). out ++ flat_map row_bytes (texts_of [] es)) (all_of table w.done w.rest w.parts w.left_is)
 
+-- a table of the type's has a text
+pub table_text_fits : (table : Table) → IsTable table → AllByRecursion IsRow (table_text table) → IsTableText (table_text table)
+table_text_fits table kept fit =
+    record { few = omega (arith, kept.few, len-entries table, texts_len [] (entries table)); each = fit }
+
+pub on_ok : {A F P Q : Type 0} (r : Result A F) → OnOk r P → (P → Q) → OnOk r Q
+on_ok (Ok x) h f = f h
+on_ok (Err e) h f = tt
+
+-- a table is written: the number of its rows, and the rows
+pub table_written : (table : Table) (n : ℕ) (out counted done : List ℕ) → n ≡ len table → counted ≡ out ++ to_le_bytes w32 n
+    → done ≡ counted ++ flat_map row_bytes (table_text table) → done ≡ out ++ table_bytes (table_text table)
+table_written table n out counted done count wrote_count wrote_rows =
+    let rows = flat_map row_bytes (table_text table) in
+    let many : n ≡ length (table_text table) = count ∙ len-entries table ∙ sym (texts_len [] (entries table)) in
+    wrote_rows
+    ∙ ap (λ (x : List ℕ). x ++ rows) (wrote_count ∙ ap (λ (k : ℕ). out ++ to_le_bytes w32 k) many)
+    ∙ append_assoc out (to_le_bytes w32 (length (table_text table))) rows
+
 -- the parts of an offer, written one after the other
-pub offer_written : (o : Offer) (table : Table) (n : ℕ) (a b c d : List ℕ) → table ≡ o.table → n ≡ len table
-    → a ≡ to_le_bytes w64 offers_header → b ≡ a ++ head_bytes (head_of o) → c ≡ b ++ to_le_bytes w32 n
-    → d ≡ c ++ flat_map row_bytes (texts_of [] (entries table)) → d ≡ offer_bytes (offer_text o)
-offer_written o table n a b c d is count wrote_a wrote_b wrote_c wrote_d =
+pub offer_written : (o : Offer) (table : Table) (a b c : List ℕ) → table ≡ o.table
+    → a ≡ to_le_bytes w64 offers_header → b ≡ a ++ head_bytes (head_of o) → c ≡ b ++ table_bytes (table_text table)
+    → c ≡ offer_bytes (offer_text o)
+offer_written o table a b c is wrote_a wrote_b wrote_c =
     let header = to_le_bytes w64 offers_header in
     let head = head_bytes (head_of o) in
-    let rows = flat_map row_bytes (texts_of [] (entries o.table)) in
-    let many : n ≡ length (texts_of [] (entries o.table)) =
-    count ∙ ap (λ (t : Table). len t) is ∙ len-entries o.table ∙ sym (texts_len [] (entries o.table)) in
-    wrote_d ∙ ap (λ (t : Table). c ++ flat_map row_bytes (texts_of [] (entries t))) is
-    ∙ ap (λ (x : List ℕ). x ++ rows) (wrote_c ∙ ap (λ (k : ℕ). b ++ to_le_bytes w32 k) many)
-    ∙ append_assoc b (to_le_bytes w32 (length (texts_of [] (entries o.table)))) rows
-    ∙ ap (λ (x : List ℕ). x ++ (to_le_bytes w32 (length (texts_of [] (entries o.table))) ++ rows)) (wrote_b ∙ ap (λ (x : List ℕ). x ++ head) wrote_a)
-    ∙ append_assoc header head (to_le_bytes w32 (length (texts_of [] (entries o.table))) ++ rows)
+    let rows = table_bytes (table_text o.table) in
+    wrote_c ∙ ap (λ (t : Table). b ++ table_bytes (table_text t)) is
+    ∙ ap (λ (x : List ℕ). x ++ rows) (wrote_b ∙ ap (λ (x : List ℕ). x ++ head) wrote_a)
+    ∙ append_assoc header head rows
 
 -- an offer with a table of the type's is spelled
 pub offer_spelled : (o : Offer) (table : Table) (bytes : List ℕ) → table ≡ o.table → IsTable table → IsHead (head_of o)
-    → AllByRecursion IsRow (texts_of [] (entries table)) → bytes ≡ offer_bytes (offer_text o) → SpellsOffer bytes o
-offer_spelled o table bytes is kept head fit spelling =
+    → IsTableText (table_text table) → bytes ≡ offer_bytes (offer_text o) → SpellsOffer bytes o
+offer_spelled o table bytes is kept head fits spelling =
     let here : IsTable o.table = subst IsTable is kept in
     record {
       is_text = record {
         head = head;
-        few = omega (arith, here.few, len-entries o.table, texts_len [] (entries o.table));
-        each = subst (λ (t : Table). AllByRecursion IsRow (texts_of [] (entries t))) is fit;
+        rows = subst (λ (t : Table). IsTableText (table_text t)) is fits;
       };
       kept = here;
       spelling = spelling;

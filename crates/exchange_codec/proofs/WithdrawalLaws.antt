@@ -24,9 +24,9 @@ use Rattle.exchange_codec.specs.Placing.{told_of}
 use Rattle.exchange_codec.specs.Reading.{◌>>=◌, Fails, number_at, header_at, count_at, many_at, ended}
 use Rattle.exchange_codec.specs.Names.{side_byte, name_bytes, side_at, name_at}
 use Rattle.exchange_codec.specs.Withdrawals.{withdrawals_header, counted_bytes, withdrawals_bytes, names_bytes, first_again, SpellsWithdrawals, list_at, list_of, list_due, unless_again}
-use Rattle.exchange_codec.proofs.FieldLaws.{IsBytes, bind_ok, ok_is, Takes, Takes-then, wide64, number_takes, number_again, header_takes, header_again, count_takes, count_again, ended_ok}
-use Rattle.exchange_codec.proofs.NameLaws.{side_takes, side_again, name_takes, name_again}
-use Rattle.exchange_codec.proofs.ManyLaws.{many_take, many_again}
+use Rattle.exchange_codec.specs.laws.Fields.{IsBytes, bind_ok, ok_is, Takes, Takes-then, wide64, number_takes, number_again, header_takes, header_again, count_takes, count_again, ended_ok}
+use Rattle.exchange_codec.specs.laws.Names.{side_takes, side_again, name_takes, name_again}
+use Rattle.exchange_codec.specs.laws.Many.{many_take, many_again}
 
 abbrev Named : Name → Type 0
 Named name = IsTrue (is_name name)

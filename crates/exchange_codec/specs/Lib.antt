@@ -4,9 +4,11 @@ pub mod Reading
 pub mod Names
 pub mod Withdrawals
 pub mod Rows
+pub mod Tables
 pub mod Offers
 pub mod Peeking
 pub mod WithdrawalsText
 pub mod RowsText
 pub mod OffersText
 pub mod model
+pub mod laws

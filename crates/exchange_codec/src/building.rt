@@ -8,14 +8,14 @@ ghost use Rattle.numbered.specs.Answers.{HasCause};
 ghost use Rattle.instruction_set.specs.Machine.{IsSafe};
 ghost use Rattle.program.specs.Programs.{IsAccepted};
 ghost use Rattle.clash_record.specs.Orders.{name_cmp};
-ghost use Rattle.partition_table.specs.Tables.{IsNewRow, most_names};
+ghost use Rattle.partition_table.specs.Tables.{IsNewRow, IsTable, most_names};
 ghost use Rattle.exchange_codec.specs.Faults.{message_fault_number};
 ghost use Rattle.exchange_codec.specs.Rows.{Code};
 ghost use Rattle.exchange_codec.specs.Rows as texts;
 ghost use Rattle.exchange_codec.specs.RowsText.{resolver_view, row_view, rows_view};
 ghost use Rattle.exchange_codec.specs.declared.fault.MessageFault.TheVariants.{OutOfMemory};
 ghost use Rattle.exchange_codec.specs.model.Building.{AreProgramsOf, row_with, HasRow, IsLeastRowFault, IsTableOf, IsOfferOf, IsRowsFault, IsCodeFault, program_fault_of};
-ghost use Rattle.exchange_codec.specs.Offers.{is_above};
+ghost use Rattle.exchange_codec.specs.Tables.{is_above};
 ghost use Rattle.exchange_codec.specs.OffersText.{view};
 
 use crate::fault::{ItemFault, MessageFault, ran_out};
@@ -48,8 +48,6 @@ pub(crate) fn rebuilt(alloc: Global, text: &OfferText<'_>) -> Result<Offer, Mess
     ensures refused { IfErr result (HasCause message_fault_number (IsRowsFault (rows_view text.now.rows.items))) }
 {
     let table = table_of(alloc, &text.rows)?;
-    // For the proof: what the type of the table guarantees.
-    table.len();
     let Ok(mut side) = Side::with_table(alloc, text.head.side, greatest(), table, None) else {
         unreachable!()
     };
@@ -69,17 +67,22 @@ fn greatest() -> NameLimit
     }
 }
 
-// Builds the table of the rows.
-fn table_of(alloc: Global, rows: &[RowText<'_>]) -> Result<Table, MessageFault>
+/// Builds the table of the rows.
+pub(crate) fn table_of(alloc: Global, rows: &[RowText<'_>]) -> Result<Table, MessageFault>
     requires { length rows.now ≤ most_names }
     ensures built { IfOk result (IsTableOf (rows_view rows.now)) }
+    ensures kept { IfOk result (λ table. IsTable table) }
     ensures refused { IfErr result (HasCause message_fault_number (IsRowsFault (rows_view rows.now))) }
 {
     let mut programs = BTreeMap::new(alloc);
     let mut builder = TableBuilder::new(alloc);
     add_rows(alloc, &mut builder, &mut programs, rows)?;
     match builder.finish(alloc) {
-        Ok(table) => Ok(table),
+        Ok(table) => {
+            // For the proof: what the type of the table guarantees.
+            table.len();
+            Ok(table)
+        }
         Err(_) => Err(MessageFault::OutOfMemory),
     }
 }

@@ -132,21 +132,21 @@ pub(crate) fn ran_out(number: u32) -> MessageFault
 
 /// A fault, and the number of bytes from the beginning of the faulty field to the end.
 #[derive(Clone, Copy, Debug, PartialEq, Eq)]
-pub(crate) struct Fault {
-    pub(crate) what: FieldFault,
-    pub(crate) left: usize,
+pub struct Fault {
+    pub what: FieldFault,
+    pub left: usize,
 }
 
 /// The reason why a field was not read.
 #[derive(Clone, Copy, Debug, PartialEq, Eq)]
-pub(crate) enum ReadError {
+pub enum ReadError {
     Memory,
     Fault(Fault),
 }
 
 impl ReadError {
     /// Returns the fault of a field that begins where these bytes do.
-    pub(crate) fn at(what: FieldFault, bytes: &[u8]) -> ReadError
+    pub fn at(what: FieldFault, bytes: &[u8]) -> ReadError
         ensures { result ≡ errors.Fault (record { what = what; left = length bytes.now }) }
     {
         ReadError::Fault(Fault {
@@ -156,7 +156,7 @@ impl ReadError {
     }
 
     /// Returns the fault of a message of `len` bytes.
-    pub(crate) fn told(self, len: usize) -> MessageFault
+    pub fn told(self, len: usize) -> MessageFault
         ensures { result ≡ told_of len self }
     {
         match self {

@@ -12,7 +12,7 @@ const MAGIC: u64 = 0x4358_4C41_4548;
 const VERSION: u64 = 1;
 
 /// A number of four bytes, and what follows it.
-pub(crate) fn u32_at(bytes: &[u8]) -> Result<(u32, &[u8]), ReadError>
+pub fn u32_at(bytes: &[u8]) -> Result<(u32, &[u8]), ReadError>
     ensures { Gives (λ x. (x.0, x.1.now)) result (number_at w32 bytes.now) }
 {
     if bytes.len() < 4 {
@@ -24,7 +24,7 @@ pub(crate) fn u32_at(bytes: &[u8]) -> Result<(u32, &[u8]), ReadError>
 }
 
 /// A number of eight bytes, and what follows it.
-pub(crate) fn u64_at(bytes: &[u8]) -> Result<(u64, &[u8]), ReadError>
+pub fn u64_at(bytes: &[u8]) -> Result<(u64, &[u8]), ReadError>
     ensures { Gives (λ x. (x.0, x.1.now)) result (number_at w64 bytes.now) }
 {
     if bytes.len() < 8 {
@@ -38,7 +38,7 @@ pub(crate) fn u64_at(bytes: &[u8]) -> Result<(u64, &[u8]), ReadError>
 }
 
 /// Splits off this many bytes.
-pub(crate) fn bytes_at(len: usize, bytes: &[u8]) -> Result<(&[u8], &[u8]), ReadError>
+pub fn bytes_at(len: usize, bytes: &[u8]) -> Result<(&[u8], &[u8]), ReadError>
     ensures read { Gives (λ x. (x.0.now, x.1.now)) result (bytes_at len bytes.now) }
     ensures length { IfOk result (λ x. length x.0.now ≡ len) }
 {
@@ -50,7 +50,7 @@ pub(crate) fn bytes_at(len: usize, bytes: &[u8]) -> Result<(&[u8], &[u8]), ReadE
 
 /// Returns the bytes after the header.
 #[tactic(auto, unfolding(crate::specs::Reading::header_at))]
-pub(crate) fn header_at(header: u64, bytes: &[u8]) -> Result<&[u8], ReadError>
+pub fn header_at(header: u64, bytes: &[u8]) -> Result<&[u8], ReadError>
     ensures { Gives (λ x. x.now) result (header_at header bytes.now) }
 {
     let (found, rest) = u64_at(bytes)?;
@@ -61,7 +61,7 @@ pub(crate) fn header_at(header: u64, bytes: &[u8]) -> Result<&[u8], ReadError>
 }
 
 // The fault of eight bytes that aren't the header: that of another version, if only the version or the kind differs.
-pub(crate) fn header_fault(found: u64) -> FieldFault
+pub fn header_fault(found: u64) -> FieldFault
     ensures { result ≡ header_fault found }
 {
     if found % 0x1_0000_0000_0000 == MAGIC && (found >> 48) % 256 != VERSION {
@@ -73,7 +73,7 @@ pub(crate) fn header_fault(found: u64) -> FieldFault
 
 /// A count up to the limit, and what follows it.
 #[tactic(auto, unfolding(crate::specs::Reading::count_at))]
-pub(crate) fn count_at(limit: u32, bytes: &[u8]) -> Result<(u32, &[u8]), ReadError>
+pub fn count_at(limit: u32, bytes: &[u8]) -> Result<(u32, &[u8]), ReadError>
     ensures { Gives (λ x. (x.0, x.1.now)) result (count_at limit bytes.now) }
 {
     let (count, rest) = u32_at(bytes)?;
@@ -84,14 +84,14 @@ pub(crate) fn count_at(limit: u32, bytes: &[u8]) -> Result<(u32, &[u8]), ReadErr
 }
 
 /// Writes a number of four bytes at the end.
-pub(crate) fn push_u32(out: &mut Vec<u8>, number: u32) -> Result<(), AllocError>
+pub fn push_u32(out: &mut Vec<u8>, number: u32) -> Result<(), AllocError>
     ensures { OnOk result (out.new.items ≡ out.old.items ++ to_le_bytes w32 number) }
 {
     out.extend_from_slice(&number.to_le_bytes())
 }
 
 /// Writes a number of eight bytes at the end.
-pub(crate) fn push_u64(out: &mut Vec<u8>, number: u64) -> Result<(), AllocError>
+pub fn push_u64(out: &mut Vec<u8>, number: u64) -> Result<(), AllocError>
     ensures { OnOk result (out.new.items ≡ out.old.items ++ to_le_bytes w64 number) }
 {
     out.extend_from_slice(&number.to_le_bytes())

@@ -23,7 +23,7 @@ pub(crate) fn side_at(bytes: &[u8]) -> Result<(SideId, &[u8]), ReadError>
 
 /// The name at the front, and what follows it.
 #[tactic(auto, unfolding(crate::specs::Names::name_at))]
-pub(crate) fn name_at(bytes: &[u8]) -> Result<(Name, &[u8]), ReadError>
+pub fn name_at(bytes: &[u8]) -> Result<(Name, &[u8]), ReadError>
     ensures { Gives (λ x. (x.0, x.1.now)) result (name_at bytes.now) }
 {
     let [len, rest @ ..] = bytes else {
@@ -53,7 +53,7 @@ pub(crate) fn push_side(out: &mut Vec<u8>, side: SideId) -> Result<(), AllocErro
 }
 
 /// Writes a name at the end.
-pub(crate) fn push_name(out: &mut Vec<u8>, name: &Name) -> Result<(), AllocError>
+pub fn push_name(out: &mut Vec<u8>, name: &Name) -> Result<(), AllocError>
     ensures written { OnOk result (out.new.items ≡ out.old.items ++ name_bytes name.now) }
     ensures named { OnOk result (IsTrue (is_name name.now)) }
 {

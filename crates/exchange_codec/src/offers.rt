@@ -1,11 +1,8 @@
 //! Offers as bytes.
-ghost use Rattle.std.specs.Prelude.{◌≡◌, ◌++◌, [], Ok, Err, IfOk, IfErr, OnOk};
-ghost use Rattle.std.specs.List.{flat_map, AllByRecursion};
-ghost use Rattle.std.specs.FinMap.{entries};
+ghost use Rattle.std.specs.Prelude.{◌≡◌, ◌++◌, Ok, Err, IfOk, IfErr, OnOk};
 ghost use Rattle.numbered.specs.Answers.{HasCause, ReturnsOrRunsOut};
 ghost use Rattle.exchange_core.specs.Sides as sides;
 ghost use Rattle.exchange_codec.specs.Faults.{message_fault_number};
-ghost use Rattle.exchange_codec.specs.Rows.{row_bytes, texts_of, IsRow};
 ghost use Rattle.exchange_codec.specs.declared.fault.MessageFault.{MessageFault};
 ghost use Rattle.exchange_codec.specs.Reading.{Gives};
 ghost use Rattle.exchange_codec.specs.Offers.{SpellsOffer, IsOfferFault, IsHead, head_at, offer_at, offer_of, head_bytes};
@@ -13,16 +10,16 @@ ghost use Rattle.exchange_codec.specs.OffersText.{view};
 
 use crate::building::rebuilt;
 use crate::fault::{FieldFault, MessageFault, ReadError};
-use crate::fields::{count_at, header_at, push_u32, push_u64, u64_at};
+use crate::fields::{header_at, push_u64, u64_at};
 use crate::names::{push_side, side_at};
-use crate::rows::{RowText, all_rows, push_row};
+use crate::rows::RowText;
+use crate::tables::{push_table, rows_at};
 use clash_record::SideId;
 use exchange_core::Offer;
 use insn_codec::one_reading_theorem;
-use partition_table::{NameLimit, Table};
+use partition_table::Table;
 use program::Profile;
 use std::alloc::{AllocError, Global};
-use std::collections::BTreeSet;
 use verifier::one_verdict_theorem;
 
 // "HEALXC", version 1, kind 1.
@@ -78,8 +75,7 @@ pub fn spell_offer(
     let mut out = Vec::new(alloc);
     push_u64(&mut out, HEADER)?;
     push_head(&mut out, head)?;
-    push_u32(&mut out, table.len() as u32)?;
-    push_rows(alloc, &mut out, table)?;
+    push_table(alloc, &mut out, table)?;
     Ok(out)
 }
 
@@ -92,20 +88,6 @@ fn push_head(out: &mut Vec<u8>, head: OfferHead) -> Result<(), AllocError>
     push_u64(out, head.number)?;
     push_u64(out, head.seed)?;
     push_u64(out, head.uptime)?;
-    Ok(())
-}
-
-// Writes the rows of a table at the end, in the order of names.
-fn push_rows(alloc: Global, out: &mut Vec<u8>, table: &Table) -> Result<(), AllocError>
-    ensures written { OnOk result (out.new.items ≡ out.old.items ++ flat_map row_bytes (texts_of [] (entries table.now))) }
-    ensures fit { OnOk result (AllByRecursion IsRow (texts_of [] (entries table.now))) }
-{
-    let mut before = BTreeSet::new(alloc);
-    let mut rows = table.rows();
-    while let Some((name, registration)) = rows.next() {
-        let program = table.program_for(registration.resolver);
-        push_row(alloc, out, &mut before, name, registration, program)?;
-    }
     Ok(())
 }
 
@@ -159,8 +141,7 @@ fn text_at(alloc: Global, bytes: &[u8]) -> Result<(OfferText<'_>, &[u8]), ReadEr
 {
     let rest = header_at(HEADER, bytes)?;
     let (head, rest) = read_head(rest)?;
-    let (count, rest) = count_at(NameLimit::MAX as u32, rest)?;
-    let (rows, rest) = all_rows(alloc, count, rest)?;
+    let (rows, rest) = rows_at(alloc, rest)?;
     Ok((OfferText { head, rows }, rest))
 }
 

@@ -21,11 +21,11 @@ use std::sync::Arc;
 use verifier::Verified;
 
 /// The most bytes that the code of a program has.
-pub(crate) const MAX_CODE: u32 = 8192;
+pub const MAX_CODE: u32 = 8192;
 
 /// The field of a row that names the resolver.
-#[derive(Clone, Copy)]
-pub(crate) enum ResolverText<'a> {
+#[derive(Clone, Copy, Debug)]
+pub enum ResolverText<'a> {
     Builtin(Builtin),
     /// A program whose code stands before.
     Named(ProgramId),
@@ -34,14 +34,14 @@ pub(crate) enum ResolverText<'a> {
 }
 
 /// The fields of a row in a message.
-#[derive(Clone, Copy)]
-pub(crate) struct RowText<'a> {
-    pub(crate) name: Name,
-    pub(crate) owner: Owner,
-    pub(crate) stamp: u64,
-    pub(crate) weight: u64,
-    pub(crate) extra: [u8; 16],
-    pub(crate) resolver: ResolverText<'a>,
+#[derive(Clone, Copy, Debug)]
+pub struct RowText<'a> {
+    pub name: Name,
+    pub owner: Owner,
+    pub stamp: u64,
+    pub weight: u64,
+    pub extra: [u8; 16],
+    pub resolver: ResolverText<'a>,
 }
 
 /// Reads this many rows.
@@ -55,7 +55,7 @@ pub(crate) fn all_rows(
     let mut rows = Vec::new(alloc);
     let mut rest = bytes;
     for _ in 0..count {
-        match row_of(rest) {
+        match row_at(rest) {
             Ok((row, after)) => {
                 let Ok(()) = rows.push(row) else {
                     return Err(ReadError::Memory);
@@ -68,9 +68,9 @@ pub(crate) fn all_rows(
     Ok((rows, rest))
 }
 
-// The row at the front, and what follows it.
+/// The row at the front, and what follows it.
 #[tactic(auto, unfolding(crate::specs::Rows::row_at))]
-fn row_of(bytes: &[u8]) -> Result<(RowText<'_>, &[u8]), ReadError>
+pub fn row_at(bytes: &[u8]) -> Result<(RowText<'_>, &[u8]), ReadError>
     ensures { Gives (λ x. (row_view x.0, x.1.now)) result (row_at bytes.entry.now) }
 {
     let (name, rest) = match name_at(bytes) {
@@ -170,8 +170,8 @@ pub(crate) fn push_row(
     push_resolver(alloc, out, before, registration.resolver, program)
 }
 
-// Writes all of a registration but its resolver at the end.
-fn push_fields(out: &mut Vec<u8>, registration: Registration) -> Result<(), AllocError>
+/// Writes all of a registration but its resolver at the end.
+pub fn push_fields(out: &mut Vec<u8>, registration: Registration) -> Result<(), AllocError>
     ensures written { OnOk result (out.new.items ≡ out.old.items ++ fields_bytes registration) }
     ensures fits { OnOk result (HasFields registration) }
 {
@@ -224,8 +224,8 @@ fn push_resolver(
     }
 }
 
-// The place of a built-in resolver in their order.
-fn place_of(builtin: Builtin) -> u8
+/// The place of a built-in resolver in their order.
+pub fn place_of(builtin: Builtin) -> u8
     ensures { result ≡ builtin_place builtin }
 {
     match builtin {

@@ -3,6 +3,8 @@ ghost use Rattle.std.specs.Prelude.{◌≡◌, ◌<◌, ℕ, List, Ok, All, leng
 ghost use Rattle.exchange_core.specs.Sides.{Offer, Withdrawals};
 ghost use Rattle.exchange_codec.specs.declared.fault.MessageFault.{MessageFault};
 ghost use Rattle.exchange_codec.specs.Withdrawals.{SpellsWithdrawals, list_of, list_due};
+ghost use Rattle.partition_table.specs.Tables.{Table};
+ghost use Rattle.exchange_codec.specs.Tables.{SpellsTable, IsTableFault};
 ghost use Rattle.exchange_codec.specs.Offers.{SpellsOffer, IsOfferFault};
 
 use insn_codec::one_reading_theorem;
@@ -30,6 +32,21 @@ pub fn one_message_theorem()
         → bytes ≡ other }
     ensures one_list_spelling { (bytes other : List ℕ) → (w : Withdrawals) → SpellsWithdrawals bytes w
         → SpellsWithdrawals other w → bytes ≡ other }
+{
+    // For the proof: bytes have one reading, and code has one verdict.
+    one_reading_theorem();
+    one_verdict_theorem::<Profile>();
+}
+
+/// States the same of tables. Does nothing at run time.
+pub fn one_table_theorem()
+    ensures tables { (bytes : List ℕ) → (s t : Table) → SpellsTable bytes s → SpellsTable bytes t → s ≡ t }
+    // Bytes that spell a table have no fault.
+    ensures either { (bytes : List ℕ) → (t : Table) → (f : MessageFault) → SpellsTable bytes t → IsTableFault bytes f → ⊥ }
+    // Two faults of the same bytes are equal.
+    ensures one_fault { (bytes : List ℕ) → (f g : MessageFault) → IsTableFault bytes f → IsTableFault bytes g → f ≡ g }
+    ensures one_spelling { (bytes other : List ℕ) → (t : Table) → SpellsTable bytes t → SpellsTable other t
+        → bytes ≡ other }
 {
     // For the proof: bytes have one reading, and code has one verdict.
     one_reading_theorem();

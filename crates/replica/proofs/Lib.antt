@@ -1,3 +1,4 @@
 mod Agreement
 mod Calls
+mod Logs
 mod Tied

@@ -1,5 +1,5 @@
 -- What holds after every history of replicas.
-use Rattle.std.specs.Prelude.{◌≡◌, ℕ, suc, List, ◌∷◌, ◌++◌, if◌then◌else◌, Option, Some, None, IsTrue, is_some, slice_get}
+use Rattle.std.specs.Prelude.{◌≡◌, ℕ, suc, List, [], ◌∷◌, ◌++◌, if◌then◌else◌, Option, Some, None, IsTrue, is_some, slice_get}
 use Rattle.std.specs.Option.{option_map}
 use Rattle.partition_table.specs.Tables.{Table}
 use Rattle.clash_record.specs.declared.side_id.SideId.{SideId}
@@ -11,7 +11,7 @@ use Rattle.replica_law.specs.declared.position.Position.{Position}
 use Rattle.replica_law.specs.Worlds.{Entry, Snapshot, next}
 use Rattle.replica_law.specs.Histories.{Lead, start_of}
 use Rattle.replica.specs.Halves.{Half, Edit, edit_fault, halves}
-use Rattle.replica.specs.Replicas.{Replica, Call, Change, Apply, Follow, new_replica, call_fault, left_by, change_fault}
+use Rattle.replica.specs.Replicas.{Replica, Call, Change, Apply, Follow, new_replica, call_fault, follow_fault, left_by, change_fault}
 use Rattle.replica.specs.Worlds.{World, Event, Starts, Does, Hears, Hears_snapshot, takes_message, past_after, world_after}
 
 -- the life has this replica after the history
@@ -90,6 +90,35 @@ abbrev pub CallsHappen : List Event → Type 0
 CallsHappen history = (life : Life) (call : Call) →
     let w = world_after history in
     IsHandedMade w call → (event : Event) × (call_at w event ≡ Some (life, call))
+
+-- ---- logs
+
+-- these entries, by their numbers, come one after the other from one position to another
+abbrev pub AreConsecutive : List (Entry Edit) → Position → List ℕ → Position → Type 0
+AreConsecutive entries at [] last = at ≡ last
+AreConsecutive entries at (k ∷ which) last =
+    (entry : Entry Edit) × (slice_get entries k ≡ Some entry) × (entry.at ≡ next at) × AreConsecutive entries (next at) which last
+
+-- after a history a life applies these entries, in this order
+abbrev pub after_entries : Life → List ℕ → List Event → List Event
+after_entries life [] history = history
+after_entries life (k ∷ which) history = after_entries life which (Hears life k ∷ history)
+
+-- the life has a replica at this position with this half
+pub record IsAt (history : List Event) (life : Life) (at : Position) (half : Half) : Type 0 where
+  pub replica : Replica
+  pub has : Has history life replica
+  pub there : replica.at ≡ at
+  pub holds : replica.half ≡ half
+
+-- a log is a snapshot and the entries that come after it, up to where a replica is. A replica that may follow the snapshot, and
+-- then applies these entries, is refused none, and gets that replica's half
+abbrev pub LogsRestore : List Event → Type 0
+LogsRestore history = (writer reader : Life) (w r : Replica) (k : ℕ) (s : Snapshot Half) (which : List ℕ) →
+    let past = (world_after history).past in
+    Has history writer w → Has history reader r → slice_get past.snapshots k ≡ Some s → follow_fault r s ≡ None →
+    AreConsecutive past.entries s.at which w.at →
+    IsAt (after_entries reader which (Hears_snapshot reader k ∷ history)) reader w.at w.half
 
 -- ---- exchanges
 

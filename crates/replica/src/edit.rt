@@ -1,5 +1,6 @@
 //! The edits of a half.
 use clash_record::{Name, Registration};
+use partition_table::NameLimit;
 use upload_store::Upload;
 
 /// An edit of a half, which a primary carries out and its backups repeat.
@@ -11,4 +12,8 @@ pub enum Edit {
     Unregister(Name),
     /// Keeps an accepted program in the half's store.
     Upload(Upload),
+    /// Sets the most names that the table may have.
+    Limit(NameLimit),
+    /// Makes this the greatest number of an exchange that the half began.
+    Begin(u64),
 }

@@ -18,6 +18,9 @@ pub enum ReplicaFault {
     /// The half's store refuses the program: 42, 43 or 90.
     #[error(transparent)]
     Store(UploadFault),
+    /// 35: the number isn't above every number of an exchange that the half began.
+    #[error("{}", words_of(self.number()))]
+    StaleNumber,
     /// 95: the replica isn't the primary of its latest view.
     #[error("{}", words_of(self.number()))]
     NotPrimary,
@@ -50,6 +53,7 @@ impl Numbered for ReplicaFault {
         match self {
             ReplicaFault::Table(fault) => fault.number(),
             ReplicaFault::Store(fault) => fault.number(),
+            ReplicaFault::StaleNumber => 35,
             ReplicaFault::NotPrimary => 95,
             ReplicaFault::OtherView => 96,
             ReplicaFault::Gap => 97,

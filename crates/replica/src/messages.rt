@@ -1,10 +1,11 @@
 //! What replicas send each other and write to disks.
-ghost use Rattle.std.specs.Prelude.{◌≡◌};
+ghost use Rattle.std.specs.Prelude.{◌≡◌, IfOk};
 ghost use Rattle.std.specs.Arc.{arc_value};
 
 use crate::edit::Edit;
 use crate::half::Half;
 use replica_law::Position;
+use std::alloc::{AllocError, Global};
 use std::marker::Model;
 use std::sync::Arc;
 
@@ -45,6 +46,19 @@ impl Model for Snapshot {
 }
 
 impl Snapshot {
+    /// Returns a snapshot of this position and half, as a decoder needs it. Allocates the room that the half's owners share.
+    ///
+    /// A replica that follows it takes the half for that of the position: the transport ensures that a replica made the
+    /// snapshot.
+    pub fn new(alloc: Global, at: Position, half: Half) -> Result<Snapshot, AllocError>
+        ensures { IfOk result (λ snapshot. snapshot ≡ record { at = at; state = half }) }
+    {
+        match Arc::new(alloc, half) {
+            Ok(half) => Ok(Snapshot { at, half }),
+            Err(_) => Err(AllocError),
+        }
+    }
+
     /// Returns the position. Allocates nothing.
     pub fn position(&self) -> Position
         ensures { result ≡ self.now.at }

@@ -2,7 +2,7 @@
 ghost use Rattle.std.specs.Prelude.{◌≡◌, ◌<◌, ◌≤◌, ◌+◌, if◌then◌else◌, nat_le, Some, None, IfOk, OnOk, OnErr, length};
 ghost use Rattle.std.specs.FinMap.{len};
 ghost use Rattle.numbered.specs.Answers.{IsAnswered};
-ghost use Rattle.exchange_core.specs.Shown.{shown, calls};
+ghost use Rattle.exchange_core.specs.Shown.{shown, calls, limit_of};
 ghost use Rattle.partition_table.specs.declared.fault.TableFault.TheVariants.{Full};
 ghost use Rattle.replica.specs.declared.fault.ReplicaFault.TheVariants as of;
 ghost use Rattle.replica.specs.declared.replica.Applied.TheVariants.{Already, Now};
@@ -18,7 +18,7 @@ use crate::fault::ReplicaFault;
 use crate::half::{Half, edit_shared};
 use crate::messages::{Entry, Snapshot};
 use exchange_core::{Side, SideId};
-use partition_table::{NameLimit, Table, TableFault};
+use partition_table::Table;
 use replica_law::{Life, Position, View};
 use std::alloc::{AllocError, Global};
 use std::marker::Model;
@@ -146,7 +146,7 @@ impl Replica {
 
     /// Starts a view with the table and the greatest number that an exchange left, and returns the view.
     ///
-    /// `from` is the position at which `side` made the side that exchanged. Returns 49 if the replica isn't there any more,
+    /// `from` is the position of the edit `Begin` that recorded the exchange's number. Returns 49 if the replica isn't there any more,
     /// so that no edit made since is lost, and 99 if no view number is left: the first of these. Returns 90 when out of
     /// memory: it copies the table and the store.
     pub fn change(
@@ -164,11 +164,7 @@ impl Replica {
         if self.at != from {
             return Err(ReplicaFault::Moved);
         }
-        let half = Half {
-            store: self.half.store.try_clone()?,
-            table: table.try_clone()?,
-            latest,
-        };
+        let half = self.half.changed(table, latest)?;
         let Ok(half) = Arc::new(alloc, half) else {
             return Err(ReplicaFault::OutOfMemory);
         };
@@ -209,9 +205,10 @@ impl Replica {
     /// Carries an edit out as the primary, and returns the entry to send to the backups.
     ///
     /// Returns the first of these: 95 if the replica isn't the primary, 99 if no operation number is left, and what the
-    /// half refuses: 30 for a registered name, 32 for a full table, 41 for a program that the store lacks, 42 for other
-    /// code under the program's id, 31 for a name that isn't registered, 43 for a full store. Returns 90 when out of
-    /// memory: it copies the half if a snapshot shares it.
+    /// half refuses: 30 for a registered name, 32 for a full table and for a limit below the number of names, 41 for a
+    /// program that the store lacks, 42 for other code under the program's id, 31 for a name that isn't registered, 43 for a
+    /// full store, 35 for a number of an exchange that isn't above every earlier one. Returns 90 when out of memory: it
+    /// copies the half if a snapshot shares it.
     pub fn edit(&mut self, edit: Edit) -> Result<Entry, ReplicaFault>
         ensures answer { IsAnswered replica_fault_number (make_fault self.old edit) result }
         ensures entry { IfOk result (λ entry. entry_seen entry ≡ entry_of self.old edit) }
@@ -275,26 +272,24 @@ impl Replica {
         Ok(Applied::Now)
     }
 
-    /// Returns an idle side of this limit with the half's table and its greatest number, for an exchange with the other half.
+    /// Returns an idle side with the half's table, its limit and its greatest number, for an exchange with the other half.
     ///
-    /// `change` takes what the exchange leaves, and the position that the replica has now. Copies the table.
+    /// Edit `Begin` with the number of the exchange before the side begins it, so that the backups have the number.
+    /// `change` takes what the exchange leaves, and the position that the replica has after that edit. Copies the table.
     ///
     /// Returns 32 if the table has more names than the limit. Returns 90 when out of memory.
-    pub fn side(&self, alloc: Global, id: SideId, limit: NameLimit) -> Result<Side, ReplicaFault>
+    pub fn side(&self, alloc: Global, id: SideId) -> Result<Side, ReplicaFault>
         ensures answer { IsAnswered replica_fault_number
-            (if nat_le (len self.now.half.table) limit.names then None else Some (of.Table Full)) result }
+            (if nat_le (len self.now.half.table) self.now.half.limit then None else Some (of.Table Full)) result }
         ensures state { IfOk result (λ side. shown side ≡ record {
           id = id;
           table = self.now.half.table;
           exchange = None;
           latest = self.now.half.latest;
         }) }
+        ensures limit { IfOk result (λ side. limit_of side ≡ self.now.half.limit) }
         ensures short { IfOk result (λ side. length (calls side) ≤ len self.now.half.table + 2) }
     {
-        let table = self.half.table.try_clone()?;
-        match Side::with_table(alloc, id, limit, table, self.half.latest) {
-            Ok(side) => Ok(side),
-            Err(_) => Err(ReplicaFault::Table(TableFault::Full)),
-        }
+        self.half.side(alloc, id)
     }
 }

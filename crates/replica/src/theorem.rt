@@ -3,7 +3,7 @@ ghost use Rattle.std.specs.Prelude.{List};
 ghost use Rattle.exchange_core.specs.Worlds as exchange;
 ghost use Rattle.replica.specs.Halves as half;
 ghost use Rattle.replica.specs.Worlds.{Event};
-ghost use Rattle.replica.specs.Histories.{AreCalls, CallsHappen, EditsLead, HasOneEdit, HaveOneHalf, HoldTheMerge, HoldsSnapshots, LivesStart, RefusalsChangeNothing, TakesEntries};
+ghost use Rattle.replica.specs.Histories.{AreCalls, CallsHappen, EditsLead, HasOneEdit, HaveOneHalf, HoldTheMerge, HoldsSnapshots, LivesStart, LogsRestore, RefusalsChangeNothing, TakesEntries};
 
 use exchange_core::history_theorem;
 use replica_law::{Replicated, agreement_theorem};
@@ -37,6 +37,8 @@ pub fn replicas_theorem()
     ensures refusals { (history : List Event) → RefusalsChangeNothing history }
     ensures starts { (history : List Event) → LivesStart history }
     ensures happen { (history : List Event) → CallsHappen history }
+    // A log of a snapshot and the entries after it gives the replica that wrote it.
+    ensures logs { (history : List Event) → LogsRestore history }
     // After an exchange, each node that follows its outcome holds the merge, with the edits made since.
     ensures merge { (history : List Event) (exchange : List exchange.Event) → HoldTheMerge history exchange }
 {

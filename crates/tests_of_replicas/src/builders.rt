@@ -52,7 +52,7 @@ pub(crate) fn unregister(byte: u8) -> Result<Edit, BadName> {
 
 /// The serial number of the letter in the replica's table, or 0 where it isn't registered.
 pub(crate) fn serial_of(replica: &Replica, byte: u8) -> Result<u32, BadName> {
-    match replica.half().table.whereis(&letter(byte)?) {
+    match replica.half().table().whereis(&letter(byte)?) {
         Some(found) => Ok(found.owner.serial),
         None => Ok(0),
     }

@@ -2,7 +2,7 @@
 use crate::builders::{carry, life, pair, refusal, register, serial_of};
 use exchange_core::{Finished, Side, SideId};
 use partition_table::NameLimit;
-use replica::Replica;
+use replica::{Edit, Replica};
 use std::alloc::Global;
 use std::test::Fail;
 
@@ -32,10 +32,12 @@ fn healed(alloc: Global) -> Result<[[u32; 3]; 4], Fail> {
     carry(&mut three, &mut four, register(b'b', 2)?)?;
     carry(&mut one, &mut two, register(b'c', 3)?)?;
     carry(&mut three, &mut four, register(b'c', 3)?)?;
-    let mut a = one.side(alloc, SideId::A, NameLimit::default())?;
-    let mut b = three.side(alloc, SideId::B, NameLimit::default())?;
-    let finished = exchange(alloc, 8, &mut a, &mut b)?;
+    let mut a = one.side(alloc, SideId::A)?;
+    let mut b = three.side(alloc, SideId::B)?;
+    carry(&mut one, &mut two, Edit::Begin(8))?;
+    carry(&mut three, &mut four, Edit::Begin(8))?;
     let from = one.position();
+    let finished = exchange(alloc, 8, &mut a, &mut b)?;
     one.change(alloc, from, finished.table(), Some(finished.number()))?;
     let snapshot = one.snapshot()?;
     two.follow(&snapshot)?;
@@ -61,12 +63,13 @@ fn all_nodes_hold_the_merge(rt: HostRuntime) -> Result<(), Fail> {
 #[test]
 fn the_latest_number_comes_back(rt: HostRuntime) -> Result<(), Fail> {
     let mut replica = Replica::start(rt.alloc(), life(1))?;
+    let mut side = replica.side(rt.alloc(), SideId::A)?;
+    replica.edit(Edit::Begin(5))?;
     let from = replica.position();
-    let mut side = replica.side(rt.alloc(), SideId::A, NameLimit::default())?;
     side.begin(rt.alloc(), 5, 0, 0)?;
     side.abandon()?;
     replica.change(rt.alloc(), from, side.table(), Some(5))?;
-    let mut again = replica.side(rt.alloc(), SideId::A, NameLimit::default())?;
+    let mut again = replica.side(rt.alloc(), SideId::A)?;
     assert!(rt; again.begin(rt.alloc(), 5, 0, 0).is_err());
     assert!(rt; again.begin(rt.alloc(), 6, 0, 0).is_ok());
     Ok(())
@@ -76,7 +79,7 @@ fn the_latest_number_comes_back(rt: HostRuntime) -> Result<(), Fail> {
 fn changed_after_edit(alloc: Global) -> Result<(u32, u32), Fail> {
     let mut replica = Replica::start(alloc, life(1))?;
     let from = replica.position();
-    let side = replica.side(alloc, SideId::A, NameLimit::default())?;
+    let side = replica.side(alloc, SideId::A)?;
     replica.edit(register(b'a', 7)?)?;
     let refused = refusal(replica.change(alloc, from, side.table(), None));
     Ok((refused, serial_of(&replica, b'a')?))
@@ -85,5 +88,43 @@ fn changed_after_edit(alloc: Global) -> Result<(u32, u32), Fail> {
 #[test]
 fn a_change_loses_no_edit(rt: HostRuntime) -> Result<(), Fail> {
     assert_eq!(rt; changed_after_edit(rt.alloc())?, (49, 7));
+    Ok(())
+}
+
+// A primary and its backup: the limit, the numbers begun, and what each refuses.
+fn limits_and_numbers(alloc: Global) -> Result<([u32; 6], usize, Option<u64>), Fail> {
+    let (mut primary, mut backup) = pair(alloc, 1, 2)?;
+    let (Some(one), Some(two)) = (NameLimit::new(1), NameLimit::new(2)) else {
+        return Ok(([0; 6], 0, None));
+    };
+    carry(&mut primary, &mut backup, Edit::Limit(two))?;
+    carry(&mut primary, &mut backup, register(b'a', 1)?)?;
+    carry(&mut primary, &mut backup, register(b'b', 2)?)?;
+    let full = refusal(primary.edit(register(b'c', 3)?));
+    let low = refusal(primary.edit(Edit::Limit(one)));
+    carry(&mut primary, &mut backup, Edit::Begin(4))?;
+    let again = refusal(primary.edit(Edit::Begin(4)));
+    let lower = refusal(primary.edit(Edit::Begin(3)));
+    // The backup goes on as a primary with the limit and the number.
+    backup.lead()?;
+    let refused = [
+        full,
+        low,
+        again,
+        lower,
+        refusal(backup.edit(register(b'c', 3)?)),
+        refusal(backup.edit(Edit::Begin(4))),
+    ];
+    Ok((
+        refused,
+        backup.half().limit().names(),
+        backup.half().latest(),
+    ))
+}
+
+#[test]
+fn backups_have_the_limit_and_the_number(rt: HostRuntime) -> Result<(), Fail> {
+    let seen = limits_and_numbers(rt.alloc())?;
+    assert_eq!(rt; seen, ([32, 32, 35, 35, 32, 35], 2, Some(4)));
     Ok(())
 }

@@ -138,11 +138,11 @@ fn uploads_reach_backups(rt: HostRuntime) -> Result<(), Fail> {
     backup.lead()?;
     backup.edit(Edit::Register(letter(b'p')?, named))?;
     assert_eq!(rt;
-        (backup.half().store.len(), serial_of(&backup, b'p')?),
+        (backup.half().store().len(), serial_of(&backup, b'p')?),
         (1, 5)
     );
     assert_eq!(rt;
-        (primary.half().store.len(), serial_of(&primary, b'p')?),
+        (primary.half().store().len(), serial_of(&primary, b'p')?),
         (1, 0)
     );
     Ok(())

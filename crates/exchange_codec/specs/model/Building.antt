@@ -24,7 +24,8 @@ use Rattle.exchange_codec.specs.declared.fault.MessageFault.{MessageFault}
 use Rattle.exchange_codec.specs.declared.fault.MessageFault.TheVariants as message
 use Rattle.exchange_codec.specs.Faults.{item_fault_number}
 use Rattle.exchange_codec.specs.Rows.{RowText, has_id, ids_of, texts_of}
-use Rattle.exchange_codec.specs.Offers.{OfferText, text_of, IsRowFault, IsFirstRowFault}
+use Rattle.exchange_codec.specs.Tables.{IsRowFault, IsFirstRowFault}
+use Rattle.exchange_codec.specs.Offers.{OfferText, text_of}
 
 abbrev pub known_code : Known → List Insn
 known_code known = arc_value known.program

@@ -3,7 +3,8 @@ use Rattle.numbered.specs.Answers.{HasCause}
 use Rattle.exchange_codec.specs.Faults.{message_fault_number}
 use Rattle.exchange_codec.specs.Offers.{IsOfferFault}
 use Rattle.exchange_codec.specs.OffersText.{view}
-use Rattle.exchange_codec.proofs.OfferAnswers.{readings, is_spelled, is_refused, is_failed, is_taken, is_told, few_rows}
+use Rattle.exchange_codec.specs.laws.Programs.{readings}
+use Rattle.exchange_codec.proofs.OfferAnswers.{is_spelled, is_refused, is_failed, is_taken, is_told, few_rows}
 use Rattle.exchange_codec.proofs.offers.decode_offer.Goals as goal
 
 pub returns-in-Ok : goal.returns-in-Ok

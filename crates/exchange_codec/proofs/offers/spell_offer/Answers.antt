@@ -9,8 +9,8 @@ pub returns : goal.returns
 returns c =
     let offer : Offer = record { side = c.args.side; number = c.args.number; seed = c.args.seed; uptime = c.args.uptime; table = c.args.table.now } in
     let header = c.in_ok-push_u64.ensures ∙ ap (λ (xs : List ℕ). xs ++ to_le_bytes w64 offers_header) c.new-out.ensures.items in
-    let bytes = offer_written offer c.args.table.now c.len.result c.push_u64.new.out.items
-    c.push_head.new.out.items c.push_u32.new.out.items c.push_rows.new.out.items refl c.len.ensures.count
-    header c.in_ok-push_head.ensures.written c.in_ok-push_u32.ensures c.in_ok-push_rows.ensures.written in
-    offer_spelled offer c.args.table.now c.push_rows.new.out.items refl c.len.ensures.kept
-    c.in_ok-push_head.ensures.fits c.in_ok-push_rows.ensures.fit bytes
+    let bytes = offer_written offer c.args.table.now c.push_u64.new.out.items
+    c.push_head.new.out.items c.push_table.new.out.items refl
+    header c.in_ok-push_head.ensures.written c.in_ok-push_table.ensures.written in
+    offer_spelled offer c.args.table.now c.push_table.new.out.items refl c.in_ok-push_table.ensures.kept
+    c.in_ok-push_head.ensures.fits c.in_ok-push_table.ensures.fits bytes

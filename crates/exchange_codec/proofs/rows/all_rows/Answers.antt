@@ -3,7 +3,7 @@ use Rattle.std.proofs.lemmas.List.{map_push}
 use Rattle.exchange_codec.specs.Reading.{many_at}
 use Rattle.exchange_codec.specs.Rows.{RowText, row_at}
 use Rattle.exchange_codec.specs.RowsText.{row_view, rows_view}
-use Rattle.exchange_codec.proofs.ManyLaws.{with_front, goes_on, ends, is_done}
+use Rattle.exchange_codec.specs.laws.Many.{with_front, goes_on, ends, is_done}
 use Rattle.exchange_codec.proofs.rows.all_rows.Goals as goal
 
 pub returns-in-Err : goal.returns-in-Err

@@ -1,7 +1,7 @@
 use Rattle.std.proofs.Common.{length, ap, sym, ◌∙◌, arith}
 use Rattle.std.specs.List.{flat_map}
 use Rattle.insn_codec.specs.Encoding.{insn_bytes}
-use Rattle.exchange_codec.proofs.CodeLaws.{code_len, on_any}
+use Rattle.exchange_codec.specs.laws.Code.{code_len, on_any}
 use Rattle.exchange_codec.proofs.rows.push_code.Goals as goal
 
 pub overflow_cast-len : goal.overflow_cast-len

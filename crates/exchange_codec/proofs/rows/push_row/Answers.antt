@@ -5,7 +5,7 @@ use Rattle.std.specs.Arc.{arc_value}
 use Rattle.std.proofs.lemmas.Result.{on_ok_weaker}
 use Rattle.exchange_codec.specs.Names.{name_bytes}
 use Rattle.exchange_codec.specs.Rows.{owner_bytes, resolver_bytes, resolver_text}
-use Rattle.exchange_codec.proofs.RowLaws.{row_joined}
+use Rattle.exchange_codec.specs.laws.Rows.{row_joined}
 use Rattle.exchange_codec.proofs.rows.push_row.Goals as goal
 
 pub returns-clause-written : goal.returns-clause-written

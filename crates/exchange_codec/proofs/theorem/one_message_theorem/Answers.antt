@@ -1,7 +1,8 @@
 use Rattle.std.proofs.Common.{sym, ◌∙◌}
-use Rattle.exchange_codec.proofs.FieldLaws.{ok_is, all_bytes}
+use Rattle.exchange_codec.specs.laws.Fields.{ok_is, all_bytes}
 use Rattle.exchange_codec.proofs.WithdrawalLaws.{list_read, list_is_due, due_is_spelled}
-use Rattle.exchange_codec.proofs.OfferAnswers.{readings, one_offer, spelled_fault, one_offer_fault}
+use Rattle.exchange_codec.specs.laws.Programs.{readings}
+use Rattle.exchange_codec.proofs.OfferAnswers.{one_offer, spelled_fault, one_offer_fault}
 use Rattle.exchange_codec.proofs.theorem.one_message_theorem.Goals as goal
 
 pub returns : goal.returns

@@ -2,7 +2,7 @@ use Rattle.std.proofs.Common.{◌≡◌, ◌++◌, ◌∷◌, [], List, ap, ◌�
 use Rattle.clash_record.specs.Name.{Name}
 use Rattle.exchange_codec.specs.Reading.{many_at}
 use Rattle.exchange_codec.specs.Names.{name_at}
-use Rattle.exchange_codec.proofs.ManyLaws.{with_front, goes_on, ends, is_done}
+use Rattle.exchange_codec.specs.laws.Many.{with_front, goes_on, ends, is_done}
 use Rattle.exchange_codec.proofs.withdrawals.all_names.Goals as goal
 
 pub returns-in-Err : goal.returns-in-Err

@@ -1,5 +1,6 @@
 use Rattle.replica.proofs.Agreement.{have_one_half, edits_lead, has_one_edit, holds_snapshots, takes_entries, hold_the_merge}
 use Rattle.replica.proofs.Calls.{are_calls, refusals_change_nothing, lives_start, calls_happen}
+use Rattle.replica.proofs.Logs.{logs_restore}
 use Rattle.replica.proofs.theorem.replicas_theorem.Goals as goal
 
 pub returns-clause-one_half : goal.returns-clause-one_half
@@ -43,3 +44,9 @@ pub returns-clause-merge : goal.returns-clause-merge
 returns-clause-merge c =
     let law = c.agreement_theorem.ensures in
     hold_the_merge law.view_tells law.edits law.follows law.applies law.lead c.history_theorem.ensures.merge
+
+pub returns-clause-logs : goal.returns-clause-logs
+returns-clause-logs c =
+    let law = c.agreement_theorem.ensures in
+    logs_restore (have_one_half law.view_tells law.edits law.follows law.applies law.lasting)
+    (takes_entries law.view_tells law.edits law.follows law.applies law.takes)

@@ -9,8 +9,8 @@ use Rattle.exchange_codec.specs.declared.fault.FieldFault.TheVariants as wrongs
 use Rattle.exchange_codec.specs.Reading.{◌>>=◌, number_at, bytes_at, count_at}
 use Rattle.exchange_codec.specs.Names.{name_bytes, name_at}
 use Rattle.exchange_codec.specs.Rows.{max_code, ResolverText, ByBuiltin, Named, Code, RowText, resolver_bytes, owner_bytes, row_bytes, IsResolver, IsRow, resolver_at, owner_at, row_at}
-use Rattle.exchange_codec.proofs.FieldLaws.{IsBytes, IsBytes-drop, IsBytes-rest, bind_ok, guard_ok, ok_is, Takes, Takes-then, wide32, wide64, number_takes, number_again, count_takes, count_again}
-use Rattle.exchange_codec.proofs.NameLaws.{name_takes, name_again}
+use Rattle.exchange_codec.specs.laws.Fields.{IsBytes, IsBytes-drop, IsBytes-rest, bind_ok, guard_ok, ok_is, Takes, Takes-then, wide32, wide64, number_takes, number_again, count_takes, count_again}
+use Rattle.exchange_codec.specs.laws.Names.{name_takes, name_again}
 
 -- ---- bytes as they stand
 
@@ -29,7 +29,7 @@ bytes_again n text rest e =
 
 -- ---- owners
 
-owner_takes : (bytes : List ℕ) (x : Owner × List ℕ) → IsBytes bytes → owner_at bytes ≡ Ok x
+pub owner_takes : (bytes : List ℕ) (x : Owner × List ℕ) → IsBytes bytes → owner_at bytes ≡ Ok x
     → Takes bytes (owner_bytes x.0) x.1 × (x.0.node < 2 ^ 32) × (x.0.serial < 2 ^ 32)
 unfolding owner_at
 owner_takes bytes x fits e =
@@ -41,7 +41,7 @@ owner_takes bytes x fits e =
     subst (λ (y : Owner × List ℕ). Takes bytes (owner_bytes y.0) y.1 × (y.0.node < 2 ^ 32) × (y.0.serial < 2 ^ 32)) (ok_is made x b.2)
     (Takes-then bytes (to_le_bytes w32 a.0.0) a.0.1 (to_le_bytes w32 b.0.0) b.0.1 t0.0 t1.0, t0.1, t1.1)
 
-owner_again : (o : Owner) (rest : List ℕ) → o.node < 2 ^ 32 → o.serial < 2 ^ 32 → owner_at (owner_bytes o ++ rest) ≡ Ok (o, rest)
+pub owner_again : (o : Owner) (rest : List ℕ) → o.node < 2 ^ 32 → o.serial < 2 ^ 32 → owner_at (owner_bytes o ++ rest) ≡ Ok (o, rest)
 unfolding owner_at
 owner_again o rest node serial =
     ap owner_at (append_assoc (to_le_bytes w32 o.node) (to_le_bytes w32 o.serial) rest)
@@ -53,7 +53,7 @@ owner_again o rest node serial =
 -- ---- resolvers
 
 -- one byte in front
-behind : (byte : ℕ) (bytes text rest : List ℕ) → Takes bytes text rest → Takes (byte ∷ bytes) (byte ∷ text) rest
+pub behind : (byte : ℕ) (bytes text rest : List ℕ) → Takes bytes text rest → Takes (byte ∷ bytes) (byte ∷ text) rest
 behind byte bytes text rest t = record { parts = ap (λ (r : List ℕ). byte ∷ r) t.parts; rest_fits = t.rest_fits }
 
 abbrev Read : List ℕ → ResolverText × List ℕ → Type 0

@@ -1,6 +1,6 @@
 use Rattle.std.proofs.Common.{length}
 use Rattle.exchange_codec.proofs.TableLaws.{IsWritten}
-use Rattle.exchange_codec.proofs.offers.push_rows.Given as goal
+use Rattle.exchange_codec.proofs.tables.push_rows.Given as goal
 
 abbrev pub invariant-loop-name : goal.invariant-loop-name
 invariant-loop-name l = IsWritten l.table l.fn.out.items l.out.items l.before l.rows

@@ -10,7 +10,7 @@ use Rattle.clash_record.specs.declared.side_id.SideId.TheVariants.{A, B}
 use Rattle.exchange_codec.specs.declared.fault.Fault.{Fault}
 use Rattle.exchange_codec.specs.declared.fault.FieldFault.TheVariants as wrongs
 use Rattle.exchange_codec.specs.Names.{side_byte, name_bytes, side_at, name_at}
-use Rattle.exchange_codec.proofs.FieldLaws.{IsBytes, IsBytes-drop, IsBytes-rest, ok_is, Takes}
+use Rattle.exchange_codec.specs.laws.Fields.{IsBytes, IsBytes-drop, IsBytes-rest, ok_is, Takes}
 
 -- a test that did not fail, before another step
 pub passed : {A : Type 0} (b : Bool) (d : Fault) (r : Result A Fault) (y : A) → cond b (Err d) r ≡ Ok y

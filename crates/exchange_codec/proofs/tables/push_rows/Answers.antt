@@ -5,7 +5,7 @@ use Rattle.clash_record.specs.declared.registrations.Registration.{Registration}
 use Rattle.clash_record.specs.Name.{Name}
 use Rattle.exchange_codec.proofs.IdLaws.{no_ids}
 use Rattle.exchange_codec.proofs.TableLaws.{IsWritten, none_written, one_written, all_written, all_fit}
-use Rattle.exchange_codec.proofs.offers.push_rows.Goals as goal
+use Rattle.exchange_codec.proofs.tables.push_rows.Goals as goal
 
 pub loop-name-init : goal.loop-name-init
 loop-name-init c = none_written c.args.table.now c.args.out.now.items c.new-before.result c.rows-rows.result

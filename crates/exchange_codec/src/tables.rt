@@ -1,0 +1,101 @@
+//! Tables as bytes: the last part of an offer.
+ghost use Rattle.std.specs.Prelude.{◌≡◌, ◌++◌, [], Ok, Err, IfOk, IfErr, OnOk};
+ghost use Rattle.std.specs.List.{flat_map, AllByRecursion};
+ghost use Rattle.numbered.specs.Answers.{HasCause, ReturnsOrRunsOut};
+ghost use Rattle.partition_table.specs.Tables as tables;
+ghost use Rattle.exchange_codec.specs.Faults.{message_fault_number};
+ghost use Rattle.exchange_codec.specs.Rows.{row_bytes, IsRow};
+ghost use Rattle.exchange_codec.specs.RowsText.{rows_view};
+ghost use Rattle.exchange_codec.specs.declared.fault.MessageFault.{MessageFault};
+ghost use Rattle.exchange_codec.specs.Reading.{Gives};
+ghost use Rattle.exchange_codec.specs.Tables.{SpellsTable, IsTableFault, IsTableText, rows_at, rows_of, table_bytes, table_text};
+
+use crate::building::table_of;
+use crate::fault::{FieldFault, MessageFault, ReadError};
+use crate::fields::{count_at, push_u32};
+use crate::rows::{RowText, all_rows, push_row};
+use insn_codec::one_reading_theorem;
+use partition_table::{NameLimit, Table};
+use program::Profile;
+use std::alloc::{AllocError, Global};
+use std::collections::BTreeSet;
+use verifier::one_verdict_theorem;
+
+/// Encodes a table as the last part of an offer. Fails only when out of memory.
+pub fn encode_table(alloc: Global, table: &Table) -> Result<Vec<u8>, AllocError>
+    ensures { IfOk result (λ bytes. SpellsTable bytes.items table.now) }
+{
+    let mut out = Vec::new(alloc);
+    push_table(alloc, &mut out, table)?;
+    Ok(out)
+}
+
+/// Writes a table at the end: the number of its rows, and the rows in the order of names.
+pub fn push_table(alloc: Global, out: &mut Vec<u8>, table: &Table) -> Result<(), AllocError>
+    ensures written { OnOk result (out.new.items ≡ out.old.items ++ table_bytes (table_text table.now)) }
+    ensures fits { OnOk result (IsTableText (table_text table.now)) }
+    ensures kept { OnOk result (tables.IsTable table.now) }
+{
+    push_u32(out, table.len() as u32)?;
+    push_rows(alloc, out, table)
+}
+
+// Writes the rows of a table at the end, in the order of names.
+fn push_rows(alloc: Global, out: &mut Vec<u8>, table: &Table) -> Result<(), AllocError>
+    ensures written { OnOk result (out.new.items ≡ out.old.items ++ flat_map row_bytes (table_text table.now)) }
+    ensures fit { OnOk result (AllByRecursion IsRow (table_text table.now)) }
+{
+    let mut before = BTreeSet::new(alloc);
+    let mut rows = table.rows();
+    while let Some((name, registration)) = rows.next() {
+        let program = table.program_for(registration.resolver);
+        push_row(alloc, out, &mut before, name, registration, program)?;
+    }
+    Ok(())
+}
+
+/// Decodes untrusted bytes as a table, which is all of them.
+///
+/// Verifies each program again, and computes its id. Rejects the first fault of a field and else of a row, as `decode_offer`
+/// does, with places in these bytes. Returns 90 when out of memory.
+pub fn decode_table(alloc: Global, bytes: &[u8]) -> Result<Table, MessageFault>
+    // The bytes spell the table that is returned.
+    ensures spelled { IfOk result (SpellsTable bytes.now) }
+    // A table that the bytes spell is returned, unless memory runs out.
+    ensures taken { (table : tables.Table) → SpellsTable bytes.now table
+        → ReturnsOrRunsOut message_fault_number result (Ok table) }
+    // A refusal has its cause.
+    ensures refused { IfErr result (HasCause message_fault_number (IsTableFault bytes.now)) }
+    // A fault of the bytes is returned, unless memory runs out.
+    ensures told { (fault : MessageFault) → IsTableFault bytes.now fault
+        → ReturnsOrRunsOut message_fault_number result (Err fault) }
+{
+    // For the proof: bytes have one reading, and code has one verdict.
+    one_reading_theorem();
+    one_verdict_theorem::<Profile>();
+    match rows_of(alloc, bytes) {
+        Ok(rows) => table_of(alloc, &rows),
+        Err(error) => Err(error.told(bytes.len())),
+    }
+}
+
+// The rows that all of the bytes spell.
+#[tactic(auto, unfolding(crate::specs::Tables::rows_of))]
+fn rows_of(alloc: Global, bytes: &[u8]) -> Result<Vec<RowText<'_>>, ReadError>
+    ensures { Gives (λ rows. rows_view rows.items) result (rows_of bytes.entry.now) }
+{
+    let (rows, rest) = rows_at(alloc, bytes)?;
+    if !rest.is_empty() {
+        return Err(ReadError::at(FieldFault::Trailing, rest));
+    }
+    Ok(rows)
+}
+
+/// The rows at the front, and what follows them.
+#[tactic(auto, unfolding(crate::specs::Tables::rows_at))]
+pub(crate) fn rows_at(alloc: Global, bytes: &[u8]) -> Result<(Vec<RowText<'_>>, &[u8]), ReadError>
+    ensures { Gives (λ x. (rows_view x.0.items, x.1.now)) result (rows_at bytes.entry.now) }
+{
+    let (count, rest) = count_at(NameLimit::MAX as u32, bytes)?;
+    all_rows(alloc, count, rest)
+}

@@ -1,0 +1,9 @@
+pub mod Faults
+pub mod Frames
+pub mod Entries
+pub mod EntriesText
+pub mod Building
+pub mod Logs
+pub mod Snapshots
+pub mod SnapshotsText
+pub mod Stores

@@ -1,0 +1,58 @@
+//! Entries as bytes.
+ghost use Rattle.std.specs.Prelude.{Ok, Err, IfOk, IfErr};
+ghost use Rattle.numbered.specs.Answers.{HasCause, ReturnsOrRunsOut};
+ghost use Rattle.replica.specs.declared.messages.Entry.{Entry};
+ghost use Rattle.replica_codec.specs.declared.fault.ReplicaMessageFault.{ReplicaMessageFault};
+ghost use Rattle.replica_codec.specs.Entries.{SpellsEntry, IsEntryFault};
+ghost use Rattle.replica_codec.specs.Faults.{replica_message_fault_number};
+
+use crate::building::entry_by;
+use crate::edits::{push_edit, push_position};
+use crate::fault::ReplicaMessageFault;
+use crate::frames::{ENTRY, framed};
+use crate::texts::entry_of;
+use insn_codec::one_reading_theorem;
+use program::Profile;
+use replica::Entry;
+use std::alloc::{AllocError, Global};
+use verifier::one_verdict_theorem;
+
+/// Encodes an entry. Fails only when out of memory.
+pub fn encode_entry(alloc: Global, entry: &Entry) -> Result<Vec<u8>, AllocError>
+    ensures { IfOk result (λ bytes. SpellsEntry bytes.items entry.now) }
+{
+    let mut body = Vec::new(alloc);
+    push_position(&mut body, entry.at)?;
+    push_edit(alloc, &mut body, &entry.edit)?;
+    framed(alloc, ENTRY, &body)
+}
+
+/// Decodes untrusted bytes as an entry.
+///
+/// Verifies an uploaded program again, and computes its id. The transport ensures that a primary made the entry.
+///
+/// Rejects the first of these: an invalid frame, with its byte: 71 for another message, 82 for another version, 70 for bytes
+/// that end within a field and 72 for extra bytes; 84 for a checksum that isn't that of the bytes; an invalid field of the
+/// body, with its byte: 70, 71 for an unknown kind of edit, 72, 73 for a count or a limit out of its range, 75 for an invalid
+/// name and 76 for an unknown resolver or a row with code; and 81 for code that the verifier rejects, with its fault.
+/// Returns 90 when out of memory.
+pub fn decode_entry(alloc: Global, bytes: &[u8]) -> Result<Entry, ReplicaMessageFault>
+    // The bytes spell the entry that is returned.
+    ensures spelled { IfOk result (SpellsEntry bytes.now) }
+    // An entry that the bytes spell is returned, unless memory runs out.
+    ensures taken { (entry : Entry) → SpellsEntry bytes.now entry
+        → ReturnsOrRunsOut replica_message_fault_number result (Ok entry) }
+    // A refusal has its cause.
+    ensures refused { IfErr result (HasCause replica_message_fault_number (IsEntryFault bytes.now)) }
+    // A fault of the bytes is returned, unless memory runs out.
+    ensures told { (fault : ReplicaMessageFault) → IsEntryFault bytes.now fault
+        → ReturnsOrRunsOut replica_message_fault_number result (Err fault) }
+{
+    // For the proof: bytes have one reading, and code has one verdict.
+    one_reading_theorem();
+    one_verdict_theorem::<Profile>();
+    match entry_of(bytes) {
+        Ok(text) => entry_by(alloc, &text),
+        Err(fault) => Err(fault),
+    }
+}

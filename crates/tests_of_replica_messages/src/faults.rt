@@ -1,0 +1,109 @@
+//! Faults of entries, each with its number and place, and changed and cut bytes.
+use crate::entries::again;
+use crate::rows::{BEGIN, ENTRIES, LIMIT, REGISTER, UNREGISTER, UPLOAD};
+use numbered::{NumberedRefusal, OUT_OF_MEMORY, Place};
+use sha2::{Digest, Sha256};
+use std::alloc::Global;
+use std::test::Fail;
+
+/// An entry with the byte at a place replaced and its checksum made anew, and the fault of that.
+type Row = (&'static [u8], usize, u8, u32, Option<Place>);
+
+#[rattlefmt::skip]
+const ROWS: [Row; 16] = [
+    (&BEGIN, 0, 0x49, 71, Some(Place::Byte(0))),
+    (&BEGIN, 6, 2, 82, Some(Place::Byte(0))),
+    (&BEGIN, 7, 4, 71, Some(Place::Byte(0))),
+    (&BEGIN, 8, 38, 70, Some(Place::Byte(54))),
+    (&BEGIN, 8, 36, 72, Some(Place::Byte(60))),
+    (&BEGIN, 44, 5, 71, Some(Place::Byte(44))),
+    (&BEGIN, 44, 3, 72, Some(Place::Byte(49))),
+    (&LIMIT, 46, 0, 73, Some(Place::Byte(45))),
+    (&LIMIT, 47, 0x11, 73, Some(Place::Byte(45))),
+    (&UNREGISTER, 45, 1, 72, Some(Place::Byte(47))),
+    (&UNREGISTER, 45, 3, 70, Some(Place::Byte(45))),
+    (&UNREGISTER, 46, 0x20, 75, Some(Place::Byte(45))),
+    (&REGISTER, 88, 5, 76, Some(Place::Byte(88))),
+    (&REGISTER, 88, 3, 70, Some(Place::Byte(89))),
+    (&UPLOAD, 46, 0x21, 73, Some(Place::Byte(45))),
+    (&UPLOAD, 49, 0xff, 81, Some(Place::Item(0))),
+];
+
+// The entry with the byte replaced, and the checksum of that.
+fn changed(alloc: Global, row: &Row) -> Result<Vec<u8>, Fail> {
+    let front = row.0.len().saturating_sub(8);
+    let mut bytes = Vec::new(alloc);
+    bytes.extend_from_slice(row.0.get(..front).unwrap_or(&[]))?;
+    if let Some(byte) = bytes.get_mut(row.1) {
+        *byte = row.2;
+    }
+    let digest = Sha256::digest(&bytes);
+    bytes.extend_from_slice(digest.get(..8).unwrap_or(&[]))?;
+    Ok(bytes)
+}
+
+#[test]
+fn faults_have_their_number_and_place(rt: HostRuntime) -> Result<(), Fail> {
+    for row in &ROWS {
+        let bytes = changed(rt.alloc(), row)?;
+        let expected = Some(NumberedRefusal {
+            number: row.3,
+            place: row.4,
+        });
+        assert_eq!(rt; again(rt.alloc(), &bytes).err(), expected, "{row:?}");
+    }
+    Ok(())
+}
+
+// How many changes of one byte are decoded, how many have another fault than 84 from byte 16 on, before the checksum, and how many
+// other ones are refused but for memory.
+fn changes(alloc: Global, entry: &[u8]) -> Result<(u32, u32, u32), Fail> {
+    let (mut decoded, mut missed, mut refused) = (0u32, 0u32, 0u32);
+    let last = entry.len().saturating_sub(8);
+    for at in 0..entry.len() {
+        let mut bytes = Vec::new(alloc);
+        bytes.extend_from_slice(entry)?;
+        if let Some(byte) = bytes.get_mut(at) {
+            *byte = byte.wrapping_add(1);
+        }
+        match again(alloc, &bytes) {
+            Ok(_) => decoded = decoded.wrapping_add(1),
+            Err(fault) if fault.number == OUT_OF_MEMORY => {}
+            Err(fault) if (16..last).contains(&at) && fault.number != 84 => {
+                missed = missed.wrapping_add(1);
+            }
+            Err(_) => refused = refused.wrapping_add(1),
+        }
+    }
+    Ok((decoded, missed, refused))
+}
+
+#[test]
+fn a_changed_byte_is_a_fault(rt: HostRuntime) -> Result<(), Fail> {
+    for entry in &ENTRIES {
+        let (decoded, missed, refused) = changes(rt.alloc(), entry)?;
+        assert_eq!(rt; (decoded, missed), (0, 0), "{entry:?}");
+        assert!(rt; refused > 0);
+    }
+    Ok(())
+}
+
+// The number of lengths at which a cut entry isn't refused with 70.
+fn cuts(alloc: Global, entry: &[u8]) -> u32 {
+    let mut wrong = 0u32;
+    for len in 0..entry.len() {
+        let cut = entry.get(..len).unwrap_or(&[]);
+        let number = again(alloc, cut).err().map(|fault| fault.number);
+        if number != Some(70) {
+            wrong = wrong.wrapping_add(1);
+        }
+    }
+    wrong
+}
+
+#[test]
+fn a_cut_entry_is_refused(rt: HostRuntime) {
+    for entry in &ENTRIES {
+        assert_eq!(rt; cuts(rt.alloc(), entry), 0, "{entry:?}");
+    }
+}
