@@ -50,6 +50,50 @@ TASKS = [
         None,
     ),
     (["dis", "9500000000000000"], 0, "exit\n", ""),
+    # Code in a file, by its hex digits, and a record by its fields.
+    (["check", f"@{ROOT}/resolvers/later_stamp.hex"], 0, "accepted 6 instructions\n", ""),
+    (
+        ["judge", f"@{ROOT}/resolvers/later_stamp.hex", "--name", "db", "--first", "1.10,stamp=5", "--second", "2.20,stamp=9"],
+        0,
+        "second in 5 steps\n",
+        "",
+    ),
+    (
+        ["judge", f"@{ROOT}/resolvers/bigger_half.hex", "--name", "db", "--first", "1.10,size=3", "--second", "2.20,size=4"],
+        0,
+        "second in 8 steps\n",
+        "",
+    ),
+    (
+        ["judge", "9500000000000000", "--name", "db", "--first", "1.10,stamp=05", "--second", "2.20"],
+        2,
+        "refused 15 at slot 0\n",
+        None,
+    ),
+    (
+        ["judge", "b7000000010000009500000000000000", "--name", "db", "--first", "1.10,stamp=05", "--second", "2.20"],
+        2,
+        "refused 52\n",
+        None,
+    ),
+    # What a program saw and answered.
+    (
+        ["judge", f"@{ROOT}/resolvers/later_stamp.hex", "--name", "db", "--first", "1.10,stamp=5", "--second", "2.20,stamp=9", "--explain"],
+        0,
+        "second in 5 steps\n",
+        f"name db, word 0\nfirst 1.10, stamp 5, weight 0, extra {'00' * 16}, size 0, uptime 0\n"
+        f"second 2.20, stamp 9, weight 0, extra {'00' * 16}, size 0, uptime 0\nr0 = 2 after 5 steps\n",
+    ),
+    (
+        ["judge", "--explain", "b7000000000000009500000000000000", "ff" * 160],
+        0,
+        "none in 2 steps\n",
+        f"name {'ff' * 32}, word {2**64 - 1}\n"
+        f"first {2**32 - 1}.{2**32 - 1}, stamp {2**64 - 1}, weight {2**64 - 1}, extra {'ff' * 16}, size {2**64 - 1}, uptime {2**64 - 1}\n"
+        f"second {2**32 - 1}.{2**32 - 1}, stamp {2**64 - 1}, weight {2**64 - 1}, extra {'ff' * 16}, size {2**64 - 1}, uptime {2**64 - 1}\n"
+        "r0 = 0 after 2 steps\n",
+    ),
+    (["check", "@/no/such/file"], 3, "device fault\n", "heal: the file can't be read\n"),
     (["judge", "01", "00"], 2, "refused 3\n", "heal: refused 3: an incomplete last slot\n"),
     (["asm", "/no/such/file"], 3, "device fault\n", "heal: the file can't be read\n"),
     (["run", "/no/such/file", "--workers", "1"], 3, "device fault\n", ""),
@@ -73,12 +117,36 @@ SCRIPTS = [
     ),
 ]
 
+def registrations(count):
+    """Returns a script that registers this many names on side a."""
+    return "".join(f"register a n{k} 1.{k} 0 0 - exit\n" for k in range(count))
+
+
+# A script, the options of `run`, the status and the output.
+LIMITS = [
+    (registrations(5000) + "heal 0\n", ["--names", "8192"], 0, "yes\n" * 5000 + "healed 5000 names\n"),
+    (registrations(11), ["--names", "10"], 2, "yes\n" * 10 + "line 11: refused 32\n"),
+    (registrations(4097), [], 2, "yes\n" * 4096 + "line 4097: refused 32\n"),
+    (
+        "register a x 1.1 0 0 - exit\nregister b y 2.1 0 0 - exit\nheal 0\n",
+        ["--names", "1"],
+        2,
+        "yes\nyes\nline 3: refused 37\n",
+    ),
+]
+
 # Words that aren't a task: status 1, and a text on standard error alone.
 NO_TASKS = [
     [],
     ["judges", "01", "00"],
     ["judge"],
     ["judge", "01"],
+    ["judge", "01", "--name", "db"],
+    ["judge", "01", "--first", "1.10", "--second", "2.20"],
+    ["judge", "01", "00", "--name", "db", "--first", "1.10", "--second", "2.20"],
+    ["judge", "01", "00", "--word", "7"],
+    ["run", "script", "--names", "0"],
+    ["run", "script", "--names", "1048577"],
     ["judge", "01", "00", "00"],
     ["check"],
     ["check", "01", "--profile"],
@@ -101,8 +169,8 @@ TEXTS = [
     ([], "error: 'heal' requires a subcommand but one was not provided\n", "\nUsage: heal <COMMAND>\n", "\n"),
     (
         ["check"],
-        "error: the following required arguments were not provided:\n  <HEX>\n",
-        "\nUsage: heal check <HEX>\n",
+        "error: the following required arguments were not provided:\n  <CODE>\n",
+        "\nUsage: heal check <CODE>\n",
         "\n",
     ),
     (
@@ -111,17 +179,19 @@ TEXTS = [
         "\n  judge  Judges a clash by a program: the first, the second or neither keeps the name\n",
         "heal --version prints the version.\n",
     ),
-    (["judge", "--help"], "Judges a clash", "\n  <RECORDHEX>  The record of the clash, in hex digits\n", "first in 2 steps\n"),
+    (["judge", "--help"], "Judges a clash", "The record of the clash, in hex digits\n", "first in 2 steps\n"),
+    (["judge", "01"], "error: judge takes RECORDHEX, or --name, --first and --second, and no others\n", "", "\n"),
+    (["help", "run"], "Runs a script", "--names <N>", "1.10\n"),
     (["help", "check"], "Checks whether", "--explain", "accepted 2 instructions\n"),
     ([b"\xff"], "error: an argument isn't UTF-8\n", "", "\n"),
 ]
 
 
 def refusals():
-    """Returns the number and the words of each row of docs/REFUSALS.md."""
+    """Returns the number and the words of each row of docs/REFUSALS.md but 84, which the library alone gives."""
     with open(f"{ROOT}/docs/REFUSALS.md", encoding="utf-8") as page:
         rows = [line.split("|") for line in page if line.startswith("| ") and line[2].isdigit()]
-    return [(row[1].strip(), row[3].strip()) for row in rows]
+    return [(row[1].strip(), row[3].strip()) for row in rows if row[1].strip() != "84"]
 
 
 def answered(program, words):
@@ -142,7 +212,11 @@ def main():
         done = subprocess.run([program, "run", "-", *options], input=script.encode(), capture_output=True, timeout=20, check=False)
         if done.stderr.decode() != text:
             wrong.append(["run", "-", *options])
-    # The list has each number of docs/REFUSALS.md with its words.
+    for script, options, status, output in LIMITS:
+        done = subprocess.run([program, "run", "-", *options], input=script.encode(), capture_output=True, timeout=60, check=False)
+        if (done.returncode, done.stdout.decode()) != (status, output):
+            wrong.append(["run", "-", *options])
+    # The list has each of these numbers with its words.
     if answered(program, ["help", "refusals"])[1] != "".join(f"{number} {words}\n" for number, words in refusals()):
         wrong.append(["help", "refusals"])
     for words in NO_TASKS:

@@ -1,3 +1,4 @@
 pub mod Wrongs
 pub mod Readings
 pub mod Decoded
+pub mod CodeWords

@@ -36,7 +36,7 @@ whole_read remaining reader inner limit old bytes inner-is limit-is old-is h =
     given (remaining reader) bytes (rw (inner-is, limit-is, old-is) at h)
 
 -- where reading gave few bytes they are all that there are
-few_are_all : (all : List ℕ) → length (take (max_file_len + 1) all) ≤ max_file_len → take (max_file_len + 1) all ≡ all
+pub few_are_all : (all : List ℕ) → length (take (max_file_len + 1) all) ≤ max_file_len → take (max_file_len + 1) all ≡ all
 few_are_all all few = take_all (max_file_len + 1) all (omega (arith, few, length-take (max_file_len + 1) all))
 
 -- what is wrong with the bytes that reading gave is wrong with all that there are

@@ -1,12 +1,19 @@
 -- What is wrong with bytes, with code or with a file is wrong with the task.
-use Rattle.std.proofs.Common.{◌≡◌, Ok, Err, IfOk, ℕ, List, refl}
+use Rattle.std.proofs.Common.{◌≡◌, Ok, Err, IfOk, ℕ, List, None, Result, inl, inr, refl}
 use Rattle.hex.specs.Hex.{decode_of}
 use Rattle.abstract_value.specs.Domain.{Ops}
 use Rattle.instruction_set.specs.declared.insn.Insn.{Insn}
 use Rattle.answers.specs.declared.failures.Failure.{Failure}
 use Rattle.answers.specs.declared.failures.Failure.TheVariants.{Refused, OutOfMemory}
-use Rattle.answers.specs.Refusals.{OnRefusal}
-use Rattle.answers.specs.Judging.{IsNoHex, IsNoCode, IsNoProgramOver, IsCodeFault, IsProgram, IsProgramFault, IsProgramFaultOver, IsClashText, IsClashFault, first, no_hex, no_code, no_digits, no_program}
+use Rattle.task.specs.declared.ClashWords.{ClashWords}
+use Rattle.script_text.specs.Commands.{IsRight}
+use Rattle.script_text.specs.Faults.{line_fault_number}
+use Rattle.script_text.specs.declared.fault.LineFault.{LineFault}
+use Rattle.script_text.specs.declared.fault.LineFault.TheVariants.{NoName, HexText, Word, Number}
+use Rattle.script_text.specs.declared.fault.LineFault.TheVariants as line
+use Rattle.answers.specs.ClashFields.{IsClash, IsFieldFault, IsNoClash}
+use Rattle.answers.specs.Refusals.{OnRefusal, failure_by}
+use Rattle.answers.specs.Judging.{IsNoHex, IsNoCode, IsNoProgramOver, IsCodeFault, IsProgram, IsProgramFault, IsProgramFaultOver, first, no_hex, no_code, no_digits, no_program}
 use Rattle.answers.specs.Lines.{IsCheckedOver, IsDisassembled, IsJudged, answer_unless_memory, code_alone, clash_alone, both}
 
 pub no_hex_failure : (text : List ℕ) (f : Failure) → OnRefusal (IsNoHex text) f → OnRefusal (IsCodeFault text) f
@@ -43,18 +50,33 @@ dis_failure text OutOfMemory h = tt
 
 pub ruleset hex_wrongs = (check_failure, dis_failure)
 
-pub code_failure : (code clash bytes : List ℕ) (e : Failure) → OnRefusal (IsProgramFault code) e
-    → IsClashText clash bytes → IfOk (answer_unless_memory (Err e)) (IsJudged code clash)
+-- the failure of fields that give no record
+pub field_failure : (due : Result (List ℕ) LineFault) (fault : LineFault) → IsRight (Err fault) due
+    → OnRefusal (IsFieldFault due) (failure_by (line_fault_number fault) None)
+field_failure due NoName (inl e) = record { fault = NoName; is_fault = e; same = refl }
+field_failure due HexText (inl e) = record { fault = HexText; is_fault = e; same = refl }
+field_failure due Word (inl e) = record { fault = Word; is_fault = e; same = refl }
+field_failure due Number (inl e) = record { fault = Number; is_fault = e; same = refl }
+field_failure due line.OutOfMemory (inl e) = tt
+field_failure due NoName (inr e) = absurd (cc)
+field_failure due HexText (inr e) = absurd (cc)
+field_failure due Word (inr e) = absurd (cc)
+field_failure due Number (inr e) = absurd (cc)
+field_failure due line.OutOfMemory (inr e) = tt
+
+pub code_failure : (code : List ℕ) (clash : ClashWords) (bytes : List ℕ) (e : Failure)
+    → OnRefusal (IsProgramFault code) e → IsClash clash bytes
+    → IfOk (answer_unless_memory (Err e)) (IsJudged code clash)
 code_failure code clash bytes (Refused r) h k = code_alone bytes h k
 code_failure code clash bytes OutOfMemory h k = tt
 
-pub clash_failure : (code clash : List ℕ) (program : List Insn) (f : Failure) → IsProgram code program
-    → OnRefusal (IsClashFault clash) f → IfOk (answer_unless_memory (Err f)) (IsJudged code clash)
+pub clash_failure : (code : List ℕ) (clash : ClashWords) (program : List Insn) (f : Failure) → IsProgram code program
+    → OnRefusal (IsNoClash clash) f → IfOk (answer_unless_memory (Err f)) (IsJudged code clash)
 clash_failure code clash program (Refused r) h k = clash_alone program h k
 clash_failure code clash program OutOfMemory h k = tt
 
-pub both_failures : (code clash : List ℕ) (e f : Failure) → OnRefusal (IsProgramFault code) e
-    → OnRefusal (IsClashFault clash) f → IfOk (answer_unless_memory (Err (first e f))) (IsJudged code clash)
+pub both_failures : (code : List ℕ) (clash : ClashWords) (e f : Failure) → OnRefusal (IsProgramFault code) e
+    → OnRefusal (IsNoClash clash) f → IfOk (answer_unless_memory (Err (first e f))) (IsJudged code clash)
 both_failures code clash (Refused e) (Refused f) h k = both e f h k refl
 both_failures code clash (Refused e) OutOfMemory h k = tt
 both_failures code clash OutOfMemory f h k = tt

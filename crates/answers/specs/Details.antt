@@ -1,5 +1,6 @@
 -- What the verifier knows about the code of a question.
-use Rattle.std.specs.Prelude.{◌≡◌, ℕ, Bool, true, false, List, [], Option, Some, None}
+use Rattle.std.specs.Prelude.{◌≡◌, ℕ, Bool, true, false, List, [], ◌++◌, codes, Option, Some, None}
+use Rattle.std.specs.Fmt.{decimal}
 use Rattle.numbered.specs.declared.Place.{Place}
 use Rattle.numbered.specs.declared.Place.TheVariants.{Slot}
 use Rattle.numbered.specs.declared.NumberedRefusal.{NumberedRefusal}
@@ -13,7 +14,10 @@ use Rattle.task.specs.declared.Profile.TheVariants.{Unsigned, Both}
 use Rattle.task.specs.declared.Question.{Question}
 use Rattle.task.specs.declared.Question.TheVariants.{Check, Judge, Asm, Dis}
 use Rattle.answers.specs.declared.printing.Answer.{Answer}
-use Rattle.answers.specs.declared.printing.Answer.TheVariants.{Refused}
+use Rattle.answers.specs.declared.printing.Answer.TheVariants.{Refused, Ruled}
+use Rattle.task.specs.declared.ClashWords.{ClashWords}
+use Rattle.clash_fields.specs.Texts.{record_text}
+use Rattle.answers.specs.ClashFields.{IsClash, IsNoClash}
 use Rattle.answers.specs.Judging.{IsCodeText, IsCodeFault}
 
 abbrev pub slot_in : Option Place → Option ℕ
@@ -42,10 +46,27 @@ IsProgramDetails o digits true slot text = IsDecoded o digits true 0 text
 IsProgramDetails o digits false (Some slot) text = IsDecoded o digits false slot text
 IsProgramDetails o digits false None text = text ≡ []
 
+-- the answer of a program, as `r0 = 2 after 6 steps`
+abbrev pub ruling_text : ℕ → ℕ → List ℕ
+ruling_text answer steps = codes "r0 = " ++ (decimal answer ++ (codes " after " ++ (decimal steps ++ codes " steps\n")))
+
+-- what a program saw and answered: the record by its fields, and the answer. Words of no record have none
+pub data IsSeenClash (clash : ClashWords) (answer steps : ℕ) (text : List ℕ) : Type 0 where
+  of_clash : (bytes : List ℕ) → IsClash clash bytes → text ≡ record_text bytes ++ ruling_text answer steps
+      → IsSeenClash clash answer steps text
+  no_clash : (r : NumberedRefusal) → IsNoClash clash r → text ≡ [] → IsSeenClash clash answer steps text
+
+-- this is printed for a judged clash, if the question requests an explanation
+abbrev pub IsSeen : ClashWords → Bool → Answer → List ℕ → Type 0
+IsSeen clash true (Ruled verdict answer steps) text = IsSeenClash clash answer steps text
+IsSeen clash explain said text = text ≡ []
+
 -- before each instruction if the question asks for an explanation, else before the one that the answer refuses
 abbrev pub IsDetails : Question → Answer → List ℕ → Type 0
 IsDetails (Check code Unsigned explain) said text = IsProgramDetails interval_ops code.now explain (slot_of said) text
 IsDetails (Check code Both explain) said text = IsProgramDetails both_ops code.now explain (slot_of said) text
-IsDetails (Judge code clash) said text = IsProgramDetails program.profile code.now false (slot_of said) text
+IsDetails (Judge code clash explain) said text =
+    (front rest : List ℕ) × IsProgramDetails program.profile code.now false (slot_of said) front
+    × IsSeen clash explain said rest × (text ≡ front ++ rest)
 IsDetails (Asm file) said text = text ≡ []
 IsDetails (Dis code) said text = text ≡ []

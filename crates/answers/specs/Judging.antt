@@ -27,13 +27,17 @@ pub record Ruling : Type 0 where
   pub code : List Insn
   pub bytes : List ℕ
   pub verdict : Verdict3
+  pub answer : ℕ
   pub steps : ℕ
 
-abbrev pub ruling : List Insn → List ℕ → Verdict3 → ℕ → Ruling
-ruling code bytes verdict steps = record { code = code; bytes = bytes; verdict = verdict; steps = steps }
+abbrev pub ruling : List Insn → List ℕ → Verdict3 → ℕ → ℕ → Ruling
+ruling code bytes verdict answer steps =
+    record { code = code; bytes = bytes; verdict = verdict; answer = answer; steps = steps }
 
--- the verdict is that of the code's meaning, and the code ends with it in this number of steps at every placement
+-- the answer is the code's meaning, the verdict is that of the answer, and the code ends with it in this number of steps
+-- at every placement
 pub record IsRuling (r : Ruling) : Type 0 where
+  pub answer_is : r.answer ≡ meaning r.code r.bytes
   pub verdict_is : r.verdict ≡ verdict_of_answer (meaning r.code r.bytes)
   pub steps_are : Ends r.code r.bytes (meaning r.code r.bytes) r.steps
 

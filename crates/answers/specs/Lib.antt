@@ -3,3 +3,5 @@ pub mod Judging
 pub mod Sources
 pub mod Lines
 pub mod Details
+pub mod CodeWords
+pub mod ClashFields

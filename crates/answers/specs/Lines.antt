@@ -1,5 +1,5 @@
 -- The answers to questions, what is printed for them, and the exit status.
-use Rattle.std.specs.Prelude.{◌≡◌, ◌⊎◌, ◌++◌, ℕ, List, [], length, codes, Option, None, Result, Ok, Err}
+use Rattle.std.specs.Prelude.{◌≡◌, ◌⊎◌, ◌++◌, ℕ, List, [], length, codes, Option, None, IsSome, Result, Ok, Err}
 use Rattle.std.specs.Borrow.{Bor}
 use Rattle.std.specs.declared.alloc.AllocError.{AllocError}
 use Rattle.std.specs.Fmt.{decimal}
@@ -14,6 +14,7 @@ use Rattle.insn_codec.specs.Encoding.{insn_bytes}
 use Rattle.assembler_text.specs.Text as text
 use Rattle.builtin_resolvers.specs.declared.verdicts.Verdict3.{Verdict3}
 use Rattle.builtin_resolvers.specs.Verdicts.{verdict_text}
+use Rattle.task.specs.declared.ClashWords.{ClashWords}
 use Rattle.task.specs.declared.Profile.{Profile}
 use Rattle.task.specs.declared.Profile.TheVariants.{Unsigned, Both}
 use Rattle.task.specs.declared.Question.{Question}
@@ -24,31 +25,35 @@ use Rattle.answers.specs.declared.failures.Failure.{Failure}
 use Rattle.answers.specs.declared.failures.Failure.TheVariants as failure
 use Rattle.answers.specs.declared.printing.Answer.{Answer}
 use Rattle.answers.specs.declared.printing.Answer.TheVariants.{Accepted, Ruled, Assembled, Disassembled, Refused, DeviceFault}
+use Rattle.answers.specs.ClashFields.{IsClash, IsNoClash}
+use Rattle.answers.specs.CodeWords.{IsByDigits, IsOfFile, code_file}
 use Rattle.answers.specs.Details.{IsDetails}
 use Rattle.answers.specs.Sources.{OfBytes, IsSource, IsNoSource}
-use Rattle.answers.specs.Judging.{IsCodeText, IsCodeFault, IsProgram, IsProgramOver, IsProgramFault, IsProgramFaultOver, IsClashText, IsClashFault, Ruling, IsRuling, least}
+use Rattle.answers.specs.Judging.{IsCodeText, IsCodeFault, IsProgram, IsProgramOver, IsProgramFault, IsProgramFaultOver, Ruling, IsRuling, least}
 use Rattle.output.specs.Sending.{AppendsFront}
 
 -- ---- the answer
 
--- both texts are valid, and this is the program's answer to the record
-pub record IsVerdict (code clash : List ℕ) (verdict : Verdict3) (steps : ℕ) : Type 0 where
+-- both are valid, and this is the program's answer to the record
+pub record IsVerdict (code : List ℕ) (clash : ClashWords) (verdict : Verdict3) (answer steps : ℕ)
+    : Type 0 where
   pub ruling : Ruling
   pub is_program : IsProgram code ruling.code
-  pub is_clash : IsClashText clash ruling.bytes
+  pub is_clash : IsClash clash ruling.bytes
   pub is_ruling : IsRuling ruling
   pub verdict_is : verdict ≡ ruling.verdict
+  pub answer_is : answer ≡ ruling.answer
   pub steps_are : steps ≡ ruling.steps
 
--- one of the texts is invalid, or both are, and then the refusal with the lesser number is returned
-pub data IsWrong (code clash : List ℕ) (r : NumberedRefusal) : Type 0 where
-  code_alone : (bytes : List ℕ) → IsProgramFault code r → IsClashText clash bytes → IsWrong code clash r
-  clash_alone : (program : List Insn) → IsProgram code program → IsClashFault clash r → IsWrong code clash r
-  both : (e f : NumberedRefusal) → IsProgramFault code e → IsClashFault clash f → r ≡ least e f → IsWrong code clash r
+-- one of the two is invalid, or both are, and then the refusal with the lesser number is returned
+pub data IsWrong (code : List ℕ) (clash : ClashWords) (r : NumberedRefusal) : Type 0 where
+  code_alone : (bytes : List ℕ) → IsProgramFault code r → IsClash clash bytes → IsWrong code clash r
+  clash_alone : (program : List Insn) → IsProgram code program → IsNoClash clash r → IsWrong code clash r
+  both : (e f : NumberedRefusal) → IsProgramFault code e → IsNoClash clash f → r ≡ least e f → IsWrong code clash r
 
 -- the answer where a clash is judged
-abbrev pub IsJudged : List ℕ → List ℕ → Answer → Type 0
-IsJudged code clash (Ruled verdict steps) = IsVerdict code clash verdict steps
+abbrev pub IsJudged : List ℕ → ClashWords → Answer → Type 0
+IsJudged code clash (Ruled verdict answer steps) = IsVerdict code clash verdict answer steps
 IsJudged code clash (Refused r) = IsWrong code clash r
 IsJudged code clash said = ⊥
 
@@ -88,7 +93,7 @@ IsOfBytes known said = (said ≡ DeviceFault) ⊎ OfBytes known (λ bytes. IsAss
 -- the answer to a question; a file's content is known only by reading it
 abbrev pub IsAnswer : Question → Answer → Type 0
 IsAnswer (Check code profile explain) said = IsChecked profile code.now said
-IsAnswer (Judge code clash) said = IsJudged code.now clash.now said
+IsAnswer (Judge code clash explain) said = IsJudged code.now clash said
 IsAnswer (Asm file) said = IsOfBytes None said
 IsAnswer (Dis code) said = IsDisassembled code.now said
 
@@ -107,7 +112,7 @@ hex_line code = encode_lower (flat_map insn_bytes code) ++ codes "\n"
 -- what is printed
 abbrev pub line_of : Answer → List ℕ
 line_of (Accepted count) = codes "accepted " ++ (decimal count ++ codes " instructions\n")
-line_of (Ruled verdict steps) = verdict_text verdict ++ (codes " in " ++ (decimal steps ++ codes " steps\n"))
+line_of (Ruled verdict answer steps) = verdict_text verdict ++ (codes " in " ++ (decimal steps ++ codes " steps\n"))
 line_of (Assembled code) = hex_line code
 line_of (Disassembled code) = flat_map text.line_of code
 line_of (Refused r) = refusal_text r ++ codes "\n"
@@ -152,14 +157,31 @@ Prints old new text due status = (Appends old new text × (status ≡ due)) ⊎ 
 abbrev pub Explains : Question → Answer → Option (List ℕ) → Option (List ℕ) → Type 0
 Explains question said old new = (words : List ℕ) × IsTold question said words × AppendsFront old new words
 
--- the answer is printed with its status, and explained; or the status is 3, and a prefix of the line for out of memory
--- is written
-pub data IsReply (question : Question) (old new told_old told_new : Option (List ℕ)) (status : ℕ) : Type 0 where
+-- the status is 3, and a prefix of the line for out of memory is written
+pub record IsStarved (old new told_old told_new : Option (List ℕ)) (status : ℕ) : Type 0 where
+  pub status_is : status ≡ 3
+  pub prints : AppendsFront old new (codes "refused 90\n")
+  pub told : AppendsFront told_old told_new (codes "heal: out of memory\n")
+
+-- the answer to a question by digits is printed with its status, and explained; or memory ran out
+pub data IsDigitsReply (question : Question) (old new told_old told_new : Option (List ℕ)) (status : ℕ) : Type 0 where
   replied : (said : Answer) → IsAnswer question said → Prints old new (line_of said) (status_of said) status
-      → Explains question said told_old told_new → IsReply question old new told_old told_new status
-  no_memory : status ≡ 3 → AppendsFront old new (codes "refused 90\n")
-      → AppendsFront told_old told_new (codes "heal: out of memory\n")
-      → IsReply question old new told_old told_new status
+      → Explains question said told_old told_new → IsDigitsReply question old new told_old told_new status
+  no_memory : IsStarved old new told_old told_new status → IsDigitsReply question old new told_old told_new status
+
+-- an answer is printed with its status and its line of explanation; or memory ran out
+pub data IsTerse (said : Answer) (old new told_old told_new : Option (List ℕ)) (status : ℕ) : Type 0 where
+  terse : (words : List ℕ) → IsExplanation said words → Prints old new (line_of said) (status_of said) status
+      → AppendsFront told_old told_new words → IsTerse said old new told_old told_new status
+  no_room : IsStarved old new told_old told_new status → IsTerse said old new told_old told_new status
+
+-- the question is answered as it is by digits; or its file gives no digits, which is printed; or memory ran out
+pub data IsReply (question : Question) (old new told_old told_new : Option (List ℕ)) (status : ℕ) : Type 0 where
+  by_digits : (asked : Question) → IsByDigits question asked
+      → IsDigitsReply asked old new told_old told_new status → IsReply question old new told_old told_new status
+  without : (said : Answer) → IsSome (code_file question) → IsOfFile None (Err said)
+      → IsTerse said old new told_old told_new status → IsReply question old new told_old told_new status
+  starved : IsStarved old new told_old told_new status → IsReply question old new told_old told_new status
 
 -- ---- the list of refusals
 

@@ -3,16 +3,20 @@ ghost use Rattle.std.specs.Prelude.{◌≡◌, Ok, IfOk, IfErr};
 ghost use Rattle.hex.specs.Hex.{decode_of};
 ghost use Rattle.insn_codec.specs.Encoding.{Spells};
 ghost use Rattle.program.specs.Programs.{IsAcceptedOver};
+ghost use Rattle.clash_fields.specs.Fields as fields;
+ghost use Rattle.answers.specs.ClashFields.{IsClash, IsFieldFault, IsNoClash};
 ghost use Rattle.answers.specs.Refusals.{OnRefusal};
 ghost use Rattle.answers.specs.Judging.{IsClashFault, IsClashText, IsCodeFault, IsCodeText, IsNoCode, IsNoHex, IsProgramOver, IsProgramFaultOver, IsNoProgramOver};
 
 use crate::failures::{Failure, InputFault, failure_of};
 use abstract_value::Domain;
+use clash_fields::clash_of_fields;
 use clash_record::{ClashRecord, RECORD_LEN, record_of};
 use hex::FromHexError;
 use insn_codec::{Code, decode};
 use program::read_program_over;
 use std::alloc::Global;
+use task::ClashWords;
 use verifier::{SHORTER_RECORD_LEN, Verified};
 
 // Decodes hex digits.
@@ -69,8 +73,8 @@ pub fn program_of<D: Domain>(alloc: Global, text: &str) -> Result<Verified, Fail
     program_in_bytes::<D>(alloc, &bytes)
 }
 
-/// Reads hex digits as a record: 160 bytes, or 128 that zeros extend.
-pub fn clash_of(alloc: Global, text: &str) -> Result<ClashRecord, Failure>
+// Reads hex digits as a record: 160 bytes, or 128 that zeros extend.
+fn clash_of_digits(alloc: Global, text: &str) -> Result<ClashRecord, Failure>
     ensures ok { IfOk result (λ clash. IsClashText text.now clash) }
     ensures err { IfErr result (OnRefusal (IsClashFault text.now)) }
 {
@@ -81,4 +85,39 @@ pub fn clash_of(alloc: Global, text: &str) -> Result<ClashRecord, Failure>
     let mut record = [0; RECORD_LEN];
     record[..bytes.len()].copy_from_slice(&bytes);
     Ok(record_of(record))
+}
+
+// Reads the fields of a record.
+#[tactic(auto, using(crate::proofs::Wrongs::field_failure))]
+fn clash_by_fields(
+    alloc: Global,
+    name: &str,
+    first: &str,
+    second: &str,
+    word: &str,
+) -> Result<ClashRecord, Failure>
+    ensures ok { IfOk result (λ clash. fields.clash_of name.now first.now second.now word.now ≡ Ok clash) }
+    ensures err { IfErr result (OnRefusal (IsFieldFault (fields.clash_of name.now first.now second.now word.now))) }
+{
+    let (name, first) = (name.as_bytes(), first.as_bytes());
+    match clash_of_fields(alloc, name, first, second.as_bytes(), word.as_bytes()) {
+        Ok(clash) => Ok(clash),
+        Err(fault) => Err(failure_of(&fault)),
+    }
+}
+
+/// Reads the record of a clash, by its bytes or by its fields.
+pub fn clash_of(alloc: Global, clash: &ClashWords<'_>) -> Result<ClashRecord, Failure>
+    ensures ok { IfOk result (IsClash clash.now) }
+    ensures err { IfErr result (OnRefusal (IsNoClash clash.now)) }
+{
+    match clash {
+        ClashWords::Bytes(digits) => clash_of_digits(alloc, digits),
+        ClashWords::Fields {
+            name,
+            first,
+            second,
+            word,
+        } => clash_by_fields(alloc, name, first, second, word),
+    }
 }

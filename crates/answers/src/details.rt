@@ -1,16 +1,18 @@
 //! What the verifier knows about the code of a question.
-ghost use Rattle.std.specs.Prelude.{◌≡◌, IfOk, string_bytes};
-ghost use Rattle.answers.specs.Details.{IsCodeDetails, IsDetails, IsProgramDetails, slot_of};
+ghost use Rattle.std.specs.Prelude.{◌≡◌, ◌++◌, false, ℕ, List, IfOk, string_bytes};
+ghost use Rattle.program.specs.Programs as program;
+ghost use Rattle.answers.specs.Details.{IsCodeDetails, IsDetails, IsProgramDetails, IsSeen, IsSeenClash, slot_of};
 
-use crate::arguments::code_of;
+use crate::arguments::{clash_of, code_of};
 use crate::failures::Failure;
 use crate::printing::Answer;
 use abstract_value::{Both, Domain, Interval};
+use clash_fields::record_text;
 use explanation::{explain_at, explain_code};
 use instruction_set::Code;
 use numbered::Place;
 use std::alloc::{AllocError, Global};
-use task::{Profile, Question};
+use task::{ClashWords, Profile, Question};
 
 // Returns the slot that a refusal names, if any.
 fn slot_of(said: &Answer) -> Option<u32>
@@ -61,8 +63,63 @@ fn program_details<D: Domain>(
     }
 }
 
+// Returns the text of the record that was judged, and of the answer.
+fn seen_clash(
+    alloc: Global,
+    clash: &ClashWords<'_>,
+    answer: u64,
+    steps: u32,
+) -> Result<String, AllocError>
+    ensures { IfOk result (λ text. IsSeenClash clash.now answer steps (string_bytes text)) }
+{
+    match clash_of(alloc, clash) {
+        Ok(record) => {
+            let fields = record_text(alloc, &record)?;
+            format!(in alloc; "{fields}r0 = {answer} after {steps} steps\n")
+        }
+        Err(Failure::Refused(_)) => Ok(String::new(alloc)),
+        Err(Failure::OutOfMemory) => Err(AllocError),
+    }
+}
+
+// Returns the text of what a program saw and answered, if the question requests it.
+fn seen(
+    alloc: Global,
+    clash: &ClashWords<'_>,
+    explain: bool,
+    said: &Answer,
+) -> Result<String, AllocError>
+    ensures { IfOk result (λ text. IsSeen clash.now explain said.now (string_bytes text)) }
+{
+    match said {
+        Answer::Ruled { answer, steps, .. } if explain => {
+            seen_clash(alloc, clash, *answer, *steps)
+        }
+        _ => Ok(String::new(alloc)),
+    }
+}
+
+// Returns the details of a judged clash.
+fn judge_details(
+    alloc: Global,
+    code: &str,
+    clash: &ClashWords<'_>,
+    explain: bool,
+    said: &Answer,
+) -> Result<String, AllocError>
+    ensures { IfOk result (λ text. (front rest : List ℕ)
+        × IsProgramDetails program.profile code.now false (slot_of said.now) front
+        × IsSeen clash.now explain said.now rest × (string_bytes text ≡ front ++ rest)) }
+{
+    let mut front = program_details::<program::Profile>(alloc, code, false, slot_of(said))?;
+    let rest = seen(alloc, clash, explain, said)?;
+    front.push_str(&rest)?;
+    Ok(front)
+}
+
 /// Returns what the verifier knows about the code of a question: before each instruction if the question asks for an
-/// explanation, else before the one at which the answer refuses the code.
+/// explanation, else before the one at which the answer refuses the code. For a judged clash it is what the program saw and
+/// answered.
 pub fn details(alloc: Global, question: &Question<'_>, said: &Answer) -> Result<String, AllocError>
     ensures { IfOk result (λ text. IsDetails question.now said.now (string_bytes text)) }
 {
@@ -78,9 +135,11 @@ pub fn details(alloc: Global, question: &Question<'_>, said: &Answer) -> Result<
             profile: Profile::Both,
             explain,
         } => program_details::<Both>(alloc, code, *explain, slot),
-        Question::Judge { code, .. } => {
-            program_details::<program::Profile>(alloc, code, false, slot)
-        }
+        Question::Judge {
+            code,
+            clash,
+            explain,
+        } => judge_details(alloc, code, clash, *explain, said),
         Question::Asm { .. } | Question::Dis { .. } => Ok(String::new(alloc)),
     }
 }

@@ -2,6 +2,7 @@
 #![tactic(auto)]
 
 mod arguments;
+mod code_files;
 mod details;
 mod failures;
 mod files;
@@ -10,6 +11,7 @@ mod printing;
 mod replying;
 mod ruling;
 
+pub use code_files::digits_from;
 pub use failures::{Failure, InputFault};
 pub use files::MAX_FILE_LEN;
 pub use listing::{VERSION_LINE, print_refusals, print_version};

@@ -14,13 +14,23 @@ use std::alloc::{AllocError, Global};
 #[derive(Debug, Drop)]
 pub enum Answer {
     /// The program is accepted, and has this number of instructions.
-    Accepted { count: usize },
-    /// The verdict, and the number of executed instructions.
-    Ruled { verdict: Verdict3, steps: u32 },
+    Accepted {
+        count: usize,
+    },
+    /// The verdict, the program's answer R0, and the number of executed instructions.
+    Ruled {
+        verdict: Verdict3,
+        answer: u64,
+        steps: u32,
+    },
     /// The code of a text, printed as hex digits.
-    Assembled { code: Code },
+    Assembled {
+        code: Code,
+    },
     /// The code of hex digits, printed as text.
-    Disassembled { code: Code },
+    Disassembled {
+        code: Code,
+    },
     /// The question is refused.
     Refused(NumberedRefusal),
     /// A file can't be read.
@@ -53,7 +63,7 @@ pub fn line(alloc: Global, said: &Answer) -> Result<String, AllocError>
 {
     match said {
         Answer::Accepted { count } => format!(in alloc; "accepted {count} instructions\n"),
-        Answer::Ruled { verdict, steps } => {
+        Answer::Ruled { verdict, steps, .. } => {
             let word = verdict.as_str();
             format!(in alloc; "{word} in {steps} steps\n")
         }

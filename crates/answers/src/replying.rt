@@ -2,11 +2,12 @@
 ghost use Rattle.std.specs.Prelude.{◌≡◌, ◌≢◌, None, IfOk, IfErr, codes, string_bytes};
 ghost use Rattle.answers.specs.Judging.{first};
 ghost use Rattle.output.specs.Sending.{AppendsFront};
-ghost use Rattle.answers.specs.Lines.{IsAnswer, IsChecked, IsCheckedOver, IsDisassembled, IsOfBytes, IsJudged, IsPrinted, IsReply, IsTold, Prints, answer_unless_memory};
+ghost use Rattle.answers.specs.Lines.{IsAnswer, IsChecked, IsCheckedOver, IsDigitsReply, IsDisassembled, IsExplanation, IsOfBytes, IsJudged, IsPrinted, IsReply, IsTerse, IsTold, Prints, answer_unless_memory, line_of, status_of};
 ghost use Rattle.answers.specs.declared.failures.Failure.TheVariants.{OutOfMemory};
 ghost use Rattle.answers.specs.declared.printing.Answer.TheVariants.{DeviceFault};
 
 use crate::arguments::{clash_of, code_of, program_of};
+use crate::code_files::{code_file, digits_in, with_code};
 use crate::details::details;
 use crate::failures::Failure;
 use crate::files::{code_in, read_whole};
@@ -18,7 +19,7 @@ use std::alloc::{AllocError, Global};
 use std::io::{ErrorKind, Input, Read, Write};
 use std::rt::Files;
 use std::{fs, io};
-use task::{Profile, Question, is_standard_input};
+use task::{ClashWords, Profile, Question, is_standard_input};
 
 // Returns the failure to report of two: out of memory, else the refusal with the lesser number.
 fn first(e: Failure, f: Failure) -> Failure
@@ -53,7 +54,7 @@ fn check(alloc: Global, code: &str, profile: Profile) -> Result<Answer, Failure>
 
 // Judges a clash by a program. If both texts are faulty, it reports the lesser number.
 #[tactic(auto, using(crate::proofs::Wrongs::wrongs))]
-fn judge(alloc: Global, code: &str, clash: &str) -> Result<Answer, Failure>
+fn judge(alloc: Global, code: &str, clash: &ClashWords<'_>) -> Result<Answer, Failure>
     ensures { IfOk (answer_unless_memory result) (IsJudged code.now clash.now) }
 {
     match (
@@ -64,6 +65,7 @@ fn judge(alloc: Global, code: &str, clash: &str) -> Result<Answer, Failure>
             let answered = judge_one(&program, &clash);
             Ok(Answer::Ruled {
                 verdict: answered.verdict(),
+                answer: answered.answer(),
                 steps: answered.steps(),
             })
         }
@@ -134,7 +136,7 @@ fn answer_to<R: Files + Input + AllocGlobal>(
     let alloc = rt.alloc();
     match question {
         Question::Check { code, profile, .. } => check(alloc, code, *profile),
-        Question::Judge { code, clash } => judge(alloc, code, clash),
+        Question::Judge { code, clash, .. } => judge(alloc, code, clash),
         Question::Asm { file } => asm(rt, file),
         Question::Dis { code } => dis(alloc, code),
     }
@@ -204,8 +206,8 @@ fn print_answer<W: Write, E: Write>(said: &Printed, writer: &mut W, errors: &mut
     }
 }
 
-/// Replies to a question, and returns the exit status: 0, or 2 for a refusal, or 3 when out of memory, when the file
-/// can't be read or when the writer fails.
+/// Replies to a question, and returns the exit status: 0, or 2 for a refusal, or 3 when out of memory, when a file can't
+/// be read or when the writer fails. Code in a file is answered like its hex digits.
 ///
 /// The answer goes to `writer`, which is flushed; the words that explain a refusal or a fault follow on `errors`.
 pub fn reply_to<R: Files + Input + AllocGlobal, W: Write, E: Write>(
@@ -217,8 +219,59 @@ pub fn reply_to<R: Files + Input + AllocGlobal, W: Write, E: Write>(
     ensures { IsReply question.now (W.contents writer.old) (W.contents writer.new) (E.contents errors.old)
         (E.contents errors.new) result }
 {
+    let Some(file) = code_file(question) else {
+        return reply_by_digits(rt, question, writer, errors);
+    };
+    match digits_in(rt, file) {
+        Ok(Ok(digits)) => {
+            let asked = with_code(question, digits.as_str());
+            reply_by_digits(rt, &asked, writer, errors)
+        }
+        Ok(Err(said)) => reply_tersely(rt.alloc(), &said, writer, errors),
+        Err(AllocError) => refuse_memory(writer, errors),
+    }
+}
+
+// Replies to a question that has its code in hex digits.
+fn reply_by_digits<R: Files + Input + AllocGlobal, W: Write, E: Write>(
+    rt: &R,
+    question: &Question<'_>,
+    writer: &mut W,
+    errors: &mut E,
+) -> u8
+    ensures { IsDigitsReply question.now (W.contents writer.old) (W.contents writer.new) (E.contents errors.old)
+        (E.contents errors.new) result }
+{
     match texts_of(rt.alloc(), question, answer_to(rt, question)) {
         Ok(said) => print_answer(&said, writer, errors),
         Err(AllocError) => refuse_memory(writer, errors),
     }
+}
+
+// Prints an answer with its explanation alone.
+fn reply_tersely<W: Write, E: Write>(
+    alloc: Global,
+    said: &Answer,
+    writer: &mut W,
+    errors: &mut E,
+) -> u8
+    ensures { IsTerse said.now (W.contents writer.old) (W.contents writer.new) (E.contents errors.old)
+        (E.contents errors.new) result }
+{
+    match terse(alloc, said) {
+        Ok(said) => print_answer(&said, writer, errors),
+        Err(AllocError) => refuse_memory(writer, errors),
+    }
+}
+
+// Returns the printed texts of an answer, with its explanation alone.
+fn terse(alloc: Global, said: &Answer) -> Result<Printed, AllocError>
+    ensures { IfOk result (λ p. (p.status ≡ status_of said.now) × (string_bytes p.text ≡ line_of said.now)
+        × IsExplanation said.now (string_bytes p.words)) }
+{
+    Ok(Printed {
+        status: status(said),
+        text: line(alloc, said)?,
+        words: explanation(alloc, said)?,
+    })
 }

@@ -14,6 +14,7 @@ pub struct Answered<'p> {
     program: &'p Verified,
     clash: &'p ClashRecord,
     verdict: Verdict3,
+    answer: u64,
     steps: u32,
 }
 
@@ -22,9 +23,9 @@ impl<'p> Model for Answered<'p> {
 
     ghost Value = { Ruling };
 
-    ghost view = { λ a. ruling a.program.now a.clash.now a.verdict a.steps };
+    ghost view = { λ a. ruling a.program.now a.clash.now a.verdict a.answer a.steps };
 
-    ghost invariant = { λ a. IsRuling (ruling a.program.now a.clash.now a.verdict a.steps) };
+    ghost invariant = { λ a. IsRuling (ruling a.program.now a.clash.now a.verdict a.answer a.steps) };
 }
 
 impl<'p> Answered<'p> {
@@ -52,6 +53,14 @@ impl<'p> Answered<'p> {
         self.verdict
     }
 
+    /// Returns the answer of the program, R0 at its end: the program's meaning on the record.
+    pub fn answer(&self) -> u64
+        ensures value { result ≡ self.now.answer }
+        ensures ruling { IsRuling self.now }
+    {
+        self.answer
+    }
+
     /// Returns the number of executed instructions, which is the same at every placement.
     pub fn steps(&self) -> u32
         ensures value { result ≡ self.now.steps }
@@ -72,6 +81,7 @@ pub fn judge_one<'p>(program: &'p Verified, clash: &'p ClashRecord) -> Answered<
         program,
         clash,
         verdict: Verdict3::of_answer(ended.r0),
+        answer: ended.r0,
         steps: ended.steps,
     }
 }

@@ -12,11 +12,14 @@ use Rattle.command_line.specs.declared.faults.CommandFault.{CommandFault}
 use Rattle.command_line.specs.declared.faults.CommandFault.TheVariants.{Parse, NoTask, NotText}
 use Rattle.clap.specs.declared.builder.action.ArgAction.TheVariants.{Set, SetTrue}
 use Rattle.clap.specs.declared.builder.value_parser.ValueParser.TheVariants as value
+use Rattle.task.specs.declared.ClashWords.{ClashWords}
+use Rattle.task.specs.declared.ClashWords.TheVariants.{Bytes, Fields}
 use Rattle.task.specs.declared.Profile.{Profile}
 use Rattle.task.specs.declared.Profile.TheVariants.{Unsigned, Both}
 use Rattle.task.specs.declared.Question.TheVariants.{Check, Judge, Asm, Dis}
 use Rattle.task.specs.declared.Task.{Task}
 use Rattle.task.specs.declared.Task.TheVariants.{Answer, Run, Version, Refusals}
+use Rattle.task.specs.Names.{names_if}
 use Rattle.task.specs.Workers.{workers_if}
 
 -- ---- the command
@@ -25,9 +28,13 @@ use Rattle.task.specs.Workers.{workers_if}
 abbrev pub needed : List ℕ → Rule
 needed id = record (new_rule id) { required = true; action = Some Set }
 
--- judge HEX RECORDHEX
-abbrev pub judge_app : App
-judge_app = with_rule (with_rule (new_app (codes "judge")) (needed (codes "HEX"))) (needed (codes "RECORDHEX"))
+-- an argument that may be given, with one value
+abbrev pub given : List ℕ → Rule
+given id = record (new_rule id) { action = Some Set }
+
+-- an option with one value
+abbrev pub valued : List ℕ → Rule
+valued id = record (new_rule id) { long = Some id; action = Some Set; value_names = 1 }
 
 -- a subcommand with one argument
 abbrev pub one_app : List ℕ → List ℕ → App
@@ -46,17 +53,31 @@ profile_option = record (new_rule (codes "profile")) {
 abbrev pub explain_option : Rule
 explain_option = record (new_rule (codes "explain")) { long = Some (codes "explain"); action = Some SetTrue }
 
--- check HEX [--profile 1|2] [--explain]
+-- check CODE [--profile 1|2] [--explain]
 abbrev pub check_app : App
-check_app = with_rule (with_rule (one_app (codes "check") (codes "HEX")) profile_option) explain_option
+check_app = with_rule (with_rule (one_app (codes "check") (codes "CODE")) profile_option) explain_option
+
+-- judge CODE [RECORDHEX] [--word W]
+abbrev pub record_app : App
+record_app =
+    with_rule (with_rule (one_app (codes "judge") (codes "CODE")) (given (codes "RECORDHEX"))) (valued (codes "word"))
+
+-- [--name NAME] [--first REG] [--second REG]
+abbrev pub with_fields : App → App
+with_fields app =
+    with_rule (with_rule (with_rule app (valued (codes "name"))) (valued (codes "first"))) (valued (codes "second"))
+
+-- the whole of judge, with [--explain]
+abbrev pub judge_app : App
+judge_app = with_rule (with_fields record_app) explain_option
 
 -- asm FILE
 abbrev pub asm_app : App
 asm_app = one_app (codes "asm") (codes "FILE")
 
--- dis HEX
+-- dis CODE
 abbrev pub dis_app : App
-dis_app = one_app (codes "dis") (codes "HEX")
+dis_app = one_app (codes "dis") (codes "CODE")
 
 -- an option with one value, a number from 1 to 16
 abbrev pub workers_option : Rule
@@ -67,9 +88,19 @@ workers_option = record (new_rule (codes "workers")) {
   parser = Some (value.Unsigned 1 16);
 }
 
--- run FILE [--workers W] [--explain]
+-- an option with one value, a number from 1 to 1,048,576
+abbrev pub names_option : Rule
+names_option = record (new_rule (codes "names")) {
+  long = Some (codes "names");
+  action = Some Set;
+  value_names = 1;
+  parser = Some (value.Unsigned 1 1048576);
+}
+
+-- run FILE [--workers W] [--names N] [--explain]
 abbrev pub run_app : App
-run_app = with_rule (with_rule (one_app (codes "run") (codes "FILE")) workers_option) explain_option
+run_app =
+    with_rule (with_rule (with_rule (one_app (codes "run") (codes "FILE")) workers_option) names_option) explain_option
 
 -- heal with its five subcommands
 abbrev pub subcommands_app : App
@@ -82,23 +113,32 @@ heal_app = on_top (λ s. record s { subcommand_required = true }) subcommands_ap
 
 -- ---- the request
 
+-- a clash as it is given: by the bytes of its record in hex digits, or by a name, two registrations and a word
+pub data Clash : Type 0 where
+  by_bytes : (digits : List ℕ) → Clash
+  by_fields : (name first second word : List ℕ) → Clash
+
 -- a task without where its words lie in memory
 pub data Asked : Type 0 where
-  check : List ℕ → Profile → Bool → Asked
-  judge : List ℕ → List ℕ → Asked
-  asm : List ℕ → Asked
-  dis : List ℕ → Asked
-  run : List ℕ → ℕ → Bool → Asked
+  check : (code : List ℕ) → (profile : Profile) → (explain : Bool) → Asked
+  judge : (code : List ℕ) → (clash : Clash) → (explain : Bool) → Asked
+  asm : (file : List ℕ) → Asked
+  dis : (code : List ℕ) → Asked
+  run : (file : List ℕ) → (workers names : ℕ) → (explain : Bool) → Asked
   version : Asked
   refusals : Asked
+
+abbrev pub clash_by : ClashWords → Clash
+clash_by (Bytes digits) = by_bytes digits.now
+clash_by (Fields name first second word) = by_fields name.now first.now second.now word.now
 
 -- the task, seen so
 abbrev pub asked_by : Task → Asked
 asked_by (Answer (Check code profile explain)) = check code.now profile explain
-asked_by (Answer (Judge code clash)) = judge code.now clash.now
+asked_by (Answer (Judge code clash explain)) = judge code.now (clash_by clash) explain
 asked_by (Answer (Asm file)) = asm file.now
 asked_by (Answer (Dis code)) = dis code.now
-asked_by (Run file workers explain) = run file.now workers.count explain
+asked_by (Run file workers names explain) = run file.now workers.count names.count explain
 asked_by Version = version
 asked_by Refusals = refusals
 
@@ -114,35 +154,56 @@ abbrev pub explain_named : Option Text → Bool
 explain_named None = false
 explain_named (Some given) = bytes_eq given (codes "true")
 
+-- the record by its bytes alone, or by its fields alone, with the word 0 where none is given
+abbrev pub clash_named : Option Text → Option Text → Option Text → Option Text → Option Text → Option Clash
+clash_named (Some digits) None None None None = Some (by_bytes digits)
+clash_named None (Some name) (Some first) (Some second) None = Some (by_fields name first second (codes "0"))
+clash_named None (Some name) (Some first) (Some second) (Some word) = Some (by_fields name first second word)
+clash_named digits name first second word = None
+
 -- the request of the values of check; and of judge, asm and dis
 abbrev pub check_asked : List Row → Option Asked
 check_asked rows =
     option_and_then (λ code. option_map
     (λ profile. check code profile (explain_named (first_of (codes "explain") rows)))
     (profile_named (first_of (codes "profile") rows)))
-    (first_of (codes "HEX") rows)
+    (first_of (codes "CODE") rows)
 
 abbrev pub judge_asked : List Row → Option Asked
 judge_asked rows =
-    option_and_then (λ code. option_map (judge code) (first_of (codes "RECORDHEX") rows)) (first_of (codes "HEX") rows)
+    option_and_then (λ code. option_map
+    (λ clash. judge code clash (explain_named (first_of (codes "explain") rows)))
+    (clash_named (first_of (codes "RECORDHEX") rows) (first_of (codes "name") rows) (first_of (codes "first") rows)
+    (first_of (codes "second") rows) (first_of (codes "word") rows)))
+    (first_of (codes "CODE") rows)
 
 abbrev pub asm_asked : List Row → Option Asked
 asm_asked rows = option_map asm (first_of (codes "FILE") rows)
 
 abbrev pub dis_asked : List Row → Option Asked
-dis_asked rows = option_map dis (first_of (codes "HEX") rows)
+dis_asked rows = option_map dis (first_of (codes "CODE") rows)
+
+-- the number that a text names, if it is one of these
+abbrev pub number_named : (ℕ → Option ℕ) → Text → Option ℕ
+number_named valid number =
+    if is_numeral (without_leading_plus number) then valid (digits_value 10 (without_leading_plus number)) else None
 
 -- how many workers a text names, and four where none is named
 abbrev pub workers_named : Option Text → Option ℕ
 workers_named None = Some 4
-workers_named (Some number) =
-    if is_numeral (without_leading_plus number) then workers_if (digits_value 10 (without_leading_plus number))
-    else None
+workers_named (Some number) = number_named workers_if number
+
+-- how many names a text names, and 4,096 where none is named
+abbrev pub names_named : Option Text → Option ℕ
+names_named None = Some 4096
+names_named (Some number) = number_named names_if number
 
 abbrev pub run_asked : List Row → Option Asked
 run_asked rows =
-    option_and_then (λ file. option_map
-    (λ workers. run file workers (explain_named (first_of (codes "explain") rows)))
+    option_and_then (λ file. option_and_then
+    (λ workers. option_map
+    (λ names. run file workers names (explain_named (first_of (codes "explain") rows)))
+    (names_named (first_of (codes "names") rows)))
     (workers_named (first_of (codes "workers") rows)))
     (first_of (codes "FILE") rows)
 

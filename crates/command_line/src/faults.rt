@@ -74,7 +74,9 @@ impl fmt::Display for CommandFault {
     fn fmt<W: fmt::Write>(&self, f: &mut fmt::Formatter<W>) -> fmt::Result {
         match self {
             CommandFault::Parse(error) => write!(f, "{error}"),
-            CommandFault::NoTask => f.write_str("error: no task\n"),
+            CommandFault::NoTask => f.write_str(
+                "error: judge takes RECORDHEX, or --name, --first and --second, and no others\n",
+            ),
             CommandFault::NotText => f.write_str("error: an argument isn't UTF-8\n"),
         }
     }

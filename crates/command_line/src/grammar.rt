@@ -1,7 +1,7 @@
 //! The command line for clap.
 ghost use Rattle.std.specs.Prelude.{◌≡◌, IfOk, codes, false};
 ghost use Rattle.clap.specs.Words.{App, app_of, new_app, rule_of, with_subcommand};
-ghost use Rattle.command_line.specs.Asked.{asm_app, check_app, dis_app, explain_option, heal_app, judge_app, needed, one_app, profile_option, run_app, workers_option};
+ghost use Rattle.command_line.specs.Asked.{asm_app, check_app, dis_app, explain_option, given, heal_app, judge_app, names_option, needed, one_app, profile_option, record_app, run_app, valued, with_fields, workers_option};
 ghost use Rattle.command_line.specs.model.Apps.{IsApp};
 
 use clap::builder::ValueParser;
@@ -19,15 +19,20 @@ heal help COMMAND describes a command, heal help refusals lists the refusals, an
 heal --version prints the version.";
 
 const CHECK_EXAMPLE: &'static str = "\
+A file has hex digits, the bytes of code, or an object as clang -target bpf -c writes it.
+
 Example:
   $ heal check b7000000010000009500000000000000
   accepted 2 instructions";
 
 const JUDGE_EXAMPLE: &'static str = "\
-The record has 160 bytes, or 128 to which zeros are added.
+The record of the clash is given by RECORDHEX, 160 bytes, or 128 to which zeros are added; or by
+its fields, --name, --first and --second. A registration REG is NODE.SERIAL, with any of
+,stamp=N ,weight=N ,extra=HEX ,size=N ,uptime=N after it, which are 0 by default: size is the
+number of names in the half that holds it, uptime is that half's uptime.
 
-Example, with 320 zeros for the record:
-  $ heal judge b7000000010000009500000000000000 $(printf %0320d 0)
+Example:
+  $ heal judge b7000000010000009500000000000000 --name db --first 1.10,stamp=5 --second 2.20
   first in 2 steps";
 
 const ASM_EXAMPLE: &'static str = "\
@@ -56,6 +61,26 @@ fn needed_arg<'a>(alloc: Global, id: &'a str, help: &'a str) -> Arg<'a>
     Arg::new(alloc, id)
         .required(true)
         .action(ArgAction::Set)
+        .help(help)
+}
+
+// Returns an argument that may be left out.
+fn given_arg<'a>(alloc: Global, id: &'a str, help: &'a str) -> Arg<'a>
+    ensures rule { rule_of result ≡ given id.entry.now }
+    ensures global { result.global ≡ false }
+{
+    Arg::new(alloc, id).action(ArgAction::Set).help(help)
+}
+
+// Returns an option with a value.
+fn valued_arg<'a>(alloc: Global, id: &'a str, value: &'a str, help: &'a str) -> Arg<'a>
+    ensures rule { rule_of result ≡ valued id.entry.now }
+    ensures global { result.global ≡ false }
+{
+    Arg::new(alloc, id)
+        .long(id)
+        .action(ArgAction::Set)
+        .value_name(value)
         .help(help)
 }
 
@@ -96,7 +121,20 @@ fn workers_arg<'a>(alloc: Global) -> Arg<'a>
         .help("The number of workers that judge clashes, 1 to 16 [default: 4]")
 }
 
-// Returns `run`: a script, and an option.
+// Returns the option that sets the limit of names.
+fn names_arg<'a>(alloc: Global) -> Arg<'a>
+    ensures rule { rule_of result ≡ names_option }
+    ensures global { result.global ≡ false }
+{
+    Arg::new(alloc, "names")
+        .long("names")
+        .action(ArgAction::Set)
+        .value_name("N")
+        .value_parser(ValueParser::unsigned(1, 1_048_576))
+        .help("The number of names that each half may have, 1 to 1048576 [default: 4096]")
+}
+
+// Returns `run`: a script, and its options.
 fn run_command<'a>(alloc: Global) -> Result<Command<'a>, AllocError>
     ensures { IfOk result (λ c. IsApp c run_app) }
 {
@@ -110,7 +148,9 @@ fn run_command<'a>(alloc: Global) -> Result<Command<'a>, AllocError>
         RUN_EXAMPLE,
     )?;
     let help = "Narrates each healing on standard error";
-    run.arg(workers_arg(alloc))?.arg(explain_arg(alloc, help))
+    run.arg(workers_arg(alloc))?
+        .arg(names_arg(alloc))?
+        .arg(explain_arg(alloc, help))
 }
 
 // Returns `check`: code, and an option.
@@ -122,25 +162,50 @@ fn check_command<'a>(alloc: Global) -> Result<Command<'a>, AllocError>
         alloc,
         "check",
         about,
-        "HEX",
-        "The program, in hex digits",
+        "CODE",
+        "The program: hex digits, or @FILE",
         CHECK_EXAMPLE,
     )?;
     let help = "Prints the verifier's state before each instruction on standard error";
     check.arg(profile_arg(alloc))?.arg(explain_arg(alloc, help))
 }
 
-// Returns `judge`, the only subcommand with two arguments.
+// Returns `judge` with its code, and a record at a word.
+fn record_command<'a>(alloc: Global) -> Result<Command<'a>, AllocError>
+    ensures { IfOk result (λ c. IsApp c record_app) }
+{
+    let about = "Judges a clash by a program: the first, the second or neither keeps the name";
+    let judge = one_command(
+        alloc,
+        "judge",
+        about,
+        "CODE",
+        "The program: hex digits, or @FILE",
+        JUDGE_EXAMPLE,
+    )?;
+    let record = given_arg(alloc, "RECORDHEX", "The record of the clash, in hex digits");
+    let word = valued_arg(alloc, "word", "W", "The word of the clash [default: 0]");
+    judge.arg(record)?.arg(word)
+}
+
+// Adds the fields of a record: a name, and two registrations.
+fn fields_command<'a>(alloc: Global) -> Result<Command<'a>, AllocError>
+    ensures { IfOk result (λ c. IsApp c (with_fields record_app)) }
+{
+    let judge = record_command(alloc)?;
+    let name = valued_arg(alloc, "name", "NAME", "The name that clashes");
+    let first = valued_arg(alloc, "first", "REG", "The first registration");
+    let second = valued_arg(alloc, "second", "REG", "The second registration");
+    judge.arg(name)?.arg(first)?.arg(second)
+}
+
+// Returns `judge`: code, a clash, and an option.
 fn judge_command<'a>(alloc: Global) -> Result<Command<'a>, AllocError>
     ensures { IfOk result (λ c. IsApp c judge_app) }
 {
-    let code = needed_arg(alloc, "HEX", "The program, in hex digits");
-    let clash = needed_arg(alloc, "RECORDHEX", "The record of the clash, in hex digits");
-    Command::new(alloc, "judge")
-        .about("Judges a clash by a program: the first, the second or neither keeps the name")
-        .after_help(JUDGE_EXAMPLE)
-        .arg(code)?
-        .arg(clash)
+    let help = "Prints on standard error what the program reads and answers";
+    let judge = fields_command(alloc)?;
+    judge.arg(explain_arg(alloc, help))
 }
 
 // Returns `asm`: a file.
@@ -167,8 +232,8 @@ fn dis_command<'a>(alloc: Global) -> Result<Command<'a>, AllocError>
         alloc,
         "dis",
         about,
-        "HEX",
-        "The code, in hex digits",
+        "CODE",
+        "The code: hex digits, or @FILE",
         DIS_EXAMPLE,
     )
 }

@@ -4,7 +4,7 @@ ghost use Rattle.clap.specs.Words.{first_of, found_of, rows_of, subcommand_rows_
 ghost use Rattle.command_line.specs.Asked.{Asked, Asks, IsForMemory, asked_by, asked_of};
 ghost use Rattle.command_line.specs.Asked as asked;
 ghost use Rattle.std.specs.Str.{bytes_eq};
-ghost use Rattle.command_line.specs.Asked.{asm, asm_asked, check, check_asked, dis, dis_asked, explain_named, judge, judge_asked, profile_named, refusals, run, run_asked, version, workers_named};
+ghost use Rattle.command_line.specs.Asked.{asm, asm_asked, by_bytes, check, check_asked, clash_by, clash_named, dis, dis_asked, explain_named, judge, judge_asked, names_named, profile_named, refusals, run, run_asked, version, workers_named};
 ghost use Rattle.task.specs.declared.Profile.TheVariants.{Unsigned, Both};
 ghost use Rattle.command_line.specs.Plain.{IsPlain};
 
@@ -13,7 +13,7 @@ use crate::grammar::heal;
 use clap::ArgMatches;
 use std::alloc::Global;
 use std::convert::AsStr;
-use task::{Profile, Question, Task, Workers};
+use task::{ClashWords, Names, Profile, Question, Task, Workers};
 
 // Returns the first value of `id`.
 #[tactic(auto, using(crate::proofs::Rows::rows))]
@@ -47,7 +47,7 @@ fn explains(given: Option<&str>) -> bool
 fn check_of<'a>(found: &ArgMatches<'a>) -> Option<Task<'a>>
     ensures { option_map asked_by result ≡ check_asked (rows_of (found_of found.now)) }
 {
-    let code = value(found, "HEX")?;
+    let code = value(found, "CODE")?;
     let profile = profile_of(value(found, "profile"))?;
     let explain = explains(value(found, "explain"));
     Some(Task::Answer(Question::Check {
@@ -57,12 +57,53 @@ fn check_of<'a>(found: &ArgMatches<'a>) -> Option<Task<'a>>
     }))
 }
 
+// Returns the clash of a record's bytes alone, or of its fields alone. The word is 0 by default.
+fn clash_of<'a>(
+    digits: Option<&'a str>,
+    name: Option<&'a str>,
+    first: Option<&'a str>,
+    second: Option<&'a str>,
+    word: Option<&'a str>,
+) -> Option<ClashWords<'a>>
+    ensures { option_map clash_by result ≡ clash_named (option_map (λ s. s.now) digits.entry)
+        (option_map (λ s. s.now) name.entry) (option_map (λ s. s.now) first.entry)
+        (option_map (λ s. s.now) second.entry) (option_map (λ s. s.now) word.entry) }
+{
+    match (digits, name, first, second, word) {
+        (Some(digits), None, None, None, None) => Some(ClashWords::Bytes(digits)),
+        (None, Some(name), Some(first), Some(second), None) => Some(ClashWords::Fields {
+            name,
+            first,
+            second,
+            word: "0",
+        }),
+        (None, Some(name), Some(first), Some(second), Some(word)) => Some(ClashWords::Fields {
+            name,
+            first,
+            second,
+            word,
+        }),
+        _ => None,
+    }
+}
+
 fn judge_of<'a>(found: &ArgMatches<'a>) -> Option<Task<'a>>
     ensures { option_map asked_by result ≡ judge_asked (rows_of (found_of found.now)) }
 {
-    let code = value(found, "HEX")?;
-    let clash = value(found, "RECORDHEX")?;
-    Some(Task::Answer(Question::Judge { code, clash }))
+    let code = value(found, "CODE")?;
+    let clash = clash_of(
+        value(found, "RECORDHEX"),
+        value(found, "name"),
+        value(found, "first"),
+        value(found, "second"),
+        value(found, "word"),
+    )?;
+    let explain = explains(value(found, "explain"));
+    Some(Task::Answer(Question::Judge {
+        code,
+        clash,
+        explain,
+    }))
 }
 
 fn asm_of<'a>(found: &ArgMatches<'a>) -> Option<Task<'a>>
@@ -75,7 +116,7 @@ fn asm_of<'a>(found: &ArgMatches<'a>) -> Option<Task<'a>>
 fn dis_of<'a>(found: &ArgMatches<'a>) -> Option<Task<'a>>
     ensures { option_map asked_by result ≡ dis_asked (rows_of (found_of found.now)) }
 {
-    let code = value(found, "HEX")?;
+    let code = value(found, "CODE")?;
     Some(Task::Answer(Question::Dis { code }))
 }
 
@@ -92,15 +133,30 @@ fn workers_of(number: Option<&str>) -> Option<Workers>
     }
 }
 
+// Reads the number of names, 4,096 by default.
+fn names_of(number: Option<&str>) -> Option<Names>
+    ensures { option_map (λ names. names.count) result ≡ names_named (option_map (λ s. s.now) number.entry) }
+{
+    match number {
+        None => Names::new(4096),
+        Some(text) => match text.parse::<u32>() {
+            Ok(count) => Names::new(count),
+            Err(_) => None,
+        },
+    }
+}
+
 fn run_of<'a>(found: &ArgMatches<'a>) -> Option<Task<'a>>
     ensures { option_map asked_by result ≡ run_asked (rows_of (found_of found.now)) }
 {
     let file = value(found, "FILE")?;
     let workers = workers_of(value(found, "workers"))?;
+    let names = names_of(value(found, "names"))?;
     let explain = explains(value(found, "explain"));
     Some(Task::Run {
         file,
         workers,
+        names,
         explain,
     })
 }
@@ -190,17 +246,19 @@ pub fn plain_words_theorem()
     ensures explained { (name code : List ℕ) → IsPlain code
         → Asks (name ∷ codes "check" ∷ code ∷ codes "--explain" ∷ []) (check code Both true) }
     ensures narrated { (name file : List ℕ) → IsPlain file
-        → Asks (name ∷ codes "run" ∷ file ∷ codes "--explain" ∷ []) (run file 4 true) }
+        → Asks (name ∷ codes "run" ∷ file ∷ codes "--explain" ∷ []) (run file 4 4096 true) }
     ensures judge { (name code clash : List ℕ) → IsPlain code → IsPlain clash
-        → Asks (name ∷ codes "judge" ∷ code ∷ clash ∷ []) (judge code clash) }
+        → Asks (name ∷ codes "judge" ∷ code ∷ clash ∷ []) (judge code (by_bytes clash) false) }
     ensures asm { (name file : List ℕ) → IsPlain file → Asks (name ∷ codes "asm" ∷ file ∷ []) (asm file) }
     ensures dis { (name code : List ℕ) → IsPlain code → Asks (name ∷ codes "dis" ∷ code ∷ []) (dis code) }
-    ensures run { (name file : List ℕ) → IsPlain file → Asks (name ∷ codes "run" ∷ file ∷ []) (run file 4 false) }
+    ensures run { (name file : List ℕ) → IsPlain file → Asks (name ∷ codes "run" ∷ file ∷ []) (run file 4 4096 false) }
     ensures workers { (name file : List ℕ) → IsPlain file
-        → Asks (name ∷ codes "run" ∷ file ∷ codes "--workers" ∷ codes "16" ∷ []) (run file 16 false) }
+        → Asks (name ∷ codes "run" ∷ file ∷ codes "--workers" ∷ codes "16" ∷ []) (run file 16 4096 false) }
+    ensures names { (name file : List ℕ) → IsPlain file
+        → Asks (name ∷ codes "run" ∷ file ∷ codes "--names" ∷ codes "8192" ∷ []) (run file 4 8192 false) }
     ensures version { (name : List ℕ) → Asks (name ∷ codes "--version" ∷ []) version }
     ensures version_letter { (name : List ℕ) → Asks (name ∷ codes "-V" ∷ []) version }
     ensures refusals { (name : List ℕ) → Asks (name ∷ codes "help" ∷ codes "refusals" ∷ []) refusals }
     ensures asm_hyphen { (name : List ℕ) → Asks (name ∷ codes "asm" ∷ codes "-" ∷ []) (asm (codes "-")) }
-    ensures run_hyphen { (name : List ℕ) → Asks (name ∷ codes "run" ∷ codes "-" ∷ []) (run (codes "-") 4 false) }
+    ensures run_hyphen { (name : List ℕ) → Asks (name ∷ codes "run" ∷ codes "-" ∷ []) (run (codes "-") 4 4096 false) }
 {}

@@ -36,6 +36,7 @@ pub use Rattle.exchange_codec.specs.Offers as OfferMessages
 pub use Rattle.exchange_codec.specs.Peeking
 pub use Rattle.exchange_codec.specs.Reading as MessageFields
 pub use Rattle.exchange_codec.specs.Rows as RowMessages
+pub use Rattle.exchange_codec.specs.Tables as TableMessages
 pub use Rattle.exchange_codec.specs.Withdrawals as ListMessages
 pub use Rattle.cluster.specs.Causes
 pub use Rattle.cluster.specs.Clusters
@@ -62,3 +63,14 @@ pub use Rattle.judge_pool.specs.Work
 pub use Rattle.registry_lock.specs.Faults as MeetFaults
 pub use Rattle.registry_lock.specs.Meeting
 pub use Rattle.registry_lock.specs.Telling
+-- those of `replicas`
+pub use Rattle.replica_law.specs.Worlds as ReplicaMessages
+pub use Rattle.replica.specs.Faults as ReplicaFaults
+pub use Rattle.replica.specs.Halves as ReplicaHalves
+pub use Rattle.replica.specs.Histories as ReplicaHistories
+pub use Rattle.replica.specs.Replicas
+pub use Rattle.replica_codec.specs.Entries as EntryMessages
+pub use Rattle.replica_codec.specs.Faults as ReplicaMessageFaults
+pub use Rattle.replica_codec.specs.Frames as MessageFrames
+pub use Rattle.replica_codec.specs.Logs
+pub use Rattle.replica_codec.specs.Snapshots as SnapshotMessages

@@ -15,6 +15,7 @@
 //! | notify owners | `notices`, `Notice`, `Notices`, `Verdict3`, `decide` | `builtin_resolvers` |
 //! | report refusals | `Numbered`, `NumberedRefusal`, `Place`, `refusal_of`, `words_of`, `REFUSALS` | `numbered` |
 //! | read, write and run programs | the module `programs` | `program` and those below it |
+//! | replicate a half, and keep a log | the module `replicas` | `replica`, `replica_codec` |
 //! | judge with several threads | the module `boards` | `verdict_board`, `judge_pool`, `registry_lock` |
 //!
 //! Limits: 4,096 names in the table of a side, or as many as its owner chooses, up to 1,048,576; 16 events in its journal for
@@ -26,6 +27,7 @@
 
 pub mod boards;
 pub mod programs;
+pub mod replicas;
 
 pub use builtin_resolvers::{Notice, Notices, Verdict3, decide, notices};
 pub use clash_record::{

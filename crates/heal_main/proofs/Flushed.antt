@@ -5,8 +5,9 @@ use Rattle.std.specs.Io.KnownBytes.{Appends, Keeps}
 use Rattle.output.specs.Sending.{AppendsFront}
 use Rattle.task.specs.declared.Question.{Question}
 use Rattle.task.specs.declared.Task.{Task}
-use Rattle.task.specs.declared.Task.TheVariants.{Answer, Run, Version, Refusals}
-use Rattle.answers.specs.Lines.{IsListing, IsReply, Prints, replied, no_memory}
+use Rattle.task.specs.declared.Task.TheVariants as task
+use Rattle.answers.specs.declared.printing.Answer.{Answer}
+use Rattle.answers.specs.Lines.{IsDigitsReply, IsListing, IsReply, IsStarved, IsTerse, Prints, by_digits, no_memory, no_room, replied, starved, terse, without}
 use Rattle.script_machine.specs.Replies as said
 use Rattle.script_engine.specs.Runs.{IsScriptRun, Ending, Writes}
 use Rattle.heal_main.specs.Obeying.{Obeys, RunsFile, ran, unopened}
@@ -33,15 +34,43 @@ module _ (old mid new told_old told_new : Option (List ℕ)) (status : ℕ) (k :
   prints_cut text due (inl h) = inr (whole_front old mid new _ h.0 k, refl)
   prints_cut text due (inr h) = inr (front_kept old mid new _ h.0 k, refl)
 
+  starved_kept : IsStarved old mid told_old told_new status → IsStarved old new told_old told_new status
+  starved_kept s = record { status_is = s.status_is; prints = front_kept old mid new _ s.prints k; told = s.told }
+
+  starved_cut : IsStarved old mid told_old told_new status → IsStarved old new told_old told_new 3
+  starved_cut s = record { status_is = refl; prints = front_kept old mid new _ s.prints k; told = s.told }
+
+  digits_kept : (question : Question) → IsDigitsReply question old mid told_old told_new status
+      → IsDigitsReply question old new told_old told_new status
+  digits_kept question (replied said is h e) = replied said is (prints_kept _ _ h) e
+  digits_kept question (no_memory s) = no_memory (starved_kept s)
+
+  digits_cut : (question : Question) → IsDigitsReply question old mid told_old told_new status
+      → IsDigitsReply question old new told_old told_new 3
+  digits_cut question (replied said is h e) = replied said is (prints_cut _ _ h) e
+  digits_cut question (no_memory s) = no_memory (starved_cut s)
+
+  terse_kept : (said : Answer) → IsTerse said old mid told_old told_new status
+      → IsTerse said old new told_old told_new status
+  terse_kept said (terse words is h e) = terse words is (prints_kept _ _ h) e
+  terse_kept said (no_room s) = no_room (starved_kept s)
+
+  terse_cut : (said : Answer) → IsTerse said old mid told_old told_new status
+      → IsTerse said old new told_old told_new 3
+  terse_cut said (terse words is h e) = terse words is (prints_cut _ _ h) e
+  terse_cut said (no_room s) = no_room (starved_cut s)
+
   reply_kept : (question : Question) → IsReply question old mid told_old told_new status
       → IsReply question old new told_old told_new status
-  reply_kept question (replied said is h e) = replied said is (prints_kept _ _ h) e
-  reply_kept question (no_memory s h e) = no_memory s (front_kept old mid new _ h k) e
+  reply_kept question (by_digits asked is h) = by_digits asked is (digits_kept asked h)
+  reply_kept question (without said some is h) = without said some is (terse_kept said h)
+  reply_kept question (starved s) = starved (starved_kept s)
 
   reply_cut : (question : Question) → IsReply question old mid told_old told_new status
       → IsReply question old new told_old told_new 3
-  reply_cut question (replied said is h e) = replied said is (prints_cut _ _ h) e
-  reply_cut question (no_memory s h e) = no_memory refl (front_kept old mid new _ h k) e
+  reply_cut question (by_digits asked is h) = by_digits asked is (digits_cut asked h)
+  reply_cut question (without said some is h) = without said some is (terse_cut said h)
+  reply_cut question (starved s) = starved (starved_cut s)
 
   listing_kept : IsListing old mid status → IsListing old new status
   listing_kept (inl h) = inl (h.0, prints_kept _ _ h.1)
@@ -61,9 +90,10 @@ module _ (old mid new told_old told_new : Option (List ℕ)) (status : ℕ) (k :
   writes_cut ending answers (inl h) = inr (whole_front old mid new _ h.1 k, refl)
   writes_cut ending answers (inr h) = inr (front_kept old mid new _ h.0 k, refl)
 
-  run_by : (read_old read_new : Option (List ℕ)) (after : ℕ) (h : IsScriptRun read_old read_new old mid status)
-      → Writes h.ending h.answers old new after → IsScriptRun read_old read_new old new after
-  run_by read_old read_new after h writes = record {
+  run_by : (limit : ℕ) (read_old read_new : Option (List ℕ)) (after : ℕ)
+      (h : IsScriptRun limit read_old read_new old mid status)
+      → Writes h.ending h.answers old new after → IsScriptRun limit read_old read_new old new after
+  run_by limit read_old read_new after h writes = record {
     ending = h.ending;
     front = h.front;
     rest = h.rest;
@@ -75,28 +105,28 @@ module _ (old mid new told_old told_new : Option (List ℕ)) (status : ℕ) (k :
     writes = writes;
   }
 
-  file_kept : RunsFile old mid status → RunsFile old new status
-  file_kept (ran read_old read_new h) =
-      ran read_old read_new (run_by read_old read_new status h (writes_kept h.ending h.answers h.writes))
-  file_kept (unopened (inl front) three) = unopened (inl (front_kept old mid new _ front k)) three
-  file_kept (unopened (inr front) three) = unopened (inr (front_kept old mid new _ front k)) three
+  file_kept : (limit : ℕ) → RunsFile limit old mid status → RunsFile limit old new status
+  file_kept limit (ran read_old read_new h) =
+      ran read_old read_new (run_by limit read_old read_new status h (writes_kept h.ending h.answers h.writes))
+  file_kept limit (unopened (inl front) three) = unopened (inl (front_kept old mid new _ front k)) three
+  file_kept limit (unopened (inr front) three) = unopened (inr (front_kept old mid new _ front k)) three
 
-  file_cut : RunsFile old mid status → RunsFile old new 3
-  file_cut (ran read_old read_new h) =
-      ran read_old read_new (run_by read_old read_new 3 h (writes_cut h.ending h.answers h.writes))
-  file_cut (unopened (inl front) three) = unopened (inl (front_kept old mid new _ front k)) refl
-  file_cut (unopened (inr front) three) = unopened (inr (front_kept old mid new _ front k)) refl
+  file_cut : (limit : ℕ) → RunsFile limit old mid status → RunsFile limit old new 3
+  file_cut limit (ran read_old read_new h) =
+      ran read_old read_new (run_by limit read_old read_new 3 h (writes_cut h.ending h.answers h.writes))
+  file_cut limit (unopened (inl front) three) = unopened (inl (front_kept old mid new _ front k)) refl
+  file_cut limit (unopened (inr front) three) = unopened (inr (front_kept old mid new _ front k)) refl
 
   pub obeyed_kept : (task : Task) → Obeys task old mid told_old told_new status
       → Obeys task old new told_old told_new status
-  obeyed_kept (Answer question) h = reply_kept question h
-  obeyed_kept (Run file workers explain) h = file_kept h
-  obeyed_kept Version h = prints_kept _ _ h
-  obeyed_kept Refusals h = listing_kept h
+  obeyed_kept (task.Answer question) h = reply_kept question h
+  obeyed_kept (task.Run file workers names explain) h = file_kept names.count h
+  obeyed_kept task.Version h = prints_kept _ _ h
+  obeyed_kept task.Refusals h = listing_kept h
 
   pub obeyed_cut : (task : Task) → Obeys task old mid told_old told_new status
       → Obeys task old new told_old told_new 3
-  obeyed_cut (Answer question) h = reply_cut question h
-  obeyed_cut (Run file workers explain) h = file_cut h
-  obeyed_cut Version h = prints_cut _ _ h
-  obeyed_cut Refusals h = listing_cut h
+  obeyed_cut (task.Answer question) h = reply_cut question h
+  obeyed_cut (task.Run file workers names explain) h = file_cut names.count h
+  obeyed_cut task.Version h = prints_cut _ _ h
+  obeyed_cut task.Refusals h = listing_cut h

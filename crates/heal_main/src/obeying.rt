@@ -7,13 +7,14 @@ use crate::person::Listener;
 use answers::{print_refusals, print_version, reply_to};
 use judge_pool::OpenGate;
 use output::send;
+use partition_table::NameLimit;
 use script_engine::{Narrator, run_narrated};
 use std::fs;
 use std::io::{ErrorKind, Input, Read, Write};
 use std::rt::Files;
 use std::sync::Wait;
 use std::thread::Threads;
-use task::{Task, Workers, is_standard_input};
+use task::{Names, Task, Workers, is_standard_input};
 
 /// Carries out a task, and returns the program's status: 0, or 2 if it or a line of a script was refused, or 3 if memory
 /// ran out, a file couldn't be read, or the writer failed. Flushes the writer at the end.
@@ -50,16 +51,27 @@ fn carry_out<
         Task::Run {
             file,
             workers,
+            names,
             explain,
         } => {
             let listener = Listener {
                 narrator,
                 explain: *explain,
             };
-            run(rt, file, *workers, writer, &listener)
+            run(rt, file, *workers, limit_of(*names), writer, &listener)
         }
         Task::Version => print_version(writer),
         Task::Refusals => print_refusals(rt.alloc(), writer),
+    }
+}
+
+// Returns the limit of a number of names.
+fn limit_of(names: Names) -> NameLimit
+    ensures { result.names ≡ names.count }
+{
+    match NameLimit::new(names.count() as usize) {
+        Some(limit) => limit,
+        None => unreachable!(),
     }
 }
 
@@ -68,16 +80,17 @@ fn run<R: Files + Input + Threads + Wait + Sync + AllocGlobal, W: Write, N: Narr
     rt: &R,
     file: &str,
     workers: Workers,
+    limit: NameLimit,
     writer: &mut W,
     narrator: &N,
 ) -> u8
-    ensures { RunsFile (W.contents writer.old) (W.contents writer.new) result }
+    ensures { RunsFile limit.names (W.contents writer.old) (W.contents writer.new) result }
 {
     if is_standard_input(file) {
-        return run_from(rt, &mut rt.reader(), workers, writer, narrator);
+        return run_from(rt, &mut rt.reader(), workers, limit, writer, narrator);
     }
     match fs::open(rt, file) {
-        Ok(mut file) => run_from(rt, &mut file, workers, writer, narrator),
+        Ok(mut file) => run_from(rt, &mut file, workers, limit, writer, narrator),
         Err(error) => tell_unopened(error.kind(), writer),
     }
 }
@@ -87,12 +100,21 @@ fn run_from<T: Threads + Wait + Sync + AllocGlobal, R: Read, W: Write, N: Narrat
     rt: &T,
     reader: &mut R,
     workers: Workers,
+    limit: NameLimit,
     writer: &mut W,
     narrator: &N,
 ) -> u8
-    ensures { RunsFile (W.contents writer.old) (W.contents writer.new) result }
+    ensures { RunsFile limit.names (W.contents writer.old) (W.contents writer.new) result }
 {
-    run_narrated(rt, reader, writer, workers.count(), &OpenGate, narrator)
+    run_narrated(
+        rt,
+        reader,
+        writer,
+        limit,
+        workers.count(),
+        &OpenGate,
+        narrator,
+    )
 }
 
 // Reports that a file could not be opened, and returns the status.

@@ -12,10 +12,10 @@ use Rattle.script_text.specs.Reading.{left, FailsInLine, IsGone}
 use Rattle.script_text.specs.declared.input.Stop.{Stop}
 use Rattle.script_text.specs.declared.input.Stop.TheVariants.{LineFeed, End, Nothing}
 use Rattle.script_text.specs.contracts.input.Stop.{the_type}
-use Rattle.script_machine.specs.Machines.{Machine, new_machine}
+use Rattle.script_machine.specs.Machines.{Machine}
 use Rattle.script_machine.specs.Replies.{Answer, answer_text}
 use Rattle.script_machine.specs.Steps.{Step}
-use Rattle.script_engine.specs.Runs.{Run, text_from, status_of, answer_status, Ending, Starved, Finished, ReadFailed, Stopped, Writes, text_of, ending_status, IsScriptRun}
+use Rattle.script_engine.specs.Runs.{Run, text_from, status_of, answer_status, Ending, Starved, Finished, ReadFailed, Stopped, Writes, text_of, ending_status, IsRunFrom}
 use Rattle.script_engine.specs.model.Progress.{Progress}
 use Rattle.script_engine.proofs.LineLists.{lines_ended, lines_last, ends_line_last}
 use Rattle.script_engine.proofs.LongerRuns.{run_longer, text_longer, status_longer}
@@ -29,11 +29,11 @@ unread (Some xs) None unused front h = h
 unread (Some xs) (Some ys) unused front h = h ∙ sym (append_assoc front unused ys)
 
 -- one more line was carried out
-pub record Carried (read_old : Option (List ℕ)) (unused : List ℕ) (remaining : Option (List ℕ)) (stop : Stop)
+pub record Carried (start : Machine) (read_old : Option (List ℕ)) (unused : List ℕ) (remaining : Option (List ℕ)) (stop : Stop)
     (answers : List Answer) (machine : Machine) : Type 0 where
   pub front : List ℕ
   pub reads : Consumes read_old (left unused remaining) front
-  pub run : Run new_machine (lines_of front) answers machine
+  pub run : Run start (lines_of front) answers machine
   pub reaches : EndsLine front ⊎ ((unused ≡ []) × IsAtEnd remaining)
   pub fed : stop ≡ LineFeed → EndsLine front
   pub ended : stop ≡ End → (unused ≡ []) × IsAtEnd remaining
@@ -69,10 +69,10 @@ whole_front : (a b : Option (List ℕ)) (text : List ℕ) → Appends a b text �
 whole_front a b text h = (length text, subst (Appends a b) (sym (take-length text)) h)
 
 -- the answers so far are flushed
-pub flushed : (read_old left_now written_old written_now new : Option (List ℕ)) (machine : Machine) (count status : ℕ)
-    → Progress read_old left_now written_old written_now machine count status → Keeps written_now new
-    → Progress read_old left_now written_old new machine count status
-flushed read_old left_now written_old written_now new machine count status p kept = record {
+pub flushed : (start : Machine) (read_old left_now written_old written_now new : Option (List ℕ)) (machine : Machine) (count status : ℕ)
+    → Progress start read_old left_now written_old written_now machine count status → Keeps written_now new
+    → Progress start read_old left_now written_old new machine count status
+flushed start read_old left_now written_old written_now new machine count status p kept = record {
   front = p.front;
   answers = p.answers;
   whole = p.whole;
@@ -84,20 +84,20 @@ flushed read_old left_now written_old written_now new machine count status p kep
   writes = Appends-kept written_old written_now new (text_from 1 p.answers) p.writes kept;
 }
 
-module _ (read_old left_now written_old written_now : Option (List ℕ)) (machine : Machine) (count status : ℕ)
-    (p : Progress read_old left_now written_old written_now machine count status) where
+module _ (start : Machine) (read_old left_now written_old written_now : Option (List ℕ)) (machine : Machine) (count status : ℕ)
+    (p : Progress start read_old left_now written_old written_now machine count status) where
   run_on : (bytes text : List ℕ) (line : Line) (answer : Answer) (new : Machine) → line_of text ≡ line
       → lines_of (p.front ++ bytes) ≡ lines_of p.front ++ line_of text ∷ [] → Step machine line answer new
-      → Run new_machine (lines_of (p.front ++ bytes)) (p.answers ++ answer ∷ []) new
+      → Run start (lines_of (p.front ++ bytes)) (p.answers ++ answer ∷ []) new
   run_on bytes text line answer new same split step =
-      subst (λ lines. Run new_machine lines (p.answers ++ answer ∷ []) new) (sym split)
-      (run_longer new_machine (lines_of p.front) p.answers machine (line_of text) answer new p.run
+      subst (λ lines. Run start lines (p.answers ++ answer ∷ []) new) (sym split)
+      (run_longer start (lines_of p.front) p.answers machine (line_of text) answer new p.run
       (subst (λ l. Step machine l answer new) (sym same) step))
 
   pub carried : (stop : Stop) (text : List ℕ) (line : Line) (unused : List ℕ) (remaining : Option (List ℕ))
       (answer : Answer) (new : Machine) → stop ≢ Nothing → HasNoEnd text → line_of text ≡ line
       → IsGone stop left_now unused remaining text → Step machine line answer new
-      → Carried read_old unused remaining stop (p.answers ++ answer ∷ []) new
+      → Carried start read_old unused remaining stop (p.answers ++ answer ∷ []) new
   carried LineFeed text line unused remaining answer new some plain same gone step = record {
     front = p.front ++ (text ++ 10 ∷ []);
     reads = Consumes-trans _ _ _ _ _ p.reads gone;
@@ -132,7 +132,7 @@ module _ (read_old left_now written_old written_now : Option (List ℕ)) (machin
   pub reading_failed : (unused : List ℕ) (remaining new : Option (List ℕ)) → FailsInLine left_now unused remaining
       → {A E : Type 0} (result : Result A E)
       → Sends written_old new (text_from 1 p.answers ++ codes "device fault\n") result
-      → IsScriptRun read_old remaining written_old new 3
+      → IsRunFrom start read_old remaining written_old new 3
   reading_failed unused remaining new failed result sent = record {
     ending = ReadFailed;
     front = p.front;
@@ -149,7 +149,7 @@ module _ (read_old left_now written_old written_now : Option (List ℕ)) (machin
 
   pub nothing_left : (stop : Stop) (unused text : List ℕ) (remaining : Option (List ℕ))
       → sameb the_type stop Nothing ≡ true → IsGone stop left_now unused remaining text
-      → IsScriptRun read_old remaining written_old written_now status
+      → IsRunFrom start read_old remaining written_old written_now status
   nothing_left stop unused text remaining e gone =
       let spent = spent_at stop left_now remaining unused text (is_nothing stop e) gone in
       record {
@@ -165,7 +165,7 @@ module _ (read_old left_now written_old written_now : Option (List ℕ)) (machin
       }
 
   pub numbers_spent : (unused : List ℕ) (remaining : Option (List ℕ)) → left_now ≡ left unused remaining
-      → count ≡ 2 ^ 64 - 1 → IsScriptRun read_old remaining written_old written_now status
+      → count ≡ 2 ^ 64 - 1 → IsRunFrom start read_old remaining written_old written_now status
   numbers_spent unused remaining e last = record {
     ending = Finished;
     front = p.front;
@@ -180,7 +180,7 @@ module _ (read_old left_now written_old written_now : Option (List ℕ)) (machin
   }
 
   pub flush_failed : (unused : List ℕ) (remaining : Option (List ℕ)) → left_now ≡ left unused remaining
-      → IsScriptRun read_old remaining written_old written_now 3
+      → IsRunFrom start read_old remaining written_old written_now 3
   flush_failed unused remaining e = record {
     ending = Stopped;
     front = p.front;
@@ -195,9 +195,9 @@ module _ (read_old left_now written_old written_now : Option (List ℕ)) (machin
   }
 
   pub writing_failed : (stop : Stop) (unused : List ℕ) (remaining new : Option (List ℕ)) (answer : Answer)
-      (after : Machine) → Carried read_old unused remaining stop (p.answers ++ answer ∷ []) after
+      (after : Machine) → Carried start read_old unused remaining stop (p.answers ++ answer ∷ []) after
       → AppendsFront written_old new (text_from 1 p.answers ++ answer_text (count + 1) answer)
-      → IsScriptRun read_old remaining written_old new 3
+      → IsRunFrom start read_old remaining written_old new 3
   writing_failed stop unused remaining new answer after c went = record {
     ending = Stopped;
     front = c.front;
@@ -211,9 +211,9 @@ module _ (read_old left_now written_old written_now : Option (List ℕ)) (machin
   }
 
   pub last_line : (stop : Stop) (unused : List ℕ) (remaining new : Option (List ℕ)) (answer : Answer)
-      (after : Machine) (status' : ℕ) → Carried read_old unused remaining stop (p.answers ++ answer ∷ []) after
+      (after : Machine) (status' : ℕ) → Carried start read_old unused remaining stop (p.answers ++ answer ∷ []) after
       → Appends written_old new (text_from 1 p.answers ++ answer_text (count + 1) answer) → stop ≡ End
-      → status' ≡ max status (answer_status answer) → IsScriptRun read_old remaining written_old new status'
+      → status' ≡ max status (answer_status answer) → IsRunFrom start read_old remaining written_old new status'
   last_line stop unused remaining new answer after status' c went e s = record {
     ending = Finished;
     front = c.front;
@@ -228,10 +228,10 @@ module _ (read_old left_now written_old written_now : Option (List ℕ)) (machin
 
   pub next_line_on : (stop : Stop) (unused : List ℕ) (remaining new : Option (List ℕ)) (line : Line)
       (answer : Answer) (after : Machine) (status' : ℕ)
-      → Carried read_old unused remaining stop (p.answers ++ answer ∷ []) after
+      → Carried start read_old unused remaining stop (p.answers ++ answer ∷ []) after
       → Appends written_old new (text_from 1 p.answers ++ answer_text (count + 1) answer) → stop ≡ LineFeed
       → status' ≡ max status (answer_status answer) → Step machine line answer after
-      → Progress read_old (left unused remaining) written_old new after (count + 1) status'
+      → Progress start read_old (left unused remaining) written_old new after (count + 1) status'
   next_line_on stop unused remaining new line answer after status' c went e s step = record {
     front = c.front;
     answers = p.answers ++ answer ∷ [];
@@ -245,14 +245,14 @@ module _ (read_old left_now written_old written_now : Option (List ℕ)) (machin
   }
 
 -- nothing was read
-pub starved : (read written_old written_new : Option (List ℕ)) {A E : Type 0} (result : Result A E)
-    → Sends written_old written_new (codes "refused 90\n") result → IsScriptRun read read written_old written_new 3
-starved read written_old written_new result sent = record {
+pub starved : (start : Machine) (read written_old written_new : Option (List ℕ)) {A E : Type 0} (result : Result A E)
+    → Sends written_old written_new (codes "refused 90\n") result → IsRunFrom start read read written_old written_new 3
+starved start read written_old written_new result sent = record {
   ending = Starved;
   front = [];
   rest = [];
   answers = [];
-  final = new_machine;
+  final = start;
   reads = Consumes-nil read;
   reaches = (refl, refl);
   run = refl;

@@ -65,8 +65,9 @@ Writes ending answers old new status =
     ((ending ≢ Stopped) × Appends old new (text_of ending answers) × (status ≡ ending_status ending answers))
     ⊎ (AppendsFront old new (text_of ending answers) × (status ≡ 3))
 
--- what was read and written is a run from an empty machine, and the status is that of its end
-pub record IsScriptRun (read_old read_new written_old written_new : Option (List ℕ)) (status : ℕ) : Type 0 where
+-- what was read and written is a run from a machine, and the status is that of its end
+pub record IsRunFrom (start : Machine) (read_old read_new written_old written_new : Option (List ℕ)) (status : ℕ)
+    : Type 0 where
   pub ending : Ending
   pub front : List ℕ
   pub rest : List ℕ
@@ -74,5 +75,9 @@ pub record IsScriptRun (read_old read_new written_old written_new : Option (List
   pub final : Machine
   pub reads : Consumes read_old read_new (front ++ rest)
   pub reaches : Reaches ending front rest read_new (length answers)
-  pub run : Run new_machine (lines_of front) answers final
+  pub run : Run start (lines_of front) answers final
   pub writes : Writes ending answers written_old written_new status
+
+-- the run of a script: from an empty machine whose halves may have this many names
+abbrev pub IsScriptRun : ℕ → Option (List ℕ) → Option (List ℕ) → Option (List ℕ) → Option (List ℕ) → ℕ → Type 0
+IsScriptRun limit = IsRunFrom (new_machine limit)

@@ -1,14 +1,15 @@
 //! The lines of a script, one after another.
 ghost use Rattle.std.specs.Prelude.{◌≡◌, ◌<◌, ◌≤◌, [], IfOk};
 ghost use Rattle.std.specs.Io.KnownBytes.{Keeps};
-ghost use Rattle.script_machine.specs.Machines.{machine_of, new_machine};
-ghost use Rattle.script_engine.specs.Runs.{IsScriptRun};
+ghost use Rattle.script_machine.specs.Machines.{machine_of};
+ghost use Rattle.script_engine.specs.Runs.{IsRunFrom, IsScriptRun};
 
 use crate::crew::Crew;
 use crate::narrator::{Narrator, Silence};
 use crate::serving::serve;
 use judge_pool::Gate;
 use output::{DeviceFault, send_after};
+use partition_table::NameLimit;
 use script_machine::Machine;
 use script_text::{LineBuffer, ReadBuffer, Stop, next_line};
 use std::alloc::{AllocError, Global};
@@ -16,25 +17,33 @@ use std::io::{Read, Write};
 use std::sync::Wait;
 use std::thread::Threads;
 
-/// Carries out the reader's script line by line, and writes the answer to each line. Returns the status: 3 if a line or
-/// the whole script was refused 90 or a device failed, else 2 if a line was refused, else 0.
+/// Carries out the reader's script line by line, on halves that may have as many names as `limit`, and writes the answer
+/// to each line. Returns the status: 3 if a line or the whole script was refused 90 or a device failed, else 2 if a line
+/// was refused, else 0.
 ///
 /// Requires 1 to 16 workers, which judge the clashes of a `heal`; each of their posts passes the gate. Allocates the
 /// buffers first, and reads nothing if that fails. If a read fails, the unfinished line isn't carried out; if a write
 /// fails, a prefix of the output has been written.
 ///
 /// Flushes the writer before each read, and at no other time.
-pub fn run_script<T, R, W, G>(rt: &T, reader: &mut R, writer: &mut W, workers: u32, gate: &G) -> u8
+pub fn run_script<T, R, W, G>(
+    rt: &T,
+    reader: &mut R,
+    writer: &mut W,
+    limit: NameLimit,
+    workers: u32,
+    gate: &G,
+) -> u8
 where
     T: Threads + Wait + Sync + AllocGlobal,
     R: Read,
     W: Write,
     G: Gate + Sync,
     requires { (0 < workers) × (workers ≤ 16) }
-    ensures { IsScriptRun (R.remaining reader.old) (R.remaining reader.new) (W.contents writer.old)
+    ensures { IsScriptRun limit.names (R.remaining reader.old) (R.remaining reader.new) (W.contents writer.old)
         (W.contents writer.new) result }
 {
-    run_narrated(rt, reader, writer, workers, gate, &Silence)
+    run_narrated(rt, reader, writer, limit, workers, gate, &Silence)
 }
 
 /// Carries out a script like `run_script`, with a narrator.
@@ -45,6 +54,7 @@ pub fn run_narrated<T, R, W, G, N>(
     rt: &T,
     reader: &mut R,
     writer: &mut W,
+    limit: NameLimit,
     workers: u32,
     gate: &G,
     narrator: &N,
@@ -56,7 +66,7 @@ where
     G: Gate + Sync,
     N: Narrator,
     requires { (0 < workers) × (workers ≤ 16) }
-    ensures { IsScriptRun (R.remaining reader.old) (R.remaining reader.new) (W.contents writer.old)
+    ensures { IsScriptRun limit.names (R.remaining reader.old) (R.remaining reader.new) (W.contents writer.old)
         (W.contents writer.new) result }
 {
     let alloc = rt.alloc();
@@ -71,7 +81,7 @@ where
         gate,
         narrator,
     };
-    let mut machine = Machine::new(alloc);
+    let mut machine = Machine::new(alloc, limit);
     run_lines(&crew, &mut machine, &mut buffer, &mut line, reader, writer)
 }
 
@@ -112,9 +122,9 @@ fn run_lines<
     reader: &mut R,
     writer: &mut W,
 ) -> u8
-    requires fresh { machine_of machine.old ≡ new_machine }
+    requires fresh { (machine_of machine.old).latest ≡ 0 }
     requires unread { buffer.old ≡ [] }
-    ensures { IsScriptRun (R.remaining reader.old) (R.remaining reader.new) (W.contents writer.old)
+    ensures { IsRunFrom (machine_of machine.old) (R.remaining reader.old) (R.remaining reader.new) (W.contents writer.old)
         (W.contents writer.new) result }
 {
     let mut status: u8 = 0;

@@ -11,7 +11,6 @@ use Rattle.clash_record.specs.declared.registrations.ProgramId.{ProgramId}
 use Rattle.clash_record.specs.declared.registrations.ResolverId.{ResolverId}
 use Rattle.clash_record.specs.declared.registrations.ResolverId.TheVariants.{Builtin, Program}
 use Rattle.upload_store.specs.Programs.{Programs}
-use Rattle.partition_table.specs.Tables.{max_names}
 use Rattle.cluster.specs.Clusters.{Cluster, cluster_of, new_cluster}
 use Rattle.script_machine.specs.declared.labels.Label.{Label}
 use Rattle.script_machine.specs.declared.machine.Machine as code
@@ -31,8 +30,9 @@ machine_of m = record {
   latest = m.latest;
 }
 
-abbrev pub new_machine : Machine
-new_machine = record { labels = []; programs = empty; cluster = new_cluster max_names; latest = 0 }
+-- one whose halves may have this many names
+abbrev pub new_machine : ℕ → Machine
+new_machine limit = record { labels = []; programs = empty; cluster = new_cluster limit; latest = 0 }
 
 -- ---- labels, and the words for resolvers
 

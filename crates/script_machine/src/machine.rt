@@ -7,6 +7,7 @@ use crate::labels::Label;
 use crate::reply::Reply;
 use clash_record::{Name, SideId};
 use cluster::Cluster;
+use partition_table::NameLimit;
 use std::alloc::Global;
 use upload_store::UploadStore;
 
@@ -33,14 +34,14 @@ impl Drop for Machine {
 }
 
 impl Machine {
-    /// Without labels, programs, names and exchanges. Allocates nothing.
-    pub fn new(alloc: Global) -> Machine
-        ensures { machine_of result ≡ new_machine }
+    /// Without labels, programs, names and exchanges. Each half may have as many names as `limit`. Allocates nothing.
+    pub fn new(alloc: Global, limit: NameLimit) -> Machine
+        ensures { machine_of result ≡ new_machine limit.names }
     {
         Machine {
             labels: Vec::new(alloc),
             store: UploadStore::new(alloc),
-            cluster: Cluster::new(alloc),
+            cluster: Cluster::with_limit(alloc, limit),
             latest: 0,
         }
     }

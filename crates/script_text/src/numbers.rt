@@ -6,8 +6,8 @@ ghost use Rattle.script_text.specs.Asking.{around_dot, long_of, owner_of, short_
 use crate::fault::LineFault;
 use clash_record::Owner;
 
-// A number of 64 bits.
-pub(crate) fn long(word: &[u8]) -> Result<u64, LineFault>
+/// Reads a word as a number of 64 bits.
+pub fn long(word: &[u8]) -> Result<u64, LineFault>
     ensures { result ≡ long_of word.now }
 {
     value(word, u64::MAX).ok_or(LineFault::Number)

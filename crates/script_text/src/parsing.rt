@@ -9,7 +9,7 @@ ghost use Rattle.script_text.specs.model.Triples.{after_first, right_triple, giv
 use crate::command::{Command, Terms};
 use crate::fault::LineFault;
 use crate::numbers::{long, owner};
-use crate::words::{is_printable, split_word, words};
+use crate::words::{is_printable, split_word, words_in};
 use clash_record::{Name, SideId, Uptimes, Withdrawal, name};
 use hex::decode_to_slice;
 use std::alloc::{AllocError, Global};
@@ -34,7 +34,7 @@ pub fn command_of(alloc: Global, line: &[u8]) -> Result<Option<Command<'_>>, Lin
     if !is_printable(line) {
         return Err(LineFault::Word);
     }
-    let words = words(alloc, rest)?;
+    let words = words_in(alloc, rest)?;
     Ok(Some(command(alloc, first, words.as_slice())?))
 }
 
@@ -221,8 +221,8 @@ fn withdrawals(alloc: Global, triples: &[Triple<'_>]) -> Result<Vec<Withdrawal>,
     Ok(gone)
 }
 
-// Returns the terms of a registration, apart from its resolver.
-fn terms(
+/// Returns the terms of a registration, apart from its resolver.
+pub fn terms(
     owner_word: &[u8],
     stamp: &[u8],
     weight: &[u8],
@@ -262,7 +262,8 @@ fn side(word: &[u8]) -> Result<SideId, LineFault>
     }
 }
 
-fn name_in(word: &[u8]) -> Result<Name, LineFault>
+/// Reads a word as a name.
+pub fn name_in(word: &[u8]) -> Result<Name, LineFault>
     ensures { result ≡ name_of word.now }
 {
     Ok(name(word)?)

@@ -9,8 +9,8 @@ use std::alloc::{AllocError, Global};
 // As many words as follow `register`.
 const USUAL_WORDS: usize = 7;
 
-// The words of a text. Allocates the list of them.
-pub(crate) fn words(alloc: Global, text: &[u8]) -> Result<Vec<&[u8]>, AllocError>
+/// Returns the words of a text, which spaces separate. Allocates the list of them.
+pub fn words_in(alloc: Global, text: &[u8]) -> Result<Vec<&[u8]>, AllocError>
     ensures { IfOk result (λ words. map (λ word. word.now) words.items ≡ words_of text.now) }
 {
     let mut words = Vec::with_capacity(alloc, USUAL_WORDS)?;

@@ -3,8 +3,10 @@
 
 ghost use Rattle.std.specs.Prelude.{◌≡◌, ◌↔◌, IsTrue, codes};
 
+mod names;
 mod workers;
 
+pub use names::{MAX_NAMES, Names};
 pub use workers::{MAX_WORKERS, Workers};
 
 /// Checks whether the name of a file means standard input: whether it is `-`.
@@ -23,26 +25,41 @@ pub enum Profile {
     Both,
 }
 
-/// A request that heal answers on a few lines.
+/// The record of a clash as it is given.
+#[derive(Clone, Copy, Debug, PartialEq, Eq)]
+pub enum ClashWords<'a> {
+    /// Its bytes in hex digits.
+    Bytes(&'a str),
+    /// Its fields: the name, the two registrations and the word.
+    Fields {
+        name: &'a str,
+        first: &'a str,
+        second: &'a str,
+        word: &'a str,
+    },
+}
+
+/// A request that heal answers on a few lines. Code is a word of hex digits, or `@` and the file that has it.
 #[derive(Clone, Copy, Debug, PartialEq, Eq)]
 pub enum Question<'a> {
-    /// Checks whether code, in hex digits, is accepted over these ranges. With `explain`, also explains what the verifier
-    /// knows before each instruction.
+    /// Checks whether code is accepted over these ranges. With `explain`, also explains what the verifier knows before each
+    /// instruction.
     Check {
         code: &'a str,
         profile: Profile,
         explain: bool,
     },
-    /// Judges the clash of a record by code, both in hex digits.
+    /// Judges the clash of a record by code. With `explain`, also explains what the code reads and answers.
     Judge {
         code: &'a str,
-        clash: &'a str,
+        clash: ClashWords<'a>,
+        explain: bool,
     },
     /// Reads a file, or standard input for `-`, as the text of code, and prints the code in hex digits.
     Asm {
         file: &'a str,
     },
-    /// Prints code, in hex digits, as text.
+    /// Prints code as text.
     Dis {
         code: &'a str,
     },
@@ -53,11 +70,12 @@ pub enum Question<'a> {
 pub enum Task<'a> {
     /// Answers a question.
     Answer(Question<'a>),
-    /// Carries out the script in a file, or on standard input for `-`, with this number of workers. With `explain`, also
-    /// narrates each healing.
+    /// Carries out the script in a file, or on standard input for `-`, with this number of workers, on halves that may have
+    /// this number of names. With `explain`, also narrates each healing.
     Run {
         file: &'a str,
         workers: Workers,
+        names: Names,
         explain: bool,
     },
     /// Prints the version.

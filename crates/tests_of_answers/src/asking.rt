@@ -3,7 +3,7 @@ use answers::reply_to;
 use std::alloc::Global;
 use std::io;
 use std::test::Fail;
-use task::{Profile, Question};
+use task::{ClashWords, Profile, Question};
 
 /// The digits of `exit`.
 pub(crate) const EXIT: &'static str = "9500000000000000";
@@ -126,6 +126,15 @@ pub(crate) fn is_said(
     }
 }
 
+/// Returns the question about code and the digits of a record.
+pub(crate) fn by_record<'a>(code: &'a str, digits: &'a str) -> Question<'a> {
+    Question::Judge {
+        code,
+        clash: ClashWords::Bytes(digits),
+        explain: false,
+    }
+}
+
 /// Checks that judging the clash by code is answered by this status and this text.
 pub(crate) fn is_judged(
     rt: &HostRuntime,
@@ -135,8 +144,8 @@ pub(crate) fn is_judged(
     text: &str,
 ) -> Result<bool, Fail> {
     let clash = clash.digits(rt.alloc())?;
-    let clash = clash.as_str();
-    Ok(is_answered(rt, &Question::Judge { code, clash }, status, text))
+    let question = by_record(code, clash.as_str());
+    Ok(is_answered(rt, &question, status, text))
 }
 
 /// Questions, and codes for each of them. The answer has this status, and for each code this text.

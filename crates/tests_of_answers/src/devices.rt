@@ -1,7 +1,7 @@
 //! Tests of devices that fail in mid-stream, and of running out of memory.
 ghost use Rattle.std.specs.Prelude.{Some};
 
-use crate::asking::ON_DB;
+use crate::asking::{ON_DB, by_record};
 use answers::{Failure, asm_from, refuse_memory, reply_to, texts_of};
 use std::alloc::Global;
 use std::io;
@@ -44,10 +44,7 @@ impl Write for Device {
 // of the line.
 fn reply_to_device(rt: &HostRuntime, calls: usize, line: &[u8]) -> Result<(u8, bool), Fail> {
     let clash = ON_DB.digits(rt.alloc())?;
-    let question = Question::Judge {
-        code: "b7000000010000009500000000000000",
-        clash: clash.as_str(),
-    };
+    let question = by_record("b7000000010000009500000000000000", clash.as_str());
     let mut device = Device {
         held: Vec::new(rt.alloc()),
         step: 1,

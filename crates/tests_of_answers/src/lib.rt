@@ -10,4 +10,6 @@ mod devices;
 #[cfg(test)]
 mod files;
 #[cfg(test)]
+mod objects;
+#[cfg(test)]
 mod records;

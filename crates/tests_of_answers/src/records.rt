@@ -1,10 +1,10 @@
 //! Tests of the records of clashes.
-use crate::asking::{Ask, Clash, DB, EXIT, Group, ON_DB, X, first_wrong, is_answered};
+use crate::asking::{Ask, Clash, DB, EXIT, Group, ON_DB, X, by_record, first_wrong, is_answered};
 use crate::codes::STAMPS;
 use std::alloc::Global;
 use std::io;
 use std::test::Fail;
-use task::Question;
+use task::{ClashWords, Question};
 
 /// The name `db`, whose first has the later stamp.
 const LATER_FIRST: Clash = Clash {
@@ -106,8 +106,7 @@ fn first_wrong_row(rt: &HostRuntime, rows: &[Row]) -> Result<Option<Row>, Fail> 
     for row in rows {
         let (code, digits, zeros, status, line) = *row;
         let text = with_zeros(rt.alloc(), digits, zeros)?;
-        let clash = text.as_str();
-        if !is_answered(rt, &Question::Judge { code, clash }, status, line) {
+        if !is_answered(rt, &by_record(code, text.as_str()), status, line) {
             return Ok(Some(*row));
         }
     }
@@ -117,5 +116,71 @@ fn first_wrong_row(rt: &HostRuntime, rows: &[Row]) -> Result<Option<Row>, Fail> 
 #[test]
 fn records_of_other_lengths(rt: HostRuntime) -> Result<(), Fail> {
     assert_eq!(rt; first_wrong_row(&rt, &ROWS)?, None);
+    Ok(())
+}
+
+// The fields of a clash, and the status and the line for it by the program that judges by the stamps.
+type Fields = (
+    &'static str,
+    &'static str,
+    &'static str,
+    &'static str,
+    u8,
+    &'static str,
+);
+
+// The program that judges by the stamps.
+const BY_STAMPS: &'static str =
+    "79123800000000007913600000000000b7000000010000003d32010000000000b7000000020000009500000000000000";
+
+const FIELDS: [Fields; 9] = [
+    (
+        "db",
+        "1.10,stamp=5",
+        "2.20,stamp=9",
+        "7",
+        0,
+        "second in 6 steps\n",
+    ),
+    (
+        "db",
+        "1.10,stamp=9",
+        "2.20,stamp=5",
+        "0",
+        0,
+        "first in 5 steps\n",
+    ),
+    (
+        "db",
+        "1.10,stamp=3,weight=2,extra=000102030405060708090a0b0c0d0e0f,size=4,uptime=5,stamp=9",
+        "2.20 stamp=5",
+        "0",
+        0,
+        "first in 5 steps\n",
+    ),
+    ("", "1.10", "2.20", "0", 2, "refused 44\n"),
+    ("db", "1.10,extra=00", "2.20", "0", 2, "refused 50\n"),
+    ("db", "1.10,age=5", "2.20", "0", 2, "refused 51\n"),
+    ("db", "1.10,stamp=05", "2.20,age=5", "0", 2, "refused 52\n"),
+    ("db", "1.10", "2", "0", 2, "refused 52\n"),
+    ("db", "1.10", "2.20", "x", 2, "refused 52\n"),
+];
+
+#[test]
+fn fields_of_records(rt: HostRuntime) -> Result<(), Fail> {
+    for row in FIELDS {
+        let (name, first, second, word, status, line) = row;
+        let question = Question::Judge {
+            code: BY_STAMPS,
+            clash: ClashWords::Fields {
+                name,
+                first,
+                second,
+                word,
+            },
+            explain: false,
+        };
+        assert!(rt; is_answered(&rt, &question, status, line), "{first}");
+    }
     Ok(())
 }

@@ -2,6 +2,7 @@
 ghost use Rattle.std.specs.Prelude.{Some};
 
 use judge_pool::OpenGate;
+use partition_table::NameLimit;
 use script_engine::run_script;
 use std::io;
 use std::io::{ErrorKind, Read, Write};
@@ -77,6 +78,17 @@ impl Write for PieceWriter {
 pub(crate) fn is_answered<T: Threads + Wait + Sync + AllocGlobal>(
     rt: &T,
     script: &[u8],
+    devices: (Device, Device),
+    due: (u8, &[u8]),
+) -> bool {
+    is_answered_within(rt, NameLimit::default(), script, devices, due)
+}
+
+/// Like `is_answered`, on halves that may have as many names as `limit`.
+pub(crate) fn is_answered_within<T: Threads + Wait + Sync + AllocGlobal>(
+    rt: &T,
+    limit: NameLimit,
+    script: &[u8],
     (read, write): (Device, Device),
     (status, said): (u8, &[u8]),
 ) -> bool {
@@ -88,7 +100,7 @@ pub(crate) fn is_answered<T: Threads + Wait + Sync + AllocGlobal>(
         written: Vec::new(rt.alloc()),
         device: write,
     };
-    let ended = run_script(rt, &mut reader, &mut writer, 4, &OpenGate);
+    let ended = run_script(rt, &mut reader, &mut writer, limit, 4, &OpenGate);
     ended == status && writer.written.as_slice() == said
 }
 

@@ -9,6 +9,8 @@ mod failing_devices;
 #[cfg(test)]
 mod heals;
 #[cfg(test)]
+mod limits;
+#[cfg(test)]
 mod lines;
 #[cfg(test)]
 mod live_input;

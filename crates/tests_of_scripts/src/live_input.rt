@@ -2,6 +2,7 @@
 ghost use Rattle.std.specs.Prelude.{None, Some};
 
 use judge_pool::OpenGate;
+use partition_table::NameLimit;
 use script_engine::run_script;
 use std::alloc::Global;
 use std::cell::Cell;
@@ -93,7 +94,8 @@ where
     R: Read,
     W: Write,
 {
-    run_script(rt, reader, writer, 4, &OpenGate) == 0 && writer.flush().is_ok()
+    run_script(rt, reader, writer, NameLimit::default(), 4, &OpenGate) == 0
+        && writer.flush().is_ok()
 }
 
 /// Checks that all earlier lines were answered before each read, and the last one at the end.

@@ -2,6 +2,7 @@
 ghost use Rattle.std.specs.Prelude.{◌<◌, ◌≤◌};
 
 use fixtures::Together;
+use partition_table::NameLimit;
 use script_engine::run_script;
 use std::alloc::Global;
 use std::io::Write;
@@ -34,7 +35,14 @@ fn run_together<T: Threads + Wait + Sync + AllocGlobal + Clock>(
     let gate = Together::new(rt, u64::from(workers));
     let mut reader = script;
     let mut written = Vec::new(rt.alloc());
-    let status = run_script(rt, &mut reader, &mut written, workers, &gate);
+    let status = run_script(
+        rt,
+        &mut reader,
+        &mut written,
+        NameLimit::default(),
+        workers,
+        &gate,
+    );
     status == 0 && gate.counts() == (u64::from(workers), 0)
 }
 

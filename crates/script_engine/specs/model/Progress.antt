@@ -3,7 +3,7 @@ use Rattle.std.specs.Prelude.{◌≡◌, ℕ, ◌≤◌, List, ◌++◌, length,
 use Rattle.std.specs.Io.KnownBytes.{Consumes, Appends}
 use Rattle.output.specs.Sending.{Sends}
 use Rattle.script_text.specs.Lines.{Line, lines_of, EndsLine}
-use Rattle.script_machine.specs.Machines.{Machine, new_machine}
+use Rattle.script_machine.specs.Machines.{Machine}
 use Rattle.script_machine.specs.Replies.{Answer, answer_text}
 use Rattle.script_text.specs.Asking.{Asked}
 use Rattle.script_machine.specs.Steps.{Step, AnswersLine, Answers}
@@ -40,14 +40,14 @@ abbrev pub ServesAsked : {E : Type 0} → Machine → Machine → Asked → ℕ 
 ServesAsked old new asked number written_old written_new result =
     IsSaid (λ answer. Answers old asked answer new) number written_old written_new result
 
--- count lines were carried out and answered
-pub record Progress (read_old left_now written_old written_now : Option (List ℕ)) (machine : Machine)
+-- count lines were carried out and answered, from a machine on
+pub record Progress (start : Machine) (read_old left_now written_old written_now : Option (List ℕ)) (machine : Machine)
     (count status : ℕ) : Type 0 where
   pub front : List ℕ
   pub answers : List Answer
   pub whole : EndsLine front
   pub reads : Consumes read_old left_now front
-  pub run : Run new_machine (lines_of front) answers machine
+  pub run : Run start (lines_of front) answers machine
   pub counted : length answers ≡ count
   pub latest : machine.latest ≤ count
   pub stands : status ≡ status_of answers

@@ -1,26 +1,29 @@
-use Rattle.std.proofs.Common.{◌≡◌, subst, ℕ, List, Result, Ok, Err, IfOk}
-use Rattle.std.specs.declared.alloc.AllocError.{AllocError}
-use Rattle.std.specs.Prelude.{string_bytes}
-use Rattle.task.specs.declared.Question.{Question}
-use Rattle.answers.specs.declared.printing.Answer.{Answer}
-use Rattle.answers.specs.Lines.{IsAnswer, IsPrinted, IsTold, Prints, line_of, status_of, answer_unless_memory, replied}
+use Rattle.std.proofs.Common.{◌≡◌, ◌∙◌, List, ℕ, Option, Some, Bor, ap, refl, subst, sym}
+use Rattle.std.specs.Prelude.{IsSome, option_map}
+use Rattle.answers.specs.CodeWords.{IsFileCode, itself, of_file}
+use Rattle.answers.specs.Lines.{by_digits, without}
 use Rattle.answers.proofs.replying.reply_to.Goals as goal
 
--- the answer that is printed, where memory served
-printed_is : (question : Question) (P : Answer → Type 0) (r : Result Answer AllocError) (status : ℕ)
-    (line words : List ℕ) → IsPrinted question r status line words → IfOk r P
-    → (s : Answer) × P s × (status ≡ status_of s) × (line ≡ line_of s) × IsTold question s words
-printed_is question P (Ok s) status line words printed h = (s, h, printed.0, printed.1, printed.2)
-printed_is question P (Err _) status line words printed h = absurd printed
+some_named : (found : Option (Bor (List ℕ))) (file : Bor (List ℕ)) (named : Option (List ℕ)) → found ≡ Some file
+    → option_map (λ file. file.now) found ≡ named → IsSome named
+some_named found file named is e =
+    subst IsSome e (subst (λ (o : Option (Bor (List ℕ))). IsSome (option_map (λ file. file.now) o)) (sym is) refl)
 
-pub returns-in-Ok : goal.returns-in-Ok
-returns-in-Ok g c =
-    let a = printed_is c.args.question.now (IsAnswer c.args.question.now) (answer_unless_memory c.answer_to.result) _ _ _ c.in-Ok.ensures
-    c.answer_to.ensures in
-    let old = g.W.Write.contents c.args.writer.now in
-    let new = g.W.Write.contents c.print_answer.new.writer in
-    let text = string_bytes c.in-Ok.said.text in
-    replied a.0 a.1
-    (subst (λ t. Prints old new t (status_of a.0) c.print_answer.result) a.3
-    (subst (λ n. Prints old new text n c.print_answer.result) a.2 c.print_answer.ensures.text))
-    (string_bytes c.in-Ok.said.words, a.4, c.print_answer.ensures.words)
+pub returns-in_default : goal.returns-in_default
+returns-in_default g c =
+    by_digits c.args.question.now
+    (itself (sym c.code_file.ensures ∙ ap (λ (o : Option (Bor (List ℕ))). option_map (λ file. file.now) o) c.in_default.is)
+    refl) c.reply_by_digits.ensures
+
+pub returns-in-Ok-Ok : goal.returns-in-Ok-Ok
+returns-in-Ok-Ok g c =
+    let found = rw c.in-Ok-Ok.field-0-is at c.in-Ok-Ok.ensures in
+    by_digits c.with_code-asked.result
+    (of_file found.0 c.as_str.result (some_named c.code_file.result c.in-Some.file _ c.in-Some.is c.code_file.ensures)
+    (subst (IsFileCode found.0) (sym c.as_str.ensures.value) found.1) c.with_code-asked.ensures)
+    c.reply_by_digits-in-Ok-Ok.ensures
+
+pub returns-in-Ok-Err : goal.returns-in-Ok-Err
+returns-in-Ok-Err g c =
+    without c.in-Ok-Err.said (some_named c.code_file.result c.in-Some.file _ c.in-Some.is c.code_file.ensures)
+    (rw c.in-Ok-Err.field-0-is at c.in-Ok-Err.ensures) c.reply_tersely.ensures

@@ -1,14 +1,15 @@
 use Rattle.std.proofs.Common.{◌∙◌, ap, sym, Bor, List, ℕ, Option, option_map}
+use Rattle.task.specs.Workers.{workers_if}
 use Rattle.command_line.specs.Asked.{workers_named}
-use Rattle.command_line.proofs.WorkerCounts.{named, unnamed}
+use Rattle.command_line.proofs.Counts.{named, unnamed, workers_short}
 use Rattle.command_line.proofs.reading.workers_of.Goals as goal
 
 pub returns-in-Ok : goal.returns-in-Ok
 returns-in-Ok c =
-    c.new-in-Ok.ensures ∙ named c.in-Some.text.now c.in-Ok.count c.in-Ok.ensures.value.0
+    c.new-in-Ok.ensures ∙ named workers_if c.in-Some.text.now c.in-Ok.count c.in-Ok.ensures.value.0
     ∙ ap (λ (n : Option (Bor (List ℕ))). workers_named (option_map (λ s. s.now) n)) (sym c.in-Some.is)
 
 pub returns-in-Err : goal.returns-in-Err
 returns-in-Err c =
-    unnamed c.in-Some.text.now c.in-Err.ensures.value.0
+    unnamed workers_if c.in-Some.text.now workers_short c.in-Err.ensures.value.0
     ∙ ap (λ (n : Option (Bor (List ℕ))). workers_named (option_map (λ s. s.now) n)) (sym c.in-Some.is)

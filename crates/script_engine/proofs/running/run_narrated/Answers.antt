@@ -4,4 +4,4 @@ use Rattle.script_engine.proofs.Endings.{starved}
 use Rattle.script_engine.proofs.running.run_narrated.Goals as goal
 
 pub returns-in_default : goal.returns-in_default
-returns-in_default g c = starved _ _ _ c.send_after.result (c.send_after.ensures _ [] (Appends-nil _))
+returns-in_default g c = starved _ _ _ _ c.send_after.result (c.send_after.ensures _ [] (Appends-nil _))

@@ -1,6 +1,6 @@
 use Rattle.std.proofs.Common.{◌∙◌, inl, inr, refl}
 use Rattle.answers.specs.Judging.{wrong_length}
-use Rattle.answers.proofs.arguments.clash_of.Goals as goal
+use Rattle.answers.proofs.arguments.clash_of_digits.Goals as goal
 
 pub returns-then-len-ne-SHORTER_RECORD_LEN-clause-err : goal.returns-then-len-ne-SHORTER_RECORD_LEN-clause-err
 returns-then-len-ne-SHORTER_RECORD_LEN-clause-err c =

@@ -1,6 +1,6 @@
 use Rattle.std.proofs.Common.{◌≡◌, ◌++◌, length, map}
 use Rattle.script_text.specs.Words.{words_of}
-use Rattle.script_text.proofs.words.words.Given as goal
+use Rattle.script_text.proofs.words.words_in.Given as goal
 
 -- the words so far, and those that are left
 abbrev pub invariant-loop-word : goal.invariant-loop-word
