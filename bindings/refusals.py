@@ -1,7 +1,7 @@
 #!/usr/bin/env python3
 """refusals.py [--write | --check]: the refusals of C, Python and Rust by name, from the tables of words and names.
 
-The words are those of numbered::REFUSALS, and the names those of docs/REFUSALS.md. --write puts them between the marks of
+The words are those of numbered::REFUSALS, and of replica_codec for 84; the names are those of docs/REFUSALS.md. --write puts them between the marks of
 c/heal.h and into python/heal/refusal.py and rust/heal/src/refusal.rs; --check fails if one of them is stale.
 """
 import os
@@ -16,14 +16,16 @@ NAMES = {
     41: "UnknownProgram",
     42: "OtherCode",
     83: "OtherMessage",
+    84: "Checksum",
+    49: "Moved",
     90: "OutOfMemory",
     91: "EmptyHandle",
     92: "OutOfRange",
     93: "OtherLength",
     94: "StillNamed",
 }
-# Refusals that no call of the library returns: of rulings of boards, of meetings, and of texts.
-STRANGE = {8, 38, 49, *range(50, 70), *range(95, 100)}
+# Refusals that no call of the library returns: of rulings of boards, of object files, and of texts.
+STRANGE = {8, 38, *range(50, 70)}
 
 
 def read(*path):
@@ -35,6 +37,7 @@ def refusals():
     """The number, the name and the words of each refusal that a call of the library returns."""
     table = read(TOP, "crates", "numbered", "src", "table.rt").split("pub const REFUSALS", 1)[1].split("\n];", 1)[0]
     words = {int(number): text for number, text in re.findall(r'\(\s*(\d+),\s*"([^"]*)",?\s*\)', table)}
+    words[84] = re.search(r'#\[error\("([^"]*)"\)\]\n *Checksum', read(TOP, "crates", "replica_codec", "src", "fault.rt")).group(1)
     page = re.findall(r"^\| (\d+) \| (\w*)", read(TOP, "docs", "REFUSALS.md"), re.MULTILINE)
     names = {int(number): name for number, name in page if name} | NAMES
     listed = [(number, names.get(number), words[number]) for number in sorted(words) if number not in STRANGE]

@@ -41,6 +41,11 @@ PROMISES = [
     ("messages have one spelling, and are decoded exactly", [
         "exchange_codec::" + name for name in
         ("encode_offer", "decode_offer", "encode_withdrawals", "decode_withdrawals", "one_message_theorem")]),
+    ("two replicas at one position hold one half", ["replica::replicas_theorem"]),
+    ("entries and snapshots have one spelling, and are decoded exactly; logs", [
+        "replica_codec::" + name for name in
+        ("encode_entry", "decode_entry", "encode_snapshot", "decode_snapshot", "read_front", "one_entry_theorem",
+         "one_snapshot_theorem")]),
     ("what a board shows", ["verdict_board::Board::" + name for name in ("draw", "draw_row", "post", "read", "gather")]
      + ["registry_lock::seen_theorem"]),
     ("workers draw each clash of their round", ["judge_pool::work", "judge_pool::heal_round"]),

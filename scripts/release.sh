@@ -70,8 +70,8 @@ tracked docs "$doc/docs"
 tracked examples "$tree/share/heal/examples"
 tracked resolvers "$tree/share/heal/resolvers"
 tracked bindings/rust "$tree/share/heal/rust"
-cp bindings/c/first.c bindings/c/example.c "$tree/share/heal/examples/"
-cp bindings/python/first.py "$tree/share/heal/examples/"
+cp bindings/c/first.c bindings/c/example.c bindings/c/node.c "$tree/share/heal/examples/"
+cp bindings/python/first.py bindings/python/node.py "$tree/share/heal/examples/"
 cat > "$doc/PROVED" <<END
 heal $version, commit $commit
 kit: $(rt version 2> /dev/null | head -n 1 || cat out/kit)

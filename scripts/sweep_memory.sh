@@ -148,6 +148,10 @@ sweep check "$code"
 sweep check 95
 sweep judge "$code" "$record"
 sweep judge "$(cat "$root/resolvers/stack_table.hex")" "${record:0:256}"
+sweep judge "$code" --name db --first 1.10,stamp=5 --second 2.20,size=3 --explain
+sweep check "@$root/resolvers/name_hash.hex"
+printf '\225\0\0\0\0\0\0\0' > "$out/bytes"
+sweep dis "@$out/bytes"
 sweep dis "$code"
 sweep asm "$out/text"
 sweep asm "$out/comment"

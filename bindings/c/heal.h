@@ -3,19 +3,21 @@
  *
  * RESULTS   Every call that can fail returns 0, or the number of its refusal; heal_refusal_words gives the words. Several
  *           refusals may apply: 91 comes first, then 44 and 76 for arguments, then the least number of the call itself;
- *           heal_side_hear and heal_side_hear_list state their own order. 90, out of memory, may replace any other.
+ *           heal_side_hear, heal_side_hear_list and heal_side_forget state their own order. 90, out of memory, may replace any
+ *           other.
  *           A refused call leaves every handle unchanged, also the one that it would fill, and writes no result; the
  *           exceptions are `slot` and `fault`.
  * HANDLES   A handle is one word. Start it with `{0}`, which is empty; pass it by its address; never copy it while both
  *           copies are used. A call that fills a handle frees what the handle held. The function ending in `_free` frees
  *           what it holds and leaves it empty; freeing an empty handle does nothing. Calls on an empty handle return 91.
  * EVENTS    A side counts events, at most 16 for each name that it may have: 65,536 by default. register, unregister, begin,
- *           hear, withdraw, close_list, hear_list, finish and abandon add one event each time they return 0, also for a
- *           repeated message; settle adds one for each clash that it judges; the other calls add none. So an exchange adds five events, and one for each clash, each name
- *           that the side withdraws, and each repeated message: at most 8,197 without repeated ones. These calls return 40
- *           when the count is full. heal_side_renew starts a fresh count, but only while no exchange is open: call it
- *           before each heal_side_begin, and an exchange has room for 53,000 repeated messages. If the count is full while
- *           an exchange is open, heal_side_give_up closes the exchange and starts a fresh count. An event holds no memory.
+ *           hear, withdraw, close_list, hear_list, finish and abandon add one event each time they return 0, also for a repeated
+ *           message; settle adds one for each clash that it judges; the other calls add none. So an exchange adds five events,
+ *           and one for each clash, each name that the side withdraws, and each repeated message: at most 8,197 without repeated
+ *           ones. These calls return 40 when the count is full. heal_side_renew starts a fresh count, but only while no exchange
+ *           is open: call it before each heal_side_begin, and an exchange has room for 53,000 repeated messages. If the count is
+ *           full while an exchange is open, heal_side_give_up closes the exchange and starts a fresh count. An event holds no
+ *           memory.
  * THREADS   Calls that take a handle as `const` only read it: any number of them may run on one handle at the same time. A call
  *           that takes it without `const` must be the only one that runs on it. Calls on different handles may run in parallel.
  *           No call starts a thread, waits, or does input or output.
@@ -56,7 +58,9 @@ enum { HEAL_NEITHER = 0, HEAL_FIRST = 1, HEAL_SECOND = 2 };
 /* Kinds of notices. */
 enum { HEAL_NOTICE_EXIT = 0, HEAL_NOTICE_CONFLICT = 1, HEAL_NOTICE_CONFLICT_WITH = 2 };
 /* Kinds of messages. */
-enum { HEAL_OFFER = 1, HEAL_LIST = 2 };
+enum { HEAL_OFFER = 1, HEAL_LIST = 2, HEAL_ENTRY = 3, HEAL_SNAPSHOT = 4 };
+/* What a log may begin with in place of an entry or a snapshot: nothing, or a message whose end is missing. */
+enum { HEAL_LOG_END = 0, HEAL_LOG_CUT = 1 };
 /* What an open exchange lacks before heal_side_finish. */
 enum {
     HEAL_LACKS_NOTHING = 0,
@@ -116,6 +120,7 @@ enum {
     HEAL_E_OWN_OFFER = 46, /* a message from the side itself */
     HEAL_E_WITHDRAWN = 47, /* the name is already withdrawn */
     HEAL_E_LIST_CLOSED = 48, /* the list of withdrawn names is closed */
+    HEAL_E_MOVED = 49, /* other tables, uptimes or withdrawn names were merged */
     HEAL_E_CUT = 70, /* a message that ends too early */
     HEAL_E_HEADER = 71, /* not a message of this kind */
     HEAL_E_TRAILING = 72, /* extra bytes after the message */
@@ -130,11 +135,17 @@ enum {
     HEAL_E_PROGRAM = 81, /* code in a message that the verifier rejects */
     HEAL_E_VERSION = 82, /* an unsupported version of messages */
     HEAL_E_OTHER_MESSAGE = 83, /* a message that differs from the one of its kind and number that was heard */
+    HEAL_E_CHECKSUM = 84, /* bytes that differ from their checksum */
     HEAL_E_OUT_OF_MEMORY = 90, /* out of memory */
     HEAL_E_EMPTY_HANDLE = 91, /* an empty handle */
     HEAL_E_OUT_OF_RANGE = 92, /* an index out of range */
     HEAL_E_OTHER_LENGTH = 93, /* a buffer of another length */
     HEAL_E_STILL_NAMED = 94, /* a registered name has the program as its resolver */
+    HEAL_E_NOT_PRIMARY = 95, /* the replica isn't the primary of its view */
+    HEAL_E_OTHER_VIEW = 96, /* an entry of another view */
+    HEAL_E_GAP = 97, /* entries before this one are missing */
+    HEAL_E_OWN_VIEW = 98, /* a snapshot of the replica's own latest view */
+    HEAL_E_EXHAUSTED = 99, /* no number is left for a view or an entry */
 };
 /* The end of what refusals.py writes. */
 
@@ -142,6 +153,7 @@ typedef struct { void *at; } heal_program; /* a verified program */
 typedef struct { void *at; } heal_side;    /* one half's side of exchanges, with its table and its uploads */
 typedef struct { void *at; } heal_bytes;   /* a message */
 typedef struct { void *at; } heal_outcome; /* a finished exchange */
+typedef struct { void *at; } heal_replica; /* a node's copy of a half */
 
 typedef struct {
     uint32_t node;
@@ -232,6 +244,37 @@ typedef struct {
     uint32_t slot;   /* for 81 the slot of that refusal, or 0 */
 } heal_fault;
 
+/* One life of a node. A node that restarts stores an incarnation that it never had, and then starts with it. */
+typedef struct {
+    uint64_t incarnation;
+    uint32_t node;
+    uint32_t reserved; /* not read, and zero in results */
+} heal_life;
+
+/* A position: a view, and how many entries of the view led to it. */
+typedef struct {
+    heal_life primary; /* of the view */
+    uint64_t view;     /* the number of the view: its primary counts from 1 */
+    uint64_t op;       /* how many entries of the view led to the position */
+} heal_position;
+
+/* What a replica knows. Flags are 0 or 1. */
+typedef struct {
+    heal_position at;
+    uint64_t names;      /* in its table */
+    uint64_t limit;      /* of names */
+    uint64_t latest;     /* the greatest number of an exchange that the half began, or 0 */
+    uint32_t has_begun;  /* the half has begun a number */
+    uint32_t is_primary; /* it is the primary of its view */
+} heal_replica_state;
+
+/* What a log begins with. */
+typedef struct {
+    uint32_t kind;     /* HEAL_LOG_END, HEAL_LOG_CUT, HEAL_ENTRY or HEAL_SNAPSHOT */
+    uint32_t reserved; /* zero */
+    uint64_t size;     /* the number of bytes of the entry or the snapshot, otherwise 0 */
+} heal_front;
+
 /* Returns the version of the library: HEAL_VERSION of its header. */
 uint32_t heal_version(void);
 
@@ -275,7 +318,7 @@ void heal_side_free(heal_side *side);
 uint32_t heal_side_upload(heal_side *side, const uint8_t *code, size_t len, uint8_t id[32], uint32_t *slot);
 
 /* Forgets an uploaded program that no row of the side's table names, so that another one has room. The id can't be registered any
-   more. Returns 94 if a row names it, 41 if it isn't uploaded. Needs no memory. */
+   more. Returns 94 if a row names it, else 41 if it isn't uploaded. Needs no memory. */
 uint32_t heal_side_forget(heal_side *side, const uint8_t id[32]);
 
 /* Puts the code of a program into `code`: of an uploaded one, or of one that a row of the side's table names, also if it came from
@@ -325,11 +368,11 @@ uint32_t heal_side_begin(heal_side *side, uint64_t number, uint64_t seed, uint64
 
 /* Hears the other side's offer: the bytes that its heal_side_begin returned. The same offer again changes nothing but the count of
    events. Refusals come in this order:
-   - by the first 25 bytes alone: 70, 71, 74 or 82 if they aren't the head of a message; then 34 if no exchange is open, and 40, 45
-     for another number or 46 for a message of the side itself;
+   - by the head alone, which is 25 bytes of an offer and 17 of a list: 70, 71, 74 or 82 if it isn't the head of either; then 34 if no
+     exchange is open; then, for a message of another number (45) or of the side itself (46), the least of 40, 45 and 46;
    - by all bytes: 70 to 82 if they aren't an offer;
-   - 83 for an offer that differs from the one that was heard; for the first one 36 if the seeds differ, 37 if both tables have more
-     names together than the side may have, 40, and 42 if the tables have two codes under one id. */
+   - 83 for an offer that differs from the one that was heard; for the first one 36 if the seeds differ, and 37 if both tables have more
+     names together than the side may have; then 40, and 42 if the tables have two codes under one id. */
 uint32_t heal_side_hear(heal_side *side, const uint8_t *offer, size_t len);
 
 /* Judges every clash that has no ruling, at the word that the other half judges it at too. Returns 34, 39 if the other's
@@ -410,6 +453,85 @@ uint32_t heal_outcome_clash(const heal_outcome *outcome, size_t i, heal_clash *c
 uint32_t heal_outcome_notice(const heal_outcome *outcome, size_t i, size_t n, heal_notice *notice);
 
 void heal_outcome_free(heal_outcome *outcome);
+
+/* ---- Replicas: a half of many nodes ----
+ *
+ * Each node of a half has a replica at a position. The primary of a view carries edits out, and each puts an entry into `entry`; its
+ * backups apply the entries in order, so that replicas at one position have one table. Any replica may lead: it starts a view with
+ * the half that it has. The others follow its snapshot.
+ *
+ * Entries and snapshots are bytes, for other nodes and for disks. A log is a snapshot and the entries of its view after it:
+ *   - Write an entry to the log, and sync it, before you acknowledge the edit or send the entry to a backup.
+ *   - After heal_replica_lead, heal_replica_follow and heal_replica_change start a new log with heal_replica_snapshot: write and sync
+ *     it under another name, then rename it.
+ *   - To restart, store and sync an incarnation that the node never had, start with it, read the log by heal_log_front, follow the
+ *     snapshot and apply the entries. A log that ends within an entry (HEAL_LOG_CUT) ends with the entry before: the last edit
+ *     wasn't acknowledged. Then lead, or follow another node.
+ *   - For an exchange call heal_replica_side, then heal_replica_begin with its number, so that it is never used again, and only then
+ *     heal_side_begin: a side that was made after the edit returns 35 for the number. */
+
+/* Starts a replica with an empty half, as the primary of its first view. No two lives of a node may share an incarnation. */
+uint32_t heal_replica_start(const heal_life *life, heal_replica *replica);
+
+void heal_replica_free(heal_replica *replica);
+
+/* Returns what the replica knows. */
+uint32_t heal_replica_query(const heal_replica *replica, heal_replica_state *state);
+
+/* Edits of the primary. Each returns 95 if the replica isn't the primary of its view, and 99 if no operation number is left; then
+   what the half refuses. If it returns 0, `entry` has the bytes to store and to send. */
+
+/* Registers a name. Returns 44 and 76 for arguments, 95, 99, 30, 32 for a full table, 41 for a program that isn't uploaded, 42. */
+uint32_t heal_replica_register(heal_replica *replica, const uint8_t *name, size_t len, const heal_registration *registration,
+                               heal_bytes *entry);
+
+/* Unregisters a name. Returns 44, 95, 99, 31. */
+uint32_t heal_replica_unregister(heal_replica *replica, const uint8_t *name, size_t len, heal_bytes *entry);
+
+/* Keeps a loaded program for registrations. Returns 95, 99, 42, and 43 for a 257th program. */
+uint32_t heal_replica_upload(heal_replica *replica, const heal_program *program, heal_bytes *entry);
+
+/* Sets how many names registrations may bring the table to, from 1 to HEAL_MOST_NAMES; a replica starts with HEAL_MAX_NAMES.
+   Returns 92 for another number, 95, 99, 32 if the table has more names. */
+uint32_t heal_replica_limit(heal_replica *replica, size_t names, heal_bytes *entry);
+
+/* Records the number of an exchange that is about to begin. Returns 95, 99, 35 unless it is above every number recorded so far. */
+uint32_t heal_replica_begin(heal_replica *replica, uint64_t number, heal_bytes *entry);
+
+/* Starts a view with the half as it is; the replica is its primary. Returns 99 if no view number is left. Needs no memory. */
+uint32_t heal_replica_lead(heal_replica *replica);
+
+/* Puts a snapshot into `snapshot`: the position and the whole half. */
+uint32_t heal_replica_snapshot(const heal_replica *replica, heal_bytes *snapshot);
+
+/* Takes the position and the half of a snapshot. Rejects bytes that aren't a snapshot (70 to 84), then one of the latest view that
+   the replica started (98). */
+uint32_t heal_replica_follow(heal_replica *replica, const uint8_t *snapshot, size_t len);
+
+/* Applies an entry: carries its edit out if it is the next of the view, and changes nothing if the replica has it. Rejects bytes that
+   aren't an entry (70 to 84); then returns 96 for an entry of another view and 97 if an earlier entry is missing. In both cases
+   follow a snapshot. */
+uint32_t heal_replica_apply(heal_replica *replica, const uint8_t *entry, size_t len);
+
+/* Looks a name up. Returns 44, 31. */
+uint32_t heal_replica_whereis(const heal_replica *replica, const uint8_t *name, size_t len, heal_registration *registration);
+
+/* Rows, like heal_side_row and heal_side_row_after. */
+uint32_t heal_replica_row(const heal_replica *replica, size_t i, heal_row *row);
+uint32_t heal_replica_row_after(const heal_replica *replica, const uint8_t *name, size_t len, heal_row *row);
+
+/* Puts an idle side with the table, the programs and the limit of the replica into `side`, for an exchange with the other half's
+   primary. Returns 74 for another `id`, 32 if the table has more names than the limit. */
+uint32_t heal_replica_side(const heal_replica *replica, uint32_t id, heal_side *side);
+
+/* Starts a view with what the exchange left in the side: its table and its greatest number, also of one that was abandoned. `from` is
+   the position after heal_replica_begin. Returns 33 if the side's exchange is open, 49 if the replica isn't at `from` any more,
+   so that no edit is lost: exchange again. Returns 99 if no view number is left. */
+uint32_t heal_replica_change(heal_replica *replica, const heal_position *from, const heal_side *side);
+
+/* Reads what a log begins with, and nothing behind it. Returns 71 for bytes that begin with neither an entry nor a snapshot, and 82
+   for another version. */
+uint32_t heal_log_front(const uint8_t *log, size_t len, heal_front *front);
 
 #ifdef __cplusplus
 }

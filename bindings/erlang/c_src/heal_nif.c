@@ -1,10 +1,10 @@
 /*
  * The NIF of the module heal, over the C library libheal.
  *
- * Programs, sides and outcomes are resources: the garbage collector frees them. Calls whose time grows with a table, a message
+ * Programs, sides, outcomes and replicas are resources: the garbage collector frees them. Calls whose time grows with a table, a message
  * or a program run on dirty schedulers.
  *
- * Programs and outcomes never change, so any number of processes read them at the same time, without a lock. So they read a side,
+ * Programs and outcomes never change, so any number of processes read them at the same time, without a lock. So they read a side or a replica,
  * until a call that changes it waits: that must be the only one. A call that finds the side taken returns `busy` at once, and
  * the module heal makes it again a moment later: the process waits, and no scheduler does. The first process that finds a side
  * taken has the next turn, so processes that call again and again can't keep the others away. The turn is lost after a while,
@@ -37,16 +37,18 @@ typedef struct {
         heal_program program;
         heal_side side;
         heal_outcome outcome;
+        heal_replica replica;
     } handle;
 } resource;
 
-static ErlNifResourceType *program_type, *side_type, *outcome_type;
+static ErlNifResourceType *program_type, *side_type, *outcome_type, *replica_type;
 
 #define ATOMS(X) \
     X(ok) X(error) X(a) X(b) X(owner) X(stamp) X(weight) X(extra) X(resolver) X(exit) X(notify) X(notify_all) \
     X(program) X(size) X(uptime) X(name) X(first) X(second) X(neither) X(word) X(verdict) X(keeps) X(first_half) X(notices) \
     X(conflict) X(conflict_with) X(busy) X(side) X(open) X(latest) X(missing) X(withdrawn) X(none) X(nothing) X(offer) \
-    X(ruling) X(own_list) X(list) X(kind) X(number) X(seed)
+    X(ruling) X(own_list) X(list) X(kind) X(number) X(seed) X(view) X(op) X(at) X(names) X(limit) X(is_primary) X(true) \
+    X(false) X(empty) X(cut) X(entry) X(snapshot)
 
 #define DECLARE(NAME) static term atom_##NAME;
 ATOMS(DECLARE)
@@ -155,6 +157,13 @@ static void free_outcome(ErlNifEnv *env, void *held)
     free_lock(held);
 }
 
+static void free_replica(ErlNifEnv *env, void *held)
+{
+    (void)env;
+    heal_replica_free(&((resource *)held)->handle.replica);
+    free_lock(held);
+}
+
 typedef term body(ErlNifEnv *env, resource *held, const term argv[]);
 
 /* Takes the resource, alone or with other readers, unless another process has the next turn or a call runs on it that excludes
@@ -187,11 +196,11 @@ static void leave(resource *held, bool reads)
     enif_mutex_unlock(held->lock);
 }
 
-/* Runs a call on a side, its first argument, or returns `busy`. */
-static term in_turn(ErlNifEnv *env, const term argv[], bool reads, body *run)
+/* Runs a call on a side or a replica, its first argument, or returns `busy`. */
+static term in_turn(ErlNifEnv *env, const term argv[], ErlNifResourceType *type, bool reads, body *run)
 {
     resource *held;
-    if (!enif_get_resource(env, argv[0], side_type, (void **)&held))
+    if (!enif_get_resource(env, argv[0], type, (void **)&held))
         return enif_make_badarg(env);
     if (!enter(env, held, reads))
         return atom_busy;
@@ -217,20 +226,20 @@ static term reading(ErlNifEnv *env, const term argv[], ErlNifResourceType *type,
         return reading(env, argv, TYPE, NAME##_body); \
     }
 
-/* Defines the NIF `NAME`, which changes the side that is its first argument, from `NAME_body`. */
-#define IN_TURN(NAME) \
+/* Defines the NIF `NAME`, which changes its first argument, a side or a replica, from `NAME_body`. */
+#define IN_TURN(NAME, TYPE) \
     static term NAME(ErlNifEnv *env, int argc, const term argv[]) \
     { \
         (void)argc; \
-        return in_turn(env, argv, false, NAME##_body); \
+        return in_turn(env, argv, TYPE, false, NAME##_body); \
     }
 
-/* The same for one that only reads the side. */
-#define WITH_READERS(NAME) \
+/* The same for one that only reads it. */
+#define WITH_READERS(NAME, TYPE) \
     static term NAME(ErlNifEnv *env, int argc, const term argv[]) \
     { \
         (void)argc; \
-        return in_turn(env, argv, true, NAME##_body); \
+        return in_turn(env, argv, TYPE, true, NAME##_body); \
     }
 
 /* ---- Arguments ---- */
@@ -368,6 +377,11 @@ static term name_term(ErlNifEnv *env, const heal_name *name)
     return copy_of(env, name->bytes, len);
 }
 
+static term row_term(ErlNifEnv *env, const heal_row *row)
+{
+    return enif_make_tuple2(env, name_term(env, &row->name), registration_term(env, &row->registration));
+}
+
 static term verdict_term(uint32_t verdict)
 {
     return verdict == HEAL_FIRST ? atom_first : verdict == HEAL_SECOND ? atom_second : atom_neither;
@@ -475,7 +489,7 @@ static term upload_body(ErlNifEnv *env, resource *held, const term argv[])
     uint32_t number = heal_side_upload(&held->handle.side, code.data, code.size, id, &slot);
     return number == 0 ? ok(env, copy_of(env, id, ID_LEN)) : refused_at(env, number, slot);
 }
-IN_TURN(upload)
+IN_TURN(upload, side_type)
 
 static term forget_body(ErlNifEnv *env, resource *held, const term argv[])
 {
@@ -484,7 +498,7 @@ static term forget_body(ErlNifEnv *env, resource *held, const term argv[])
         return enif_make_badarg(env);
     return done(env, heal_side_forget(&held->handle.side, id.data));
 }
-IN_TURN(forget)
+IN_TURN(forget, side_type)
 
 static term programs_body(ErlNifEnv *env, resource *held, const term argv[])
 {
@@ -498,7 +512,7 @@ static term programs_body(ErlNifEnv *env, resource *held, const term argv[])
         return refused(env, number);
     return ok(env, programs);
 }
-WITH_READERS(programs)
+WITH_READERS(programs, side_type)
 
 static term code_body(ErlNifEnv *env, resource *held, const term argv[])
 {
@@ -508,7 +522,7 @@ static term code_body(ErlNifEnv *env, resource *held, const term argv[])
         return enif_make_badarg(env);
     return message(env, heal_side_code(&held->handle.side, id.data, &code), &code);
 }
-WITH_READERS(code)
+WITH_READERS(code, side_type)
 
 static term register_name_body(ErlNifEnv *env, resource *held, const term argv[])
 {
@@ -518,7 +532,7 @@ static term register_name_body(ErlNifEnv *env, resource *held, const term argv[]
         return enif_make_badarg(env);
     return done(env, heal_side_register(&held->handle.side, name.data, name.size, &registration));
 }
-IN_TURN(register_name)
+IN_TURN(register_name, side_type)
 
 static term unregister_name_body(ErlNifEnv *env, resource *held, const term argv[])
 {
@@ -527,7 +541,7 @@ static term unregister_name_body(ErlNifEnv *env, resource *held, const term argv
         return enif_make_badarg(env);
     return done(env, heal_side_unregister(&held->handle.side, name.data, name.size));
 }
-IN_TURN(unregister_name)
+IN_TURN(unregister_name, side_type)
 
 static term whereis_name_body(ErlNifEnv *env, resource *held, const term argv[])
 {
@@ -538,7 +552,7 @@ static term whereis_name_body(ErlNifEnv *env, resource *held, const term argv[])
     uint32_t number = heal_side_whereis(&held->handle.side, name.data, name.size, &found);
     return number == 0 ? ok(env, registration_term(env, &found)) : refused(env, number);
 }
-WITH_READERS(whereis_name)
+WITH_READERS(whereis_name, side_type)
 
 static term count_body(ErlNifEnv *env, resource *held, const term argv[])
 {
@@ -547,7 +561,7 @@ static term count_body(ErlNifEnv *env, resource *held, const term argv[])
     uint32_t number = heal_side_count(&held->handle.side, &count);
     return number == 0 ? ok(env, enif_make_uint64(env, count)) : refused(env, number);
 }
-WITH_READERS(count)
+WITH_READERS(count, side_type)
 
 static term rows_body(ErlNifEnv *env, resource *held, const term argv[])
 {
@@ -556,15 +570,14 @@ static term rows_body(ErlNifEnv *env, resource *held, const term argv[])
     uint32_t number = heal_side_row(&held->handle.side, 0, &row);
     (void)argv;
     while (number == 0) {
-        term pair = enif_make_tuple2(env, name_term(env, &row.name), registration_term(env, &row.registration));
-        reversed = enif_make_list_cell(env, pair, reversed);
+        reversed = enif_make_list_cell(env, row_term(env, &row), reversed);
         number = heal_side_row_after(&held->handle.side, row.name.bytes, row.name.len, &row);
     }
     if (number != HEAL_NO_ROW || !enif_make_reverse_list(env, reversed, &rows))
         return refused(env, number);
     return ok(env, rows);
 }
-WITH_READERS(rows)
+WITH_READERS(rows, side_type)
 
 /* Looks many names up in one call. */
 static term owners_body(ErlNifEnv *env, resource *held, const term argv[])
@@ -583,7 +596,7 @@ static term owners_body(ErlNifEnv *env, resource *held, const term argv[])
     }
     return enif_is_empty_list(env, rest) ? ok(env, owners) : enif_make_badarg(env);
 }
-WITH_READERS(owners)
+WITH_READERS(owners, side_type)
 
 static term begin_body(ErlNifEnv *env, resource *held, const term argv[])
 {
@@ -593,7 +606,7 @@ static term begin_body(ErlNifEnv *env, resource *held, const term argv[])
         return enif_make_badarg(env);
     return message(env, heal_side_begin(&held->handle.side, number, seed, uptime, &offer), &offer);
 }
-IN_TURN(begin)
+IN_TURN(begin, side_type)
 
 static term hear_body(ErlNifEnv *env, resource *held, const term argv[])
 {
@@ -602,14 +615,14 @@ static term hear_body(ErlNifEnv *env, resource *held, const term argv[])
         return enif_make_badarg(env);
     return done(env, heal_side_hear(&held->handle.side, offer.data, offer.size));
 }
-IN_TURN(hear)
+IN_TURN(hear, side_type)
 
 static term settle_body(ErlNifEnv *env, resource *held, const term argv[])
 {
     (void)argv;
     return done(env, heal_side_settle(&held->handle.side));
 }
-IN_TURN(settle)
+IN_TURN(settle, side_type)
 
 static term withdraw_body(ErlNifEnv *env, resource *held, const term argv[])
 {
@@ -618,7 +631,7 @@ static term withdraw_body(ErlNifEnv *env, resource *held, const term argv[])
         return enif_make_badarg(env);
     return done(env, heal_side_withdraw(&held->handle.side, name.data, name.size));
 }
-IN_TURN(withdraw)
+IN_TURN(withdraw, side_type)
 
 static term close_list_body(ErlNifEnv *env, resource *held, const term argv[])
 {
@@ -626,7 +639,7 @@ static term close_list_body(ErlNifEnv *env, resource *held, const term argv[])
     (void)argv;
     return message(env, heal_side_close_list(&held->handle.side, &list), &list);
 }
-IN_TURN(close_list)
+IN_TURN(close_list, side_type)
 
 static term hear_list_body(ErlNifEnv *env, resource *held, const term argv[])
 {
@@ -635,7 +648,7 @@ static term hear_list_body(ErlNifEnv *env, resource *held, const term argv[])
         return enif_make_badarg(env);
     return done(env, heal_side_hear_list(&held->handle.side, list.data, list.size));
 }
-IN_TURN(hear_list)
+IN_TURN(hear_list, side_type)
 
 static term finish_body(ErlNifEnv *env, resource *held, const term argv[])
 {
@@ -645,14 +658,14 @@ static term finish_body(ErlNifEnv *env, resource *held, const term argv[])
         return refused(env, OUT_OF_MEMORY);
     return handed(env, heal_side_finish(&held->handle.side, &made->handle.outcome), 0, made);
 }
-IN_TURN(finish)
+IN_TURN(finish, side_type)
 
 static term abandon_body(ErlNifEnv *env, resource *held, const term argv[])
 {
     (void)argv;
     return done(env, heal_side_abandon(&held->handle.side));
 }
-IN_TURN(abandon)
+IN_TURN(abandon, side_type)
 
 static term events_body(ErlNifEnv *env, resource *held, const term argv[])
 {
@@ -661,7 +674,7 @@ static term events_body(ErlNifEnv *env, resource *held, const term argv[])
     uint32_t number = heal_side_events(&held->handle.side, &events);
     return number == 0 ? ok(env, enif_make_uint64(env, events)) : refused(env, number);
 }
-WITH_READERS(events)
+WITH_READERS(events, side_type)
 
 /* The withdrawn names, the earliest first. */
 static uint32_t withdrawn_names(ErlNifEnv *env, const heal_side *side, term *names)
@@ -707,21 +720,21 @@ static term query_body(ErlNifEnv *env, resource *held, const term argv[])
         state.is_open ? missing_term(env, &state) : atom_none, names};
     return ok(env, map_of(env, keys, values, sizeof keys / sizeof *keys));
 }
-WITH_READERS(query)
+WITH_READERS(query, side_type)
 
 static term renew_body(ErlNifEnv *env, resource *held, const term argv[])
 {
     (void)argv;
     return done(env, heal_side_renew(&held->handle.side));
 }
-IN_TURN(renew)
+IN_TURN(renew, side_type)
 
 static term give_up_body(ErlNifEnv *env, resource *held, const term argv[])
 {
     (void)argv;
     return done(env, heal_side_give_up(&held->handle.side));
 }
-IN_TURN(give_up)
+IN_TURN(give_up, side_type)
 
 /* ---- Messages ---- */
 
@@ -806,6 +819,215 @@ static term clashes_body(ErlNifEnv *env, resource *held, const term argv[])
 }
 READING(clashes, outcome_type)
 
+/* ---- Replicas ---- */
+
+static bool get_life(ErlNifEnv *env, term node, term incarnation, heal_life *to)
+{
+    memset(to, 0, sizeof *to);
+    return get_u32(env, node, &to->node) && get_u64(env, incarnation, &to->incarnation);
+}
+
+static term replica(ErlNifEnv *env, int argc, const term argv[])
+{
+    heal_life life;
+    (void)argc;
+    if (!get_life(env, argv[0], argv[1], &life))
+        return enif_make_badarg(env);
+    resource *made = new_resource(replica_type);
+    if (made == NULL)
+        return refused(env, OUT_OF_MEMORY);
+    return handed(env, heal_replica_start(&life, &made->handle.replica), 0, made);
+}
+
+/* {{Node, Incarnation}, View, Op} */
+static term position_term(ErlNifEnv *env, const heal_position *at)
+{
+    term life = enif_make_tuple2(env, enif_make_uint(env, at->primary.node), enif_make_uint64(env, at->primary.incarnation));
+    return enif_make_tuple3(env, life, enif_make_uint64(env, at->view), enif_make_uint64(env, at->op));
+}
+
+static bool get_position(ErlNifEnv *env, term from, heal_position *to)
+{
+    int arity, of_life;
+    const term *words, *life;
+    return enif_get_tuple(env, from, &arity, &words) && arity == 3 && enif_get_tuple(env, words[0], &of_life, &life)
+        && of_life == 2 && get_life(env, life[0], life[1], &to->primary) && get_u64(env, words[1], &to->view)
+        && get_u64(env, words[2], &to->op);
+}
+
+static term replica_query_body(ErlNifEnv *env, resource *held, const term argv[])
+{
+    heal_replica_state state;
+    (void)argv;
+    uint32_t number = heal_replica_query(&held->handle.replica, &state);
+    if (number != 0)
+        return refused(env, number);
+    term keys[] = {atom_at, atom_names, atom_limit, atom_latest, atom_is_primary};
+    term values[] = {position_term(env, &state.at), enif_make_uint64(env, state.names), enif_make_uint64(env, state.limit),
+        state.has_begun ? enif_make_uint64(env, state.latest) : atom_none, state.is_primary ? atom_true : atom_false};
+    return ok(env, map_of(env, keys, values, sizeof keys / sizeof *keys));
+}
+WITH_READERS(replica_query, replica_type)
+
+static term replica_register_body(ErlNifEnv *env, resource *held, const term argv[])
+{
+    ErlNifBinary name;
+    heal_registration registration;
+    heal_bytes entry = {0};
+    if (!get_bytes(env, argv[1], &name) || !get_registration(env, argv[2], &registration))
+        return enif_make_badarg(env);
+    return message(env, heal_replica_register(&held->handle.replica, name.data, name.size, &registration, &entry), &entry);
+}
+IN_TURN(replica_register, replica_type)
+
+static term replica_unregister_body(ErlNifEnv *env, resource *held, const term argv[])
+{
+    ErlNifBinary name;
+    heal_bytes entry = {0};
+    if (!get_bytes(env, argv[1], &name))
+        return enif_make_badarg(env);
+    return message(env, heal_replica_unregister(&held->handle.replica, name.data, name.size, &entry), &entry);
+}
+IN_TURN(replica_unregister, replica_type)
+
+static term replica_upload_body(ErlNifEnv *env, resource *held, const term argv[])
+{
+    resource *program;
+    heal_bytes entry = {0};
+    if (!enif_get_resource(env, argv[1], program_type, (void **)&program))
+        return enif_make_badarg(env);
+    return message(env, heal_replica_upload(&held->handle.replica, &program->handle.program, &entry), &entry);
+}
+IN_TURN(replica_upload, replica_type)
+
+static term replica_limit_body(ErlNifEnv *env, resource *held, const term argv[])
+{
+    uint64_t names;
+    heal_bytes entry = {0};
+    if (!get_u64(env, argv[1], &names))
+        return enif_make_badarg(env);
+    return message(env, heal_replica_limit(&held->handle.replica, names, &entry), &entry);
+}
+IN_TURN(replica_limit, replica_type)
+
+static term replica_begin_body(ErlNifEnv *env, resource *held, const term argv[])
+{
+    uint64_t number;
+    heal_bytes entry = {0};
+    if (!get_u64(env, argv[1], &number))
+        return enif_make_badarg(env);
+    return message(env, heal_replica_begin(&held->handle.replica, number, &entry), &entry);
+}
+IN_TURN(replica_begin, replica_type)
+
+static term replica_lead_body(ErlNifEnv *env, resource *held, const term argv[])
+{
+    (void)argv;
+    return done(env, heal_replica_lead(&held->handle.replica));
+}
+IN_TURN(replica_lead, replica_type)
+
+static term replica_snapshot_body(ErlNifEnv *env, resource *held, const term argv[])
+{
+    heal_bytes snapshot = {0};
+    (void)argv;
+    return message(env, heal_replica_snapshot(&held->handle.replica, &snapshot), &snapshot);
+}
+WITH_READERS(replica_snapshot, replica_type)
+
+static term replica_follow_body(ErlNifEnv *env, resource *held, const term argv[])
+{
+    ErlNifBinary snapshot;
+    if (!get_bytes(env, argv[1], &snapshot))
+        return enif_make_badarg(env);
+    return done(env, heal_replica_follow(&held->handle.replica, snapshot.data, snapshot.size));
+}
+IN_TURN(replica_follow, replica_type)
+
+static term replica_apply_body(ErlNifEnv *env, resource *held, const term argv[])
+{
+    ErlNifBinary entry;
+    if (!get_bytes(env, argv[1], &entry))
+        return enif_make_badarg(env);
+    return done(env, heal_replica_apply(&held->handle.replica, entry.data, entry.size));
+}
+IN_TURN(replica_apply, replica_type)
+
+static term replica_whereis_body(ErlNifEnv *env, resource *held, const term argv[])
+{
+    ErlNifBinary name;
+    heal_registration found;
+    if (!get_bytes(env, argv[1], &name))
+        return enif_make_badarg(env);
+    uint32_t number = heal_replica_whereis(&held->handle.replica, name.data, name.size, &found);
+    return number == 0 ? ok(env, registration_term(env, &found)) : refused(env, number);
+}
+WITH_READERS(replica_whereis, replica_type)
+
+static term replica_rows_body(ErlNifEnv *env, resource *held, const term argv[])
+{
+    heal_row row;
+    term reversed = enif_make_list(env, 0), rows;
+    uint32_t number = heal_replica_row(&held->handle.replica, 0, &row);
+    (void)argv;
+    while (number == 0) {
+        reversed = enif_make_list_cell(env, row_term(env, &row), reversed);
+        number = heal_replica_row_after(&held->handle.replica, row.name.bytes, row.name.len, &row);
+    }
+    if (number != HEAL_NO_ROW || !enif_make_reverse_list(env, reversed, &rows))
+        return refused(env, number);
+    return ok(env, rows);
+}
+WITH_READERS(replica_rows, replica_type)
+
+static term replica_side_body(ErlNifEnv *env, resource *held, const term argv[])
+{
+    bool second = enif_is_identical(argv[1], atom_b);
+    if (!second && !enif_is_identical(argv[1], atom_a))
+        return enif_make_badarg(env);
+    resource *made = new_resource(side_type);
+    if (made == NULL)
+        return refused(env, OUT_OF_MEMORY);
+    return handed(env, heal_replica_side(&held->handle.replica, second ? HEAL_B : HEAL_A, &made->handle.side), 0, made);
+}
+WITH_READERS(replica_side, replica_type)
+
+/* The side is read meanwhile, so this also takes a turn on it. */
+static term replica_change_body(ErlNifEnv *env, resource *held, const term argv[])
+{
+    heal_position from;
+    resource *left;
+    if (!get_position(env, argv[1], &from) || !enif_get_resource(env, argv[2], side_type, (void **)&left))
+        return enif_make_badarg(env);
+    if (!enter(env, left, true))
+        return atom_busy;
+    term result = done(env, heal_replica_change(&held->handle.replica, &from, &left->handle.side));
+    leave(left, true);
+    return result;
+}
+IN_TURN(replica_change, replica_type)
+
+static term log_front(ErlNifEnv *env, int argc, const term argv[])
+{
+    ErlNifBinary log;
+    heal_front front;
+    (void)argc;
+    if (!get_bytes(env, argv[0], &log))
+        return enif_make_badarg(env);
+    uint32_t number = heal_log_front(log.data, log.size, &front);
+    if (number != 0)
+        return refused(env, number);
+    switch (front.kind) {
+    case HEAL_LOG_END:
+        return ok(env, atom_empty);
+    case HEAL_LOG_CUT:
+        return ok(env, atom_cut);
+    default:
+        return ok(env, enif_make_tuple2(env, front.kind == HEAL_ENTRY ? atom_entry : atom_snapshot,
+            enif_make_uint64(env, front.size)));
+    }
+}
+
 /* ---- Loading ---- */
 
 /* Creates the type, or takes it over from the version of the module that is loaded: its resources stay valid. */
@@ -822,7 +1044,8 @@ static int on_load(ErlNifEnv *env, void **private, term info)
 #define MAKE(NAME) atom_##NAME = enif_make_atom(env, #NAME);
     ATOMS(MAKE)
     return open_type(env, "heal_program", free_program, &program_type) && open_type(env, "heal_side", free_side, &side_type)
-        && open_type(env, "heal_outcome", free_outcome, &outcome_type) ? 0 : 1;
+        && open_type(env, "heal_outcome", free_outcome, &outcome_type)
+        && open_type(env, "heal_replica", free_replica, &replica_type) ? 0 : 1;
 }
 
 static int on_upgrade(ErlNifEnv *env, void **private, void **old, term info)
@@ -863,6 +1086,22 @@ static ErlNifFunc functions[] = {
     {"events_in_turn", 1, events, 0},
     {"renew_in_turn", 1, renew, DIRTY},
     {"give_up_in_turn", 1, give_up, DIRTY},
+    {"replica", 2, replica, 0},
+    {"replica_query_in_turn", 1, replica_query, 0},
+    {"replica_register_in_turn", 3, replica_register, 0},
+    {"replica_unregister_in_turn", 2, replica_unregister, 0},
+    {"replica_upload_in_turn", 2, replica_upload, DIRTY},
+    {"replica_limit_in_turn", 2, replica_limit, 0},
+    {"replica_begin_in_turn", 2, replica_begin, 0},
+    {"replica_lead_in_turn", 1, replica_lead, 0},
+    {"replica_snapshot_in_turn", 1, replica_snapshot, DIRTY},
+    {"replica_follow_in_turn", 2, replica_follow, DIRTY},
+    {"replica_apply_in_turn", 2, replica_apply, 0},
+    {"replica_whereis_in_turn", 2, replica_whereis, 0},
+    {"replica_rows_in_turn", 1, replica_rows, DIRTY},
+    {"replica_side_in_turn", 2, replica_side, DIRTY},
+    {"replica_change_in_turn", 3, replica_change, DIRTY},
+    {"log_front", 1, log_front, 0},
     {"number", 1, outcome_number, 0},
     {"merged", 1, merged, 0},
     {"clashes", 1, clashes, DIRTY},

@@ -1,6 +1,6 @@
 %% @doc The calls of libheal: programs, sides of exchanges, and their outcomes.
 %%
-%% A program, a side and an outcome are references that the garbage collector frees. Every process may use them. Any number of
+%% A program, a side, an outcome and a replica are references that the garbage collector frees. Every process may use them. Any number of
 %% processes read one at the same time; a call that changes a side waits until the others have ended. A call returns what its type
 %% shows, or `{error, {Number, Words}}' with the number of a refusal and its words; docs/REFUSALS.md lists them. A refused call
 %% changes nothing. A term of another type is a `badarg'.
@@ -20,9 +20,12 @@
 -export([query/1, events/1, renew/1, give_up/1]).
 -export([begin_exchange/4, hear/2, settle/1, withdraw/2, close_list/1, hear_list/2, finish/1, abandon/1]).
 -export([number/1, merged/1, clashes/1]).
+-export([replica/2, replica_query/1, replica_register/3, replica_unregister/2, replica_upload/2, replica_limit/2, replica_begin/2]).
+-export([replica_lead/1, replica_snapshot/1, replica_follow/2, replica_apply/2, replica_whereis/2, replica_rows/1]).
+-export([replica_side/2, replica_change/3, log_front/1]).
 -export([serials/0]).
 -export_type([program/0, side/0, outcome/0, name/0, owner/0, resolver/0, registration/0, facts/0, clash/0, notice/0]).
--export_type([state/0, head/0, refusal/0]).
+-export_type([state/0, head/0, refusal/0, replica/0, position/0, replica_state/0]).
 
 -on_load(init/0).
 
@@ -68,6 +71,16 @@
 %% `open' is the number of the open exchange, and `missing' the first thing that it lacks; `latest' is the greatest number begun.
 -type head() :: #{kind := offer | list, side := a | b, number := word(), seed := word() | none}.
 %% `seed' is that of an offer.
+-opaque replica() :: reference().
+-type position() :: {Primary :: {Node :: 0..16#ffffffff, Incarnation :: word()}, View :: word(), Op :: word()}.
+-type replica_state() :: #{
+    at := position(),
+    names := non_neg_integer(),
+    limit := pos_integer(),
+    latest := word() | none,
+    is_primary := boolean()
+}.
+%% `latest' is the greatest number of an exchange that the half began.
 -type refusal() :: {Number :: pos_integer(), Words :: binary()}.
 -type result() :: ok | {error, refusal()}.
 -type result(Value) :: {ok, Value} | {error, refusal()}.
@@ -219,6 +232,72 @@ merged(_Outcome) -> missing().
 -spec clashes(outcome()) -> result([clash()]).
 clashes(_Outcome) -> missing().
 
+%% @doc Starts a life of a node: a replica with an empty half, as the primary of its first view. No two lives of a node may share an
+%% incarnation.
+-spec replica(Node :: 0..16#ffffffff, Incarnation :: word()) -> result(replica()).
+replica(_Node, _Incarnation) -> missing().
+
+%% @doc Returns what the replica knows.
+-spec replica_query(replica()) -> result(replica_state()).
+replica_query(Replica) -> turn(fun() -> replica_query_in_turn(Replica) end).
+
+%% @doc Registers a name, as the primary, and returns the entry for the log and the backups.
+-spec replica_register(replica(), name(), registration()) -> result(Entry :: binary()).
+replica_register(Replica, Name, Registration) -> turn(fun() -> replica_register_in_turn(Replica, Name, Registration) end).
+
+%% @doc Unregisters a name, as the primary, and returns the entry.
+-spec replica_unregister(replica(), name()) -> result(Entry :: binary()).
+replica_unregister(Replica, Name) -> turn(fun() -> replica_unregister_in_turn(Replica, Name) end).
+
+%% @doc Keeps a program for registrations, as the primary, and returns the entry.
+-spec replica_upload(replica(), program()) -> result(Entry :: binary()).
+replica_upload(Replica, Program) -> turn(fun() -> replica_upload_in_turn(Replica, Program) end).
+
+%% @doc Sets how many names registrations may bring the table to, as the primary, and returns the entry.
+-spec replica_limit(replica(), Names :: word()) -> result(Entry :: binary()).
+replica_limit(Replica, Names) -> turn(fun() -> replica_limit_in_turn(Replica, Names) end).
+
+%% @doc Records the number of the next exchange, as the primary, and returns the entry: after `replica_side', and before
+%% `begin_exchange'.
+-spec replica_begin(replica(), Number :: word()) -> result(Entry :: binary()).
+replica_begin(Replica, Number) -> turn(fun() -> replica_begin_in_turn(Replica, Number) end).
+
+%% @doc Starts a view with the half as it is.
+-spec replica_lead(replica()) -> result().
+replica_lead(Replica) -> turn(fun() -> replica_lead_in_turn(Replica) end).
+
+%% @doc Returns the position and the half, for the other nodes and for the log.
+-spec replica_snapshot(replica()) -> result(Snapshot :: binary()).
+replica_snapshot(Replica) -> turn(fun() -> replica_snapshot_in_turn(Replica) end).
+
+%% @doc Takes the position and the half of a snapshot.
+-spec replica_follow(replica(), Snapshot :: binary()) -> result().
+replica_follow(Replica, Snapshot) -> turn(fun() -> replica_follow_in_turn(Replica, Snapshot) end).
+
+%% @doc Carries the edit of an entry out, unless the replica has it already.
+-spec replica_apply(replica(), Entry :: binary()) -> result().
+replica_apply(Replica, Entry) -> turn(fun() -> replica_apply_in_turn(Replica, Entry) end).
+
+%% @doc Looks a name up.
+-spec replica_whereis(replica(), name()) -> result(registration()).
+replica_whereis(Replica, Name) -> turn(fun() -> replica_whereis_in_turn(Replica, Name) end).
+
+%% @doc Returns the table in the order of names.
+-spec replica_rows(replica()) -> result([{name(), registration()}]).
+replica_rows(Replica) -> turn(fun() -> replica_rows_in_turn(Replica) end).
+
+%% @doc Returns an idle side with what the replica has, for an exchange with the other half's primary.
+-spec replica_side(replica(), a | b) -> result(side()).
+replica_side(Replica, Id) -> turn(fun() -> replica_side_in_turn(Replica, Id) end).
+
+%% @doc Starts a view with what an exchange left in the side. `From' is the position at which the exchange began.
+-spec replica_change(replica(), From :: position(), side()) -> result().
+replica_change(Replica, From, Side) -> turn(fun() -> replica_change_in_turn(Replica, From, Side) end).
+
+%% @doc Returns what a log begins with, and the number of its bytes.
+-spec log_front(Log :: binary()) -> result(empty | cut | {entry | snapshot, Size :: pos_integer()}).
+log_front(_Log) -> missing().
+
 %% @private Returns the counter of heal_names:serial/0.
 -spec serials() -> atomics:atomics_ref().
 serials() ->
@@ -259,6 +338,20 @@ abandon_in_turn(_Side) -> missing().
 events_in_turn(_Side) -> missing().
 renew_in_turn(_Side) -> missing().
 give_up_in_turn(_Side) -> missing().
+replica_query_in_turn(_Replica) -> missing().
+replica_register_in_turn(_Replica, _Name, _Registration) -> missing().
+replica_unregister_in_turn(_Replica, _Name) -> missing().
+replica_upload_in_turn(_Replica, _Program) -> missing().
+replica_limit_in_turn(_Replica, _Names) -> missing().
+replica_begin_in_turn(_Replica, _Number) -> missing().
+replica_lead_in_turn(_Replica) -> missing().
+replica_snapshot_in_turn(_Replica) -> missing().
+replica_follow_in_turn(_Replica, _Snapshot) -> missing().
+replica_apply_in_turn(_Replica, _Entry) -> missing().
+replica_whereis_in_turn(_Replica, _Name) -> missing().
+replica_rows_in_turn(_Replica) -> missing().
+replica_side_in_turn(_Replica, _Id) -> missing().
+replica_change_in_turn(_Replica, _From, _Side) -> missing().
 
 missing() ->
     erlang:nif_error(nif_not_loaded).

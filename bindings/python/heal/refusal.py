@@ -48,6 +48,7 @@ class Refusal(IntEnum):
     OWN_OFFER = 46  # a message from the side itself
     WITHDRAWN = 47  # the name is already withdrawn
     LIST_CLOSED = 48  # the list of withdrawn names is closed
+    MOVED = 49  # other tables, uptimes or withdrawn names were merged
     CUT = 70  # a message that ends too early
     HEADER = 71  # not a message of this kind
     TRAILING = 72  # extra bytes after the message
@@ -62,8 +63,14 @@ class Refusal(IntEnum):
     PROGRAM = 81  # code in a message that the verifier rejects
     VERSION = 82  # an unsupported version of messages
     OTHER_MESSAGE = 83  # a message that differs from the one of its kind and number that was heard
+    CHECKSUM = 84  # bytes that differ from their checksum
     OUT_OF_MEMORY = 90  # out of memory
     EMPTY_HANDLE = 91  # an empty handle
     OUT_OF_RANGE = 92  # an index out of range
     OTHER_LENGTH = 93  # a buffer of another length
     STILL_NAMED = 94  # a registered name has the program as its resolver
+    NOT_PRIMARY = 95  # the replica isn't the primary of its view
+    OTHER_VIEW = 96  # an entry of another view
+    GAP = 97  # entries before this one are missing
+    OWN_VIEW = 98  # a snapshot of the replica's own latest view
+    EXHAUSTED = 99  # no number is left for a view or an entry

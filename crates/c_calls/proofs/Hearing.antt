@@ -12,14 +12,13 @@ use Rattle.exchange_codec.specs.Withdrawals as lists
 use Rattle.c_calls.specs.declared.half.Half.{Half}
 use Rattle.c_calls.specs.Sides.{Stays}
 use Rattle.c_calls.specs.Exchanges.{HearsWhole, HearsOffer, HearsNames, HearsDue, HearsWholeList}
-use Rattle.c_calls.specs.laws.Reading.{spent}
-use Rattle.c_calls.proofs.Repeating.{spent_answer, spent_other}
+use Rattle.c_calls.specs.laws.Reading.{boxed_spelled, spent, spent_answer}
+use Rattle.c_calls.proofs.Repeating.{spent_other}
 
 -- the message on the heap is the one that was encoded
 pub offer_spelled : {V E : Type 0} (items : V → List ℕ) (spelled : Result V E) (message : List ℕ) (offer : sides.Offer)
     → IsOkAnd spelled (λ bytes. message ≡ items bytes) → IfOk spelled (λ bytes. SpellsOffer (items bytes) offer) → SpellsOffer message offer
-offer_spelled items (Ok v) message offer e spells = rw e spells
-offer_spelled items (Err f) message offer e spells = absurd e
+offer_spelled items spelled message offer = boxed_spelled items (λ bytes. SpellsOffer bytes offer) spelled message
 
 pub list_spelled : {V E : Type 0} (items : V → List ℕ) (spelled : Result V E) (message : List ℕ) (list : sides.Withdrawals)
     → IsOkAnd spelled (λ bytes. message ≡ items bytes) → IfOk spelled (λ bytes. IsNameList list.names → SpellsWithdrawals (items bytes) list)

@@ -1,9 +1,7 @@
 -- Messages after the first of their kind and number.
 use Rattle.std.proofs.Common.{◌≡◌, Bool, true, false, ℕ, inl, inr, sym, true≢false}
-use Rattle.std.specs.Prelude.{Result, Ok, Err}
 use Rattle.numbered.specs.Answers.{out_of_memory}
 use Rattle.c_calls.specs.declared.half.Half.{Half}
-use Rattle.c_calls.specs.Answers.{IsAnswer}
 use Rattle.c_calls.specs.Exchanges.{UnlessOther}
 use Rattle.c_calls.specs.Sides.{Stays}
 
@@ -16,10 +14,6 @@ same true old new n X is x = absurd (true≢false (sym is))
 same false old new n X is x = x
 
 -- every call may run out of memory
-pub spent_answer : {X : Type 0} (due : Result X ℕ) (done : X → Type 0) (stays : Type 0) (n : ℕ) → n ≡ out_of_memory → stays → IsAnswer due done stays n
-spent_answer (Ok x) done stays n e s = inr (e, s)
-spent_answer (Err m) done stays n e s = (inr e, s)
-
 pub spent_other : (b : Bool) (old new : Half) (n : ℕ) (X : Type 0) → n ≡ out_of_memory → Stays old new → X → UnlessOther b old new n X
 spent_other true old new n X e stays x = (inr e, stays)
 spent_other false old new n X e stays x = x

@@ -6,4 +6,5 @@ pub mod MessageWords
 pub mod OutcomeWords
 pub mod Processes
 pub mod ProgramWords
+pub mod ReplicaWords
 pub mod Told

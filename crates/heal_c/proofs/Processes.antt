@@ -384,7 +384,7 @@ step p after id l (call.begins new number seed uptime before bytes r e) = subst 
 step p after id l (call.hears new bytes sent r e) = subst Like (sym e)
     (let h = l.offers sent.0 bytes sent.1 in
     let whole : HearsWhole bytes (half_of p id) new 0 =
-        was_read (half_of p id) (reading.due (length bytes) (peeked bytes)) _ _ _ r in
+    was_read (half_of p id) (reading.due (length bytes) (peeked bytes)) _ _ _ r in
     heard l id new h.0 sent.0 h.1.0 (done _ _ _ (was_first _ _ _ _ (whole.taken h.0 h.1.1))))
 step p after id l (call.settles new r e) = subst Like (sym e)
     (let d = settled_so _ _ _ r in
@@ -399,7 +399,7 @@ step p after id l (call.closes new before bytes r e) = subst Like (sym e)
 step p after id l (call.hears_list new bytes sent r e) = subst Like (sym e)
     (let h = l.lists sent.0 bytes sent.1 in
     let whole : HearsWholeList bytes (half_of p id) new 0 =
-        was_read (half_of p id) (reading.due (length bytes) (peeked bytes)) _ _ _ r in
+    was_read (half_of p id) (reading.due (length bytes) (peeked bytes)) _ _ _ r in
     heard_list l id new h.0 sent.0 h.1.0 (done _ _ _ (was_first _ _ _ _ (whole.taken h.0 h.1.1))))
 step p after id l (call.finishes new before outcome f r given e) = subst Like (sym e)
     (let d = done _ _ _ r in finished l id new f d.0 given)

@@ -7,6 +7,8 @@ use Rattle.c_calls.specs.declared.half.Half.{Half}
 use Rattle.c_calls.specs.contracts.half.Half as half
 use Rattle.c_calls.specs.declared.outcome.Outcome.{Outcome}
 use Rattle.c_calls.specs.contracts.outcome.Outcome as outcome
+use Rattle.replica.specs.Replicas.{Replica}
+use Rattle.replica.specs.contracts.replica.Replica as replica
 
 abbrev pub coded_program : Coded (Option Upload)
 coded_program = coded_option (program.the_row).coded
@@ -16,3 +18,6 @@ coded_half = coded_option (half.the_row).coded
 
 abbrev pub coded_outcome : Coded (Option Outcome)
 coded_outcome = coded_option (outcome.the_row).coded
+
+abbrev pub coded_replica : Coded (Option Replica)
+coded_replica = coded_option (replica.the_row).coded

@@ -9,13 +9,17 @@ ghost use Rattle.c_calls.specs.contracts.message.Message as message_row;
 ghost use Rattle.heal_c.specs.contracts.message_handle.HealBytes as message_handle;
 ghost use Rattle.c_calls.specs.contracts.outcome.Outcome as outcome_row;
 ghost use Rattle.heal_c.specs.contracts.outcome_handle.HealOutcome as outcome_handle;
-ghost use Rattle.heal_c.specs.Lent.{with_half, with_program, with_message, with_outcome};
+ghost use Rattle.replica.specs.contracts.replica.Replica as replica_row;
+ghost use Rattle.heal_c.specs.contracts.replica_handle.HealReplica as replica_handle;
+ghost use Rattle.heal_c.specs.Lent.{with_half, with_program, with_message, with_outcome, with_replica};
 
 use crate::half_handle::HealSide;
 use crate::message_handle::HealBytes;
 use crate::outcome_handle::HealOutcome;
 use crate::program_handle::HealProgram;
+use crate::replica_handle::HealReplica;
 use c_calls::{Half, Message, Outcome};
+use replica::Replica;
 use upload_store::Upload;
 
 impl HealSide {
@@ -74,6 +78,21 @@ impl HealOutcome {
             None
         } else {
             Some(unsafe { &mut *(at as *mut Outcome) })
+        }
+    }
+}
+
+impl HealReplica {
+    // Borrows the replica.
+    pub(crate) fn held(&mut self) -> Option<&mut Replica>
+        ensures* writes_back { sem 𝓛 (LendsIf replica_handle.the_row replica_row.the_row self.entry result (with_replica self.old) self.old) }
+        ensures value { MatchOption result (self.old.replica ≡ None) (λ held. self.old.replica ≡ Some held.now) }
+    {
+        let at = self.at;
+        if at.is_null() {
+            None
+        } else {
+            Some(unsafe { &mut *(at as *mut Replica) })
         }
     }
 }

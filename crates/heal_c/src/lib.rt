@@ -14,6 +14,9 @@ mod program_handle;
 mod programs;
 mod queries;
 mod records;
+mod replica_edits;
+mod replica_handle;
+mod replicas;
 mod sides;
 mod theorem;
 mod version;
@@ -22,10 +25,12 @@ pub use c_calls::{
     HealClash, HealEnded, HealFacts, HealName, HealNotice, HealOwner, HealRegistration, HealRow,
     HealSideState,
 };
+pub use c_replicas::{HealLife, HealLogFront, HealPosition, HealReplicaState};
 pub use faults::HealFault;
 pub use half_handle::HealSide;
 pub use heads::HealHead;
 pub use message_handle::HealBytes;
 pub use outcome_handle::HealOutcome;
 pub use program_handle::HealProgram;
+pub use replica_handle::HealReplica;
 pub use theorem::two_processes_theorem;

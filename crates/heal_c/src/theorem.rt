@@ -6,8 +6,8 @@ ghost use Rattle.heal_c.specs.Processes.{HasOutcome, IsRun, Processes};
 
 use exchange_core::two_halves_theorem;
 
-/// Two processes that make any calls of the library, each on its half, and hear only what the other's calls returned, have
-/// one outcome of each number that both finish.
+/// Two processes that make any calls of the library on a side, each on one that was created empty, and hear only what the other's
+/// calls returned, have one outcome of each number that both finish.
 ///
 /// It does nothing when it runs. Its contract is proved of all runs of two processes.
 pub fn two_processes_theorem()

@@ -120,6 +120,41 @@ pub struct Fault {
     pub slot: u32,
 }
 
+#[repr(C)]
+#[derive(Clone, Copy, Default)]
+pub struct Life {
+    pub incarnation: u64,
+    pub node: u32,
+    pub reserved: u32,
+}
+
+#[repr(C)]
+#[derive(Clone, Copy, Default)]
+pub struct Position {
+    pub primary: Life,
+    pub view: u64,
+    pub op: u64,
+}
+
+#[repr(C)]
+#[derive(Clone, Copy, Default)]
+pub struct ReplicaState {
+    pub at: Position,
+    pub names: u64,
+    pub limit: u64,
+    pub latest: u64,
+    pub has_begun: u32,
+    pub is_primary: u32,
+}
+
+#[repr(C)]
+#[derive(Clone, Copy, Default)]
+pub struct Front {
+    pub kind: u32,
+    pub reserved: u32,
+    pub size: u64,
+}
+
 #[rustfmt::skip]
 extern "C" {
     pub fn heal_version() -> u32;
@@ -171,4 +206,23 @@ extern "C" {
     pub fn heal_outcome_clash(outcome: *const Handle, i: usize, clash: *mut Clash) -> u32;
     pub fn heal_outcome_notice(outcome: *const Handle, i: usize, n: usize, notice: *mut Notice) -> u32;
     pub fn heal_outcome_free(outcome: *mut Handle);
+    pub fn heal_replica_start(life: *const Life, replica: *mut Handle) -> u32;
+    pub fn heal_replica_free(replica: *mut Handle);
+    pub fn heal_replica_query(replica: *const Handle, state: *mut ReplicaState) -> u32;
+    pub fn heal_replica_register(replica: *mut Handle, name: *const u8, len: usize, registration: *const Registration,
+        entry: *mut Handle) -> u32;
+    pub fn heal_replica_unregister(replica: *mut Handle, name: *const u8, len: usize, entry: *mut Handle) -> u32;
+    pub fn heal_replica_upload(replica: *mut Handle, program: *const Handle, entry: *mut Handle) -> u32;
+    pub fn heal_replica_limit(replica: *mut Handle, names: usize, entry: *mut Handle) -> u32;
+    pub fn heal_replica_begin(replica: *mut Handle, number: u64, entry: *mut Handle) -> u32;
+    pub fn heal_replica_lead(replica: *mut Handle) -> u32;
+    pub fn heal_replica_snapshot(replica: *const Handle, snapshot: *mut Handle) -> u32;
+    pub fn heal_replica_follow(replica: *mut Handle, snapshot: *const u8, len: usize) -> u32;
+    pub fn heal_replica_apply(replica: *mut Handle, entry: *const u8, len: usize) -> u32;
+    pub fn heal_replica_whereis(replica: *const Handle, name: *const u8, len: usize, registration: *mut Registration) -> u32;
+    pub fn heal_replica_row(replica: *const Handle, i: usize, row: *mut Row) -> u32;
+    pub fn heal_replica_row_after(replica: *const Handle, name: *const u8, len: usize, row: *mut Row) -> u32;
+    pub fn heal_replica_side(replica: *const Handle, id: u32, side: *mut Handle) -> u32;
+    pub fn heal_replica_change(replica: *mut Handle, from: *const Position, side: *const Handle) -> u32;
+    pub fn heal_log_front(log: *const u8, len: usize, front: *mut Front) -> u32;
 }

@@ -10,6 +10,7 @@ pub(crate) enum Kind {
     Side,
     Bytes,
     Outcome,
+    Replica,
 }
 
 /// An owned handle.
@@ -128,6 +129,7 @@ impl Drop for Held {
             Kind::Side => ffi::heal_side_free,
             Kind::Bytes => ffi::heal_bytes_free,
             Kind::Outcome => ffi::heal_outcome_free,
+            Kind::Replica => ffi::heal_replica_free,
         };
         // SAFETY: the handle is owned, and of the kind that `free` takes.
         unsafe { free(self.at_mut()) }

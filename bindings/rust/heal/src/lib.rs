@@ -13,11 +13,13 @@
 //! ```
 mod handle;
 mod refusal;
+mod replica;
 mod types;
 
 use handle::{Held, Kind};
 use heal_sys as ffi;
 pub use refusal::Refusal;
+pub use replica::{log_front, Life, LogFront, Position, Replica, ReplicaState};
 use std::error::Error;
 use std::fmt;
 pub use types::{
@@ -119,7 +121,7 @@ pub fn record(
 /// A verified program.
 #[derive(Debug)]
 pub struct Program {
-    held: Held,
+    pub(crate) held: Held,
 }
 
 impl Program {
@@ -160,7 +162,7 @@ impl Program {
 /// One half's side of exchanges, with its table and its uploads.
 #[derive(Debug)]
 pub struct Side {
-    held: Held,
+    pub(crate) held: Held,
 }
 
 /// Which of the two halves a side is.

@@ -89,6 +89,8 @@ pub enum Refusal {
     Withdrawn = 47,
     /// 48: the list of withdrawn names is closed.
     ListClosed = 48,
+    /// 49: other tables, uptimes or withdrawn names were merged.
+    Moved = 49,
     /// 70: a message that ends too early.
     Cut = 70,
     /// 71: not a message of this kind.
@@ -117,6 +119,8 @@ pub enum Refusal {
     Version = 82,
     /// 83: a message that differs from the one of its kind and number that was heard.
     OtherMessage = 83,
+    /// 84: bytes that differ from their checksum.
+    Checksum = 84,
     /// 90: out of memory.
     OutOfMemory = 90,
     /// 91: an empty handle.
@@ -127,6 +131,16 @@ pub enum Refusal {
     OtherLength = 93,
     /// 94: a registered name has the program as its resolver.
     StillNamed = 94,
+    /// 95: the replica isn't the primary of its view.
+    NotPrimary = 95,
+    /// 96: an entry of another view.
+    OtherView = 96,
+    /// 97: entries before this one are missing.
+    Gap = 97,
+    /// 98: a snapshot of the replica's own latest view.
+    OwnView = 98,
+    /// 99: no number is left for a view or an entry.
+    Exhausted = 99,
 }
 
 impl TryFrom<u32> for Refusal {
@@ -177,6 +191,7 @@ impl TryFrom<u32> for Refusal {
             46 => Ok(Refusal::OwnOffer),
             47 => Ok(Refusal::Withdrawn),
             48 => Ok(Refusal::ListClosed),
+            49 => Ok(Refusal::Moved),
             70 => Ok(Refusal::Cut),
             71 => Ok(Refusal::Header),
             72 => Ok(Refusal::Trailing),
@@ -191,11 +206,17 @@ impl TryFrom<u32> for Refusal {
             81 => Ok(Refusal::Program),
             82 => Ok(Refusal::Version),
             83 => Ok(Refusal::OtherMessage),
+            84 => Ok(Refusal::Checksum),
             90 => Ok(Refusal::OutOfMemory),
             91 => Ok(Refusal::EmptyHandle),
             92 => Ok(Refusal::OutOfRange),
             93 => Ok(Refusal::OtherLength),
             94 => Ok(Refusal::StillNamed),
+            95 => Ok(Refusal::NotPrimary),
+            96 => Ok(Refusal::OtherView),
+            97 => Ok(Refusal::Gap),
+            98 => Ok(Refusal::OwnView),
+            99 => Ok(Refusal::Exhausted),
             _ => Err(number),
         }
     }

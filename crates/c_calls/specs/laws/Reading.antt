@@ -1,8 +1,8 @@
 -- Calls that read bytes, by the results of reading.
 use Rattle.std.proofs.Common.{◌≡◌, ◌⊎◌, ℕ, inl, inr, sym, subst, ◌∙◌}
-use Rattle.std.specs.Prelude.{Result, Ok, Err, IfOk, IfErr}
+use Rattle.std.specs.Prelude.{List, Result, Ok, Err, IfOk, IfErr, IsOkAnd}
 use Rattle.numbered.specs.Answers.{HasCause, ReturnsOrRunsOut, out_of_memory}
-use Rattle.c_calls.specs.Answers.{Rejects, Takes}
+use Rattle.c_calls.specs.Answers.{IsAnswer, Rejects, Takes}
 
 -- a value that was read is taken
 pub taken : {V F : Type 0} (Spells : V → Type 0) (IsFault : F → Type 0) (number : F → ℕ) (takes : V → Type 0) (stays : Type 0) (n : ℕ)
@@ -62,3 +62,13 @@ spent Spells IsFault number takes stays n e same any = record {
   taken = λ v spells. any v;
   told = λ m cause. (inr e, same);
 }
+
+pub spent_answer : {X : Type 0} (due : Result X ℕ) (done : X → Type 0) (stays : Type 0) (n : ℕ) → n ≡ out_of_memory → stays → IsAnswer due done stays n
+spent_answer (Ok x) done stays n e s = inr (e, s)
+spent_answer (Err m) done stays n e s = (inr e, s)
+
+-- what holds of bytes that were spelled holds of the message that has them
+pub boxed_spelled : {V E : Type 0} (items : V → List ℕ) (P : List ℕ → Type 0) (spelled : Result V E) (message : List ℕ)
+    → IsOkAnd spelled (λ bytes. message ≡ items bytes) → IfOk spelled (λ bytes. P (items bytes)) → P message
+boxed_spelled items P (Ok v) message e spells = rw e spells
+boxed_spelled items P (Err f) message e spells = absurd e

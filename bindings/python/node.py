@@ -1,0 +1,106 @@
+#!/usr/bin/env python3
+"""node.py FOLDER NUMBER: a node of a half, which keeps a log in the folder. bindings/c/node.c describes its requests.
+
+It may be killed at any moment: what it answered with 0 is in its log.
+"""
+
+import os
+import struct
+import sys
+
+from heal import Owner, Refused, Registration
+from heal.replica import Kind, Replica, messages
+
+
+class Disk:
+    """The files of a node: its incarnation and its log."""
+
+    def __init__(self, folder):
+        os.chdir(folder)
+        self.log = None
+
+    def replace(self, name, data):
+        """Replaces a file: after a crash it has its old bytes or these."""
+        file = open("new", "wb", buffering=0)
+        file.write(data)
+        os.fsync(file.fileno())
+        os.rename("new", name)
+        folder = os.open(".", os.O_RDONLY)
+        os.fsync(folder)
+        os.close(folder)
+        return file
+
+    def next_incarnation(self):
+        """Stores the next incarnation, and returns it."""
+        number = 1
+        if os.path.exists("incarnation"):
+            with open("incarnation", "rb") as file:
+                number = int(file.read()) + 1
+        self.replace("incarnation", str(number).encode()).close()
+        return number
+
+    def read_log(self):
+        if not os.path.exists("log"):
+            return b""
+        with open("log", "rb") as file:
+            return file.read()
+
+    def start_log(self, replica):
+        """Starts a log with a snapshot."""
+        if self.log:
+            self.log.close()
+        self.log = self.replace("log", replica.snapshot())
+
+    def append(self, entry):
+        self.log.write(entry)
+        os.fdatasync(self.log.fileno())
+
+
+def restart(disk, number):
+    """Starts a new life with what the log has."""
+    replica = Replica(number, disk.next_incarnation())
+    for kind, message in messages(disk.read_log()):
+        (replica.follow if kind is Kind.SNAPSHOT else replica.apply)(message)
+    replica.lead()
+    disk.start_log(replica)
+    return replica
+
+
+def obey(disk, replica, request, body):
+    """Carries a request out, and returns the bytes of the answer."""
+    if request in b"RU":
+        edit = (body, Registration(Owner(1, 1))) if request == b"R" else (body,)
+        entry = (replica.register if request == b"R" else replica.unregister)(*edit)
+        disk.append(entry)
+        return entry
+    if request == b"A":
+        replica.apply(body)
+        disk.append(body)
+    elif request == b"F":
+        replica.follow(body)
+        disk.start_log(replica)
+    elif request == b"L":
+        replica.lead()
+        disk.start_log(replica)
+        return replica.snapshot()
+    elif replica.whereis(body) is None:
+        raise Refused(31)
+    return b""
+
+
+def main():
+    disk = Disk(sys.argv[1])
+    replica = restart(disk, int(sys.argv[2]))
+    requests, answers = sys.stdin.buffer, sys.stdout.buffer
+    while len(head := requests.read(9)) == 9:
+        request, size = head[:1], struct.unpack("=Q", head[1:])[0]
+        try:
+            number, answer = 0, obey(disk, replica, request, requests.read(size))
+        except Refused as refused:
+            number, answer = refused.number, b""
+        answers.write(struct.pack("=LQ", number, len(answer)) + answer)
+        answers.flush()
+
+
+if __name__ == "__main__":
+    main()

@@ -1,0 +1,4 @@
+-- Proofs that calls share.
+pub mod Fronts
+pub mod Making
+pub mod Siding

@@ -1,0 +1,6 @@
+-- What contracts of the calls cite.
+pub mod Edits
+pub mod Exchanges
+pub mod Following
+pub mod Logs
+pub mod Positions
