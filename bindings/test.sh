@@ -137,6 +137,9 @@ compile sweep sweep.c -Wl,--wrap=malloc,--wrap=realloc
 checked "$work/sweep"
 compile stated stated.c
 checked "$work/stated"
+compile replicas replicas.c -Wl,--wrap=malloc,--wrap=realloc
+checked "$work/replicas"
+compile node node.c
 # Calls that only read write nothing, and run at the same time; helgrind watches the threads for less long.
 compile readers readers.c -D_DEFAULT_SOURCE -Wl,--wrap=malloc,--wrap=realloc,--wrap=free
 "$work/readers" 2
@@ -154,7 +157,7 @@ fi
 compile inputs fuzz.c -DFUZZ_FILES
 checked "$work/inputs" c/corpus/*
 if echo 'int main(void){return 0;}' | cc -fsanitize=address,undefined -x c - -o "$work/sane" 2> /dev/null; then
-    for name in example stated sweep; do
+    for name in example stated sweep replicas; do
         [ $name = sweep ] && wrap=-Wl,--wrap=malloc,--wrap=realloc
         compile sane_$name $name.c -fsanitize=address,undefined -fno-sanitize-recover=all ${wrap-}
         "$work/sane_$name" > /dev/null
@@ -175,6 +178,8 @@ fi
 if command -v python3 > /dev/null; then
     export HEAL_LIBRARY="$HEAL_OUT/libheal.so" PYTHONDONTWRITEBYTECODE=1
     (cd python && python3 -m unittest -q)
+    c/nodes.py 30 "$work/node"
+    c/nodes.py 10 python3 python/node.py
     python3 python/first.py > "$work/printed"
     cmp "$work/printed" "$work/first.out"
     check_wheel
@@ -186,11 +191,18 @@ if command -v cargo > /dev/null; then
     (cd rust && cargo test -q --offline)
     (cd rust && cargo run -q --offline -p heal --example first) > "$work/printed"
     cmp "$work/printed" "$work/first.out"
+    if command -v python3 > /dev/null; then
+        (cd rust && cargo build -q --offline -p heal --example node)
+        c/nodes.py 10 "$CARGO_TARGET_DIR/debug/examples/node"
+    fi
 else
     skip "there is no cargo, so the bindings for Rust were not tested"
 fi
 if has_erlang; then
     make -s -C erlang HEAL="$HEAL_OUT" test sanitize
+    if command -v python3 > /dev/null; then
+        c/nodes.py 6 erl -noshell -pa "$PWD/erlang/ebin" "$PWD/erlang/out" -run heal_node main -extra
+    fi
 else
     skip "there is no Erlang with erl_nif.h and eunit, so the OTP application was not tested"
 fi

@@ -1,104 +1,92 @@
-%% @private The steps of one exchange of heal_registry, over a table that is frozen meanwhile.
+%% @private An exchange by libheal, for heal_meeting: a side that is made for it, and what else a part reads of its node.
 %%
-%% `open' makes the offer, `hear' takes the other's offer and judges every clash, `close' makes the list of withdrawn names,
-%% `finish' takes the other's list and swaps in the merge. After a refusal the caller abandons the exchange.
+%% heal_meeting calls each function at most once for each exchange and in this order: `open', `hear', `withdraw' any number of
+%% times, `close', `finish'. A side is dropped when its exchange is over or abandoned.
 -module(heal_exchange).
 
--export([open/3, hear/3, close/2, finish/3, abandon/2, is_open/1, number/1, has_heard/1, withdraw/3]).
--export_type([exchange/0, offer/0, withdrawals/0, merge/0]).
+-include("heal_replica.hrl").
 
--record(exchange, {
-    number :: pos_integer(),
-    own :: heal_table:processes(),
-    others = none :: none | heal_table:processes(),
-    codes = [] :: [binary()],
-    withdrawn = [] :: [heal:name()],
-    is_closed = false :: boolean()
-}).
+-export([open/6, hear/2, withdraw/2, close/1, finish/3, registration/2, seed/0, serial/0, is_alive/1]).
+-export_type([process/0]).
 
--opaque exchange() :: #exchange{}.
--type offer() :: {Offer :: binary(), heal_table:processes(), Codes :: [binary()]}.
--type withdrawals() :: {List :: binary(), Withdrawn :: [heal:name()]}.
-%% The names whose owner has no process, the first refusal of a program of the other half, and the new table.
--type merge() :: {[{heal:name(), heal:owner()}], none | heal:refusal(), heal_table:table()}.
+-type process() :: {heal:owner(), pid(), Term :: term(), Home :: heal_replica:life()}.
+-type refused() :: {error, pos_integer()}.
 
-%% Opens an exchange. The seed is alike on both halves.
--spec open(pos_integer(), Seed :: non_neg_integer(), heal_table:table()) -> {ok, offer(), exchange()} | {error, heal:refusal()}.
-open(Number, Seed, Table) ->
-    ok = heal_table:freeze(Table),
-    case heal:begin_exchange(heal_table:side(Table), Number, Seed, heal_names:uptime()) of
-        {ok, Offer} ->
-            Own = heal_table:own(Table),
-            {ok, {Offer, Own, heal_table:codes()}, #exchange{number = Number, own = Own}};
-        Refused ->
-            ok = heal_table:thaw(Table),
-            Refused
+%% Makes a side of these names, which may have as many names as the limit, and returns its offer. The leader is side a.
+-spec open(a | b, Number :: pos_integer(), Seed :: non_neg_integer(), #{heal:name() => #row{}}, #{binary() => binary()},
+           Limit :: pos_integer()) -> {ok, Offer :: binary(), heal:side()} | refused().
+open(Id, Number, Seed, Names, Programs, Limit) ->
+    {ok, Side} = heal:side(Id, Limit),
+    Calls = [fun() -> plain(heal:upload(Side, Code)) end || Code <- maps:values(Programs)]
+        ++ [fun() -> heal:register(Side, Name, Registration) end
+            || {Name, #row{registration = Registration}} <- maps:to_list(Names)],
+    case all(Calls ++ [fun() -> heal:renew(Side) end]) of
+        ok -> with(Side, heal:begin_exchange(Side, Number, Seed, heal_names:uptime()));
+        Refused -> Refused
     end.
 
-%% Returns whether a link is an open exchange.
--spec is_open(exchange() | term()) -> boolean().
-is_open(Link) ->
-    is_record(Link, exchange).
-
--spec number(exchange()) -> pos_integer().
-number(#exchange{number = Number}) ->
-    Number.
-
--spec has_heard(exchange()) -> boolean().
-has_heard(#exchange{others = Others}) ->
-    Others =/= none.
-
--spec hear(offer(), exchange(), heal_table:table()) -> {ok, exchange()} | {error, heal:refusal()}.
-hear({Offer, Others, Codes}, Exchange, Table) ->
-    Side = heal_table:side(Table),
+%% Hears the other's offer and judges every clash.
+-spec hear(Offer :: binary(), heal:side()) -> {ok, heal:side()} | refused().
+hear(Offer, Side) ->
     case all([fun() -> heal:hear(Side, Offer) end, fun() -> heal:settle(Side) end]) of
-        ok -> {ok, Exchange#exchange{others = Others, codes = Codes}};
+        ok -> {ok, Side};
         Refused -> Refused
     end.
 
 %% Withdraws a name whose process is gone. `late' means that the list is closed.
--spec withdraw(heal:name(), exchange(), heal_table:table()) -> {ok, exchange()} | late.
-withdraw(_Name, #exchange{is_closed = true}, _Table) ->
-    late;
-withdraw(Name, Exchange = #exchange{withdrawn = Withdrawn}, Table) ->
-    case heal_table:withdraw(Name, Table) of
-        ok -> {ok, Exchange#exchange{withdrawn = [Name | Withdrawn]}};
+-spec withdraw(heal:name(), heal:side()) -> {ok, heal:side()} | late.
+withdraw(Name, Side) ->
+    case heal:withdraw(Side, Name) of
+        ok -> {ok, Side};
         {error, _} -> late
     end.
 
--spec close(exchange(), heal_table:table()) -> {ok, withdrawals(), exchange()} | {error, heal:refusal()}.
-close(Exchange = #exchange{withdrawn = Withdrawn}, Table) ->
-    case heal:close_list(heal_table:side(Table)) of
-        {ok, List} -> {ok, {List, Withdrawn}, Exchange#exchange{is_closed = true}};
-        Refused -> Refused
-    end.
+%% Closes the list of withdrawn names, and returns it.
+-spec close(heal:side()) -> {ok, List :: binary(), heal:side()} | refused().
+close(Side) ->
+    with(Side, heal:close_list(Side)).
 
-%% Swaps in the merge, keeps the losers of this half, and uploads the other's programs.
--spec finish(withdrawals(), exchange(), heal_table:table()) -> {ok, merge()} | {error, heal:refusal()}.
-finish({List, Withdrawn}, Exchange, Table) ->
-    Side = heal_table:side(Table),
+%% Hears the other's list. Returns the owners of the merge, for those of these names that it has, and the clashes.
+-spec finish(List :: binary(), [heal:name()], heal:side()) ->
+    {ok, [{heal:name(), heal:owner()}], [heal:clash()], heal:side()} | refused().
+finish(List, Names, Side) ->
     case all([fun() -> heal:hear_list(Side, List) end, fun() -> heal:finish(Side) end]) of
-        {ok, Outcome} -> {ok, swap(Outcome, Withdrawn, Exchange, Table)};
-        Refused -> Refused
+        {ok, Outcome} ->
+            {ok, Clashes} = heal:clashes(Outcome),
+            {ok, Owners} = heal:owners(Side, Names),
+            {ok, Owners, Clashes, Side};
+        Refused ->
+            Refused
     end.
 
-swap(Outcome, Withdrawn, #exchange{own = Own, others = Others, codes = Codes}, Table) ->
-    {ok, Clashes} = heal:clashes(Outcome),
-    Losers = heal_losers:of_clashes(Clashes, Withdrawn, {heal_table:number(Table), Own, Others}),
-    {Without, Swapped} = heal_table:swap(Others, heal_losers:kept(Losers), Table),
-    Refusals = [Refusal || Code <- Codes -- heal_table:codes(), {error, Refusal} <- [heal_table:upload(Code, Swapped)]],
-    {Without, hd(Refusals ++ [none]), Swapped}.
+%% Returns the registration of a name after `finish'.
+-spec registration(heal:name(), heal:side()) -> heal:registration().
+registration(Name, Side) ->
+    {ok, Registration} = heal:whereis(Side, Name),
+    Registration.
 
--spec abandon(exchange(), heal_table:table()) -> ok.
-abandon(_Exchange, Table) ->
-    ok = heal:give_up(heal_table:side(Table)),
-    heal_table:thaw(Table).
+%% Returns a random seed.
+-spec seed() -> non_neg_integer().
+seed() -> heal_names:seed().
+
+%% Returns a number that this run of the node gave to no other owner.
+-spec serial() -> pos_integer().
+serial() -> heal_names:serial().
+
+%% Returns whether a process may be alive. Another node's process is watched by that node.
+-spec is_alive(pid()) -> boolean().
+is_alive(Pid) -> node(Pid) =/= node() orelse is_process_alive(Pid).
 
 %% Makes calls until one is refused. Returns the last answer.
-all([Call]) ->
-    Call();
 all([Call | Rest]) ->
-    case Call() of
-        ok -> all(Rest);
-        Refused -> Refused
+    case {Call(), Rest} of
+        {{error, {Number, _}}, _} -> {error, Number};
+        {Answer, []} -> Answer;
+        {ok, _} -> all(Rest)
     end.
+
+plain({ok, _}) -> ok;
+plain(Refused) -> Refused.
+
+with(Side, {ok, Message}) -> {ok, Message, Side};
+with(_Side, {error, {Number, _}}) -> {error, Number}.

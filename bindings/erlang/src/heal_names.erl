@@ -1,7 +1,7 @@
 %% @private Names, registrations and notices, as heal_resolver and heal_registry use them.
 -module(heal_names).
 
--export([bytes/1, options/1, registration/3, serial/0, seed/0, uptime/0, notices/1, deliver/3]).
+-export([bytes/1, name/1, is_name/1, is_same/2, options/1, registration/3, serial/0, seed/0, uptime/0, notices/1, deliver/3]).
 -export_type([notice/0]).
 
 -type notice() :: {exit | conflict | conflict_with, first | second}.
@@ -15,21 +15,49 @@ bytes(Name) when is_atom(Name) ->
 bytes(Name) when is_binary(Name) ->
     valid(Name);
 bytes(Name) when is_list(Name) ->
-    try
-        valid(list_to_binary(Name))
-    catch
-        error:badarg -> error
+    case is_text(Name) of
+        true -> valid(list_to_binary(Name));
+        false -> error
     end;
 bytes(_Name) ->
     error.
 
+%% A string, not a list that list_to_binary/1 would flatten.
+is_text([Byte | Rest]) when is_integer(Byte), Byte >= 0, Byte < 256 -> is_text(Rest);
+is_text(Rest) -> Rest =:= [].
+
+%% Returns the name under which a term is registered: itself if it is printable, or else `$' and its MD5 digest. A digest that
+%% two terms share does no harm: their rows have the terms.
+-spec name(Term :: term()) -> heal:name().
+name(Term) ->
+    case bytes(Term) of
+        {ok, Bytes} ->
+            Bytes;
+        error ->
+            Digest = erlang:md5(term_to_binary(Term, [deterministic, {minor_version, 2}])),
+            <<"$", (binary:part(base64:encode(Digest), 0, 22))/binary>>
+    end.
+
+%% Returns whether this is a name of heal.
+-spec is_name(term()) -> boolean().
+is_name(Name) when byte_size(Name) >= 1, byte_size(Name) =< 32 -> is_printable(Name);
+is_name(_Other) -> false.
+
+%% Returns whether two terms that have one name are that name: one term, or two writings of a printable one.
+-spec is_same(term(), term()) -> boolean().
+is_same(Term, Term) -> true;
+is_same(One, Other) -> bytes(One) =/= error andalso bytes(One) =:= bytes(Other).
+
 valid(Bytes) when byte_size(Bytes) >= 1, byte_size(Bytes) =< 32 ->
-    case [Byte || <<Byte>> <= Bytes, Byte < 16#21 orelse Byte > 16#7e] of
-        [] -> {ok, Bytes};
-        _ -> error
+    case is_printable(Bytes) of
+        true -> {ok, Bytes};
+        false -> error
     end;
 valid(_Bytes) ->
     error.
+
+is_printable(<<Byte, Rest/binary>>) when Byte >= 16#21, Byte =< 16#7e -> is_printable(Rest);
+is_printable(Rest) -> Rest =:= <<>>.
 
 %% Returns the options of a registration with all of stamp, weight, extra and resolver. Raises `badarg' for a bad option, and
 %% `{bad_setting, resolver, Value}' if the application's setting `resolver' isn't a resolver.
@@ -70,6 +98,7 @@ serial() ->
         Serial -> Serial
     end.
 
+%% Returns a random seed.
 -spec seed() -> 0..16#ffffffffffffffff.
 seed() ->
     rand:uniform(1 bsl 64) - 1.

@@ -1,13 +1,39 @@
-%% @private What keeps the two nodes of heal_registry apart: logged once, with an alarm until it is over.
+%% @private What keeps this node's part apart from others: logged once, with an alarm until it is over.
 %%
-%% A problem is the number of a refusal, such as 37, 42 or 43 where the names or programs of both halves don't fit; `nodes' for
-%% another node's setting; `version' for another version of the messages; `silent' for a node that doesn't answer.
+%% A problem is the number of a refusal, such as 37 or 42 where the names or programs of both parts don't fit, and 43 for a
+%% program that the part has no room for; `nodes', `scope' or `hidden' for another node's settings; `numbers' for two nodes of one
+%% number; `version' for another version of the messages; `silent' for a node that doesn't answer.
 -module(heal_problems).
 
--export([found/2, over/1, all/0]).
+-export([report/1, over/1, all/0]).
 -export_type([problem/0]).
 
--type problem() :: pos_integer() | nodes | version | silent.
+-type problem() :: pos_integer() | heal_peers:refusal() | silent.
+
+%% Logs what is new and clears what is over.
+-spec report(heal_peers:problems()) -> ok.
+report(Problems) ->
+    over(maps:keys(Problems)),
+    maps:foreach(fun(Problem, {Node, Info}) -> found(Problem, words(Problem, Node, Info)) end, Problems).
+
+words(nodes, Node, Nodes) ->
+    io_lib:format("stays apart from ~p, whose setting nodes is ~0p", [Node, Nodes]);
+words(scope, Node, Scope) ->
+    io_lib:format("stays apart from ~p, whose scope is ~0p", [Node, Scope]);
+words(hidden, Node, _Number) ->
+    io_lib:format("stays apart from ~p, a hidden node: name it in the setting nodes", [Node]);
+words(numbers, Node, {Other, Number}) ->
+    io_lib:format("stays apart from ~p, which has the node number ~p of ~p: set node_numbers", [Node, Number, Other]);
+words(numbers, Node, none) ->
+    io_lib:format("can't heal with ~p: two nodes of both parts have one number", [Node]);
+words(version, Node, Version) ->
+    io_lib:format("stays apart from ~p, whose messages have version ~p", [Node, Version]);
+words(silent, Node, _None) ->
+    io_lib:format("~p doesn't answer: it hangs, or its heal has another version", [Node]);
+words(43, Node, _None) ->
+    io_lib:format("~p lacks programs: ~ts", [Node, heal:refusal_words(43)]);
+words(Number, Node, _None) ->
+    io_lib:format("can't heal with ~p: ~ts", [Node, heal:refusal_words(Number)]).
 
 %% Logs a problem and sets its alarm, unless it is known.
 -spec found(problem(), Words :: unicode:chardata()) -> ok.
@@ -32,6 +58,7 @@ over(Problem, _Words) ->
     logger:notice("heal_registry: problem ~p is over", [Problem]),
     alarm(fun() -> alarm_handler:clear_alarm({heal_registry, Problem}) end).
 
+%% Returns the known problems with their words.
 -spec all() -> #{problem() => Words :: binary()}.
 all() ->
     heal_table:kept(problems, #{}).

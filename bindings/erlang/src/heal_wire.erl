@@ -1,37 +1,22 @@
-%% @private The messages between the registries of two nodes.
+%% @private The messages between the registries of nodes.
 %%
-%% A message is `{heal_registry, Version, Node, Body}'. A registry ignores a body that isn't valid, so that no message of
-%% another program or version ends it.
+%% A message is `{heal_registry, Version, Node, Body}'. A registry ignores a body that isn't valid, so that no message of another
+%% program or version ends it. Registries of other versions are refused: version 2 was that of registries of two nodes.
 -module(heal_wire).
 
--include("heal_registry.hrl").
+-include("heal_replica.hrl").
 
--export([to_peer/2, to/3, send/2, read/1, is_valid/1, is_edit/1]).
--export_type([edit/0]).
+-export([message/1, send/2, read/1, is_valid/1, is_edit/1]).
 
--define(VERSION, 2).
+-define(VERSION, 3).
 
-%% `adopt' is a registration by the registry of the process's node, which adds the owner.
--type edit() ::
-    {register, heal:name(), Term :: term(), heal:registration(), pid()}
-    | {adopt, heal:name(), Term :: term(), Options :: map(), pid()}
-    | {unregister, heal:name(), heal:owner() | any}
-    | {upload, binary()}.
-
-%% Sends a message to the other registry. If that node reads too slowly, this registry receives `unreachable'.
--spec to_peer(term(), #state{}) -> #state{}.
-to_peer(Body, State = #state{peer = Peer}) ->
-    case to(Peer, Body, State) of
-        nosuspend -> self() ! {heal_registry, unreachable}, State;
-        _ -> State
-    end.
-
--spec to(node(), term(), #state{}) -> term().
-to(Node, Body, #state{send = Send}) ->
-    Send(Node, {heal_registry, ?VERSION, node(), Body}).
+%% Returns the message of a body.
+-spec message(Body :: term()) -> tuple().
+message(Body) ->
+    {heal_registry, ?VERSION, node(), Body}.
 
 %% Never waits: neither for a connection nor for a node that reads slowly.
--spec send(node(), term()) -> ok | nosuspend | noconnect.
+-spec send(node(), Message :: term()) -> ok | nosuspend | noconnect.
 send(Node, Message) ->
     erlang:send({heal_registry, Node}, Message, [noconnect, nosuspend]).
 
@@ -44,66 +29,114 @@ read(_Other) -> error.
 
 %% Returns whether this is a valid body. An invalid edit is its receiver's matter.
 -spec is_valid(Body :: term()) -> boolean().
-is_valid({started, Nodes}) -> is_list(Nodes);
-is_valid({ask, Nodes, Reference}) -> is_list(Nodes) andalso is_reference(Reference);
-is_valid({hello, Nodes, Reference, Greatest}) -> is_list(Nodes) andalso is_reference(Reference) andalso is_number_of(Greatest);
-is_valid({differs, Nodes}) -> is_list(Nodes);
-is_valid({offer, Number, Seed, Offer}) -> is_number_of(Number) andalso is_seed(Seed) andalso is_offer(Offer);
-is_valid({list, Number, {List, Names}}) -> is_number_of(Number) andalso is_binary(List) andalso all(fun is_name/1, Names);
-is_valid({abandon, Number, Refusal}) -> is_number_of(Number) andalso (Refusal =:= none orelse is_refusal(Refusal));
-is_valid({finished, Number}) -> is_number_of(Number);
-is_valid({edit, Number, Edits, Request, _, _}) -> all(fun is_number_of/1, [Number, Edits]) andalso is_request(Request);
-is_valid({request, Number, Request, _}) -> all(fun is_number_of/1, [Number, Request]);
-is_valid({answer, Number, Request, _}) -> all(fun is_number_of/1, [Number, Request]);
+is_valid({here, #{life := Life, seq := Seq, number := Number, nodes := Nodes, scope := _, at := At, members := Members,
+                  is_settled := IsSettled, is_first := IsFirst}}) ->
+    is_life(Life) andalso is_count(Seq) andalso is_word(Number) andalso (Nodes =:= any orelse all(fun is_atom/1, Nodes))
+        andalso is_at(At) andalso all(fun is_atom/1, Members) andalso is_boolean(IsSettled) andalso is_boolean(IsFirst);
+is_valid({want, View}) -> is_view(View);
+is_valid({snapshot, {{At, #half{names = Names, programs = Programs, latest = Latest}}, Losers}}) ->
+    is_at(At) andalso are_names(Names, fun is_row/1) andalso are_programs(Programs) andalso is_count(Latest)
+        andalso all(fun is_loser/1, Losers);
+is_valid({finished, Seq, At, Requests, Edits}) ->
+    is_count(Seq) andalso is_at(At) andalso is_count(Requests) andalso all(fun is_edit/1, Edits);
+is_valid({finished, Number, View}) -> is_count(Number) andalso is_view(View);
+is_valid({settled, At}) -> is_at(At);
+is_valid({edit, At, Edits, By, _Answer}) ->
+    is_at(At) andalso Edits =/= [] andalso all(fun is_made/1, Edits) andalso (By =:= none orelse is_request(By));
+is_valid({request, View, Number, _Edit}) -> is_view(View) andalso is_count(Number);
+is_valid({answer, View, Number, _Answer}) -> is_view(View) andalso is_count(Number);
+is_valid({adopt, Number, _Edit}) -> is_count(Number);
+is_valid({adopted, Number, _Answer}) -> is_count(Number);
+is_valid({released, Number, Owner}) -> is_count(Number) andalso is_owner(Owner);
+is_valid({ask, Reference, Members}) -> is_reference_of(Reference) andalso all(fun is_member/1, Members);
+is_valid({hello, Reference, Greatest, Members}) ->
+    is_reference_of(Reference) andalso is_count(Greatest) andalso all(fun is_member/1, Members);
+is_valid({Kind, Reference}) when Kind =:= busy; Kind =:= cancel -> is_reference_of(Reference);
+is_valid({offer, Number, Seed, Offer, Reference}) ->
+    is_count(Number) andalso is_long(Seed) andalso is_offer(Offer) andalso (Reference =:= none orelse is_reference_of(Reference));
+is_valid({list, Number, {List, Names}}) -> is_count(Number) andalso is_binary(List) andalso all(fun is_name/1, Names);
+is_valid({abandon, Number, Refusal}) -> is_count(Number) andalso (is_atom(Refusal) orelse is_integer(Refusal));
 is_valid(_Other) -> false.
 
 %% A number that has greater ones.
-is_number_of(Number) -> is_integer(Number) andalso Number >= 0 andalso Number < 1 bsl 63.
+is_count(Number) -> is_integer(Number) andalso Number >= 0 andalso Number < 16#8000000000000000.
 
-is_seed(Seed) -> is_integer(Seed) andalso Seed >= 0 andalso Seed < 1 bsl 64.
+is_long(Seed) -> is_integer(Seed) andalso Seed >= 0 andalso Seed =< 16#ffffffffffffffff.
 
-is_request(Request) -> Request =:= none orelse is_number_of(Request).
+is_life({Node, Incarnation}) -> is_atom(Node) andalso is_integer(Incarnation);
+is_life(_Other) -> false.
 
-is_refusal({Number, Words}) -> is_integer(Number) andalso is_binary(Words);
-is_refusal(_Other) -> false.
+is_view({Life, Number}) -> is_life(Life) andalso is_count(Number);
+is_view(_Other) -> false.
 
-is_offer({Offer, Processes, Codes}) ->
-    is_binary(Offer) andalso is_map(Processes) andalso all(fun is_process/1, maps:to_list(Processes))
-        andalso all(fun is_binary/1, Codes);
+is_at({View, Operation}) -> is_view(View) andalso is_count(Operation);
+is_at(_Other) -> false.
+
+is_reference_of({Life, Number}) -> is_life(Life) andalso is_count(Number);
+is_reference_of(_Other) -> false.
+
+is_member({Life, Number}) -> is_life(Life) andalso is_word(Number);
+is_member(_Other) -> false.
+
+is_request({Node, Number}) -> is_atom(Node) andalso is_count(Number);
+is_request(_Other) -> false.
+
+is_offer({Offer, Processes, Programs, Members}) ->
+    is_binary(Offer) andalso are_names(Processes, fun is_process/1) andalso are_programs(Programs)
+        andalso all(fun is_member/1, Members);
 is_offer(_Other) ->
     false.
 
-is_process({Name, {Owner, Pid, _Term}}) -> is_name(Name) andalso is_owner(Owner) andalso is_pid(Pid);
+are_names(Names, Is) ->
+    is_map(Names) andalso all(fun({Name, Value}) -> is_name(Name) andalso Is(Value) end, maps:to_list(Names)).
+
+are_programs(Programs) ->
+    is_map(Programs) andalso all(fun({Id, Code}) -> is_binary(Id) andalso is_binary(Code) end, maps:to_list(Programs)).
+
+is_process({Owner, Pid, _Term, Home}) -> is_owner(Owner) andalso is_pid(Pid) andalso is_life(Home);
 is_process(_Other) -> false.
 
-all(Is, Terms) -> is_list(Terms) andalso length(Terms) >= 0 andalso lists:all(Is, Terms).
+is_loser({Name, Owner, {{Kind, Position}, Rival}}) ->
+    is_name(Name) andalso is_owner(Owner) andalso lists:member(Kind, [exit, conflict, conflict_with])
+        andalso lists:member(Position, [first, second]) andalso is_pid(Rival);
+is_loser(_Other) -> false.
 
-%% Returns whether this is a valid edit.
+is_row(#row{registration = Registration = #{owner := Owner}, pid = Pid, home = Home}) when map_size(Registration) =:= 5 ->
+    is_owner(Owner) andalso has_options(Registration) andalso is_pid(Pid) andalso is_life(Home);
+is_row(_Other) -> false.
+
+is_made({register, Name, Row}) -> is_name(Name) andalso is_row(Row);
+is_made({unregister, Name}) -> is_name(Name);
+is_made({upload, Id, Code}) -> is_binary(Id) andalso is_binary(Code);
+is_made(_Other) -> false.
+
+%% A list that isn't proper has no length.
+all(Is, Terms) when length(Terms) >= 0 -> lists:all(Is, Terms);
+all(_Is, _Terms) -> false.
+
+%% Returns whether this is a valid edit of a caller or of another node.
 -spec is_edit(term()) -> boolean().
-is_edit({register, Name, _Term, Registration = #{owner := Owner}, Pid}) ->
-    is_name(Name) andalso is_pid(Pid) andalso is_owner(Owner) andalso are_options(maps:remove(owner, Registration));
-is_edit({adopt, Name, _Term, Options, Pid}) ->
-    is_name(Name) andalso is_pid(Pid) andalso is_map(Options) andalso are_options(Options);
-is_edit({unregister, Name, Owner}) ->
-    is_name(Name) andalso (Owner =:= any orelse is_owner(Owner));
-is_edit({upload, Code}) ->
-    is_binary(Code);
-is_edit(_Other) ->
-    false.
+is_edit({register, Name, Row}) -> is_name(Name) andalso is_row(Row);
+is_edit({adopt, Name, _Term, Options, Pid, On}) ->
+    is_name(Name) andalso is_pid(Pid) andalso is_map(Options) andalso are_options(Options) andalso node(Pid) =:= On;
+is_edit({unregister, Name, Owner}) -> is_name(Name) andalso (Owner =:= any orelse is_owner(Owner));
+is_edit({upload, Id, Code}) -> is_binary(Id) andalso is_binary(Code);
+is_edit(_Other) -> false.
 
-is_name(Name) -> heal_names:bytes(Name) =:= {ok, Name}.
+is_name(Name) -> heal_names:is_name(Name).
 
 is_owner({Node, Serial}) -> is_word(Node) andalso is_word(Serial);
 is_owner(_Other) -> false.
 
-is_word(Word) -> is_integer(Word) andalso Word >= 0 andalso Word < 1 bsl 32.
+is_word(Word) -> is_integer(Word) andalso Word >= 0 andalso Word =< 16#ffffffff.
 
 %% A complete registration but for its owner.
-are_options(Options = #{stamp := _, weight := _, extra := _, resolver := _}) ->
-    try
-        heal_names:options(Options) =:= Options
-    catch
-        error:_ -> false
-    end;
-are_options(_Options) ->
+are_options(Options) -> map_size(Options) =:= 4 andalso has_options(Options).
+
+has_options(#{stamp := Stamp, weight := Weight, extra := <<_:128>>, resolver := Resolver}) ->
+    is_long(Stamp) andalso is_long(Weight) andalso is_resolver(Resolver);
+has_options(_Options) ->
     false.
+
+is_resolver({program, <<_:256>>}) -> true;
+is_resolver(Builtin) -> Builtin =:= exit orelse Builtin =:= notify orelse Builtin =:= notify_all.

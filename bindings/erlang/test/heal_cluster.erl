@@ -5,7 +5,7 @@
 -module(heal_cluster).
 
 -export([start/1, start/2, start_again/1, stop/1, node_of/1, call/4, connect/2, split/2, freeze/1, thaw/1, eventually/1]).
--export([pair/2, pair/3, halves/2, start_registry/3, kill_registry/1, start_application/3]).
+-export([cluster/3, cluster/4, mesh/1, split_into/1, one_part/1, kill_node/1, pair/2, pair/3, halves/2, start_registry/3, kill_registry/1, start_application/3]).
 -export([status/1, link_of/1, table/1, own/4, own_each/4, mail/2, kill/2, joined/2, alike/2, apart/2]).
 -export([serve/1, owners/3, mail_here/1, table_here/0, registry/2, parent/0]).
 
@@ -110,6 +110,56 @@ two(Options, Args, Before, Test) ->
         fun(Nodes) -> [stop(It) || It <- Nodes] end,
         fun([A, B]) -> {title(Test), {timeout, 240, fun() -> Before(A, B), Test(A, B) end}} end}.
 
+%% Runs a test on this many connected nodes, whose registries are one part.
+cluster(Count, Options, Test) ->
+    cluster(Count, Options, [], Test).
+
+cluster(Count, Options, Args, Test) ->
+    {setup,
+        fun() ->
+            Nodes = [start(Letter, separate() ++ Args) || Letter <- lists:sublist([a, b, c, d, e], Count)],
+            [start_registry(It, any, Options) || It <- Nodes],
+            Nodes
+        end,
+        fun(Nodes) -> [stop(It) || It <- Nodes] end,
+        fun(Nodes) -> {title(Test), {timeout, 240, fun() -> mesh(Nodes), one_part(Nodes), Test(Nodes) end}} end}.
+
+%% Without these settings `global' disconnects nodes that others can't reach.
+separate() ->
+    ["-connect_all", "false", "-kernel", "prevent_overlapping_partitions", "false"].
+
+%% Connects each node with each other one.
+mesh(Nodes) ->
+    [connect(One, Other) || One <- Nodes, Other <- Nodes, node_of(One) < node_of(Other)],
+    ok.
+
+%% Cuts all connections between these sides.
+split_into(Sides) ->
+    [split(One, Other) || Side <- Sides, Rest <- Sides, Side < Rest, One <- Side, Other <- Rest],
+    ok.
+
+%% Waits until these nodes are one part with one table of living processes. Returns the table.
+one_part(Nodes) ->
+    Names = lists:sort([node_of(It) || It <- Nodes]),
+    eventually(fun() ->
+        case lists:usort([maps:with([primary, view, members, link], status(It)) || It <- Nodes]) of
+            [#{members := Names}] -> true;
+            Different -> Different
+        end
+    end),
+    eventually(fun() ->
+        case lists:usort([table(It) || It <- Nodes]) of
+            [Table] -> [] =:= [Name || {Name, undefined} <- Table] andalso dead(Table, Nodes) =:= [];
+            Different -> Different
+        end
+    end),
+    table(hd(Nodes)).
+
+%% Ends the operating system's process of a node.
+kill_node(Of) ->
+    "" = os:cmd("kill -9 " ++ call(Of, os, getpid, [])),
+    stop(Of).
+
 %% The name of the function that the test is.
 title(Test) ->
     {name, Name} = erlang:fun_info(Test, name),
@@ -119,7 +169,8 @@ title(Test) ->
 %% supervisor does, starts it.
 start_registry(Of, Nodes, Options) ->
     _ = call(Of, application, load, [heal]),
-    ok = call(Of, ?MODULE, registry, [[node_of(It) || It <- Nodes], Options]).
+    Names = case Nodes of any -> any; _ -> [node_of(It) || It <- Nodes] end,
+    ok = call(Of, ?MODULE, registry, [Names, Options]).
 
 registry(Nodes, Options) ->
     _ = whereis(?PARENT) =/= undefined orelse register(?PARENT, spawn(?MODULE, parent, [])),

@@ -6,7 +6,7 @@
 %% `none'; `twice': every message is sent twice; `{hold, Kind}': messages of this kind wait for release/0; `{hold_from, Kind}':
 %% those that follow wait too, as on a slow connection;
 %% `{lose, Kind}'; `{halt, Kind, before | later}': the node ends when it sends this kind; `{replace, Kind, Body}': this body is
-%% sent; `{full, Kind}': the connection takes no message of this kind.
+%% sent; `{replace_edit, Edit}': this edit is requested; `{full, Kind}': the connection takes no message of this kind.
 plan(Plan) ->
     persistent_term:put(?MODULE, Plan).
 
@@ -32,6 +32,8 @@ act({full, Kind}, Kind, _Node, _Message) ->
     nosuspend;
 act({replace, Kind, Body}, Kind, Node, Message) ->
     deliver(Node, setelement(tuple_size(Message), Message, Body));
+act({replace_edit, Edit}, request, Node, Message = {_, _, _, Body}) ->
+    deliver(Node, setelement(4, Message, setelement(4, Body, Edit)));
 act({halt, Kind, before}, Kind, _Node, _Message) ->
     erlang:halt(0, [{flush, false}]);
 act({halt, Kind, later}, Kind, Node, Message) ->

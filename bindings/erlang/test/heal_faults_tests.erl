@@ -192,3 +192,19 @@ too_many(A, B, _Owners) ->
     heal_cluster:joined(A, B),
     heal_cluster:eventually(fun() -> heal_cluster:table(A) =:= heal_cluster:table(B) end),
     ?assertEqual(4003, length(heal_cluster:table(A))).
+
+%% ---- More names ----
+
+more_names_test_() ->
+    heal_cluster:halves(#{exchange_timeout => 10 * ?SOON, names => 8300}, fun more_names/2).
+
+%% Halves that have as many names together as the setting allows heal, and no more names are registered.
+more_names(A, B) ->
+    [heal_cluster:own_each(It, ?REGISTER, [Prefix ++ integer_to_list(N) || N <- lists:seq(1, 4150)], #{})
+     || {It, Prefix} <- [{A, "a"}, {B, "b"}]],
+    heal_cluster:connect(A, B),
+    heal_cluster:joined(A, B),
+    heal_cluster:eventually(fun() -> heal_cluster:table(A) =:= heal_cluster:table(B) end),
+    ?assertEqual(8300, length(heal_cluster:table(A))),
+    Pid = heal_cluster:call(B, erlang, spawn, [heal_cluster, serve, [[]]]),
+    ?assertMatch({error, {32, <<_/binary>>}}, heal_cluster:call(B, heal_registry, register, [more, Pid, #{}])).

@@ -102,19 +102,20 @@ silent_leader(A, B) ->
     ?assertMatch([{one, _}], heal_cluster:alike(A, B)),
     [?assertMatch(#{problems := Problems} when Problems =:= #{}, heal_cluster:status(It)) || It <- [A, B]].
 
-%% Messages that the connection doesn't take aren't sent, and the nodes heal when it does.
+%% The connection takes no entries: the other node gets a snapshot. It takes no requests: that node goes on by itself, and
+%% heals.
 full_connection(A, B) ->
     heal_cluster:connect(A, B),
     heal_cluster:joined(A, B),
     #{number := Number} = heal_cluster:status(A),
     plan(A, {full, edit}),
     One = own(A, one),
-    heal_cluster:eventually(fun() -> maps:get(number, heal_cluster:status(A)) > Number end),
     ?assertEqual([{one, One}], heal_cluster:alike(A, B)),
     plan(A, none),
     plan(B, {full, request}),
     Two = own(B, two),
     plan(B, none),
+    heal_cluster:eventually(fun() -> maps:get(number, heal_cluster:status(A)) > Number end),
     heal_cluster:eventually(fun() -> heal_cluster:table(A) =:= [{one, One}, {two, Two}] end),
     ?assertMatch([{one, One}, {two, Two}], heal_cluster:alike(A, B)).
 

@@ -40,7 +40,7 @@ unknown_calls(A, B) ->
     [?assertEqual({error, unknown_call}, heal_cluster:call(It, gen_server, call, [heal_registry, Call]))
      || It <- [A, B], Call <- [hello, {register, 1, 2}, {upload, x}, {stop}, 7]],
     [?assertEqual({error, bad_edit}, heal_cluster:call(It, gen_server, call, [heal_registry, {edit, Edit}]))
-     || It <- [A, B], Edit <- [hello, {unregister, 7, any}, {adopt, <<"x">>, x, #{}, self()}, {upload, x}]],
+     || It <- [A, B], Edit <- [hello, {unregister, 7, any}, {adopt, <<"x">>, x, #{}, self(), node()}, {upload, x}]],
     [begin
          ok = heal_cluster:call(It, gen_server, cast, [heal_registry, Message]),
          Message = heal_cluster:call(It, erlang, send, [heal_registry, Message])
@@ -61,30 +61,36 @@ bad_processes(A, B) ->
     Port = heal_cluster:call(A, erlang, hd, [heal_cluster:call(A, erlang, ports, [])]),
     [?assertError(badarg, register_on(A, [x, Pid, #{}])) || Pid <- [Port, none, 7, make_ref()]],
     [?assertError(badarg, register_on(A, [x, pid_on(A), Options]))
-     || Options <- [x, [], [{weight, 1}], #{1 => 2}, #{stamp => 1.0}]],
-    [?assertError(badarg, heal_cluster:call(A, heal_registry, Call, [[$a | b]])) || Call <- [whereis_name, unregister_name]].
+     || Options <- [x, [], [{weight, 1}], #{1 => 2}, #{stamp => 1.0}]].
 
-%% A node of another version, or a broken one, sends requests that the leader can't carry out.
+%% A broken node sends requests that the primary can't carry out.
 bad_requests(A, B) ->
     Pid = pid_on(B),
     Registration = #{owner => {2, 1}, stamp => 0, weight => 0, extra => <<0:128>>, resolver => exit},
-    Edits = [{register, <<"x">>, x, Registration#{resolver := later}, Pid}, {register, <<"x y">>, x, Registration, Pid},
-             {register, <<"x">>, x, maps:remove(stamp, Registration), Pid}, {register, <<"x">>, x, Registration, none},
-             {register, <<"x">>, x, #{owner => {-1, 0}}, Pid}, {upload, none}, {unregister, none, any}, hello],
+    Row = fun(Of) -> {row, Of, Pid, x, {heal_cluster:node_of(B), 1}} end,
+    Edits = [{register, <<"x">>, Row(Registration#{resolver := later})}, {register, <<"x y">>, Row(Registration)},
+             {register, <<"x">>, Row(maps:remove(stamp, Registration))}, {register, <<"x">>, setelement(3, Row(Registration), none)},
+             {register, <<"x">>, Row(#{owner => {-1, 0}})}, {register, <<"x">>, x}, {upload, none, none},
+             {unregister, none, any}, hello],
     #{number := Number} = heal_cluster:status(A),
     [begin
-         ok = heal_cluster:call(B, heal_faults, plan, [{replace, request, {request, Number, Request, Edit}}]),
+         ok = heal_cluster:call(B, heal_faults, plan, [{replace_edit, Edit}]),
          ?assertEqual({error, bad_edit}, register_on(B, [x, Pid, #{}]))
-     end || {Request, Edit} <- lists:zip(lists:seq(2, length(Edits) + 1), Edits)],
-    ok = heal_cluster:call(B, heal_faults, plan, [none]).
+     end || Edit <- Edits],
+    ok = heal_cluster:call(B, heal_faults, plan, [none]),
+    ?assertMatch(#{number := Number}, heal_cluster:status(A)).
 
 bad_messages(A, B) ->
-    Bodies = [hello, {ask}, {ask, x, y}, {hello, x}, {started, 7}, {offer, 1}, {offer, 1, 2, 3}, {offer, 99, 1, {x, #{}, []}},
-              {offer, 99, 1, {<<>>, #{<<"x">> => y}, []}}, {hello, [], make_ref(), 1 bsl 63}, {list, 1, 2},
-              {list, -1, {<<>>, []}}, {abandon, x, none}, {finished, x}, {edit, 1, 2, 3, 4}, {edit, x, 1, none, x, ok},
-              {request, x, y, z}, {answer, 1, x, ok}, [a | b], 7],
+    Life = {heal_cluster:node_of(A), 1},
+    Bodies = [hello, {ask}, {ask, x, y}, {hello, x}, {here, 7}, {here, #{}}, {here, #{life => Life, seq => -1}}, {offer, 1},
+              {offer, 1, 2, 3, 4}, {offer, 99, 1, {x, #{}, #{}, []}, none}, {offer, 99, 1, {<<>>, #{<<"x">> => y}, #{}, []}, none},
+              {hello, Life, 1 bsl 63, []}, {list, 1, 2}, {list, -1, {<<>>, []}}, {abandon, x, none}, {abandon, 1, "x"},
+              {finished, x}, {finished, 1, x}, {finished, 1, x, 2, []}, {edit, 1, 2, 3, 4}, {edit, {{Life, 1}, 1}, [x], none, ok},
+              {edit, {{Life, 1}, 1}, [{register, <<"x">>, y} | z], none, ok}, {request, x, y, z}, {answer, 1, x, ok},
+              {snapshot, x}, {snapshot, {{{{Life, 1}, 1}, x}, []}}, {want, x}, {settled, x}, {adopt, x, y}, {adopted, x, y},
+              {released, 1, x}, {busy, x}, {cancel, x}, [a | b], 7],
     Send = fun(From, To, Body) ->
-        Message = {heal_registry, 2, heal_cluster:node_of(From), Body},
+        Message = {heal_registry, 3, heal_cluster:node_of(From), Body},
         heal_cluster:call(From, erlang, send, [{heal_registry, heal_cluster:node_of(To)}, Message])
     end,
     [Send(From, To, Body) || {From, To} <- [{A, B}, {B, A}], Body <- Bodies].
@@ -112,25 +118,3 @@ not_running_test() ->
                  || {Function, Args} <- [{names, []}, {whereis_name, [db]}, {status, []}, {register_name, [db, self()]},
                                          {register, [db, self(), #{}]}, {unregister_name, [db]}, {send, [db, x]},
                                          {upload, [<<1>>]}, {sync, []}]]].
-
-%% ---- The journal ----
-
-journal_test_() ->
-    heal_cluster:pair(#{}, fun journal/2).
-
-%% An exchange begins with a fresh journal.
-journal(A, B) ->
-    heal_cluster:split(A, B),
-    heal_cluster:apart(A, B),
-    [[begin
-          ok = register_on(It, [busy, pid_on(It), #{}]),
-          ok = heal_cluster:call(It, heal_registry, unregister_name, [busy])
-      end || _ <- lists:seq(1, 100)] || It <- [A, B]],
-    heal_cluster:connect(A, B),
-    heal_cluster:alike(A, B),
-    Events = fun(It) ->
-        Side = heal_cluster:call(It, heal_table, side, [element(2, heal_cluster:call(It, sys, get_state, [heal_registry]))]),
-        {ok, Count} = heal_cluster:call(It, heal, events, [Side]),
-        Count
-    end,
-    [?assert(Events(It) < 20) || It <- [A, B]].

@@ -40,7 +40,8 @@ alone() ->
     ?assertEqual(yes, heal_registry:register_name(db, Pid)),
     exit(Pid, kill),
     heal_cluster:eventually(fun() -> heal_registry:names() =:= [] end),
-    ?assertEqual(#{link => apart, number => 0, names => 0, problems => #{}}, heal_registry:status()).
+    None = #{},
+    ?assertMatch(#{link := apart, number := 0, names := 0, problems := None, members := [_]}, heal_registry:status()).
 
 via() ->
     Name = {via, heal_registry, counter},
@@ -59,8 +60,6 @@ restarts_at_once() ->
     ?assertEqual([normal], lists:usort([Take() || _ <- lists:seq(1, 300)])).
 
 bad_arguments() ->
-    [?assertError(badarg, heal_registry:register_name(Name, self()))
-     || Name <- ["", <<"a b">>, {a}, 7, binary:copy(<<"x">>, 33)]],
     [?assertError(badarg, heal_registry:register(db, self(), Options))
      || Options <- [#{stamp => -1}, #{weight => x}, #{extra => <<>>}, #{resolver => later}, #{owner => {1, 1}}]],
     ?assertMatch({error, {41, _}}, heal_registry:register(db, self(), #{resolver => {program, <<0:256>>}})),

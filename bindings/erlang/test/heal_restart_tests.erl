@@ -120,7 +120,8 @@ half_written(A, B) ->
     Pid = own(A, one, #{}),
     [Row] = heal_cluster:call(A, ets, lookup, [heal_registry, <<"one">>]),
     heal_cluster:kill_registry(A),
-    Removed = setelement(4, setelement(2, Row, <<"removed">>), none),
+    %% A row's name, process, term and registration.
+    Removed = lists:foldl(fun({N, Value}, Sum) -> setelement(N, Sum, Value) end, Row, [{2, <<"removed">>}, {3, none}, {5, none}]),
     true = heal_cluster:call(A, ets, insert, [heal_registry, Removed]),
     ?assertEqual(undefined, heal_cluster:call(A, heal_registry, whereis_name, [removed])),
     heal_cluster:start_registry(A, [A, B], #{}),
@@ -185,18 +186,18 @@ failed_leader(A, B) ->
     ?assertEqual(lists:sort(lists:zip(Names, OnB)), heal_cluster:alike(A, B)),
     ?assertEqual(OnB, alive(B, OnB)).
 
-%% The other registry doesn't start again: losers are notified after a while.
+%% The leader's registry ends for good before it has merged: the other node keeps its names, and nobody is notified.
 failed_for_good(A, B) ->
     Names = names("n", 20),
     [_, OnB] = [own_each(It, Names, #{resolver => notify}) || It <- [A, B]],
     ok = heal_cluster:call(B, heal_faults, plan, [{hold, list}]),
     heal_cluster:connect(A, B),
     heal_cluster:eventually(fun() -> heal_cluster:link_of(B) =:= joined end),
-    Table = maps:from_list(heal_cluster:table(B)),
     heal_cluster:kill_registry(A),
-    Lost = lost(Names, Table, [{B, OnB}]),
-    heal_cluster:eventually(fun() -> not lists:member([], [heal_cluster:mail(It, Pid) || {It, Pid} <- Lost]) end),
-    ?assertEqual(length(OnB) - length(Lost), length([Pid || Pid <- OnB, heal_cluster:mail(B, Pid) =:= []])).
+    heal_cluster:eventually(fun() -> heal_cluster:link_of(B) =:= apart end),
+    New = own(B, new, #{}),
+    ?assertEqual(lists:sort([{new, New} | lists:zip(Names, OnB)]), lists:sort(heal_cluster:table(B))),
+    ?assertEqual([[]], lists:usort([heal_cluster:mail(B, Pid) || Pid <- OnB])).
 
 %% ---- Under load ----
 

@@ -7,7 +7,9 @@
 -define(SECONDS, 120).
 
 main(Modules) ->
-    Tests = [{atom_to_list(Module), tests(Module)} || Module <- Modules],
+    %% The simulator needs no nodes, which mostly wait, so it runs at the same time.
+    {Simulated, Others} = lists:partition(fun(Module) -> Module =:= heal_sim_tests end, Modules),
+    Tests = {inparallel, [{inorder, [{atom_to_list(Module), tests(Module)} || Module <- Some]} || Some <- [Simulated, Others]]},
     {Time, Result} = timer:tc(fun() -> eunit:test(Tests) end),
     io:format("~p in ~.1f s with OTP ~s~n", [Result, Time / 1.0e6, erlang:system_info(otp_release)]),
     halt(case Result of ok -> 0; error -> 1 end).

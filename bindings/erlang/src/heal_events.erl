@@ -1,0 +1,74 @@
+%% @private The processes that subscribe to what heal_registry does.
+-module(heal_events).
+
+-include("heal_replica.hrl").
+
+-export([add/2, remove/2, gone/3, report/2]).
+-export_type([subscribers/0, event/0]).
+
+-type subscribers() :: #{pid() => reference()}.
+-type event() ::
+    {registered, Name :: term(), pid()}
+    | {unregistered, Name :: term(), pid()}
+    | {conflict, Name :: term(), Loser :: pid(), Rival :: pid()}
+    | {healed, #{with := node(), number := pos_integer(), names := non_neg_integer(), clashes := non_neg_integer(),
+                 milliseconds := non_neg_integer()}}
+    | {part, Primary :: node(), [node()]}.
+%% `conflict' is on the node of the loser, `healed' on the two nodes that exchanged.
+
+%% Adds a subscriber, unless it is one.
+-spec add(pid(), subscribers()) -> subscribers().
+add(Pid, Subscribers) when is_map_key(Pid, Subscribers) -> Subscribers;
+add(Pid, Subscribers) -> Subscribers#{Pid => monitor(process, Pid)}.
+
+%% Removes a subscriber.
+-spec remove(pid(), subscribers()) -> subscribers().
+remove(Pid, Subscribers) ->
+    case maps:take(Pid, Subscribers) of
+        {Monitor, Rest} -> demonitor(Monitor, [flush]), Rest;
+        error -> Subscribers
+    end.
+
+%% A subscriber has ended.
+-spec gone(Monitor :: reference(), pid(), subscribers()) -> subscribers().
+gone(Monitor, Pid, Subscribers) ->
+    case Subscribers of
+        #{Pid := Monitor} -> maps:remove(Pid, Subscribers);
+        _ -> Subscribers
+    end.
+
+%% Sends the events of these actions, which aren't carried out yet.
+-spec report([heal_part:action()], subscribers()) -> ok.
+report(_Actions, Subscribers) when Subscribers =:= #{} ->
+    ok;
+report(Actions, Subscribers) ->
+    Events = lists:uniq(lists:append([events(Action) || Action <- Actions])),
+    [Pid ! {heal_registry, Event} || Event <- Events, Pid <- maps:keys(Subscribers)],
+    ok.
+
+events({rows, Put, Drop}) ->
+    [Event || Name <- Drop, Event <- unregistered(Name)]
+        ++ [Event || {Name, Row} <- Put, Event <- changed(Name, Row)];
+events({hide, Name}) ->
+    unregistered(Name);
+events({notify, #row{term = Term, pid = Pid}, {_, Rival}}) ->
+    [{conflict, Term, Pid, Rival}];
+events({healed, Facts}) ->
+    [{healed, Facts}];
+events({view, {{Primary, _}, _}, Nodes}) ->
+    [{part, Primary, Nodes}];
+events(_Other) ->
+    [].
+
+unregistered(Name) ->
+    case heal_table:row(Name) of
+        {ok, #row{term = Term, pid = Pid}} -> [{unregistered, Term, Pid}];
+        none -> []
+    end.
+
+changed(Name, #row{term = Term, pid = Pid}) ->
+    case heal_table:row(Name) of
+        {ok, #row{pid = Pid}} -> [];
+        {ok, #row{term = Old, pid = Before}} -> [{unregistered, Old, Before}, {registered, Term, Pid}];
+        none -> [{registered, Term, Pid}]
+    end.

@@ -1,0 +1,147 @@
+%% @private The registrations that a node answers for, and what follows when its part's table differs from them.
+%%
+%% A home keeps each registration that was acknowledged until its process ends, it is unregistered, or an exchange has given the
+%% name to another process and the notice is delivered. So no part loses one by following a replica that lacks it.
+-module(heal_home).
+
+-include("heal_part.hrl").
+
+-export([claim/3, missing/2, is_taken/3, disown/2, is_own/3, waiting/1, conflicts/3, flag/2, losers/4]).
+-export([swap/2, differences/1, settle/1, restrict/2]).
+-export_type([loss/0, loser/0]).
+
+-define(MAX_PROGRAMS, 256).
+
+-type loss() :: {heal_names:notice(), Rival :: pid()}.
+-type loser() :: {heal:name(), heal:owner(), loss()}.
+
+%% Answers for a registration from now on, unless this node answers for another one of the name.
+-spec claim(heal:name(), #row{}, #part{}) -> #part{}.
+claim(Name, Row, Part = #part{own = Own}) when not is_map_key(Name, Own) ->
+    heal_state:add({own, Name, Row}, Part#part{own = Own#{Name => #own{row = Row}}});
+claim(_Name, _Row, Part) ->
+    Part.
+
+%% Keeps registrations that the table lacks, so that a registry that starts again has them.
+-spec missing([heal:name()], #part{}) -> #part{}.
+missing(Names, Part = #part{own = Own}) ->
+    Rows = [{Name, Row} || Name <- Names, #{Name := #own{row = Row}} <- [Own]],
+    lists:foldl(fun({Name, Row}, Sum) -> heal_state:add({keep, {own, Name}, Row}, Sum) end, Part, Rows).
+
+%% Returns whether this node answers for another registration of the name.
+-spec is_taken(heal:name(), heal:owner(), #part{}) -> boolean().
+is_taken(Name, Owner, Part = #part{own = Own}) ->
+    is_map_key(Name, Own) andalso not is_own(Name, Owner, Part).
+
+%% Answers for it no more.
+-spec disown(heal:name(), #part{}) -> #part{}.
+disown(Name, Part = #part{own = Own}) ->
+    {#own{row = Row}, Rest} = maps:take(Name, Own),
+    heal_state:add({disown, Name, Row}, Part#part{own = Rest}).
+
+%% Returns whether this node answers for the registration of this owner.
+-spec is_own(heal:name(), heal:owner(), #part{}) -> boolean().
+is_own(Name, Owner, #part{own = Own}) ->
+    case Own of
+        #{Name := #own{row = #row{registration = #{owner := Owner}}}} -> true;
+        _ -> false
+    end.
+
+owner(#row{registration = #{owner := Owner}}) -> Owner.
+
+%% Returns the losers whose notice still waits.
+-spec waiting(#part{}) -> [loser()].
+waiting(#part{own = Own}) ->
+    [{Name, owner(Row), Loss} || {Name, #own{row = Row, lost = Loss}} <- maps:to_list(Own), Loss =/= none].
+
+%% Returns the names of this node that a half has given to another process, except those that an exchange decided.
+-spec conflicts([loser()], #half{}, #part{}) -> [heal:name()].
+conflicts(Losers, #half{names = Names}, #part{own = Own}) ->
+    Lost = maps:from_list([{{Name, Owner}, lost} || {Name, Owner, _} <- Losers]),
+    [Name || {Name, #own{row = Row}} <- maps:to_list(Own),
+             #{Name := Other} <- [Names],
+             is_rival(Row, Other), not is_map_key({Name, owner(Row)}, Lost)].
+
+is_rival(#row{pid = Pid}, #row{pid = Pid}) -> false;
+is_rival(Row, Other) -> owner(Row) =/= owner(Other).
+
+%% Notes which registrations an exchange has taken names from.
+-spec flag([loser()], #part{}) -> #part{}.
+flag(Losers, Part = #part{own = Own}) ->
+    Free = maps:map(fun(_, Entry) -> Entry#own{lost = none} end, Own),
+    Flag = fun({Name, Owner, Loss}, Sum) ->
+        case Sum of
+            #{Name := Entry = #own{row = #row{registration = #{owner := Owner}}}} -> Sum#{Name := Entry#own{lost = Loss}};
+            _ -> Sum
+        end
+    end,
+    Part#part{own = lists:foldl(Flag, Free, Losers)}.
+
+%% Replaces the table that processes read by that of the replica. Names of processes that ended are hidden already.
+-spec swap(Old :: #half{}, #part{}) -> #part{}.
+swap(#half{names = Old}, Part = #part{own = Own, programs = Programs}) ->
+    #half{names = New, programs = Known} = heal_state:half(Part),
+    Life = heal_state:life(Part),
+    Put = [Entry || Entry = {Name, Row} <- maps:to_list(New), differs(Name, Row, Old)],
+    Dead = [Name || {Name, Row = #row{home = Home}} <- maps:to_list(New), Home =:= Life, not is_own(Name, owner(Row), Part)],
+    Drop = maps:keys(maps:without(maps:keys(New), Old)),
+    Taken = [Name || {Name, #own{row = Row}} <- maps:to_list(Own), #{Name := Other} <- [New], is_moved(Row, Other)],
+    Swapped = lists:foldl(fun disown/2, Part#part{programs = maps:merge(Programs, Known)}, Taken),
+    Missing = maps:keys(maps:without(maps:keys(New), Swapped#part.own)) ++ [Name || {Name, _, _} <- waiting(Swapped)],
+    Kept = heal_state:add({keep, programs, maps:merge(Programs, Known)}, heal_state:add({rows, Put, Drop}, missing(Missing, Swapped))),
+    lists:foldl(fun(Name, Sum) -> heal_state:add({hide, Name}, Sum) end, Kept, Dead).
+
+differs(Name, Row, Old) ->
+    case Old of
+        #{Name := Row} -> false;
+        _ -> true
+    end.
+
+%% Another node answers for the same process under this name.
+is_moved(Row = #row{pid = Pid}, Other = #row{pid = Pid}) -> owner(Row) =/= owner(Other);
+is_moved(_Row, _Other) -> false.
+
+%% Returns the edits that the part lacks: registrations and programs of this node, and names that it answers for no more.
+-spec differences(#part{}) -> [heal_edits:edit()].
+differences(Part = #part{own = Own, programs = Programs}) ->
+    #half{names = Names, programs = Known} = heal_state:half(Part),
+    Life = heal_state:life(Part),
+    Lacking = maps:without(maps:keys(Names), Own),
+    Restored = [{register, Name, Row} || {Name, #own{row = Row, lost = none}} <- maps:to_list(Lacking)],
+    Dropped = [{unregister, Name, owner(Row)} || {Name, Row = #row{home = Home}} <- maps:to_list(Names), Home =:= Life,
+                                                 not is_own(Name, owner(Row), Part)],
+    Room = max(0, ?MAX_PROGRAMS - map_size(Known)),
+    Uploads = lists:sublist([{upload, Id, Code} || {Id, Code} <- maps:to_list(maps:without(maps:keys(Known), Programs))], Room),
+    Dropped ++ Uploads ++ Restored.
+
+%% The view is settled: notifies losers whose name another process has, and returns the edits that restore the others.
+-spec settle(#part{}) -> {[heal_edits:edit()], #part{}}.
+settle(Part = #part{own = Own}) ->
+    #half{names = Names} = heal_state:half(Part),
+    Lost = lists:sort([{Name, Entry} || {Name, Entry = #own{lost = {_, _}}} <- maps:to_list(Own)]),
+    lists:foldl(fun({Name, Entry}, Sum) -> settle(Name, Entry, maps:get(Name, Names, none), Sum) end, {[], Part}, Lost).
+
+settle(Name, #own{row = Row, lost = {{Kind, _}, _}}, none, {Edits, Part = #part{own = Own}}) when Kind =/= conflict_with ->
+    {[{register, Name, Row} | Edits], Part#part{own = Own#{Name := #own{row = Row}}}};
+settle(Name, #own{row = Row, lost = Loss}, _Row, {Edits, Part}) ->
+    {Edits, heal_state:add({notify, Row, Loss}, disown(Name, Part))}.
+
+%% Returns a replica's half with the names of these homes alone.
+-spec restrict([heal_replica:life()], #part{}) -> #half{}.
+restrict(Homes, Part) ->
+    Half = #half{names = Names} = heal_state:half(Part),
+    Half#half{names = maps:filter(fun(_, #row{home = Home}) -> lists:member(Home, Homes) end, Names)}.
+
+%% Returns the losers of an exchange. A rival that was withdrawn leaves no loser, and neither does a process that is its own.
+-spec losers([heal:clash()], Withdrawn :: [heal:name()], #{heal:name() => pid()}, #{heal:name() => pid()}) -> [loser()].
+losers(Clashes, Withdrawn, OfA, OfB) ->
+    Gone = maps:from_keys(Withdrawn, withdrawn),
+    [{Name, Owner, {Notice, Rival}}
+     || Clash = #{name := Name, first_half := Half} <- Clashes,
+        not is_map_key(Name, Gone),
+        #{Name := PidA} <- [OfA], #{Name := PidB} <- [OfB], PidA =/= PidB,
+        Notice = {_, Position} <- heal_names:notices(Clash),
+        {#{owner := Owner}, Rival} <- [loser(Position, Clash, case Half of a -> {PidA, PidB}; b -> {PidB, PidA} end)]].
+
+loser(first, #{first := First}, {_, Rival}) -> {First, Rival};
+loser(second, #{second := Second}, {Rival, _}) -> {Second, Rival}.

@@ -1,0 +1,178 @@
+%% @private The primary carries edits out in one order, and sends their entries to its members.
+-module(heal_orders).
+
+-include("heal_part.hrl").
+
+-export([make/2, make_all/2, make_each/3, requested/5, applied/4]).
+
+%% How many owners a primary remembers that it has unregistered.
+-define(REMEMBERED, 1000).
+
+%% Decides what an edit does to the half: nothing, with this answer, or an edit of the replica.
+plan({register, Name, Row = #row{home = Home, registration = #{owner := Owner}}}, Part = #part{own = Own}) ->
+    case {(heal_state:half(Part))#half.names, Own} of
+        {#{Name := #row{registration = #{owner := Owner}}}, _} -> {answer, ok};
+        {_, #{Name := #own{row = #row{registration = #{owner := Owner}}}}} -> {edit, {register, Name, Row}, ok};
+        {_, #{Name := #own{lost = Lost}}} ->
+            %% Another registration of this node waits to be restored, or for its notice.
+            case Lost =:= none orelse Home =:= heal_state:life(Part) of
+                true -> {answer, {error, 30}};
+                false -> {edit, {register, Name, Row}, ok}
+            end;
+        _ -> {edit, {register, Name, Row}, ok}
+    end;
+plan({unregister, Name, Whose}, Part) ->
+    case (heal_state:half(Part))#half.names of
+        #{Name := #row{registration = #{owner := Owner}}} when Whose =:= any; Whose =:= Owner ->
+            {edit, {unregister, Name}, {ok, Owner}};
+        #{Name := _} -> {answer, {error, not_held}};
+        _ when Whose =:= any, Part#part.settle_by =/= none -> wait;
+        _ -> {answer, {error, 31}}
+    end;
+plan({upload, Id, Code}, _Part) ->
+    {edit, {upload, Id, Code}, {ok, Id}};
+plan(bad, _Part) ->
+    {answer, {error, bad_edit}}.
+
+%% Carries an edit out and answers it.
+-spec make(#call{}, #part{}) -> #part{}.
+make(Call = #call{from = From, edit = Edit}, Part) ->
+    case is_current(From, Edit, Part) andalso plan(Edit, Part) of
+        %% The member is gone, or the home knows better now.
+        false -> Part;
+        wait -> heal_edits:wait(Call, Part);
+        {answer, Answer} -> heal_entries:finish(Call, Answer, Part);
+        {edit, Made, Answer} -> make(Call, Made, Answer, Part)
+    end.
+
+make(Call, Edit, Answer, Part = #part{replica = Replica}) ->
+    case heal_replica:edit(Edit, Replica) of
+        {ok, {At, _}, Edited} ->
+            {By, Numbered} = by(Call, Edit, Part),
+            Claimed = claimed(Call, Numbered#part{replica = Edited}),
+            Sent = heal_view:broadcast({edit, At, [Edit], By, Answer}, applied(Edit, By, Part, Claimed)),
+            made(Call, By, Answer, Edit, Part, Sent);
+        {error, Number} ->
+            heal_entries:finish(Call, {error, Number}, Part)
+    end.
+
+%% The request that an entry answers. A caller of this node whose edit another home has to confirm needs a number too.
+by(#call{from = {member, Node, Number}}, _Edit, Part) ->
+    {{Node, Number}, Part};
+by(#call{from = {caller, _}}, {unregister, Name}, Part = #part{node = Node, requests = Last}) ->
+    case is_home(Name, Part) of
+        true -> {none, Part};
+        false -> {{Node, Last + 1}, Part#part{requests = Last + 1}}
+    end;
+by(_Call, _Edit, Part) ->
+    {none, Part}.
+
+is_home(Name, Part) ->
+    #{Name := #row{home = Home}} = (heal_state:half(Part))#half.names,
+    Home =:= heal_state:life(Part).
+
+made(#call{from = {member, _, _}}, _By, _Answer, _Edit, _Before, Part) ->
+    Part;
+made(Call, {_, Number}, _Answer, _Edit, _Before, Part = #part{unreleased = Unreleased}) ->
+    Part#part{unreleased = Unreleased#{Number => (heal_edits:timed(Call, Part))#call{is_sent = true}}};
+made(Call, none, Answer, _Edit, _Before, Part) ->
+    heal_edits:answer(Call, Answer, Part).
+
+%% This node answers for what it registers.
+claimed(#call{from = {member, _, _}}, Part) ->
+    Part;
+claimed(#call{edit = {register, Name, Row = #row{home = Home}}}, Part) ->
+    case heal_state:life(Part) of
+        Home -> heal_home:claim(Name, Row, Part);
+        _ -> Part
+    end;
+claimed(_Call, Part) ->
+    Part.
+
+%% Makes edits of the primary itself, all of which apply, and sends them in one message.
+-spec make_all([heal_replica:edit()], #part{}) -> #part{}.
+make_all([], Part) ->
+    Part;
+make_all(Edits, Part) ->
+    {View, Operation} = heal_state:at(Part),
+    Step = fun(Edit, Sum = #part{replica = Replica}) ->
+        {ok, _, Edited} = heal_replica:edit(Edit, Replica),
+        applied(Edit, none, Sum, Sum#part{replica = Edited})
+    end,
+    heal_view:broadcast({edit, {View, Operation + 1}, Edits, none, ok}, lists:foldl(Step, Part, Edits)).
+
+%% Makes the edits that a home computed at this operation of the view, as far as they still apply.
+-spec make_each([heal_edits:edit()], Operation :: non_neg_integer(), #part{}) -> #part{}.
+make_each(Edits, Operation, Part) ->
+    lists:foldl(fun(Edit, Sum) -> edit_now(#call{from = {home, Operation}, edit = Edit}, Sum) end, Part, Edits).
+
+edit_now(Call, Part = #part{heal = #open{}}) -> heal_edits:wait(Call, Part);
+edit_now(Call, Part) -> make(Call, Part).
+
+%% Takes each request of a member once.
+-spec requested(node(), heal_replica:view(), pos_integer(), heal_edits:edit(), #part{}) -> #part{}.
+requested(Node, View, Number, Edit, Part = #part{members = Members}) ->
+    case {heal_state:is_primary(Part) andalso heal_state:view(Part), Members} of
+        {View, #{Node := Member = #member{is_joined = true, taken = Last}}} when Number > Last ->
+            Taken = Part#part{members = Members#{Node := Member#member{taken = Number}}},
+            heal_edits:edit(#call{from = {member, Node, Number}, edit = Edit}, Taken);
+        _ ->
+            Part
+    end.
+
+%% Does what an entry changes on each node. `Before' is the state that the replica left.
+-spec applied(heal_replica:edit(), none | {node(), pos_integer()}, Before :: #part{}, #part{}) -> #part{}.
+applied({register, Name, Row = #row{home = Home, registration = #{owner := Owner}}}, _By, _Before, Part) ->
+    case Home =/= heal_state:life(Part) orelse heal_home:is_own(Name, Owner, Part) of
+        true -> heal_arrivals:arrived(Name, heal_state:add({rows, [{Name, Row}], []}, Part));
+        false ->
+            %% Nobody waits for it any more. The table keeps what the replica has, but no process finds it.
+            Hidden = heal_state:add({hide, Name}, heal_state:add({rows, [{Name, Row}], []}, Part)),
+            heal_edits:edit(#call{edit = {unregister, Name, Owner}}, Hidden)
+    end;
+applied({unregister, Name}, By, Before, Part) ->
+    #{Name := #row{home = Home, registration = #{owner := Owner}}} = (heal_state:half(Before))#half.names,
+    Dropped = heal_arrivals:left(Owner, heal_state:add({rows, [], [Name]}, note(Owner, Part))),
+    case {Home =:= heal_state:life(Part), By =/= none orelse heal_state:is_primary(Part)} of
+        {true, true} -> release(Name, Owner, By, Dropped);
+        %% The primary thinks that this node has left. The name is missing for a while.
+        {true, false} -> heal_home:missing([Name], Dropped);
+        {false, _} -> Dropped
+    end;
+applied({upload, Id, Code}, _By, _Before, Part = #part{programs = Programs}) ->
+    Known = Programs#{Id => Code},
+    heal_state:add({keep, programs, Known}, Part#part{programs = Known}).
+
+%% A primary remembers what it has unregistered lately: a home that doesn't know so yet may want to restore it.
+note(Owner, Part = #part{dropped = Dropped, members = Members}) when Members =/= #{} ->
+    {_, Operation} = heal_state:at(Part),
+    case map_size(Dropped) < ?REMEMBERED of
+        true -> Part#part{dropped = Dropped#{Owner => Operation}};
+        false -> Part#part{dropped = #{Owner => Operation}, since = Operation - 1}
+    end;
+note(_Owner, Part) ->
+    Part.
+
+%% Returns whether an edit is still to be made. A member that has left has its request made elsewhere; a home's edit undoes no
+%% later one.
+is_current({member, Node, _}, _Edit, Part = #part{peers = Peers}) ->
+    View = heal_state:view(Part),
+    case Peers of
+        #{Node := #peer{at = {View, _}}} -> true;
+        _ -> false
+    end;
+is_current({home, Operation}, {register, _, #row{registration = #{owner := Owner}}}, #part{dropped = Dropped, since = Since}) ->
+    Operation >= Since andalso maps:get(Owner, Dropped, 0) =< Operation;
+is_current(_From, _Edit, _Part) ->
+    true.
+
+%% This node answers no more for a name that another one has unregistered, and confirms it.
+release(Name, Owner, By, Part = #part{node = Self}) ->
+    Released = case heal_home:is_own(Name, Owner, Part) of
+        true -> heal_home:disown(Name, Part);
+        false -> Part
+    end,
+    case By of
+        {Node, Number} when Node =/= Self -> heal_state:send(Node, {released, Number, Owner}, Released);
+        _ -> Released
+    end.

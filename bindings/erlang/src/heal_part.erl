@@ -1,0 +1,173 @@
+%% @private The protocol of heal_registry, without processes: an event and the time go in, actions and a state come out.
+%%
+%% Each node is in one *part*: the nodes that follow one view. Its primary orders the edits and sends their entries to the other
+%% nodes. Every node announces its position to all nodes that it is connected with, when it changes its view and as a pulse. All
+%% else follows from what the others announced last, so a message that is lost or late delays a node and never misleads it:
+%%
+%% - A primary drops the names of nodes that don't follow it (heal_view).
+%% - A node whose primary is gone follows the smallest node of its part, or starts a view of its own (heal_view).
+%% - Two connected primaries exchange, and one starts a view with the outcome (heal_meeting).
+%% - The home of a registration knows whether it was acknowledged. It has a missing one restored and an extra one dropped, and
+%%   leaves a part that has given its name to another process, so that an exchange decides (heal_home).
+-module(heal_part).
+
+-include("heal_part.hrl").
+
+-export([new/1, handle/3, status/1, position/1, tick/1]).
+-export_type([part/0, event/0, action/0, settings/0, status/0]).
+
+-opaque part() :: #part{}.
+-type settings() :: #{
+    life := heal_replica:life(),
+    number := non_neg_integer(),
+    scope := term(),
+    nodes := any | [node()],
+    %% How many names the part may have.
+    names := pos_integer(),
+    world := module(),
+    now := non_neg_integer(),
+    %% The nodes that are connected already.
+    connected := [{node(), visible | hidden}],
+    %% Greater than all that the node's registry used before in this life.
+    seq := non_neg_integer(),
+    edit_timeout := pos_integer(),
+    exchange_timeout := pos_integer(),
+    replica => heal_replica:replica(),
+    own => #{heal:name() => #row{}},
+    programs => #{Id :: binary() => Code :: binary()},
+    greatest => non_neg_integer(),
+    problems => heal_peers:problems()
+}.
+-type event() ::
+    {up, node(), visible | hidden}
+    | {down | stopped | absent | failed | unreachable, node()}
+    | {connecting | attempted, node()}
+    | {version, node(), Version :: term()}
+    | {message, node(), Body :: term()}
+    | {call, From :: term(), heal_edits:edit()}
+    | {sync, From :: term()}
+    | {died, heal:name(), heal:owner()}
+    | tick.
+-type action() ::
+    {send, node(), Body :: term()}
+    | {reply, From :: term(), Answer :: term()}
+    | {rows, Put :: [{heal:name(), #row{}}], Drop :: [heal:name()]}
+    %% The process of the name has ended, and its row stays for a while.
+    | {hide, heal:name()}
+    | {own, heal:name(), #row{}}
+    | {disown, heal:name(), #row{}}
+    | {notify, #row{}, heal_home:loss()}
+    | {keep, Key :: term(), Value :: term()}
+    | {problems, heal_peers:problems()}
+    | {healed, #{atom() => term()}}
+    | {view, heal_replica:view(), [node()]}.
+-type status() :: #{atom() => term()}.
+
+%% Starts a node's registry, with the replica and the registrations that it had before.
+-spec new(settings()) -> {[action()], part()}.
+new(Settings = #{life := Life = {Node, _}}) ->
+    Part = #part{
+        node = Node,
+        number = maps:get(number, Settings),
+        scope = maps:get(scope, Settings),
+        nodes = maps:get(nodes, Settings),
+        world = maps:get(world, Settings),
+        edit_timeout = maps:get(edit_timeout, Settings),
+        exchange_timeout = maps:get(exchange_timeout, Settings),
+        replica = heal_replica:within(maps:get(names, Settings), maps:get(replica, Settings, heal_replica:start(Life))),
+        own = maps:map(fun(_, Row) -> #own{row = Row} end, maps:get(own, Settings, #{})),
+        programs = maps:get(programs, Settings, #{}),
+        greatest = maps:get(greatest, Settings, 0),
+        problems = maps:get(problems, Settings, #{}),
+        now = maps:get(now, Settings),
+        seq = maps:get(seq, Settings),
+        requests = maps:get(seq, Settings)
+    },
+    Up = fun({Other, Type}, Sum) -> heal_peers:link({up, Other, Type}, Sum) end,
+    taken(heal_view:resume(lists:foldl(Up, Part, maps:get(connected, Settings)))).
+
+taken(Part = #part{out = Out}) ->
+    {lists:reverse(Out), Part#part{out = []}}.
+
+%% Handles an event. `Now' is a time in milliseconds that never decreases, from 0 on.
+-spec handle(event(), Now :: integer(), part()) -> {[action()], part()}.
+handle(Event, Now, Part) ->
+    taken(event(Event, Part#part{now = Now})).
+
+event({call, From, Edit}, Part) ->
+    heal_edits:call(From, Edit, Part);
+event({message, Node, Body}, Part = #part{links = Links}) when is_map_key(Node, Links) ->
+    message(Node, Body, Part);
+event({message, _Node, _Body}, Part) ->
+    Part;
+event({died, Name, Owner}, Part) ->
+    heal_edits:died(Name, Owner, Part);
+event({sync, From}, Part = #part{syncing = Syncing}) ->
+    settled(Part#part{syncing = [From | Syncing]});
+event(tick, Part) ->
+    act(heal_meeting:expired(heal_edits:expired(heal_peers:pulse(Part))));
+event({Kind, Node}, Part) when Kind =:= connecting; Kind =:= attempted ->
+    settled(heal_peers:Kind(Node, Part));
+event(Event = {Kind, Node}, Part) when Kind =:= down; Kind =:= stopped; Kind =:= absent ->
+    act(heal_meeting:broken(heal_adopting:lost(Node, heal_peers:link(Event, Part))));
+event({failed, Node}, Part) ->
+    act(heal_meeting:failed_with(Node, Part));
+event(Event, Part) ->
+    act(heal_meeting:broken(heal_peers:link(Event, Part))).
+
+message(Node, {edit, At, Edits, By, Answer}, Part) ->
+    heal_entries:entries(Node, At, Edits, By, Answer, Part);
+message(Node, {request, View, Number, Edit}, Part) ->
+    heal_orders:requested(Node, View, Number, Edit, Part);
+message(Node, {answer, View, Number, Answer}, Part) ->
+    heal_entries:answered(Node, View, Number, Answer, Part);
+message(Node, {adopt, Number, Edit}, Part) ->
+    heal_adopting:adopt_for(Node, Number, Edit, Part);
+message(Node, {adopted, Number, Answer}, Part) ->
+    heal_adopting:adopted(Node, Number, Answer, Part);
+message(_Node, {released, Number, Owner}, Part) ->
+    heal_arrivals:released(Number, Owner, Part);
+message(Node, {here, Here}, Part) ->
+    act(heal_peers:here(Node, Here, Part));
+message(Node, {snapshot, Snapshot}, Part) ->
+    act(heal_view:snapshot(Node, Snapshot, Part));
+message(Node, {want, View}, Part) ->
+    heal_view:wanted(Node, View, Part);
+message(Node, {finished, Seq, At, Requests, Edits}, Part) ->
+    act(heal_view:joined(Node, {Seq, At, Requests, Edits}, Part));
+message(Node, {settled, At}, Part) ->
+    heal_view:settled(Node, At, Part);
+message(Node, Body, Part) ->
+    act(heal_meeting:message(Node, Body, Part)).
+
+%% Does what follows from the announcements of the other nodes.
+act(Part) ->
+    settled(heal_meeting:meet(heal_view:act(Part))).
+
+%% Edits that no longer wait are carried out, and callers of sync receive their answers.
+settled(Part) ->
+    heal_peers:report(heal_edits:resume(heal_peers:sync(heal_peers:arrived(Part)))).
+
+%% Returns how often to send `tick', in milliseconds.
+-spec tick(part()) -> pos_integer().
+tick(Part) ->
+    heal_state:tick(Part).
+
+%% Returns the replica's position, and the numbers of the latest view that it started and of the latest exchange.
+-spec position(part()) -> {heal_replica:position(), Led :: pos_integer(), Latest :: non_neg_integer()}.
+position(#part{replica = Replica}) ->
+    #half{latest = Latest} = heal_replica:half(Replica),
+    {heal_replica:position(Replica), heal_replica:led(Replica), Latest}.
+
+%% Returns what `heal_registry:status/0' shows, apart from the table.
+-spec status(part()) -> status().
+status(Part = #part{replica = Replica, links = Links, greatest = Greatest}) ->
+    {{{Primary, _}, Number}, Operation} = heal_replica:position(Replica),
+    #{
+        link => heal_meeting:name(Part),
+        number => Greatest,
+        primary => Primary,
+        view => {Number, Operation},
+        members => heal_view:members(Part),
+        connected => lists:sort(maps:keys(Links))
+    }.

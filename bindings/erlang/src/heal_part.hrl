@@ -1,0 +1,124 @@
+%% What the modules of a part share: the state of one node's registry. It has no process, clock or table of its own.
+-include("heal_replica.hrl").
+
+%% A registration that this node answers for. `lost' if an exchange gave the name to another process and the notice still waits.
+-record(own, {
+    row :: #row{},
+    lost = none :: none | heal_home:loss()
+}).
+
+%% A connected node: whether its registry has announced itself, has none, or is refused for this reason.
+-record(link, {
+    type = visible :: visible | hidden,
+    state = unknown :: unknown | peer | absent | {refused, heal_peers:refusal(), Info :: term()}
+}).
+
+%% What another registry has announced last. `retry' is when to attempt the next exchange with it, and `failed' why the last one
+%% failed; `adopted' is the last of its requests to register a process of this node.
+-record(peer, {
+    life :: heal_replica:life(),
+    seq :: non_neg_integer(),
+    number :: non_neg_integer(),
+    at :: heal_replica:position(),
+    members = [] :: [node()],
+    is_settled = false :: boolean(),
+    heard :: integer(),
+    %% When it announced itself for the first time.
+    met :: integer(),
+    retry = 0 :: integer() | none,
+    failed = none :: none | silent | numbers | pos_integer(),
+    adopted = 0 :: non_neg_integer()
+}).
+
+%% A node that follows the view of this primary. `was' is the view that it had before, until it has joined; `taken' its last request.
+-record(member, {
+    life :: heal_replica:life(),
+    was :: none | heal_replica:view(),
+    is_joined = false :: boolean(),
+    %% It has missed an entry, so it gets no other ones before a snapshot.
+    is_lagging = false :: boolean(),
+    taken = 0 :: non_neg_integer()
+}).
+
+%% An edit that isn't answered. `from' is a caller of this node; a node that requests that this one registers a process; a member
+%% that requests an edit; a home that restores what it computed at this operation; or nobody. Only the first two have a deadline.
+-record(call, {
+    from = none :: none | {caller, term()} | {adopting, node(), pos_integer()} | {member, node(), pos_integer()}
+        | {home, non_neg_integer()},
+    edit :: heal_edits:edit(),
+    deadline = none :: none | integer(),
+    %% The home has confirmed that it answers no more for this owner, before the entry has come.
+    released = none :: none | heal:owner(),
+    is_sent = false :: boolean()
+}).
+
+%% An exchange: this node leads it and waits for an answer (`asking'), has answered (`engaged'), or both have begun (`open').
+-record(asking, {node :: node(), reference :: reference() | term(), deadline :: integer()}).
+-record(open, {
+    node :: node(),
+    number :: pos_integer(),
+    side :: a | b,
+    from :: heal_replica:position(),
+    handle :: term(),
+    %% The rows that this side offered, and those of the other side.
+    own = #{} :: #{heal:name() => #row{}},
+    others = none :: none | #{heal:name() => heal_exchange:process()},
+    programs = #{} :: #{binary() => binary()},
+    members = [] :: [heal_meeting:member()],
+    withdrawn = [] :: [heal:name()],
+    stage = offered :: offered | listed | {done, #half{}, [heal_home:loser()]},
+    begun :: integer(),
+    deadline :: integer()
+}).
+
+-record(part, {
+    node :: node(),
+    number :: 0..16#ffffffff,
+    scope :: term(),
+    nodes :: any | [node()],
+    world :: module(),
+    edit_timeout :: pos_integer(),
+    exchange_timeout :: pos_integer(),
+    now = 0 :: integer(),
+    out = [] :: [heal_part:action()],
+    replica :: heal_replica:replica(),
+    own = #{} :: #{heal:name() => #own{}},
+    %% The programs that this node's callers rely on.
+    programs = #{} :: #{Id :: binary() => Code :: binary()},
+    links = #{} :: #{node() => #link{}},
+    peers = #{} :: #{node() => #peer{}},
+    %% The greatest view of each node that this one followed.
+    followed = #{} :: #{node() => {Incarnation :: non_neg_integer(), Number :: pos_integer()}},
+    seq = 0 :: non_neg_integer(),
+    next_pulse = 0 :: integer(),
+    %% Of a primary. The losers of the exchange that started its view are kept until all have joined.
+    members = #{} :: #{node() => #member{}},
+    settle_by = none :: none | integer(),
+    losers = [] :: [heal_home:loser()],
+    %% What it has unregistered in its view after the operation `since', with the operation.
+    dropped = #{} :: #{heal:owner() => pos_integer()},
+    since = 0 :: non_neg_integer(),
+    %% Of a backup: its primary is gone or has moved on, and it waits for another view until this time.
+    limbo = none :: none | integer(),
+    %% The last announcement of its primary that it has acted on.
+    checked = 0 :: non_neg_integer(),
+    %% The operation after which an entry is missing, once a snapshot is on its way.
+    gap = none :: none | non_neg_integer(),
+    %% Nodes that may have names, until which time edits wait for them.
+    awaited = #{} :: #{node() => integer()},
+    %% The greatest number of an exchange that this node began or took the outcome of.
+    greatest = 0 :: non_neg_integer(),
+    heal = idle :: idle | {asking | engaged, #asking{}} | #open{},
+    %% Edits that wait, the newest first; those that the primary is to carry out; those whose home hasn't confirmed.
+    waiting = [] :: [#call{}],
+    requests = 0 :: non_neg_integer(),
+    requested = #{} :: #{pos_integer() => #call{}},
+    unreleased = #{} :: #{pos_integer() => #call{}},
+    %% Registrations of other nodes' processes: their requests, and those whose entry hasn't arrived.
+    adopting = #{} :: #{pos_integer() => {node(), #call{}}},
+    arriving = #{} :: #{heal:owner() => #call{}},
+    %% Callers that unregistered a name which this node still has.
+    leaving = #{} :: #{heal:owner() => #call{}},
+    syncing = [] :: [term()],
+    problems = #{} :: heal_peers:problems()
+}).

@@ -1,0 +1,289 @@
+%% @private The nodes that a registry is connected with: who has announced itself, who is refused and why, and who is waited for.
+-module(heal_peers).
+
+-include("heal_part.hrl").
+
+-export([link/2, connecting/2, attempted/2, here/3, announce/1, announce_to/2, moved/4, pulse/1]).
+-export([has_met/3, is_silent/2, is_connected/2, is_in_setting/2, is_primary/1, followers/1, retry/4, arrived/1, sync/1, report/1]).
+-export_type([refusal/0, problems/0, here/0]).
+
+-define(STORE_FULL, 43).
+-define(MAX_PROGRAMS, 256).
+
+-type refusal() :: nodes | scope | hidden | numbers | version.
+-type problems() :: #{refusal() | silent | pos_integer() => {node(), Info :: term()}}.
+-type here() :: #{
+    life := heal_replica:life(),
+    seq := pos_integer(),
+    number := non_neg_integer(),
+    nodes := any | [node()],
+    scope := term(),
+    at := heal_replica:position(),
+    members := [node()],
+    is_settled := boolean(),
+    is_first := boolean()
+}.
+
+%% ---- Links ----
+
+%% A connection or a registry has come or gone, or a node has other messages.
+-spec link(heal_part:event(), #part{}) -> #part{}.
+link({up, Node, _Type}, Part = #part{links = Links}) when is_map_key(Node, Links) ->
+    %% A registry that starts learns of a node twice.
+    Part;
+link({up, Node, Type}, Part = #part{links = Links}) ->
+    announce_to(Node, true, await(Node, Part#part{links = Links#{Node => #link{type = Type}}}));
+link({down, Node}, Part = #part{links = Links, awaited = Awaited}) ->
+    forget(Node, Part#part{links = maps:remove(Node, Links), awaited = maps:remove(Node, Awaited)});
+link({version, Node, Version}, Part = #part{peers = Peers}) ->
+    case Peers of
+        #{Node := _} -> Part;
+        _ -> announce_once(Node, {refused, version, Version}, Part)
+    end;
+link({unreachable, Node}, Part = #part{members = Members}) ->
+    %% The message is lost, and so are later ones until the node reads again.
+    case {heal_state:primary(Part), Members} of
+        {{Node, _}, _} -> forget(Node, mark(Node, absent, Part));
+        {_, #{Node := Member}} -> Part#part{members = Members#{Node := Member#member{is_lagging = true}}};
+        _ -> Part
+    end;
+link({Kind, Node}, Part = #part{links = Links}) ->
+    case {Kind, Links} of
+        %% A registry that is refused has failed, and starts again.
+        {absent, #{Node := #link{state = {refused, _, _}}}} -> Part;
+        _ -> forget(Node, mark(Node, absent, Part))
+    end.
+
+forget(Node, Part = #part{peers = Peers}) ->
+    Part#part{peers = maps:remove(Node, Peers)}.
+
+mark(Node, State, Part = #part{links = Links, awaited = Awaited}) ->
+    case Links of
+        #{Node := Link} -> Part#part{links = Links#{Node := Link#link{state = State}}, awaited = maps:remove(Node, Awaited)};
+        _ -> Part
+    end.
+
+%% Answers a node that is refused, so that it learns why, but not each of its messages.
+announce_once(Node, Refused, Part = #part{links = Links}) ->
+    case Links of
+        #{Node := #link{state = Refused}} -> mark(Node, Refused, Part);
+        _ -> announce_to(Node, forget(Node, mark(Node, Refused, Part)))
+    end.
+
+await(Node, Part = #part{awaited = Awaited, now = Now}) ->
+    Part#part{awaited = Awaited#{Node => Now + heal_state:patience(Part)}}.
+
+%% An attempt to connect a node has begun: it may have names.
+-spec connecting(node(), #part{}) -> #part{}.
+connecting(Node, Part) ->
+    await(Node, Part).
+
+%% The attempt is over.
+-spec attempted(node(), #part{}) -> #part{}.
+attempted(Node, Part = #part{links = Links}) when is_map_key(Node, Links) ->
+    Part;
+attempted(Node, Part = #part{awaited = Awaited}) ->
+    Part#part{awaited = maps:remove(Node, Awaited)}.
+
+%% Returns whether a node is connected.
+-spec is_connected(node(), #part{}) -> boolean().
+is_connected(Node, #part{links = Links}) ->
+    is_map_key(Node, Links).
+
+%% ---- Announcements ----
+
+%% Announces this node's position to all nodes.
+-spec announce(#part{}) -> #part{}.
+announce(Part = #part{links = Links}) ->
+    lists:foldl(fun announce_to/2, Part, lists:sort(maps:keys(Links))).
+
+%% Announces this node's position to one node.
+-spec announce_to(node(), #part{}) -> #part{}.
+announce_to(Node, Part) ->
+    announce_to(Node, false, Part).
+
+%% The first announcement to a node is to be answered by that node's.
+announce_to(Node, IsFirst, Part = #part{seq = Seq, number = Number, nodes = Nodes, scope = Scope, settle_by = SettleBy}) ->
+    Here = #{
+        life => heal_state:life(Part),
+        seq => Seq + 1,
+        number => Number,
+        nodes => Nodes,
+        scope => Scope,
+        at => heal_state:at(Part),
+        members => heal_view:members(Part),
+        is_settled => SettleBy =:= none,
+        is_first => IsFirst
+    },
+    heal_state:send(Node, {here, Here}, Part#part{seq = Seq + 1}).
+
+%% Takes what a node has announced, unless it is older than what is known.
+-spec here(node(), here(), #part{}) -> #part{}.
+here(Node, Here = #{life := Life = {Node, _}, seq := Seq}, Part = #part{peers = Peers}) ->
+    case Peers of
+        #{Node := #peer{life = Life, seq = Last}} when Seq =< Last -> Part;
+        #{Node := #peer{life = Later}} when Later > Life -> Part;
+        _ -> fresh(Node, Here, refusal(Node, Here, Part), answered(Node, Here, Part))
+    end;
+here(_Node, _Here, Part) ->
+    Part.
+
+answered(Node, #{is_first := true}, Part) -> announce_to(Node, Part);
+answered(_Node, _Here, Part) -> Part.
+
+fresh(Node, Here = #{life := Life, seq := Seq, number := Number, at := At}, none, Part = #part{peers = Peers}) ->
+    case Peers of
+        #{Node := Peer = #peer{life = Life}} ->
+            heard(Node, Here, Peer, Part);
+        _ ->
+            %% It announces itself for the first time in this life.
+            Peer = #peer{life = Life, seq = Seq, number = Number, at = At, heard = Part#part.now, met = Part#part.now},
+            heard(Node, Here, Peer, linked(Node, Part))
+    end;
+fresh(Node, _Here, {Why, Info}, Part) ->
+    announce_once(Node, {refused, Why, Info}, Part).
+
+linked(Node, Part = #part{links = Links}) ->
+    #{Node := Link} = Links,
+    Part#part{links = Links#{Node := Link#link{state = peer}}}.
+
+heard(Node, #{seq := Seq, at := At, members := Members, is_settled := IsSettled}, Peer, Part = #part{peers = Peers, now = Now}) ->
+    Retry = case Peer of
+        #peer{at = At, retry = Known} -> Known;
+        #peer{failed = none} -> 0;
+        #peer{retry = Known} -> Known
+    end,
+    Heard = Peer#peer{seq = Seq, at = At, members = Members, is_settled = IsSettled, heard = Now, retry = Retry},
+    Part#part{peers = Peers#{Node => Heard}}.
+
+%% A node has moved, as another message than an announcement shows. Returns false if that is older than what is known.
+-spec moved(node(), Seq :: pos_integer(), heal_replica:position(), #part{}) -> {true, #part{}} | false.
+moved(Node, Seq, At, Part = #part{peers = Peers, now = Now}) ->
+    case Peers of
+        #{Node := Peer = #peer{seq = Last}} when Seq > Last ->
+            {true, Part#part{peers = Peers#{Node := Peer#peer{seq = Seq, at = At, heard = Now}}}};
+        _ ->
+            false
+    end.
+
+%% Returns why this node doesn't accept another one.
+refusal(_Node, #{scope := Other}, #part{scope = Own}) when Other =/= Own ->
+    {scope, Other};
+refusal(Node, #{nodes := Theirs, number := Number}, Part = #part{node = Self, nodes = Own, links = Links}) ->
+    #{Node := #link{type = Type}} = Links,
+    Same = namesake(Node, Number, Part),
+    if
+        Own =/= any -> case lists:member(Node, Own) andalso includes(Self, Theirs) of true -> Same; false -> {nodes, Theirs} end;
+        Type =:= hidden -> {hidden, Number};
+        true -> case includes(Self, Theirs) of true -> Same; false -> {nodes, Theirs} end
+    end.
+
+%% Returns whether this node's setting admits a node.
+-spec is_in_setting(node(), #part{}) -> boolean().
+is_in_setting(Node, #part{nodes = Nodes}) -> includes(Node, Nodes).
+
+includes(_Node, any) -> true;
+includes(Node, Nodes) -> lists:member(Node, Nodes).
+
+%% Two nodes with one number can't be in one part. Of two others the greater is refused.
+namesake(_Node, Number, #part{number = Number, node = Self}) ->
+    {numbers, {Self, Number}};
+namesake(Node, Number, #part{peers = Peers}) ->
+    case [Other || {Other, #peer{number = Same}} <- maps:to_list(Peers), Same =:= Number, Other =/= Node] of
+        [] -> none;
+        [Other | _] -> {numbers, {Other, Number}}
+    end.
+
+%% ---- What the announcements show ----
+
+%% Returns whether a node is a primary, as it has announced.
+-spec is_primary(#peer{}) -> boolean().
+is_primary(#peer{life = Life, at = {{Primary, _}, _}}) -> Life =:= Primary.
+
+%% Returns whether this node is connected with all of these nodes, which are in the part of another one, or has waited for that long
+%% enough: nodes that meet connect one after the other.
+-spec has_met([node()], #peer{}, #part{}) -> boolean().
+has_met(Nodes, #peer{met = Met}, Part = #part{now = Now, node = Self, links = Links}) ->
+    Now - Met > heal_state:patience(Part) orelse [Node || Node <- Nodes, Node =/= Self, not is_map_key(Node, Links)] =:= [].
+
+%% A connected node has announced nothing for a long time: it hangs.
+-spec is_silent(#peer{}, #part{}) -> boolean().
+is_silent(#peer{heard = Heard}, Part = #part{now = Now}) -> Now - Heard > silence(Part).
+
+silence(#part{exchange_timeout = Timeout}) -> 2 * max(Timeout, 1000).
+
+%% Announces this node's position again after a while. An announcement that is lost is made good, and so is an entry.
+-spec pulse(#part{}) -> #part{}.
+pulse(Part = #part{next_pulse = Next, now = Now}) when Now < Next ->
+    Part;
+pulse(Part = #part{now = Now}) ->
+    announce(Part#part{next_pulse = Now + silence(Part) div 8}).
+
+%% Returns the nodes that announced this node's view, with their announcements.
+-spec followers(#part{}) -> #{node() => #peer{}}.
+followers(Part = #part{peers = Peers}) ->
+    View = heal_state:view(Part),
+    maps:filter(fun(_, #peer{at = {Of, _}}) -> Of =:= View end, Peers).
+
+%% Puts the next attempt to heal with a node off, as the last one has failed.
+-spec retry(node(), Failed :: none | silent | numbers | pos_integer(), After :: pos_integer(), #part{}) -> #part{}.
+retry(Node, Failed, After, Part = #part{peers = Peers, now = Now}) ->
+    case Peers of
+        #{Node := Peer} -> Part#part{peers = Peers#{Node := Peer#peer{retry = Now + After, failed = Failed}}};
+        _ -> Part
+    end.
+
+%% ---- Who is waited for ----
+
+%% Edits don't wait any more for nodes that are in this part, are gone, have failed to heal, or belong to another primary.
+-spec arrived(#part{}) -> #part{}.
+arrived(Part = #part{awaited = Awaited}) when Awaited =:= #{} ->
+    Part;
+arrived(Part = #part{awaited = Awaited, peers = Peers, now = Now}) ->
+    View = heal_state:view(Part),
+    IsAwaited = fun(Node, Until) ->
+        Now < Until andalso case Peers of
+            #{Node := #peer{at = {View, _}}} -> false;
+            #{Node := Peer = #peer{failed = none}} -> is_primary(Peer);
+            #{Node := _} -> false;
+            _ -> true
+        end
+    end,
+    Part#part{awaited = maps:filter(IsAwaited, Awaited)}.
+
+%% Answers the callers that wait until this node has healed.
+-spec sync(#part{}) -> #part{}.
+sync(Part = #part{syncing = []}) ->
+    Part;
+sync(Part = #part{syncing = Syncing, links = Links, peers = Peers}) ->
+    View = heal_state:view(Part),
+    Apart = [Peer || Peer = #peer{at = {Of, _}} <- maps:values(Peers), Of =/= View],
+    Refused = [refused || #link{state = {refused, _, _}} <- maps:values(Links)],
+    Answer = case {heal_meeting:is_idle(Part), [open || #peer{failed = none} <- Apart]} of
+        {false, _} -> later;
+        {true, [_ | _]} -> case lists:any(fun(Peer) -> is_primary(Peer) end, Apart) of true -> later; false -> {error, apart} end;
+        {true, []} when Apart =/= []; Refused =/= [] -> {error, apart};
+        {true, []} -> ok
+    end,
+    case Answer of
+        later -> Part;
+        _ -> lists:foldl(fun(From, Sum) -> heal_state:add({reply, From, Answer}, Sum) end, Part#part{syncing = []}, Syncing)
+    end.
+
+%% Reports what keeps this node apart from others, if that has changed.
+-spec report(#part{}) -> #part{}.
+report(Part = #part{awaited = Awaited}) when Awaited =/= #{} ->
+    Part;
+report(Part = #part{links = Links, peers = Peers, problems = Last}) ->
+    View = heal_state:view(Part),
+    Refused = [{Why, {Node, Info}} || {Node, #link{state = {refused, Why, Info}}} <- maps:to_list(Links)],
+    Failed = [{Why, {Node, none}} || {Node, #peer{failed = Why, at = {Of, _}}} <- maps:to_list(Peers), Why =/= none, Of =/= View],
+    case maps:from_list(lists:reverse(lists:sort(Refused ++ Failed ++ full(Part)))) of
+        Last -> Part;
+        Problems -> heal_state:add({problems, Problems}, heal_state:add({keep, reported, Problems}, Part#part{problems = Problems}))
+    end.
+
+%% The part has no room for all programs that this node relies on.
+full(Part = #part{programs = Programs, node = Node}) ->
+    #half{programs = Known} = heal_state:half(Part),
+    [{?STORE_FULL, {Node, none}} || map_size(Known) >= ?MAX_PROGRAMS, map_size(Programs) > map_size(Known)].

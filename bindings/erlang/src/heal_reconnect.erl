@@ -1,0 +1,91 @@
+%% @private Connects the nodes of a registry's setting, and those that it was connected with, while they are apart.
+%%
+%% A process makes each attempt, since it may take long.
+-module(heal_reconnect).
+
+-export([start/2, attempt/1, attempted/2, expired/1, up/2, down/2]).
+-export_type([state/0]).
+
+-define(INTERVAL, 10000).
+%% An attempt may not hold up edits for longer than this part of `edit_timeout'.
+-define(EDIT_TIMEOUT, 5000).
+%% How often a node that isn't in the setting is tried before it is forgotten.
+-define(ATTEMPTS, 360).
+
+-record(state, {
+    interval :: pos_integer() | never,
+    timeout :: pos_integer(),
+    %% The nodes to connect, with how many attempts are left.
+    lost :: #{node() => pos_integer() | infinity},
+    setting :: [node()],
+    attempts = #{} :: #{reference() => node()},
+    timer = none :: none | reference()
+}).
+
+-opaque state() :: #state{}.
+
+%% Nodes that connect only when someone connects them stay apart, unless the option is given.
+-spec start(any | [node()], heal_registry:options()) -> state().
+start(Nodes, Options) ->
+    Usual = case application:get_env(kernel, dist_auto_connect) of
+        undefined -> application:get_env(heal, reconnect_interval, ?INTERVAL);
+        {ok, _} -> never
+    end,
+    Interval = case maps:get(reconnect_interval, Options, Usual) of
+        Never when Never =:= never; Never =:= 0 -> never;
+        Time when is_integer(Time), Time > 0 -> Time;
+        Value -> error({bad_setting, reconnect_interval, Value})
+    end,
+    Setting = case Nodes of any -> []; _ -> lists:usort(Nodes) -- [node()] end,
+    Timeout = maps:get(edit_timeout, Options, application:get_env(heal, edit_timeout, ?EDIT_TIMEOUT)),
+    #state{interval = Interval, timeout = Timeout div 2, setting = Setting,
+           lost = maps:from_keys(Setting -- nodes(connected), infinity)}.
+
+%% Tries to connect all nodes that are apart and returns them. The next attempt follows after the interval.
+-spec attempt(state()) -> {[node()], state()}.
+attempt(State = #state{interval = never}) ->
+    {[], State};
+attempt(State = #state{lost = Lost, attempts = Attempts}) ->
+    Nodes = maps:keys(Lost) -- maps:values(Attempts),
+    Made = maps:from_list([{connect(Node, State), Node} || Node <- Nodes]),
+    {Nodes, timed(State#state{attempts = maps:merge(Attempts, Made), lost = maps:filtermap(fun less/2, Lost)})}.
+
+less(_Node, 1) -> false;
+less(_Node, infinity) -> true;
+less(_Node, Left) -> {true, Left - 1}.
+
+connect(Node, #state{timeout = Timeout}) ->
+    {Attempt, Monitor} = spawn_monitor(fun() -> net_kernel:connect_node(Node) end),
+    {ok, _} = timer:kill_after(Timeout, Attempt),
+    Monitor.
+
+timed(State = #state{timer = none, lost = Lost, interval = Interval}) when Lost =/= #{} ->
+    State#state{timer = erlang:start_timer(Interval, self(), reconnect)};
+timed(State) ->
+    State.
+
+%% An attempt is over. Returns its node.
+-spec attempted(Monitor :: reference(), state()) -> {node(), state()} | none.
+attempted(Monitor, State = #state{attempts = Attempts}) ->
+    case maps:take(Monitor, Attempts) of
+        {Node, Rest} -> {Node, State#state{attempts = Rest}};
+        error -> none
+    end.
+
+%% The timer is over.
+-spec expired(state()) -> state().
+expired(State) ->
+    State#state{timer = none}.
+
+%% A node is connected.
+-spec up(node(), state()) -> state().
+up(Node, State = #state{lost = Lost}) ->
+    State#state{lost = maps:remove(Node, Lost)}.
+
+%% A node is lost.
+-spec down(node(), state()) -> state().
+down(_Node, State = #state{interval = never}) ->
+    State;
+down(Node, State = #state{lost = Lost, setting = Setting}) ->
+    Left = case lists:member(Node, Setting) of true -> infinity; false -> ?ATTEMPTS end,
+    timed(State#state{lost = Lost#{Node => Left}}).

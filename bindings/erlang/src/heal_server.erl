@@ -1,0 +1,338 @@
+%% @private The process of heal_registry: it runs heal_part, and does what that returns.
+%%
+%% It writes the table, sends messages, answers callers, watches the processes that this node answers for, and delivers notices.
+%% It waits for no other node.
+-module(heal_server).
+
+-behaviour(gen_server).
+
+-include("heal_replica.hrl").
+
+-export([start_link/2]).
+-export([init/1, handle_call/3, handle_cast/2, handle_info/2]).
+
+-define(REGISTRY, heal_registry).
+-define(NAMES, 4096).
+-define(MOST_NAMES, 1048576).
+-define(EDIT_TIMEOUT, 5000).
+-define(EXCHANGE_TIMEOUT, 10000).
+%% Milliseconds that a caller waits for the registry itself.
+-define(PATIENCE, 5000).
+
+-record(server, {
+    part :: heal_part:part(),
+    %% The position of the replica, as it is kept.
+    view = none :: none | heal_replica:view(),
+    operation = 0 :: non_neg_integer(),
+    %% When the node started, in milliseconds.
+    start :: integer(),
+    %% The process that started this registry.
+    parent :: pid(),
+    nodes :: any | [node()],
+    send :: fun((node(), term()) -> term()),
+    reconnect :: heal_reconnect:state(),
+    %% The processes that this node answers for.
+    monitors = #{} :: #{reference() => {heal:name(), heal:owner()}},
+    owners = #{} :: #{heal:owner() => {reference(), heal:name(), pid()}},
+    %% For each connected node a process that reports the end of its registry.
+    watches = #{} :: #{node() => pid()},
+    subscribers = #{} :: heal_events:subscribers()
+}).
+
+%% Starts the process of heal_registry.
+-spec start_link(Parent :: pid(), heal_registry:options()) -> gen_server:start_ret().
+start_link(Parent, Options) ->
+    gen_server:start_link({local, ?REGISTRY}, ?MODULE, {Parent, Options}, []).
+
+%% @private
+init({Parent, Options = #{nodes := Nodes}}) ->
+    ok = heal_keeper:inherit(),
+    ok = net_kernel:monitor_nodes(true, #{node_type => all}),
+    Life = life(),
+    Start = erlang:convert_time_unit(erlang:system_info(start_time), native, millisecond),
+    Settings = maps:merge(heal_table:restore(Life), (settings(Life, Options))#{
+        now => erlang:monotonic_time(millisecond) - Start,
+        connected => [{Node, visible} || Node <- nodes(visible)] ++ [{Node, hidden} || Node <- nodes(hidden)]
+    }),
+    heal_table:keep(call_timeout, maps:get(edit_timeout, Settings) + maps:get(exchange_timeout, Settings) + ?PATIENCE),
+    {Actions, Part} = heal_part:new(Settings),
+    State = #server{
+        part = Part,
+        start = Start,
+        parent = Parent,
+        nodes = Nodes,
+        send = maps:get(send, Options, fun heal_wire:send/2),
+        reconnect = heal_reconnect:start(Nodes, Options)
+    },
+    self() ! tick,
+    Watching = lists:foldl(fun({Name, Row}, Sum) -> watch(Name, Row, Sum) end, perform(Actions, State), owned(Settings)),
+    {ok, connected(release_dead(Watching))}.
+
+owned(Settings) ->
+    maps:to_list(maps:get(own, Settings, #{})).
+
+%% A node's life begins with the table, and a registry that starts again goes on with it.
+life() ->
+    case heal_table:kept(life, none) of
+        none ->
+            Life = {node(), erlang:system_time(nanosecond)},
+            ok = heal_table:keep(life, Life),
+            Life;
+        Life ->
+            Life
+    end.
+
+settings(Life, Options = #{nodes := Nodes}) ->
+    #{
+        life => Life,
+        number => heal_facts:number(node()),
+        scope => maps:get(scope, Options, application:get_env(heal, scope, heal)),
+        nodes => checked(Nodes),
+        names => names(Options),
+        world => heal_exchange,
+        seq => erlang:monotonic_time(microsecond) - erlang:convert_time_unit(erlang:system_info(start_time), native, microsecond),
+        edit_timeout => setting(edit_timeout, Options, ?EDIT_TIMEOUT),
+        exchange_timeout => setting(exchange_timeout, Options, ?EXCHANGE_TIMEOUT)
+    }.
+
+checked(any) -> any;
+checked(Nodes) when is_list(Nodes) ->
+    case lists:member(node(), Nodes) andalso lists:all(fun is_atom/1, Nodes) of
+        true -> lists:usort(Nodes);
+        false -> error({bad_setting, nodes, Nodes})
+    end;
+checked(Nodes) -> error({bad_setting, nodes, Nodes}).
+
+names(Options) ->
+    case setting(names, Options, ?NAMES) of
+        Names when Names =< ?MOST_NAMES -> Names;
+        Names -> error({bad_setting, names, Names})
+    end.
+
+setting(Key, Options, Usual) ->
+    case maps:get(Key, Options, application:get_env(heal, Key, Usual)) of
+        Number when is_integer(Number), Number > 0 -> Number;
+        Value -> error({bad_setting, Key, Value})
+    end.
+
+%% Watches the registries of the nodes that are connected, and connects the others of the setting.
+connected(State = #server{reconnect = Reconnect}) ->
+    All = lists:foldl(fun watched/2, State, nodes(connected)),
+    {Attempts, Next} = heal_reconnect:attempt(Reconnect),
+    lists:foldl(fun(Node, Sum) -> event({connecting, Node}, Sum) end, All#server{reconnect = Next}, Attempts).
+
+%% ---- Calls and messages ----
+
+%% @private
+handle_call(status, _From, State = #server{part = Part}) ->
+    {reply, (heal_part:status(Part))#{names => heal_table:count(), problems => heal_problems:all()}, State};
+handle_call(sync, From, State) ->
+    {noreply, event({sync, From}, State)};
+handle_call({subscribe, Pid}, _From, State = #server{subscribers = Subscribers}) when is_pid(Pid) ->
+    {reply, ok, State#server{subscribers = heal_events:add(Pid, Subscribers)}};
+handle_call({unsubscribe, Pid}, _From, State = #server{subscribers = Subscribers}) ->
+    {reply, ok, State#server{subscribers = heal_events:remove(Pid, Subscribers)}};
+handle_call({edit, Edit}, From, State) ->
+    case heal_wire:is_edit(Edit) of
+        true -> {noreply, event({call, From, Edit}, released(Edit, State))};
+        false -> {reply, {error, bad_edit}, State}
+    end;
+handle_call(_Unknown, _From, State) ->
+    {reply, {error, unknown_call}, State}.
+
+%% @private
+handle_cast(_Message, State) ->
+    {noreply, State}.
+
+%% @private
+handle_info(tick, State = #server{part = Part}) ->
+    _ = erlang:send_after(heal_part:tick(Part), self(), tick),
+    {noreply, event(tick, State)};
+handle_info({nodeup, Node, #{node_type := Type}}, State) ->
+    {noreply, up(Node, Type, State)};
+handle_info({nodedown, Node, _}, State) ->
+    {noreply, down(Node, State)};
+handle_info({?REGISTRY, ended, Node, Watch, Reason}, State = #server{watches = Watches}) ->
+    case Watches of
+        #{Node := Watch} -> {noreply, ended(Node, Reason, State#server{watches = maps:remove(Node, Watches)})};
+        _ -> {noreply, State}
+    end;
+handle_info({?REGISTRY, unreachable, Node}, State) ->
+    {noreply, event({unreachable, Node}, State)};
+handle_info({timeout, _Timer, reconnect}, State = #server{reconnect = Reconnect}) ->
+    {_Attempts, Next} = heal_reconnect:attempt(heal_reconnect:expired(Reconnect)),
+    {noreply, State#server{reconnect = Next}};
+handle_info({'ETS-TRANSFER', _, _, inherited}, State = #server{parent = Parent}) ->
+    _ = is_process_alive(Parent) andalso heal_keeper:restart(Parent),
+    {noreply, State};
+handle_info({'DOWN', Monitor, process, Pid, _}, State = #server{monitors = Monitors, reconnect = Reconnect}) ->
+    case {Monitors, heal_reconnect:attempted(Monitor, Reconnect)} of
+        {#{Monitor := {Name, Owner}}, _} -> {noreply, event({died, Name, Owner}, State)};
+        {_, {Node, Next}} -> {noreply, event({attempted, Node}, State#server{reconnect = Next})};
+        _ -> {noreply, State#server{subscribers = heal_events:gone(Monitor, Pid, State#server.subscribers)}}
+    end;
+handle_info(Message, State) ->
+    {noreply, message(heal_wire:read(Message), State)}.
+
+message({ok, Node, Body}, State) ->
+    case heal_wire:is_valid(Body) of
+        true -> heard(Node, Body, State);
+        false -> State
+    end;
+message({version, Node, Version}, State) ->
+    event({version, Node, Version}, State);
+message(error, State) ->
+    State.
+
+heard(Node, {request, View, Number, Edit}, State) ->
+    event({message, Node, {request, View, Number, valid(Edit)}}, State);
+heard(Node, {adopt, Number, Edit}, State) ->
+    event({message, Node, {adopt, Number, valid(Edit)}}, released(Edit, State));
+heard(Node, Body = {here, _}, State) ->
+    event({message, Node, Body}, watched(Node, State));
+heard(Node, Body, State) when element(1, Body) =:= edit; element(1, Body) =:= answer ->
+    event({message, Node, Body}, State);
+heard(Node, Body, State) ->
+    event({message, Node, Body}, release_dead(State)).
+
+valid(Edit) ->
+    case heal_wire:is_edit(Edit) of
+        true -> Edit;
+        false -> bad
+    end.
+
+%% ---- Nodes ----
+
+up(Node, Type, State = #server{reconnect = Reconnect}) ->
+    event({up, Node, Type}, watched(Node, State#server{reconnect = heal_reconnect:up(Node, Reconnect)})).
+
+down(Node, State = #server{watches = Watches, reconnect = Reconnect}) ->
+    case Watches of
+        #{Node := Watch} -> unlink(Watch), exit(Watch, kill);
+        _ -> ok
+    end,
+    event({down, Node}, State#server{watches = maps:remove(Node, Watches), reconnect = heal_reconnect:down(Node, Reconnect)}).
+
+%% A process monitors the registry of a node, since a monitor waits for a node that reads slowly.
+watched(Node, State = #server{watches = Watches}) when is_map_key(Node, Watches) ->
+    State;
+watched(Node, State = #server{watches = Watches}) ->
+    Registry = self(),
+    Watch = spawn_link(fun() ->
+        Monitor = monitor(process, {?REGISTRY, Node}),
+        receive {'DOWN', Monitor, process, _, Reason} -> Registry ! {?REGISTRY, ended, Node, self(), Reason} end
+    end),
+    State#server{watches = Watches#{Node => Watch}}.
+
+%% A registry has ended. Where it was stopped its names end too; where it failed it starts again soon.
+ended(Node, noproc, State) -> event({absent, Node}, State);
+ended(_Node, noconnection, State) -> State;
+ended(Node, Reason, State) when Reason =:= shutdown; Reason =:= normal; element(1, Reason) =:= shutdown ->
+    event({stopped, Node}, State);
+ended(Node, _Failed, State) -> event({failed, Node}, State).
+
+%% ---- Events and actions ----
+
+event(Event, State = #server{part = Part, start = Start}) ->
+    {Actions, Next} = heal_part:handle(Event, erlang:monotonic_time(millisecond) - Start, Part),
+    perform(Actions, State#server{part = Next}).
+
+perform([], State) ->
+    State;
+perform(Actions, State = #server{subscribers = Subscribers}) ->
+    ok = heal_events:report(Actions, Subscribers),
+    positioned(lists:foldl(fun act/2, State, Actions)).
+
+%% Keeps the position of the replica after the rows that it has.
+positioned(State = #server{part = Part, view = View, operation = Last}) ->
+    case heal_part:position(Part) of
+        {{View, Last}, _, _} ->
+            State;
+        {{View, Operation}, _, _} ->
+            ok = heal_table:keep_operation(Operation),
+            State#server{operation = Operation};
+        {At = {Other, Operation}, Led, Latest} ->
+            ok = heal_table:keep_position(At, Led, Latest),
+            State#server{view = Other, operation = Operation}
+    end.
+
+act({send, Node, Body}, State = #server{send = Send}) ->
+    case Send(Node, heal_wire:message(Body)) of
+        nosuspend -> self() ! {?REGISTRY, unreachable, Node}, State;
+        _ -> State
+    end;
+act({rows, Put, Drop}, State) ->
+    ok = heal_table:rows(Put, Drop),
+    State;
+act({hide, Name}, State) ->
+    ok = heal_table:hide(Name),
+    State;
+act({keep, Key, Value}, State) ->
+    ok = heal_table:keep(Key, Value),
+    State;
+act({reply, From, Answer}, State) ->
+    reply(From, spelled(Answer)),
+    State;
+act({own, Name, Row}, State) ->
+    watch(Name, Row, State);
+act({disown, Name, #row{registration = #{owner := Owner}}}, State = #server{monitors = Monitors, owners = Owners}) ->
+    ok = heal_table:disown(Name),
+    case maps:take(Owner, Owners) of
+        {{Monitor, _, _}, Rest} ->
+            demonitor(Monitor, [flush]),
+            State#server{monitors = maps:remove(Monitor, Monitors), owners = Rest};
+        error ->
+            State
+    end;
+act({notify, Row, Loss}, State) ->
+    notify(Row, Loss),
+    State;
+act({problems, Problems}, State) ->
+    ok = heal_problems:report(Problems),
+    State;
+act(_Reported, State) ->
+    State.
+
+%% A caller on another node may be hard to reach, so another process sends the answer.
+reply(Caller = {Pid, _}, Answer) when node(Pid) =:= node() ->
+    gen_server:reply(Caller, Answer);
+reply(Caller, Answer) ->
+    spawn(fun() -> gen_server:reply(Caller, Answer) end).
+
+spelled({error, Number}) when is_integer(Number) -> {error, {Number, heal:refusal_words(Number)}};
+spelled(Answer) -> Answer.
+
+%% A process of a node without a registry may be hard to reach too.
+notify(Row = #row{pid = Pid}, Loss) when node(Pid) =:= node() ->
+    deliver(Row, Loss);
+notify(Row, Loss) ->
+    spawn(fun() -> deliver(Row, Loss) end).
+
+deliver(#row{pid = Pid, term = Term}, {Notice = {_, Position}, Rival}) ->
+    Pids = case Position of first -> {Pid, Rival}; second -> {Rival, Pid} end,
+    heal_names:deliver(Term, Notice, Pids).
+
+%% ---- Processes ----
+
+watch(Name, #row{pid = Pid, registration = #{owner := Owner}}, State = #server{monitors = Monitors, owners = Owners}) ->
+    Monitor = monitor(process, Pid),
+    State#server{monitors = Monitors#{Monitor => {Name, Owner}}, owners = Owners#{Owner => {Monitor, Name, Pid}}}.
+
+%% Releases a name whose process, of this node, is gone before its monitor reports so: a supervisor restarts it at once.
+released({adopt, Name, _, _, _, _}, State) ->
+    case heal_table:row(Name) of
+        {ok, #row{pid = Pid, registration = #{owner := Owner}}} when node(Pid) =:= node() ->
+            case is_process_alive(Pid) of
+                true -> State;
+                false -> event({died, Name, Owner}, State)
+            end;
+        _ ->
+            State
+    end;
+released(_Edit, State) ->
+    State.
+
+%% Releases the names of all processes of this node that are gone.
+release_dead(State = #server{owners = Owners}) ->
+    Dead = [{Name, Owner} || {Owner, {_, Name, Pid}} <- maps:to_list(Owners), node(Pid) =:= node(), not is_process_alive(Pid)],
+    lists:foldl(fun({Name, Owner}, Sum) -> event({died, Name, Owner}, Sum) end, State, Dead).

@@ -1,0 +1,52 @@
+%% @private What the modules of a part read of its state, and the actions that they add to it.
+-module(heal_state).
+
+-include("heal_part.hrl").
+
+-export([at/1, view/1, half/1, life/1, is_primary/1, primary/1, patience/1, tick/1]).
+-export([add/2, send/3, send_all/3]).
+
+%% Returns the position of this node's replica.
+-spec at(#part{}) -> heal_replica:position().
+at(#part{replica = Replica}) -> heal_replica:position(Replica).
+
+%% Returns the view that this node is in.
+-spec view(#part{}) -> heal_replica:view().
+view(#part{replica = Replica}) -> element(1, heal_replica:position(Replica)).
+
+%% Returns the half of this node's replica.
+-spec half(#part{}) -> #half{}.
+half(#part{replica = Replica}) -> heal_replica:half(Replica).
+
+%% Returns the life of this node.
+-spec life(#part{}) -> heal_replica:life().
+life(#part{replica = Replica}) -> heal_replica:life(Replica).
+
+%% Returns whether this node is the primary of its view.
+-spec is_primary(#part{}) -> boolean().
+is_primary(#part{replica = Replica}) -> heal_replica:is_primary(Replica).
+
+%% Returns the life that is the primary of this node's view.
+-spec primary(#part{}) -> heal_replica:life().
+primary(Part) -> element(1, view(Part)).
+
+%% How long a part waits for one node, so that edits that wait for it are still made in time.
+-spec patience(#part{}) -> pos_integer().
+patience(#part{edit_timeout = Edit, exchange_timeout = Exchange}) -> max(1, min(Edit div 2, Exchange)).
+
+%% How often a part looks for what is late.
+-spec tick(#part{}) -> pos_integer().
+tick(#part{edit_timeout = Edit, exchange_timeout = Exchange}) -> max(5, min(Edit, Exchange) div 10).
+
+%% Adds an action.
+-spec add(heal_part:action(), #part{}) -> #part{}.
+add(Action, Part = #part{out = Out}) -> Part#part{out = [Action | Out]}.
+
+%% Sends a body to a node.
+-spec send(node(), Body :: term(), #part{}) -> #part{}.
+send(Node, Body, Part) -> add({send, Node, Body}, Part).
+
+%% Sends a body to nodes.
+-spec send_all([node()], Body :: term(), #part{}) -> #part{}.
+send_all(Nodes, Body, Part = #part{out = Out}) ->
+    Part#part{out = lists:foldl(fun(Node, Sum) -> [{send, Node, Body} | Sum] end, Out, Nodes)}.

@@ -1,0 +1,334 @@
+%% @private The view that a node is in: its primary's members, and what a backup does when its primary is gone.
+%%
+%% A primary sends its members entries. A member that misses one wants a snapshot. A member that has followed a view *joins* it,
+%% with the edits that its home lacks. When all have joined or are given up, the view is *settled*: the losers of the exchange
+%% that started it are notified.
+-module(heal_view).
+
+-include("heal_part.hrl").
+
+-export([resume/1, act/1, members/1, lead_alone/1, follow/4, start/5]).
+-export([snapshot/3, wanted/3, joined/3, settled/3, broadcast/2]).
+
+%% ---- Starting ----
+
+%% Goes on with the replica that this node had. A primary may have made an edit that nobody knows of, so it starts a view.
+-spec resume(#part{}) -> #part{}.
+resume(Part = #part{replica = Replica, now = Now}) ->
+    Half = heal_state:half(Part),
+    Homes = homes(Half, Part),
+    case {heal_replica:is_primary(Replica), heal_replica:position(Replica), heal_home:conflicts([], Half, Part)} of
+        {true, {{_, 1}, 0}, _} -> Part;
+        {true, _, []} -> lead(heal_home:restrict([heal_state:life(Part) | lives(Homes)], Part), Homes, Part);
+        {true, _, _Lost} -> lead_alone(Part);
+        {false, _, _} ->
+            {Primary, _} = heal_state:primary(Part),
+            case heal_peers:is_in_setting(Primary, Part) of
+                true -> Part#part{limbo = Now + heal_state:patience(Part)};
+                false -> lead_alone(Part)
+            end
+    end.
+
+lives(Members) ->
+    [Life || #member{life = Life} <- maps:values(Members)].
+
+%% The nodes of the setting that answer for the names of a half, as members that may follow.
+homes(#half{names = Names}, Part) ->
+    Homes = [Home || #row{home = Home} <- maps:values(Names), Home =/= heal_state:life(Part)],
+    maps:from_list([{Node, #member{life = Life, was = heal_state:view(Part)}}
+                    || Life = {Node, _} <- lists:usort(Homes), heal_peers:is_in_setting(Node, Part)]).
+
+%% ---- Acting on announcements ----
+
+%% Does what follows from the announcements for this view: for its members, or for its primary.
+-spec act(#part{}) -> #part{}.
+act(Part = #part{heal = #open{}}) ->
+    Part;
+act(Part) ->
+    Acted = case heal_state:is_primary(Part) of
+        true -> Part;
+        false -> backup(Part)
+    end,
+    case heal_state:is_primary(Acted) of
+        true -> settle(gone(followers(Acted)));
+        false -> Acted
+    end.
+
+%% Returns the nodes of this node's part, as far as it knows.
+-spec members(#part{}) -> [node()].
+members(Part = #part{node = Node, members = Members, peers = Peers}) ->
+    {Primary, _} = heal_state:primary(Part),
+    case Peers of
+        _ when Primary =:= Node -> lists:sort([Node | maps:keys(Members)]);
+        #{Primary := #peer{members = Others}} -> lists:usort([Node, Primary | Others]);
+        _ -> lists:sort([Node, Primary])
+    end.
+
+%% ---- The primary ----
+
+%% A node that follows an earlier view of this one gets a snapshot, and so does one that follows this view and isn't a member.
+followers(Part = #part{peers = Peers}) ->
+    Behind = [Node || {Node, Peer} <- maps:to_list(Peers), is_behind(Node, Peer, Part), not heal_peers:is_silent(Peer, Part)],
+    lists:foldl(fun send_once/2, Part, Behind).
+
+is_behind(Node, #peer{at = {{Life, Number}, _}}, Part = #part{members = Members}) ->
+    case heal_state:view(Part) of
+        _ when (map_get(Node, Members))#member.is_lagging, not (map_get(Node, Members))#member.is_joined -> true;
+        {Life, Number} -> not is_map_key(Node, Members);
+        {Life, Own} -> Number < Own;
+        _ -> false
+    end.
+
+send_once(Node, Part = #part{members = Members}) ->
+    case Members of
+        #{Node := #member{is_joined = false, is_lagging = false}} -> Part;
+        _ -> welcome(Node, Part)
+    end.
+
+%% Drops the members that are gone, follow another view, or don't join in time, and their names.
+gone(Part = #part{members = Members}) ->
+    Gone = [Node || {Node, Member} <- maps:to_list(Members), is_gone(Node, Member, Part)],
+    Rest = Part#part{members = maps:without(Gone, Members)},
+    case Gone of
+        [] -> Part;
+        _ -> drop_strangers(Rest)
+    end.
+
+is_gone(Node, #member{life = Life, was = Was, is_joined = IsJoined}, Part = #part{peers = Peers, settle_by = By, now = Now}) ->
+    View = heal_state:view(Part),
+    case Peers of
+        #{Node := Peer = #peer{life = Life, at = {View, _}}} ->
+            not IsJoined andalso is_integer(By) andalso Now >= By andalso heal_peers:is_silent(Peer, Part);
+        #{Node := #peer{life = Life, at = {Was, _}}} -> IsJoined orelse By =:= none orelse Now >= By;
+        #{Node := #peer{}} -> true;
+        _ -> IsJoined orelse By =:= none orelse Now >= By orelse not heal_peers:is_connected(Node, Part)
+    end.
+
+%% Unregisters all names whose home isn't a member.
+drop_strangers(Part = #part{members = Members}) ->
+    Homes = maps:from_keys([heal_state:life(Part) | lives(Members)], home),
+    Names = (heal_state:half(Part))#half.names,
+    Strange = [Name || {Name, #row{home = Home}} <- maps:to_list(Names), not is_map_key(Home, Homes)],
+    heal_orders:make_all([{unregister, Name} || Name <- Strange], Part).
+
+%% All have joined.
+settle(Part = #part{settle_by = none}) ->
+    Part;
+settle(Part = #part{members = Members}) ->
+    case [pending || #member{is_joined = false} <- maps:values(Members)] of
+        [] ->
+            Dropped = drop_strangers(Part),
+            Sent = heal_state:send_all(maps:keys(Members), {settled, heal_state:at(Dropped)}, Dropped),
+            {Edits, Settled} = heal_home:settle(Sent#part{settle_by = none, losers = []}),
+            heal_orders:make_each(Edits, element(2, heal_state:at(Settled)), Settled);
+        _ ->
+            Part
+    end.
+
+%% Sends a body to all members that miss no entry.
+-spec broadcast(term(), #part{}) -> #part{}.
+broadcast(_Body, Part = #part{members = Members}) when Members =:= #{} ->
+    Part;
+broadcast(Body, Part = #part{members = Members}) ->
+    heal_state:send_all([Node || {Node, #member{is_lagging = false}} <- maps:to_list(Members)], Body, Part).
+
+%% A node wants a snapshot of this view.
+-spec wanted(node(), heal_replica:view(), #part{}) -> #part{}.
+wanted(Node, View, Part = #part{heal = Heal, peers = Peers}) ->
+    case heal_state:is_primary(Part) andalso heal_state:view(Part) =:= View andalso is_map_key(Node, Peers) of
+        true when not is_record(Heal, open) -> welcome(Node, Part);
+        _ -> Part
+    end.
+
+%% Makes a node a member, unless it is one, and sends it a snapshot.
+welcome(Node, Part = #part{members = Members, peers = Peers, now = Now, settle_by = SettleBy}) ->
+    #{Node := #peer{life = Life, at = {Was, _}}} = Peers,
+    case Members of
+        #{Node := Member = #member{life = Life}} ->
+            send_snapshot(Node, Part#part{members = Members#{Node := Member#member{is_lagging = false}}});
+        _ ->
+            By = case SettleBy of none -> Now + heal_state:patience(Part); _ -> SettleBy end,
+            Added = Members#{Node => #member{life = Life, was = Was}},
+            send_snapshot(Node, replaced(Node, Members, Part#part{members = Added, settle_by = By}))
+    end.
+
+%% A member has started again: the names of its earlier life are dropped.
+replaced(Node, Before, Part) when is_map_key(Node, Before) -> drop_strangers(Part);
+replaced(_Node, _Before, Part) -> Part.
+
+send_snapshot(Node, Part = #part{replica = Replica, losers = Losers}) ->
+    heal_state:send(Node, {snapshot, {heal_replica:snapshot(Replica), Losers}}, Part).
+
+%% A node has followed this view. Its edits are those that its home has and the view lacks.
+-spec joined(node(), {pos_integer(), heal_replica:position(), non_neg_integer(), [heal_edits:edit()]}, #part{}) -> #part{}.
+joined(Node, {Seq, At = {View, Operation}, Requests, Edits}, Part) ->
+    case {heal_peers:moved(Node, Seq, At, Part), heal_state:is_primary(Part) andalso heal_state:view(Part)} of
+        {false, _} -> Part;
+        {{true, Moved}, View} -> join(Node, Requests, Edits, Operation, Moved);
+        {{true, Moved}, _} -> Moved
+    end.
+
+join(Node, Requests, Edits, Operation, Part = #part{members = Members, peers = Peers, settle_by = SettleBy}) ->
+    #{Node := #peer{life = Life}} = Peers,
+    Member = case Members of
+        #{Node := Known = #member{life = Life, taken = Taken}} -> Known#member{is_joined = true, taken = max(Taken, Requests)};
+        _ -> #member{life = Life, was = none, is_joined = true, taken = Requests}
+    end,
+    Made = heal_orders:make_each(Edits, Operation, renewed(Node, Members, Part#part{members = Members#{Node => Member}})),
+    case SettleBy of
+        none -> heal_state:send(Node, {settled, heal_state:at(Made)}, Made);
+        _ -> Made
+    end.
+
+renewed(Node, Before, Part = #part{members = Members}) ->
+    case {Before, Members} of
+        {#{Node := #member{life = Life}}, #{Node := #member{life = Life}}} -> Part;
+        _ -> replaced(Node, Before, Part)
+    end.
+
+%% ---- Leading ----
+
+%% Starts a view with this half, whose members are to follow it.
+lead(Half, Members, Part = #part{replica = Replica}) ->
+    {ok, Led} = heal_replica:change(heal_replica:position(Replica), Half, Replica),
+    start(Led, Members, none, [], Part).
+
+%% Starts the view of a replica that leads. Members that are connected get a snapshot; one that has the half already gets a
+%% message that names the view.
+-spec start(heal_replica:replica(), #{node() => #member{}}, none | {node(), Body}, [heal_home:loser()], #part{}) -> #part{}
+    when Body :: fun((heal_replica:view()) -> term()).
+start(Led, Members, Merged, Losers, Part = #part{now = Now, peers = Peers}) ->
+    Old = heal_state:half(Part),
+    %% A member that hasn't announced itself yet gets the snapshot when it does.
+    Pending = maps:map(fun(Node, Member) -> Member#member{is_lagging = not is_map_key(Node, Peers)} end, Members),
+    Moved = Part#part{replica = Led, members = Pending, settle_by = Now + heal_state:patience(Part), losers = Losers,
+                      dropped = #{}, since = 0},
+    Swapped = heal_entries:restart(heal_home:swap(Old, heal_home:flag(Losers, Moved#part{limbo = none}))),
+    Send = fun(Node, Sum) ->
+        case Merged of
+            {Node, Body} -> heal_state:send(Node, Body(heal_state:view(Sum)), Sum);
+            _ -> send_snapshot(Node, Sum)
+        end
+    end,
+    Sent = lists:foldl(Send, Swapped, [Node || Node <- maps:keys(Members), is_map_key(Node, Peers)]),
+    Announced = viewed(heal_peers:announce(Sent)),
+    heal_orders:make_each(heal_home:differences(Announced), 0, Announced).
+
+viewed(Part) ->
+    heal_state:add({view, heal_state:view(Part), members(Part)}, Part).
+
+%% Starts a view with the names of this node alone.
+-spec lead_alone(#part{}) -> #part{}.
+lead_alone(Part) ->
+    lead(heal_home:restrict([heal_state:life(Part)], Part), #{}, Part).
+
+%% ---- The backup ----
+
+backup(Part = #part{limbo = Limbo, now = Now}) ->
+    case primary(Part) of
+        here -> caught_up(Part#part{limbo = none});
+        _ when is_integer(Limbo), Now >= Limbo -> lead_alone(Part);
+        gone -> successor(Part);
+        moved when Limbo =:= none -> Part#part{limbo = Now + heal_state:patience(Part)};
+        moved -> Part
+    end.
+
+%% Returns whether this node's primary is in its view, may be moving to another one, or is gone.
+primary(Part = #part{peers = Peers, links = Links}) ->
+    {Life = {Node, _}, _} = View = heal_state:view(Part),
+    case {Peers, Links} of
+        {#{Node := Peer = #peer{life = Life, at = {View, _}}}, _} ->
+            case heal_peers:is_silent(Peer, Part) of true -> gone; false -> here end;
+        {#{Node := #peer{life = Life}}, _} -> moved;
+        {#{Node := _}, _} -> gone;
+        {_, #{Node := #link{state = unknown}}} -> moved;
+        _ -> gone
+    end.
+
+%% The smallest node that is left of the part leads it. The others wait for its snapshot.
+successor(Part = #part{node = Node, now = Now, limbo = Limbo}) ->
+    View = heal_state:view(Part),
+    Left = maps:filter(fun(_, Peer) -> not heal_peers:is_silent(Peer, Part) end, heal_peers:followers(Part)),
+    Members = maps:map(fun(_, #peer{life = Life}) -> #member{life = Life, was = View} end, Left),
+    Lives = [heal_state:life(Part) | lives(Members)],
+    case {lists:min([Node | maps:keys(Left)]), heal_home:conflicts([], heal_state:half(Part), Part)} of
+        {Node, []} -> lead(heal_home:restrict(Lives, Part), Members, Part);
+        {Node, _} -> lead_alone(Part);
+        _ when Limbo =:= none -> Part#part{limbo = Now + heal_state:patience(Part)};
+        _ -> Part
+    end.
+
+%% The primary has made entries that this node lacks, hasn't heard that it follows, or lacks what its home has.
+caught_up(Part = #part{peers = Peers, checked = Checked}) ->
+    {{Primary, _}, _} = View = heal_state:view(Part),
+    {_, Operation} = heal_state:at(Part),
+    #{Primary := #peer{seq = Seq, at = At = {_, Last}, is_settled = IsSettled}} = Peers,
+    Noted = Part#part{checked = Seq},
+    if
+        Seq =:= Checked -> Part;
+        Last > Operation -> heal_state:send(Primary, {want, View}, Noted);
+        IsSettled -> rejoin(settled(Primary, At, Noted));
+        true -> join_with(heal_home:differences(Noted), Noted)
+    end.
+
+rejoin(Part) ->
+    case heal_home:differences(Part) of
+        [] -> Part;
+        Edits -> join_with(Edits, Part)
+    end.
+
+join_with(Edits, Part = #part{seq = Seq, requests = Requests}) ->
+    {Primary, _} = heal_state:primary(Part),
+    heal_state:send(Primary, {finished, Seq + 1, heal_state:at(Part), Requests, Edits}, Part#part{seq = Seq + 1}).
+
+%% The primary has settled its view at this position.
+-spec settled(node(), heal_replica:position(), #part{}) -> #part{}.
+settled(Node, {View, Operation}, Part) ->
+    case heal_state:at(Part) of
+        {View = {{Node, _}, _}, Own} when Own >= Operation -> restored(heal_home:settle(Part));
+        _ -> Part
+    end.
+
+%% Losers whose names are free have them again.
+restored({[], Part}) -> Part;
+restored({Edits, Part}) -> join_with(Edits, Part).
+
+%% A primary has sent a snapshot. A node that is a primary joins another one by an exchange alone.
+-spec snapshot(node(), {heal_replica:snapshot(), [heal_home:loser()]}, #part{}) -> #part{}.
+snapshot(Node, {Snapshot = {{{Life, _}, _} = At, _}, Losers}, Part = #part{peers = Peers}) ->
+    case Peers of
+        #{Node := #peer{life = Life}} ->
+            case is_next(Node, At, Part) andalso not heal_state:is_primary(Part) of
+                true -> follow(Snapshot, Losers, Node, Part);
+                false -> Part
+            end;
+        _ ->
+            Part
+    end.
+
+is_next(Node, {View = {{_, Incarnation}, Number}, Operation}, Part = #part{followed = Followed}) ->
+    case {heal_state:at(Part), Followed} of
+        {{View, Own}, _} -> Operation > Own;
+        {_, #{Node := {Incarnation, Last}}} -> Number > Last;
+        _ -> true
+    end.
+
+%% Follows a snapshot, unless it gives a name of this node to another process. Then an exchange is to decide.
+-spec follow(heal_replica:snapshot(), [heal_home:loser()], node(), #part{}) -> #part{}.
+follow(Snapshot = {{View = {{_, Incarnation}, Number}, _}, Half}, Losers, Node, Part = #part{followed = Followed}) ->
+    Noted = Part#part{followed = Followed#{Node => {Incarnation, Number}}},
+    {Lost, Continue} = case heal_state:view(Part) of
+        View -> {Losers ++ heal_home:waiting(Part), fun heal_entries:skipped/1};
+        _ -> {Losers, fun(Moved) -> viewed(heal_entries:restart(Moved)) end}
+    end,
+    case heal_home:conflicts(Lost, Half, Part) of
+        [] -> taken(Snapshot, Lost, Continue, Noted);
+        _ -> lead_alone(Noted)
+    end.
+
+taken(Snapshot, Losers, Continue, Part = #part{replica = Replica}) ->
+    Old = heal_state:half(Part),
+    {ok, Following} = heal_replica:follow(Snapshot, Replica),
+    Moved = Part#part{replica = Following, members = #{}, settle_by = none, losers = [], limbo = none},
+    Swapped = Continue(heal_home:swap(Old, heal_home:flag(Losers, Moved))),
+    heal_peers:announce(join_with(heal_home:differences(Swapped), Swapped)).

@@ -1,0 +1,166 @@
+%% Which nodes heal_registry meets: its scope, hidden nodes, other versions, equal numbers. Names of any term, and subscriptions.
+-module(heal_meets_tests).
+
+-include_lib("eunit/include/eunit.hrl").
+
+-define(REGISTER, {heal_registry, register}).
+
+own(It, Name) ->
+    heal_cluster:own(It, ?REGISTER, Name, #{resolver => notify}).
+
+pid_on(Of) ->
+    heal_cluster:call(Of, erlang, spawn, [heal_cluster, serve, [[]]]).
+
+call(It, Function, Args) ->
+    heal_cluster:call(It, heal_registry, Function, Args).
+
+separate() ->
+    ["-connect_all", "false", "-kernel", "prevent_overlapping_partitions", "false"].
+
+meets_test_() ->
+    {inparallel, 2, [
+        {timeout, 120, fun scopes/0},
+        {timeout, 120, fun hidden/0},
+        {timeout, 120, fun numbers/0},
+        {timeout, 120, fun older_version/0},
+        {timeout, 120, fun some_nodes/0},
+        heal_cluster:cluster(3, #{}, fun any_term/1),
+        heal_cluster:cluster(2, #{}, fun subscribed/1)
+    ]}.
+
+refused(It, Problem) ->
+    heal_cluster:eventually(fun() -> is_map_key(Problem, maps:get(problems, heal_cluster:status(It))) end).
+
+logged(It, Words) ->
+    length([Text || Text <- heal_logs:texts(It), string:find(Text, Words) =/= nomatch]).
+
+%% Registries of two scopes have nothing to do with each other, and show so once.
+scopes() ->
+    Nodes = [A, B, C] = [heal_cluster:start(Letter, separate()) || Letter <- [a, b, c]],
+    [heal_cluster:start_registry(It, any, #{scope => Scope}) || {It, Scope} <- [{A, one}, {B, two}, {C, one}]],
+    [heal_logs:collect(It) || It <- Nodes],
+    heal_cluster:mesh(Nodes),
+    Pids = [own(It, db) || It <- [A, B]],
+    heal_cluster:one_part([A, C]),
+    [refused(It, scope) || It <- [A, B]],
+    ?assertEqual([[{db, Pid}] || Pid <- Pids], [heal_cluster:table(It) || It <- [A, B]]),
+    ?assertEqual({error, apart}, call(B, sync, [])),
+    [?assertEqual(1, logged(It, "scope")) || It <- [A, B]],
+    [heal_cluster:stop(It) || It <- Nodes].
+
+%% A hidden node isn't part of the cluster, unless the setting names it.
+hidden() ->
+    Nodes = [A, B, H] = [heal_cluster:start(Letter, separate() ++ Args) || {Letter, Args} <- [{a, []}, {b, []}, {h, ["-hidden"]}]],
+    [heal_cluster:start_registry(It, any, #{}) || It <- Nodes],
+    [heal_logs:collect(It) || It <- Nodes],
+    heal_cluster:mesh(Nodes),
+    [OnA, OnH] = [own(It, db) || It <- [A, H]],
+    ?assertEqual([{db, OnA}], heal_cluster:one_part([A, B])),
+    [refused(It, hidden) || It <- Nodes],
+    ?assertEqual([{db, OnH}], heal_cluster:table(H)),
+    [?assertEqual(1, logged(It, "hidden node")) || It <- [A, B]],
+    [heal_cluster:stop(It) || It <- Nodes].
+
+%% Two nodes of one number stay apart and say so; a third one is in a part with one of them.
+numbers() ->
+    Nodes = [A, B, C] = [heal_cluster:start(Letter, separate()) || Letter <- [a, b, c]],
+    Same = maps:from_list([{heal_cluster:node_of(It), 7} || It <- [A, B]]),
+    [begin
+         _ = heal_cluster:call(It, application, load, [heal]),
+         ok = heal_cluster:call(It, application, set_env, [heal, node_numbers, Same]),
+         heal_cluster:start_registry(It, any, #{}),
+         heal_logs:collect(It)
+     end || It <- Nodes],
+    heal_cluster:mesh(Nodes),
+    [refused(It, numbers) || It <- Nodes],
+    OnA = own(A, one),
+    OnB = own(B, one),
+    ?assertEqual([{one, OnA}], heal_cluster:table(A)),
+    ?assertEqual([{one, OnB}], heal_cluster:table(B)),
+    [?assert(logged(It, "set node_numbers") >= 1) || It <- [A, B]],
+    heal_cluster:eventually(fun() -> lists:member(heal_cluster:table(C), [[{one, OnA}], [{one, OnB}]]) end),
+    [heal_cluster:stop(It) || It <- Nodes].
+
+%% A node of the protocol for two nodes is refused with one log line, and receives a message of the new version.
+older_version() ->
+    Nodes = [A, B, Old] = [heal_cluster:start(Letter, separate()) || Letter <- [a, b, c]],
+    [heal_cluster:start_registry(It, any, #{}) || It <- [A, B]],
+    [heal_logs:collect(It) || It <- [A, B]],
+    Mailbox = pid_on(Old),
+    true = heal_cluster:call(Old, erlang, register, [heal_registry, Mailbox]),
+    heal_cluster:mesh(Nodes),
+    Of = heal_cluster:node_of(Old),
+    [heal_cluster:call(Old, erlang, send, [{heal_registry, heal_cluster:node_of(It)}, {heal_registry, 2, Of, Body}])
+     || It <- [A, B], Body <- [{started, [heal_cluster:node_of(A), Of]}, {ask, [], make_ref()}]],
+    [refused(It, version) || It <- [A, B]],
+    Pid = own(A, one),
+    ?assertEqual([{one, Pid}], heal_cluster:one_part([A, B])),
+    [?assertEqual(1, logged(It, "have version 2")) || It <- [A, B]],
+    ?assertMatch([_ | _], [3 || {heal_registry, 3, _, _} <- heal_cluster:mail(Old, Mailbox)]),
+    [heal_cluster:stop(It) || It <- Nodes].
+
+%% Nodes that aren't in the setting are refused, also if they have this node in theirs.
+some_nodes() ->
+    Nodes = [A, B, C] = [heal_cluster:start(Letter, separate()) || Letter <- [a, b, c]],
+    [heal_cluster:start_registry(It, Of, #{}) || {It, Of} <- [{A, [A, B]}, {B, [A, B, C]}, {C, any}]],
+    heal_cluster:mesh(Nodes),
+    [refused(It, nodes) || It <- [A, C]],
+    OnA = own(A, one),
+    heal_cluster:eventually(fun() -> heal_cluster:table(B) =:= [{one, OnA}] end),
+    heal_cluster:eventually(fun() -> not lists:member(heal_cluster:node_of(C), maps:get(members, heal_cluster:status(A))) end),
+    [heal_cluster:stop(It) || It <- Nodes].
+
+%% Every term is a name, and no two are confused.
+any_term(Nodes = [A, B, C]) ->
+    Terms = [{db, 1}, {db, 1.0}, 7, [], <<>>, <<"a b">>, 'with space', #{a => 1}, binary:copy(<<"x">>, 33), [a, b], ["db"],
+             [$a | b], <<1:3>>, self(), make_ref()],
+    Pids = [{Term, own(It, Term)} || {Term, N} <- lists:zip(Terms, lists:seq(1, length(Terms))), It <- [lists:nth(N rem 3 + 1, Nodes)]],
+    heal_cluster:eventually(fun() -> [call(It, count, []) || It <- Nodes] =:= [length(Terms) || _ <- Nodes] end),
+    [?assertEqual([Pid || {_, Pid} <- Pids], [call(It, whereis_name, [Term]) || Term <- Terms]) || It <- Nodes],
+    [?assertEqual(maps:from_keys(Terms, name), maps:from_keys(call(It, names, []), name)) || It <- Nodes],
+    [?assertMatch({error, {30, _}}, call(B, register, [Term, pid_on(B), #{}])) || Term <- Terms],
+    %% The text of a digest is a name of its own.
+    Digest = heal_names:name({db, 1}),
+    ?assertEqual(undefined, call(A, whereis_name, [Digest])),
+    ?assertEqual({error, {same_digest, {db, 1}}}, call(A, register, [Digest, pid_on(A), #{}])),
+    ?assertEqual(ok, call(C, unregister_name, [Digest])),
+    ?assertEqual(proplists:get_value({db, 1}, Pids), call(C, whereis_name, [{db, 1}])),
+    [?assertEqual(ok, call(C, unregister_name, [Term])) || Term <- Terms],
+    ?assertEqual(ok, call(A, register, [Digest, pid_on(A), #{}])),
+    ?assertEqual({error, {same_digest, Digest}}, call(A, register, [{db, 1}, pid_on(A), #{}])),
+    heal_cluster:eventually(fun() -> [call(It, names, []) || It <- Nodes] =:= [[Digest], [Digest], [Digest]] end),
+    heal_cluster:split_into([[A, B], [C]]),
+    OnA = own(A, {pool, 1}),
+    OnC = own(C, {pool, 1}),
+    heal_cluster:mesh(Nodes),
+    Table = heal_cluster:one_part(Nodes),
+    [Loser] = [OnA, OnC] -- [proplists:get_value({pool, 1}, Table)],
+    Of = case Loser of OnA -> A; OnC -> C end,
+    heal_cluster:eventually(fun() -> heal_cluster:mail(Of, Loser) =:= [{global_name_conflict, {pool, 1}}] end).
+
+%% A subscriber receives what its node learns.
+subscribed([A, B]) ->
+    Subscriber = pid_on(A),
+    ?assertEqual(ok, call(A, subscribe, [Subscriber])),
+    OnB = own(B, one),
+    OnA = own(A, two),
+    ok = call(B, unregister_name, [one]),
+    heal_cluster:kill(A, OnA),
+    Mail = fun() -> [Event || {heal_registry, Event} <- heal_cluster:mail(A, Subscriber)] end,
+    Expected = [{registered, one, OnB}, {registered, two, OnA}, {unregistered, one, OnB}, {unregistered, two, OnA}],
+    heal_cluster:eventually(fun() -> case lists:sort(Mail()) of Expected -> true; Other -> Other end end),
+    heal_cluster:split(A, B),
+    [ClashA, ClashB] = [own(It, db) || It <- [A, B]],
+    heal_cluster:connect(A, B),
+    heal_cluster:one_part([A, B]),
+    heal_cluster:eventually(fun() -> [Facts || {healed, Facts} <- Mail()] =/= [] end),
+    ?assertMatch([#{clashes := 1, names := 1}], [Facts || {healed, Facts} <- Mail()]),
+    Conflicts = [{Pid, Rival} || {conflict, db, Pid, Rival} <- Mail()],
+    case call(A, whereis_name, [db]) of
+        ClashA -> ?assertEqual([], Conflicts);
+        ClashB -> heal_cluster:eventually(fun() -> lists:member({conflict, db, ClashA, ClashB}, Mail()) end)
+    end,
+    ok = call(A, unsubscribe, [Subscriber]),
+    Count = length(Mail()),
+    _ = own(A, three),
+    ?assertEqual(Count, length(Mail())).

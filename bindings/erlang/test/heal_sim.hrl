@@ -1,0 +1,56 @@
+%% What the modules of the simulator share.
+-include("../src/heal_part.hrl").
+
+-define(EDIT, 1000).
+%% An answer takes no longer: a node may hang for 8 seconds, and its timers may be 2 seconds late.
+-define(SLOWEST, ?EDIT + 10000).
+-define(EXCHANGE, 2000).
+-define(NAMES, 6).
+%% How long a schedule has faults, and how long the nodes have to become one part afterwards, in milliseconds.
+-define(FAULTY, 6000).
+-define(QUIET, 60000).
+%% How often to look whether the nodes are one part.
+-define(LOOK, 600).
+%% How many calls are made then.
+-define(CALM, 20).
+-define(TRACE, 60).
+
+%% `table' and `own' are what the registry keeps; `backlog' are the events of a node that hangs.
+-record(node, {
+    part = none :: none | heal_part:part(),
+    life = 0,
+    is_hung = false,
+    backlog = [],
+    table = #{},
+    own = #{},
+    kept = #{},
+    offset = 0,
+    rate = 1.0,
+    runs = 0
+}).
+
+-record(sim, {
+    now = 0,
+    count = 0,
+    queue = gb_trees:empty(),
+    nodes = #{},
+    %% Pairs that are connected, with the number of the connection.
+    links = #{},
+    epoch = 0,
+    %% When the last event of each channel arrives.
+    last = #{},
+    faults = #{},
+    is_quiet = false,
+    is_calm = false,
+    calls = #{},
+    next = 1,
+    processes = #{},
+    positions = #{},
+    %% The programs that a caller has uploaded on a node that still runs.
+    uploads = [],
+    trace = [],
+    is_traced = false
+}).
+
+%% What is known of a process: its name and node, when it was registered, with which answer, and its notices.
+-record(process, {name, node, asked, state = asked, owner = none, notices = 0, until = none}).

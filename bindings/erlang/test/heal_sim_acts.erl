@@ -1,0 +1,76 @@
+%% What the simulator does with the actions of a node.
+-module(heal_sim_acts).
+
+-include("heal_sim.hrl").
+
+-export([actions/3, positioned/2, process/3]).
+
+actions(Name, Actions, Sim) ->
+    lists:foldl(fun(Action, Sum) -> action(Action, Name, Sum) end, Sim, Actions).
+
+action({send, To, Body}, From, Sim) ->
+    heal_sim_net:send(From, To, Body, Sim);
+action({reply, From, Answer}, Name, Sim) ->
+    heal_sim_calls:reply(From, Answer, Name, Sim);
+action({rows, Put, Drop}, Name, Sim) ->
+    Checked = lists:foldl(fun({_, Row}, Sum) -> seen(Row, Name, Sum) end, Sim, Put),
+    update(Name, fun(Node = #node{table = Table}) ->
+        Rows = maps:from_list([{Key, {Row, shown}} || {Key, Row} <- Put]),
+        Node#node{table = maps:merge(maps:without(Drop, Table), Rows)}
+    end, Checked);
+action({hide, Term}, Name, Sim) ->
+    update(Name, fun(Node = #node{table = Table}) ->
+        case Table of
+            #{Term := {Row, _}} -> Node#node{table = Table#{Term := {Row, hidden}}};
+            _ -> Node
+        end
+    end, Sim);
+action({own, Term, Row = #row{pid = Pid, registration = #{owner := Owner}}}, Name, Sim) ->
+    Owned = update(Name, fun(Node = #node{own = Own}) -> Node#node{own = Own#{Term => Row}} end, Sim),
+    Known = process(Pid, fun(Process) -> Process#process{owner = Owner} end, Owned),
+    case heal_sim_world:is_alive(Pid) of
+        true -> Known;
+        false -> heal_sim_trace:at(1, {died, Pid}, Known)
+    end;
+action({disown, Term, #row{pid = Pid}}, Name, Sim) ->
+    Traced = heal_sim_trace:trace("~p disowns ~0p ~p", [Name, Term, Pid], Sim),
+    Rest = update(Name, fun(Node = #node{own = Own}) -> Node#node{own = maps:remove(Term, Own)} end, Traced),
+    %% A caller may have unregistered it: also one whose answer is still to come, or whose request a node that hung carries out late.
+    case heal_sim_calls:is_unregistered(Term) of
+        true -> process(Pid, fun heal_sim_calls:doubtful/1, Rest);
+        false -> Rest
+    end;
+action({notify, #row{pid = Pid, term = Term}, {{Kind, _}, _Rival}}, Name, Sim = #sim{processes = Processes}) ->
+    #{Pid := Process = #process{notices = Notices, node = On}} = Processes,
+    Traced = heal_sim_trace:trace("~p notifies ~p of ~p by ~p", [Name, Pid, Term, Kind], Sim),
+    Notices =:= 0 orelse heal_sim_trace:broken(one_notice, {Pid, Term}, Traced),
+    On =:= Name orelse heal_sim_trace:broken(notice_from_home, {Pid, Term, Name}, Traced),
+    Told = Traced#sim{processes = Processes#{Pid := Process#process{notices = 1}}},
+    case Kind of
+        exit -> heal_sim_net:ended(Pid, Told);
+        _ -> Told
+    end;
+action({keep, Key, Value}, Name, Sim) ->
+    update(Name, fun(Node = #node{kept = Kept}) -> Node#node{kept = Kept#{Key => Value}} end, Sim);
+action({view, View, Members}, Name, Sim) ->
+    heal_sim_trace:trace("~p is in view ~p of ~p", [Name, View, Members], Sim);
+action(_Reported, _Name, Sim) ->
+    Sim.
+
+positioned(Name, Sim) ->
+    update(Name, fun(Node = #node{part = Part, kept = Kept}) -> Node#node{kept = Kept#{position => heal_part:position(Part)}} end, Sim).
+
+update(Name, Change, Sim = #sim{nodes = Nodes}) ->
+    #{Name := Node} = Nodes,
+    Sim#sim{nodes = Nodes#{Name := Change(Node)}}.
+
+process(Pid, Change, Sim = #sim{processes = Processes}) ->
+    #{Pid := Process} = Processes,
+    Sim#sim{processes = Processes#{Pid := Change(Process)}}.
+
+%% A registration that is refused or not made is in no table.
+seen(#row{pid = Pid}, Name, Sim = #sim{processes = Processes}) ->
+    case Processes of
+        #{Pid := #process{state = not_made}} -> heal_sim_trace:broken(not_made, {Pid, Name}, Sim);
+        _ -> Sim
+    end.

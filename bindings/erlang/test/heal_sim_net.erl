@@ -1,0 +1,153 @@
+%% The network of the simulator, and the faults of its nodes and links.
+-module(heal_sim_net).
+
+-include("heal_sim.hrl").
+
+-export([any/1, ended/2, fault/2, names/1, pair/2, receive_message/5, restore/3, resume/2, send/4]).
+
+pair(A, B) when A < B -> {A, B};
+pair(A, B) -> {B, A}.
+
+send(From, To, Body, Sim = #sim{links = Links, faults = #{lost := Lost, twice := Twice, late := Late}}) ->
+    case Links of
+        #{{From, To} := Epoch} -> transmit(From, To, Epoch, Body, {Lost, Twice, Late}, Sim);
+        #{{To, From} := Epoch} -> transmit(From, To, Epoch, Body, {Lost, Twice, Late}, Sim);
+        _ -> Sim
+    end.
+
+transmit(From, To, Epoch, Body, {Lost, Twice, Late}, Sim) ->
+    case rand:uniform(1000) of
+        N when N =< Lost -> heal_sim_trace:trace("~p -> ~p lost ~s", [From, To, {short, Body}], Sim);
+        N when N =< Lost + Twice -> deliver(From, To, Epoch, Body, deliver(From, To, Epoch, Body, Sim));
+        N when N =< Lost + Twice + Late -> late(From, To, Body, Sim);
+        _ -> deliver(From, To, Epoch, Body, Sim)
+    end.
+
+%% Messages of a channel arrive in their order.
+deliver(From, To, Epoch, Body, Sim = #sim{now = Now, last = Last, faults = #{delay := Delay}, nodes = Nodes}) ->
+    Time = max(Now + rand:uniform(Delay), maps:get({From, To}, Last, 0)),
+    #{To := #node{life = Life}} = Nodes,
+    heal_sim_trace:at(Time - Now, {deliver, To, From, Epoch, Life, Body}, Sim#sim{last = Last#{{From, To} => Time}}).
+
+%% This one arrives out of order, and perhaps after a reconnection.
+late(From, To, Body, Sim = #sim{nodes = Nodes}) ->
+    #{To := #node{life = Life}} = Nodes,
+    heal_sim_trace:at(rand:uniform(4000), {deliver, To, From, any, Life, Body}, Sim).
+
+receive_message(_Name, _From, any, _Body, Sim = #sim{is_calm = true}) ->
+    Sim;
+receive_message(Name, From, any, Body, Sim) ->
+    heal_sim:event(Name, {message, From, Body}, Sim);
+receive_message(Name, From, Epoch, Body, Sim = #sim{links = Links}) ->
+    %% What is under way when a link is cut may arrive or be lost.
+    Pair = pair(Name, From),
+    case Links of
+        #{Pair := Epoch} -> heal_sim:event(Name, {message, From, Body}, Sim);
+        _ -> Sim
+    end.
+
+restore(A, B, Sim = #sim{links = Links, epoch = Epoch, nodes = Nodes}) ->
+    #{A := #node{part = One}, B := #node{part = Other}} = Nodes,
+    case is_map_key({A, B}, Links) orelse One =:= none orelse Other =:= none of
+        true -> Sim;
+        false ->
+            Linked = heal_sim_trace:trace("link ~p ~p", [A, B], Sim#sim{links = Links#{{A, B} => Epoch + 1}, epoch = Epoch + 1}),
+            announce(A, {up, B, visible}, announce(B, {up, A, visible}, Linked))
+    end.
+
+cut(A, B, Sim = #sim{links = Links}) ->
+    case maps:take({A, B}, Links) of
+        {_, Rest} ->
+            Cut = heal_sim_trace:trace("cut ~p ~p", [A, B], Sim#sim{links = Rest}),
+            announce(A, {down, B}, announce(B, {down, A}, Cut));
+        error ->
+            Sim
+    end.
+
+%% A node learns of a link a while later, after the messages that arrived before.
+announce(Name, Event, Sim = #sim{now = Now, last = Last, nodes = Nodes}) ->
+    Other = element(2, Event),
+    Time = max(Now + rand:uniform(100), maps:get({Other, Name}, Last, 0)),
+    #{Name := #node{life = Life}} = Nodes,
+    heal_sim_trace:at(Time - Now, {link, Name, Life, Event}, Sim#sim{last = Last#{{Other, Name} => Time}}).
+
+any(List) ->
+    lists:nth(rand:uniform(length(List)), List).
+
+names(#sim{nodes = Nodes}) ->
+    lists:sort(maps:keys(Nodes)).
+
+fault(N, Sim) when N =< 3 ->
+    {A, B} = any(heal_sim:pairs(names(Sim))),
+    cut(A, B, Sim);
+fault(4, Sim) ->
+    %% A split into two sides.
+    Side = [Name || Name <- names(Sim), rand:uniform(2) =:= 1],
+    lists:foldl(fun({A, B}, Sum) ->
+        case lists:member(A, Side) =:= lists:member(B, Side) of true -> Sum; false -> cut(A, B, Sum) end
+    end, Sim, heal_sim:pairs(names(Sim)));
+fault(N, Sim) when N =< 8 ->
+    lists:foldl(fun({A, B}, Sum) -> case rand:uniform(3) of 1 -> restore(A, B, Sum); _ -> Sum end end, Sim, heal_sim:pairs(names(Sim)));
+fault(9, Sim) ->
+    Name = any(names(Sim)),
+    heal_sim_trace:at(rand:uniform(4000), {up_again, Name}, kill(Name, Sim));
+fault(10, Sim) ->
+    Name = any(names(Sim)),
+    heal_sim_trace:at(rand:uniform(8000), {up_again, Name}, hang(Name, Sim));
+fault(11, Sim) ->
+    crash(any(names(Sim)), Sim);
+fault(12, Sim) ->
+    lists:foldl(fun({A, B}, Sum) -> restore(A, B, Sum) end, Sim, heal_sim:pairs(names(Sim))).
+
+%% The node ends, and its processes with it.
+kill(Name, Sim = #sim{nodes = Nodes, processes = Processes}) ->
+    case Nodes of
+        #{Name := #node{part = none}} ->
+            Sim;
+        #{Name := Node} ->
+            [heal_sim_world:end_process(Pid) || {Pid, #process{node = On}} <- maps:to_list(Processes), On =:= Name],
+            Others = [Other || Other <- names(Sim), Other =/= Name],
+            Killed = heal_sim_trace:trace("kill ~p", [Name], Sim#sim{nodes = Nodes#{Name := #node{runs = Node#node.runs, life = dead}}}),
+            Cut = lists:foldl(fun(Other, Sum) -> {A, B} = pair(Name, Other), cut(A, B, Sum) end, Killed, Others),
+            forget_calls(Name, Cut#sim{uploads = [Upload || Upload = {On, _} <- Cut#sim.uploads, On =/= Name]})
+    end.
+
+hang(Name, Sim = #sim{nodes = Nodes}) ->
+    case Nodes of
+        #{Name := #node{part = none}} -> Sim;
+        #{Name := Node} -> heal_sim_trace:trace("hang ~p", [Name], Sim#sim{nodes = Nodes#{Name := Node#node{is_hung = true}}})
+    end.
+
+%% A node that was killed starts again, and one that hangs goes on.
+resume(Name, Sim = #sim{nodes = Nodes}) ->
+    case Nodes of
+        #{Name := #node{part = none}} ->
+            heal_sim_trace:trace("start ~p", [Name], heal_sim:start_node(Name, Sim));
+        #{Name := Node = #node{is_hung = true, backlog = Backlog}} ->
+            Woken = heal_sim_trace:trace("wake ~p", [Name], Sim#sim{nodes = Nodes#{Name := Node#node{is_hung = false, backlog = []}}}),
+            lists:foldr(fun(Event, Sum) -> heal_sim:event(Name, Event, Sum) end, Woken, Backlog);
+        _ ->
+            Sim
+    end.
+
+%% The registry ends between two events and starts again.
+crash(Name, Sim = #sim{nodes = Nodes}) ->
+    case Nodes of
+        #{Name := #node{part = none}} -> Sim;
+        #{Name := #node{is_hung = true}} -> Sim;
+        _ -> heal_sim:start_registry(Name, forget_calls(Name, heal_sim_trace:trace("crash ~p", [Name], Sim)))
+    end.
+
+%% The callers of a node or registry that ends receive no answer.
+forget_calls(Name, Sim = #sim{calls = Calls}) ->
+    Lost = maps:filter(fun(_, {On, _, _}) -> On =:= Name end, Calls),
+    Kept = Sim#sim{calls = maps:without(maps:keys(Lost), Calls)},
+    lists:foldl(fun({_, _, Call}, Sum) -> heal_sim_calls:answered(Call, {error, {ended, unknown}}, Name, Sum) end, Kept,
+                [Value || {_, Value} <- lists:sort(maps:to_list(Lost))]).
+
+ended(Pid = {pid, On, _}, Sim = #sim{nodes = Nodes}) ->
+    heal_sim_world:end_process(Pid),
+    #{On := #node{own = Own}} = Nodes,
+    Watched = [{Term, Owner} || {Term, #row{pid = Of, registration = #{owner := Owner}}} <- maps:to_list(Own), Of =:= Pid],
+    lists:foldl(fun({Term, Owner}, Sum) -> heal_sim:event(On, {died, Term, Owner}, Sum) end,
+                heal_sim_trace:trace("ends ~p", [Pid], Sim), Watched).

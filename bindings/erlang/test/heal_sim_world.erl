@@ -1,0 +1,84 @@
+%% A model of an exchange for the simulator, with the merge rule of libheal and without the NIF.
+%%
+%% The verdict of a clash is a hash of its name and the seed. Serials, seeds and dead processes are in the process dictionary.
+%% A model with a fault shows what the simulator finds: `side_decides' gives the halves different verdicts, `deaf' ignores what the
+%% other half has withdrawn.
+-module(heal_sim_world).
+
+-export([start/1, end_process/1]).
+-export([open/6, hear/2, withdraw/2, close/1, finish/3, registration/2, seed/0, serial/0, is_alive/1]).
+
+-record(handle, {side, seed, names, other = none, withdrawn = [], is_closed = false}).
+
+start(Fault) ->
+    put({?MODULE, fault}, Fault),
+    put({?MODULE, dead}, #{}),
+    put({?MODULE, serial}, 0).
+
+end_process(Pid) ->
+    put({?MODULE, dead}, (get({?MODULE, dead}))#{Pid => true}).
+
+is_alive(Pid) ->
+    not is_map_key(Pid, get({?MODULE, dead})).
+
+serial() ->
+    put({?MODULE, serial}, get({?MODULE, serial}) + 1) + 1.
+
+seed() ->
+    rand:uniform(1 bsl 32).
+
+open(Side, _Number, Seed, Names, _Programs, _Limit) ->
+    Registrations = maps:map(fun(_, Row) -> element(2, Row) end, Names),
+    {ok, {Side, Seed, Registrations}, #handle{side = Side, seed = Seed, names = Registrations}}.
+
+hear({Side, Seed, Names}, Handle = #handle{side = Own, seed = Seed}) when Side =/= Own ->
+    {ok, Handle#handle{other = Names}}.
+
+withdraw(_Name, #handle{is_closed = true}) -> late;
+withdraw(Name, Handle = #handle{withdrawn = Withdrawn}) -> {ok, Handle#handle{withdrawn = [Name | Withdrawn]}}.
+
+close(Handle = #handle{withdrawn = Withdrawn}) ->
+    {ok, Withdrawn, Handle#handle{is_closed = true}}.
+
+%% Returns the owners of the merge and the clashes. A winner that is withdrawn leaves the name without an owner.
+finish(Heard, _Names, Handle = #handle{side = Side, names = Own, other = Other, withdrawn = Ours, seed = Seed}) ->
+    Theirs = case get({?MODULE, fault}) of deaf -> []; _ -> Heard end,
+    {A, B, GoneA, GoneB} = case Side of a -> {Own, Other, Ours, Theirs}; b -> {Other, Own, Theirs, Ours} end,
+    Clashes = [clash(Name, One, maps:get(Name, B), {Seed, drawn(Side)}) || {Name, One} <- lists:sort(maps:to_list(A)), is_map_key(Name, B)],
+    Alone = maps:merge(maps:without(maps:keys(B) ++ GoneA, A), maps:without(maps:keys(A) ++ GoneB, B)),
+    Won = [{Name, Owner} || Clash = #{name := Name} <- Clashes, Owner <- winner(Clash, GoneA, GoneB)],
+    {ok, [{Name, Owner} || {Name, #{owner := Owner}} <- maps:to_list(Alone)] ++ Won, Clashes, Handle}.
+
+drawn(Side) ->
+    case get({?MODULE, fault}) of
+        side_decides -> Side;
+        _ -> both
+    end.
+
+clash(Name, OfA, OfB, Seed) ->
+    Ordered = [#{resolver := Resolver}, _] = lists:sort(fun(#{owner := X}, #{owner := Y}) -> X =< Y end, [OfA, OfB]),
+    [First, Second] = Ordered,
+    Verdict = case {Resolver, erlang:phash2({Name, Seed}, 2)} of
+        {notify_all, _} -> neither;
+        {_, 0} -> first;
+        {_, 1} -> second
+    end,
+    #{name => Name, first => First, second => Second, verdict => Verdict,
+      first_half => case First of OfA -> a; _ -> b end}.
+
+winner(#{verdict := neither}, _, _) ->
+    [];
+winner(#{name := Name, verdict := Verdict, first_half := Half, first := First, second := Second}, GoneA, GoneB) ->
+    {#{owner := Owner}, Of} = case {Verdict, Half} of
+        {first, _} -> {First, Half};
+        {second, a} -> {Second, b};
+        {second, b} -> {Second, a}
+    end,
+    Gone = case Of of a -> GoneA; b -> GoneB end,
+    case lists:member(Name, Gone) of
+        true -> [];
+        false -> [Owner]
+    end.
+
+registration(Name, #handle{other = Other}) ->
+    maps:get(Name, Other).
