@@ -31,19 +31,27 @@ def encode_withdrawals(message):
 
 
 def encode_offer(message):
+    encoded = MAGIC + bytes([VERSION, OFFER, message.side]) + struct.pack("<QQQ", message.number, message.seed, message.uptime)
+    return encoded + encode_rows(message.rows, message.programs)
+
+
+def encode_fields(name, r):
+    """A row up to its resolver."""
+    return encode_name(name) + struct.pack("<IIQQ", r.node, r.serial, r.stamp, r.weight) + r.extra
+
+
+def encode_rows(rows, programs):
     """The code of a program is in the first row that names it; later rows have its id."""
-    encoded = MAGIC + bytes([VERSION, OFFER, message.side])
-    encoded += struct.pack("<QQQI", message.number, message.seed, message.uptime, len(message.rows))
-    sent = set()
-    for name, r in message.rows:
-        encoded += encode_name(name) + struct.pack("<IIQQ", r.node, r.serial, r.stamp, r.weight) + r.extra
+    encoded, sent = struct.pack("<I", len(rows)), set()
+    for name, r in rows:
+        encoded += encode_fields(name, r)
         if isinstance(r.resolver, int):
             encoded += bytes([r.resolver])
         elif r.resolver in sent:
             encoded += bytes([BY_ID]) + r.resolver
         else:
             sent.add(r.resolver)
-            code = message.programs[r.resolver]
+            code = programs[r.resolver]
             encoded += bytes([BY_CODE]) + struct.pack("<I", len(code)) + code
     return encoded
 
@@ -115,6 +123,17 @@ class Reader:
             raise self.fault(72, self.at)
 
 
+def decode_head(data):
+    """Reads what an offer or a list begins with: its side and its number. An offer's head has a seed too."""
+    reader = Reader(data)
+    kind = LIST if data[:8] == MAGIC + bytes([VERSION, LIST]) else OFFER
+    reader.header(kind)
+    side, number = reader.side(), reader.number(8)
+    if kind == OFFER:
+        reader.number(8)
+    return side, number
+
+
 def decode_withdrawals(data):
     reader = Reader(data)
     reader.header(LIST)
@@ -131,6 +150,11 @@ def decode_offer(data):
     reader = Reader(data)
     reader.header(OFFER)
     side, number, seed, uptime = reader.side(), reader.number(8), reader.number(8), reader.number(8)
+    return Offer(side, number, seed, uptime, *decode_rows(reader))
+
+
+def decode_rows(reader):
+    """Reads a count and its rows to the end. Returns the rows, and the code of each program that they have."""
     spelled = [reader.row() for _ in range(reader.count(MAX_ROWS))]
     reader.end()
     rows, programs = [], {}
@@ -145,7 +169,7 @@ def decode_offer(data):
         if faults:
             raise Refused(min(faults), ("row", index))
         rows.append((name, registration._replace(resolver=resolver)))
-    return Offer(side, number, seed, uptime, rows, programs)
+    return rows, programs
 
 
 def program_faults(kind, value, programs):

@@ -50,13 +50,13 @@ class Store:
 
 
 class Table:
-    def __init__(self):
-        self.rows = {}
+    def __init__(self, limit=MAX_NAMES):
+        self.rows, self.limit = {}, limit
 
     def register(self, name, registration):
         if name in self.rows:
             raise Refused(30)
-        if len(self.rows) == MAX_NAMES:
+        if len(self.rows) == self.limit:
             raise Refused(32)
         self.rows[name] = registration
 
@@ -114,7 +114,7 @@ def notices(clash, answer):
 def merge(a, b, answers, gone):
     """The merged table. `answers` has a clash with its answer by each name that clashes; `gone` has the withdrawn names
     of each table. A name whose kept registration was withdrawn, by a side that has that registration, is dropped."""
-    merged = Table()
+    merged = Table(a.limit)
     for name in a.rows.keys() | b.rows.keys():
         kept = a.rows.get(name, b.rows.get(name))
         if name in answers:

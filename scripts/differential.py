@@ -8,12 +8,15 @@ texts to asm, and scripts to run. The first difference ends the comparison with 
 the numbers of refusals that were never reached are printed; the status is 1 if one of REACHABLE is among them. Cases are
 tried for N seconds, 20 by default, and on until these numbers are reached, up to case 2,000.
 `--case I` carries out case I alone. With a built libheal.so, by default that of bindings/c/out, codes are loaded and judged
-through it as well, which is much faster and shows r0 whole, and messages are encoded and decoded.
+through it as well, which is much faster and shows r0 whole, messages are encoded and decoded, and all calls of sides and replicas
+are made through its Python package.
 """
 
 import argparse
 import ctypes
 import hashlib
+import importlib
+import os
 import pathlib
 import random
 import re
@@ -35,9 +38,10 @@ import text
 import verifier
 from random_codes import EXIT, Codes, slot
 
-# The refusals that the commands can give; 33 to 36, 38 to 40, 42, 45, 46, 48 and 49 are those of libraries or collisions.
+# The refusals that the commands can give.
 REACHABLE = {*range(1, 8), *range(10, 27), 30, 31, 32, 37, 41, 43, 44, 47, *range(50, 58), *range(60, 64)}
-MESSAGES = {34, *range(70, 83)}  # those that the library gives too
+# Those that sides and replicas give too. 42 is a collision of digests, and 99 comes after 2^64 entries.
+OF_CALLS = {33, 34, 35, 36, 39, 40, 45, 46, 48, 49, *range(70, 85), 92, *range(94, 99)}
 
 
 # ---- Texts ----
@@ -216,14 +220,6 @@ class Library:
         self.calls.heal_program_judge(ctypes.byref(self.program), record, ctypes.byref(self.ended))
         return self.ended.r0, self.ended.steps
 
-    def hear(self, name, data):
-        """Hears a message on a side without an exchange: 70 to 82, or 34 for a message."""
-        side = Handle()
-        self.calls.heal_side_new(False, ctypes.byref(side))
-        number = getattr(self.calls, name)(ctypes.byref(side), data, ctypes.c_size_t(len(data)))
-        self.calls.heal_side_free(ctypes.byref(side))
-        return number
-
     def messages_of(self, offer, gone):
         """The offer and the list that a side with these rows and withdrawn names gives."""
         side, message, digest, slot_ = Handle(), Handle(), ctypes.create_string_buffer(32), ctypes.c_uint32()
@@ -350,6 +346,7 @@ def examples_of_documents():
 class Comparison:
     def __init__(self, program, library, seed):
         self.program, self.library, self.seed = program, library, seed
+        self.sides, self.replicas = (map(importlib.import_module, ["random_sides", "random_replicas"]) if library else (None, None))
         self.examples = examples_of_documents()
         self.reached, self.counts = {}, {}
 
@@ -394,7 +391,7 @@ class Comparison:
 
     def missed(self):
         """The numbers within reach that weren't reached yet."""
-        return sorted((REACHABLE | (MESSAGES if self.library else set())) - self.reached.keys())
+        return sorted((REACHABLE | (OF_CALLS if self.library else set())) - self.reached.keys())
 
     def same(self, what, given, got, wanted):
         """Compares an answer of the library."""
@@ -427,30 +424,34 @@ class Comparison:
             return False
         for _ in range(30):
             again = messages.encode_withdrawals(listed._replace(names=gone + [rng.choice(gone)] if gone else []))
-            for name, decode, data, wrong in (
-                    ("heal_side_hear", messages.decode_offer, wanted[0], misspelled(rng, offer)),
-                    ("heal_side_hear_list", messages.decode_withdrawals, wanted[1], again)):
+            for name, data, wrong in (("hear", wanted[0], misspelled(rng, offer)), ("hear_list", wanted[1], again)):
                 data = rng.choice([damaged(rng, data)] * 14 + [wrong] * 6 + [wanted[0], wanted[1]])
-                if not self.same(name, data.hex(), self.library.hear(name, data), self.heard(decode, data)):
+                pair = self.sides.Pair(1 - offer.side, 40)
+                calls = ("begin", offer.number, offer.seed, 0), (name, data)
+                if not all(self.alike(call, pair.call(*call)) for call in calls):
                     return False
         return True
 
-    def heard(self, decode, data):
-        """What hearing a message on a side without an exchange is refused with."""
-        try:
-            decode(data)
-            number = 34
-        except machine.Refused as refused:
-            number = refused.number
-        self.reached[number] = self.reached.get(number, 0) + 1
-        return number
+    def walk(self, of, rng, codes):
+        """Makes random calls on sides or replicas of the library and on as many of the oracle."""
+        return all(self.alike(call, shown) for call, shown in of.Walk(rng, codes, damaged).calls(100))
+
+    def alike(self, call, shown):
+        """Compares what both showed after a call of a side or a replica."""
+        got, wanted = shown
+        if isinstance(wanted[0], tuple):
+            number = wanted[0][1]
+            self.reached[number] = self.reached.get(number, 0) + 1
+        return self.same("calls", call, got, wanted)
 
     def random_case(self, index):
         rng = random.Random(f"{self.seed}/{index}")
         codes = Codes(rng, self.examples)
         if self.library and index % 2:
-            if index % 4 == 1:
+            if index % 8 == 1:
                 return self.messages(rng, codes)
+            if index % 8 in (3, 5):
+                return self.walk(self.sides if index % 8 == 3 else self.replicas, rng, codes)
             return all(self.loaded(codes.any(), rng.randbytes(160)) for _ in range(100))
         kind = rng.choice(["uploads", "uploads", "script", "script", "asm", "asm", "code"])
         if kind == "uploads":
@@ -480,7 +481,12 @@ def main():
     parser.add_argument("--library", default=str(ROOT / "bindings/c/out/libheal.so"))
     parser.add_argument("program", nargs="?", default=str(ROOT / "crates/heal_main/out/heal_main"))
     options = parser.parse_args()
-    library = Library(options.library) if pathlib.Path(options.library).exists() else None
+    library = None
+    if pathlib.Path(options.library).exists():
+        # The Python package loads the library that this names.
+        os.environ["HEAL_LIBRARY"] = options.library
+        sys.path.insert(0, str(ROOT / "bindings" / "python"))
+        library = Library(options.library)
     print(f"seed {options.seed}" + ("" if library else "; no library"), flush=True)
     comparison = Comparison(options.program, library, options.seed)
     if options.case is not None:
