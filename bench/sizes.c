@@ -133,8 +133,8 @@ int main(int argc, char **argv)
     timed("finish");
     must(heal_side_finish(&b, &outcome_b), "finish");
     must(heal_side_count(&a, &merged), "count");
-    if (merged != 0) {
-        fprintf(stderr, "%zu names are left, where notify keeps none\n", merged);
+    if (merged != count) {
+        fprintf(stderr, "%zu names are left, where notify keeps one of both owners\n", merged);
         return 1;
     }
     return 0;
