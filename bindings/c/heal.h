@@ -354,7 +354,7 @@ uint32_t heal_side_row_after(const heal_side *side, const uint8_t *name, size_t 
 uint32_t heal_side_live(const heal_side *side, size_t i, heal_row *row);
 uint32_t heal_side_live_after(const heal_side *side, const uint8_t *name, size_t len, heal_row *row);
 
-/* Returns what the side knows. After 39 `missing` says what is missing. */
+/* Returns what the side knows. After 39 `missing` states what is missing. */
 uint32_t heal_side_query(const heal_side *side, heal_side_state *state);
 
 /* Returns name i, from 0, of those that the side withdrew in the open exchange, the earliest first. Returns 92 for an index

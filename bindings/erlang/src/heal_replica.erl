@@ -130,7 +130,7 @@ apply({{View, Operation}, Edit}, Replica = #replica{at = {Own, Last}}) ->
         true -> applied(Edit, Replica)
     end.
 
-%% A backup takes what the primary made, whatever its own limit is.
+%% A backup takes what the primary made, also beyond its own limit.
 applied(Edit, Replica) ->
     case step(Edit, infinity, Replica) of
         {ok, Applied} -> {ok, now, Applied};
