@@ -1,8 +1,8 @@
 #!/usr/bin/env python3
 """refusals.py [--write | --check]: the refusals of C, Python and Rust by name, from the tables of words and names.
 
-The words are those of numbered::REFUSALS, and of replica_codec for 84; the names are those of docs/REFUSALS.md. --write puts them between the marks of
-c/heal.h and into python/heal/refusal.py and rust/heal/src/refusal.rs; --check fails if one of them is stale.
+The words are those of numbered::REFUSALS, the names those of docs/REFUSALS.md. --write puts them between the marks of c/heal.h and
+into python/heal/refusal.py and rust/heal/src/refusal.rs; --check fails if one of them is stale.
 """
 import os
 import re
@@ -16,7 +16,6 @@ NAMES = {
     41: "UnknownProgram",
     42: "OtherCode",
     83: "OtherMessage",
-    84: "Checksum",
     49: "Moved",
     90: "OutOfMemory",
     91: "EmptyHandle",
@@ -37,7 +36,6 @@ def refusals():
     """The number, the name and the words of each refusal that a call of the library returns."""
     table = read(TOP, "crates", "numbered", "src", "table.rt").split("pub const REFUSALS", 1)[1].split("\n];", 1)[0]
     words = {int(number): text for number, text in re.findall(r'\(\s*(\d+),\s*"([^"]*)",?\s*\)', table)}
-    words[84] = re.search(r'#\[error\("([^"]*)"\)\]\n *Checksum', read(TOP, "crates", "replica_codec", "src", "fault.rt")).group(1)
     page = re.findall(r"^\| (\d+) \| (\w*)", read(TOP, "docs", "REFUSALS.md"), re.MULTILINE)
     names = {int(number): name for number, name in page if name} | NAMES
     listed = [(number, names.get(number), words[number]) for number in sorted(words) if number not in STRANGE]

@@ -13,7 +13,7 @@ use crate::codes::{
 use builtin_resolvers::{Notices, Verdict3, notices};
 use clash_record::{Name, Registration, ResolverId, SideId};
 use exchange_core::{Finished, Judged};
-use partition_table::{Clash, ClashList, Table};
+use partition_table::{Clash, ClashList, Finder};
 use std::alloc::{AllocError, Global};
 
 /// A clash without its ruling.
@@ -225,43 +225,37 @@ fn count_notices(pair: &Pair, verdict: Verdict3, kept: bool) -> u32
     }
 }
 
-// Marks each clash.
+// Marks each clash. The clashes are in the order of names, so that each table is walked once.
 fn mark_all(finished: &Finished, pairs: &[Pair], marks: &mut [Mark])
     requires { length marks.old ≡ length pairs.now }
     ensures { marks.new ≡ map (mark_of finished.now) pairs.now }
 {
+    let mut merged = Finder::new(finished.table());
+    let mut of_a = Finder::new(finished.a());
     let mut i = 0;
     while i < pairs.len() {
-        marks[i] = mark_of(finished, &pairs[i]);
+        marks[i] = Mark {
+            kept: has_name(&mut merged, &pairs[i].name),
+            of_a: has_first(&mut of_a, &pairs[i]),
+        };
         i += 1;
     }
 }
 
-// Marks a clash.
-fn mark_of(finished: &Finished, pair: &Pair) -> Mark
-    ensures { result ≡ mark_of finished.now pair.now }
-{
-    Mark {
-        kept: has_name(finished.table(), &pair.name),
-        of_a: has_first(finished.a(), pair),
-    }
-}
-
 // Checks whether the table has the name.
-fn has_name(table: &Table, name: &Name) -> bool
-    ensures { result ≡ is_some (get table.now name.now) }
+fn has_name(table: &mut Finder<'_>, name: &Name) -> bool
+    ensures answer { result ≡ is_some (get table.old name.now) }
+    ensures same { table.new ≡ table.old }
 {
-    match table.whereis(name) {
-        Some(_) => true,
-        None => false,
-    }
+    table.find(name).is_some()
 }
 
 // Checks whether the table has the name of a clash with its first registration.
-fn has_first(table: &Table, pair: &Pair) -> bool
-    ensures { result ≡ has_first table.now pair.now }
+fn has_first(table: &mut Finder<'_>, pair: &Pair) -> bool
+    ensures answer { result ≡ has_first table.old pair.now }
+    ensures same { table.new ≡ table.old }
 {
-    match table.whereis(&pair.name) {
+    match table.find(&pair.name) {
         Some(registration) => registration.cmp(&pair.first).is_eq(),
         None => false,
     }
@@ -281,7 +275,7 @@ pub fn pairs_of(alloc: Global, clashes: Option<&ClashList>) -> Result<Vec<Pair>,
 fn copy_pairs(alloc: Global, clashes: &ClashList) -> Result<Vec<Pair>, AllocError>
     ensures { IfOk result (λ pairs. pairs.items ≡ map pair_of clashes.now) }
 {
-    let mut pairs = Vec::new(alloc);
+    let mut pairs = Vec::with_capacity(alloc, clashes.len())?;
     for clash in clashes.iter() {
         pairs.push(pair_of(clash))?;
     }

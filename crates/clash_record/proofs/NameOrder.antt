@@ -1,4 +1,4 @@
--- Padded names compare as the numbers that their halves spell.
+-- Padded names compare as the numbers that their quarters spell.
 use Rattle.std.proofs.Common.{◌≡◌, ◌-◌, ℕ, zero, suc, ◌+◌, ◌*◌, ◌^◌, ◌<◌, ◌≤◌, List, [], ◌∷◌, ◌++◌, length, take, drop, replicate, IsTrue, refl, sym, ap, ◌∙◌, arith}
 use Rattle.std.specs.Prelude.{◌&&◌, nat_le}
 use Rattle.std.specs.List.{list_all}
@@ -121,47 +121,89 @@ compares_padded (x ∷ xs) [] m (suc k) e ha hb =
 compares_padded (x ∷ xs) (y ∷ ys) m k e ha hb =
     ap (ordering_then (nat_cmp x y)) (compares_padded xs ys m k (omega (arith, e)) ha.1 hb.1)
 
--- the number in the first 16 bytes
-front_number : (xs : List ℕ) → length xs ≡ 32 → big_of (take 16 xs) ≡ big_from 0 16 xs
+-- the number in the first 8 bytes
+front_number : (xs : List ℕ) → 8 ≤ length xs → big_of (take 8 xs) ≡ big_from 0 8 xs
 front_number xs long =
-    let short : length (take 16 xs) ≡ 16 = length-take-le 16 xs (omega (arith, long)) in
-    ap (λ (n : ℕ). big_from 0 n (take 16 xs)) short ∙ big_from-take 0 16 16 xs (omega arith)
+    let short : length (take 8 xs) ≡ 8 = length-take-le 8 xs long in
+    ap (λ (n : ℕ). big_from 0 n (take 8 xs)) short ∙ big_from-take 0 8 8 xs (omega arith)
 
-back_number : (xs : List ℕ) → length xs ≡ 32 → big_of (drop 16 xs) ≡ big_from 0 16 (drop 16 xs)
-back_number xs long =
-    let short : length (drop 16 xs) ≡ 16 = omega (arith, length-drop 16 xs, long) in
-    ap (λ (n : ℕ). big_from 0 n (drop 16 xs)) short
+bytes_of_front : (xs : List ℕ) → AllByRecursion IsByte xs → AllByRecursion IsByte (take 8 xs)
+bytes_of_front xs h = recursion_from_All IsByte (take 8 xs) (All-take IsByte 8 xs (All-from_recursion IsByte xs h))
 
-bytes_of_front : (xs : List ℕ) → AllByRecursion IsByte xs → AllByRecursion IsByte (take 16 xs)
-bytes_of_front xs h = recursion_from_All IsByte (take 16 xs) (All-take IsByte 16 xs (All-from_recursion IsByte xs h))
+bytes_of_back : (xs : List ℕ) → AllByRecursion IsByte xs → AllByRecursion IsByte (drop 8 xs)
+bytes_of_back xs h = recursion_from_All IsByte (drop 8 xs) (All-drop IsByte 8 xs (All-from_recursion IsByte xs h))
 
-bytes_of_back : (xs : List ℕ) → AllByRecursion IsByte xs → AllByRecursion IsByte (drop 16 xs)
-bytes_of_back xs h = recursion_from_All IsByte (drop 16 xs) (All-drop IsByte 16 xs (All-from_recursion IsByte xs h))
-
--- 32 bytes compare as the numbers of their halves
-compares_halves : (xs ys : List ℕ) → length xs ≡ 32 → length ys ≡ 32
+-- bytes of one length compare as the numbers of their first 8 bytes, and then as the bytes after them
+compares_first : (xs ys : List ℕ) → 8 ≤ length xs → length xs ≡ length ys
     → AllByRecursion IsByte xs → AllByRecursion IsByte ys
-    → slice_cmp nat_cmp xs ys ≡ ordering_then (nat_cmp (big_from 0 16 xs) (big_from 0 16 ys))
-    (nat_cmp (big_from 0 16 (drop 16 xs)) (big_from 0 16 (drop 16 ys)))
-compares_halves xs ys lx ly bx by =
-    let fx : length (take 16 xs) ≡ 16 = length-take-le 16 xs (omega (arith, lx)) in
-    let fy : length (take 16 ys) ≡ 16 = length-take-le 16 ys (omega (arith, ly)) in
-    let backs : length (drop 16 xs) ≡ length (drop 16 ys) = omega (arith, length-drop 16 xs, length-drop 16 ys, lx, ly) in
-    let whole : slice_cmp nat_cmp xs ys ≡ slice_cmp nat_cmp (take 16 xs ++ drop 16 xs) (take 16 ys ++ drop 16 ys) =
-    ap (λ (l : List ℕ). slice_cmp nat_cmp l ys) (sym (take-append-drop 16 xs))
-    ∙ ap (slice_cmp nat_cmp (take 16 xs ++ drop 16 xs)) (sym (take-append-drop 16 ys)) in
-    let front : slice_cmp nat_cmp (take 16 xs) (take 16 ys) ≡ nat_cmp (big_from 0 16 xs) (big_from 0 16 ys) =
-    compares_numbers (take 16 xs) (take 16 ys) (omega (arith, fx, fy)) (bytes_of_front xs bx) (bytes_of_front ys by)
-    ∙ ap (λ (n : ℕ). nat_cmp n (big_of (take 16 ys))) (front_number xs lx)
-    ∙ ap (nat_cmp (big_from 0 16 xs)) (front_number ys ly) in
-    let back : slice_cmp nat_cmp (drop 16 xs) (drop 16 ys)
-    ≡ nat_cmp (big_from 0 16 (drop 16 xs)) (big_from 0 16 (drop 16 ys)) =
-    compares_numbers (drop 16 xs) (drop 16 ys) backs (bytes_of_back xs bx) (bytes_of_back ys by)
-    ∙ ap (λ (n : ℕ). nat_cmp n (big_of (drop 16 ys))) (back_number xs lx)
-    ∙ ap (nat_cmp (big_from 0 16 (drop 16 xs))) (back_number ys ly) in
-    whole ∙ compares_fronts (take 16 xs) (take 16 ys) (drop 16 xs) (drop 16 ys) (omega (arith, fx, fy))
-    ∙ ap (λ (o : Ordering). ordering_then o (slice_cmp nat_cmp (drop 16 xs) (drop 16 ys))) front
-    ∙ ap (ordering_then (nat_cmp (big_from 0 16 xs) (big_from 0 16 ys))) back
+    → slice_cmp nat_cmp xs ys ≡ ordering_then (nat_cmp (big_from 0 8 xs) (big_from 0 8 ys))
+    (slice_cmp nat_cmp (drop 8 xs) (drop 8 ys))
+compares_first xs ys long same bx by =
+    let fx : length (take 8 xs) ≡ 8 = length-take-le 8 xs long in
+    let fy : length (take 8 ys) ≡ 8 = length-take-le 8 ys (omega (arith, long, same)) in
+    let whole : slice_cmp nat_cmp xs ys ≡ slice_cmp nat_cmp (take 8 xs ++ drop 8 xs) (take 8 ys ++ drop 8 ys) =
+    ap (λ (l : List ℕ). slice_cmp nat_cmp l ys) (sym (take-append-drop 8 xs))
+    ∙ ap (slice_cmp nat_cmp (take 8 xs ++ drop 8 xs)) (sym (take-append-drop 8 ys)) in
+    let front : slice_cmp nat_cmp (take 8 xs) (take 8 ys) ≡ nat_cmp (big_from 0 8 xs) (big_from 0 8 ys) =
+    compares_numbers (take 8 xs) (take 8 ys) (omega (arith, fx, fy)) (bytes_of_front xs bx) (bytes_of_front ys by)
+    ∙ ap (λ (n : ℕ). nat_cmp n (big_of (take 8 ys))) (front_number xs long)
+    ∙ ap (nat_cmp (big_from 0 8 xs)) (front_number ys (omega (arith, long, same))) in
+    whole ∙ compares_fronts (take 8 xs) (take 8 ys) (drop 8 xs) (drop 8 ys) (omega (arith, fx, fy))
+    ∙ ap (λ (o : Ordering). ordering_then o (slice_cmp nat_cmp (drop 8 xs) (drop 8 ys))) front
+
+-- 8 bytes compare as their numbers
+compares_last : (xs ys : List ℕ) → length xs ≡ 8 → length ys ≡ 8
+    → AllByRecursion IsByte xs → AllByRecursion IsByte ys
+    → slice_cmp nat_cmp xs ys ≡ nat_cmp (big_from 0 8 xs) (big_from 0 8 ys)
+compares_last xs ys lx ly bx by =
+    compares_numbers xs ys (omega (arith, lx, ly)) bx by
+    ∙ ap (λ (n : ℕ). nat_cmp (big_from 0 n xs) (big_of ys)) lx
+    ∙ ap (λ (n : ℕ). nat_cmp (big_from 0 8 xs) (big_from 0 n ys)) ly
+
+-- the numbers of four quarters, and those that the quarters of 32 bytes spell
+abbrev Quarters : Type 0
+Quarters = ℕ × (ℕ × (ℕ × ℕ))
+
+abbrev spelled : List ℕ → Quarters
+spelled bytes = (
+  big_from 0 8 bytes,
+  (
+    big_from 0 8 (drop 8 bytes),
+    (big_from 0 8 (drop 8 (drop 8 bytes)), big_from 0 8 (drop 8 (drop 8 (drop 8 bytes)))),
+  ),
+)
+
+abbrev quarters_cmp : Quarters → Quarters → Ordering
+quarters_cmp p q =
+    ordering_then (nat_cmp p.0 q.0)
+    (ordering_then (nat_cmp p.1.0 q.1.0) (ordering_then (nat_cmp p.1.1.0 q.1.1.0) (nat_cmp p.1.1.1 q.1.1.1)))
+
+-- 32 bytes compare as the numbers of their quarters
+compares_quarters : (xs ys : List ℕ) → length xs ≡ 32 → length ys ≡ 32
+    → AllByRecursion IsByte xs → AllByRecursion IsByte ys
+    → slice_cmp nat_cmp xs ys ≡ quarters_cmp (spelled xs) (spelled ys)
+compares_quarters xs ys lx ly bx by =
+    let xs2 = drop 8 xs in
+    let ys2 = drop 8 ys in
+    let xs3 = drop 8 xs2 in
+    let ys3 = drop 8 ys2 in
+    let bx2 = bytes_of_back xs bx in
+    let by2 = bytes_of_back ys by in
+    let bx3 = bytes_of_back xs2 bx2 in
+    let by3 = bytes_of_back ys2 by2 in
+    let lx2 : length xs2 ≡ 24 = omega (arith, length-drop 8 xs, lx) in
+    let ly2 : length ys2 ≡ 24 = omega (arith, length-drop 8 ys, ly) in
+    let lx3 : length xs3 ≡ 16 = omega (arith, length-drop 8 xs2, lx2) in
+    let ly3 : length ys3 ≡ 16 = omega (arith, length-drop 8 ys2, ly2) in
+    let lx4 : length (drop 8 xs3) ≡ 8 = omega (arith, length-drop 8 xs3, lx3) in
+    let ly4 : length (drop 8 ys3) ≡ 8 = omega (arith, length-drop 8 ys3, ly3) in
+    compares_first xs ys (omega (arith, lx)) (omega (arith, lx, ly)) bx by
+    ∙ ap (ordering_then (nat_cmp (big_from 0 8 xs) (big_from 0 8 ys)))
+    (compares_first xs2 ys2 (omega (arith, lx2)) (omega (arith, lx2, ly2)) bx2 by2
+    ∙ ap (ordering_then (nat_cmp (big_from 0 8 xs2) (big_from 0 8 ys2)))
+    (compares_first xs3 ys3 (omega (arith, lx3)) (omega (arith, lx3, ly3)) bx3 by3
+    ∙ ap (ordering_then (nat_cmp (big_from 0 8 xs3) (big_from 0 8 ys3)))
+    (compares_last (drop 8 xs3) (drop 8 ys3) lx4 ly4 (bytes_of_back xs3 bx3) (bytes_of_back ys3 by3))))
 
 visible_byte : (byte : ℕ) → IsTrue (is_visible byte) → IsByte byte
 visible_byte byte shown = grind (arith, nat_tests)
@@ -192,30 +234,23 @@ padded_long name named =
     let most = at_most_32 name named in
     omega (arith, length-append name (replicate (32 - length name) 0), length-replicate {A = ℕ} (32 - length name) 0, most)
 
--- the numbers that the two halves of 32 bytes spell
-abbrev spelled : List ℕ → ℕ × ℕ
-spelled bytes = (big_from 0 16 bytes, big_from 0 16 (drop 16 bytes))
-
-abbrev pair_cmp : ℕ × ℕ → ℕ × ℕ → Ordering
-pair_cmp p q = ordering_then (nat_cmp p.0 q.0) (nat_cmp p.1 q.1)
-
--- names are in the order of the numbers of their padded halves
-of_halves : (a b : List ℕ) → IsTrue (is_name a) → IsTrue (is_name b)
-    → pair_cmp (spelled (padded a)) (spelled (padded b)) ≡ name_cmp a b
-of_halves a b na nb =
+-- names are in the order of the numbers of their padded quarters
+of_quarters : (a b : List ℕ) → IsTrue (is_name a) → IsTrue (is_name b)
+    → quarters_cmp (spelled (padded a)) (spelled (padded b)) ≡ name_cmp a b
+of_quarters a b na nb =
     let la = padded_long a na in
     let lb = padded_long b nb in
     let ends : length a + (32 - length a) ≡ length b + (32 - length b) = omega (arith, at_most_32 a na, at_most_32 b nb) in
-    sym (compares_halves (padded a) (padded b) la lb
+    sym (compares_quarters (padded a) (padded b) la lb
     (padded_all IsByte (omega arith) a (32 - length a) (of_bytes IsByte visible_byte a na))
     (padded_all IsByte (omega arith) b (32 - length b) (of_bytes IsByte visible_byte b nb)))
     ∙ compares_padded a b (32 - length a) (32 - length b) ends (of_bytes IsAboveZero visible_above a na)
     (of_bytes IsAboveZero visible_above b nb)
 
--- the order of two pairs of numbers, where they are those of padded names
-pub names_order : (a b pa pb : List ℕ) (p q : ℕ × ℕ) (o : Ordering) → IsTrue (is_name a) → IsTrue (is_name b)
-    → pa ≡ padded a → pb ≡ padded b → p ≡ spelled pa → q ≡ spelled pb → o ≡ pair_cmp p q → o ≡ name_cmp a b
+-- the order of two tuples of numbers, where they are those of padded names
+pub names_order : (a b pa pb : List ℕ) (p q : Quarters) (o : Ordering) → IsTrue (is_name a) → IsTrue (is_name b)
+    → pa ≡ padded a → pb ≡ padded b → p ≡ spelled pa → q ≡ spelled pb → o ≡ quarters_cmp p q → o ≡ name_cmp a b
 names_order a b pa pb p q o na nb ea eb ep eq eo =
-    eo ∙ ap (λ (x : ℕ × ℕ). pair_cmp x q) (ep ∙ ap spelled ea)
-    ∙ ap (pair_cmp (spelled (padded a))) (eq ∙ ap spelled eb)
-    ∙ of_halves a b na nb
+    eo ∙ ap (λ (x : Quarters). quarters_cmp x q) (ep ∙ ap spelled ea)
+    ∙ ap (quarters_cmp (spelled (padded a))) (eq ∙ ap spelled eb)
+    ∙ of_quarters a b na nb

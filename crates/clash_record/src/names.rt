@@ -24,7 +24,7 @@ pub const NAME_LEN: usize = 32;
 pub struct Name {
     // The bytes of the name, and zeros after them.
     bytes: [u8; NAME_LEN],
-    len: usize,
+    len: u8,
 }
 
 impl Model for Name {
@@ -77,7 +77,7 @@ impl Name {
         ensures value { result.now ≡ self.now }
         ensures named { IsTrue (is_name result.now) }
     {
-        &self.bytes[..self.len]
+        &self.bytes[..usize::from(self.len)]
     }
 
     /// Returns the name as text. Allocates nothing.
@@ -131,17 +131,29 @@ impl Ord for Name {
     ghost matches_eq = { texts_ties };
 
     fn cmp(&self, other: &Name) -> Ordering {
-        half_numbers(self.padded()).cmp(&half_numbers(other.padded()))
+        quarters(self.padded()).cmp(&quarters(other.padded()))
     }
 }
 
-// Returns the numbers that the two halves of a padded name spell, the highest byte first. They are in the order of names.
-fn half_numbers(padded: &[u8]) -> (u128, u128)
+// Returns the numbers that the four quarters of a padded name spell, the highest byte first. They are in the order of names.
+fn quarters(padded: &[u8]) -> (u64, (u64, (u64, u64)))
     requires { length padded.now ≡ name_limit }
-    ensures { result ≡ (big_from 0 16 padded.now, big_from 0 16 (drop 16 padded.now)) }
+    ensures { result ≡ (
+      big_from 0 8 padded.now,
+      (
+        big_from 0 8 (drop 8 padded.now),
+        (big_from 0 8 (drop 8 (drop 8 padded.now)), big_from 0 8 (drop 8 (drop 8 (drop 8 padded.now)))),
+      ),
+    ) }
 {
+    let second = &padded[8..];
+    let third = &second[8..];
+    let fourth = &third[8..];
     (
-        BigEndian::read_u128(padded),
-        BigEndian::read_u128(&padded[16..]),
+        BigEndian::read_u64(padded),
+        (
+            BigEndian::read_u64(second),
+            (BigEndian::read_u64(third), BigEndian::read_u64(fourth)),
+        ),
     )
 }

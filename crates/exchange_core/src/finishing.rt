@@ -120,7 +120,7 @@ fn finished_with(
 fn held_rulings(alloc: Global, rulings: &[Option<Judged>]) -> Result<Vec<Judged>, AllocError>
     ensures { IfOk result (λ held. held.items ≡ all_held rulings.now) }
 {
-    let mut held = Vec::new(alloc);
+    let mut held = Vec::with_capacity(alloc, rulings.len())?;
     for ruling in rulings {
         if let Some(judged) = ruling {
             held.push(*judged)?;
@@ -133,7 +133,7 @@ fn held_rulings(alloc: Global, rulings: &[Option<Judged>]) -> Result<Vec<Judged>
 fn answers_of(alloc: Global, rulings: &[Judged]) -> Result<Vec<Verdict3>, AllocError>
     ensures { IfOk result (λ answers. answers.items ≡ map (λ judged. judged.answer) rulings.now) }
 {
-    let mut answers = Vec::new(alloc);
+    let mut answers = Vec::with_capacity(alloc, rulings.len())?;
     for judged in rulings {
         answers.push(judged.answer)?;
     }

@@ -46,7 +46,7 @@ impl Side {
         self.state.their_list()
     }
 
-    /// Returns the refusal that an offer or a list of this sender and number is due, whatever else it has: 34, 40, 45 or 46.
+    /// Returns the refusal that an offer or a list of this sender and number is due, also if others apply: 34, 40, 45 or 46.
     ///
     /// So a message that isn't of the open exchange can be refused by its first bytes.
     pub fn message_refusal(&self, sender: SideId, number: u64) -> Option<SideFault>

@@ -344,7 +344,7 @@ impl State {
         let Some(exchange) = &mut self.exchange else {
             unreachable!()
         };
-        // For the prover: the table has at most 4,096 names.
+        // For the proof: the table has at most 1,048,576 names.
         self.table.table().len();
         let names = exchange.copy_names(alloc)?;
         let number = exchange.number();

@@ -4,7 +4,7 @@ ghost use Rattle.std.specs.List.{find};
 ghost use Rattle.std.specs.Option.{option_map};
 
 /// Every refusal: its number, and its words.
-pub const REFUSALS: [(u32, &'static str); 81] = [
+pub const REFUSALS: [(u32, &'static str); 82] = [
     (1, "empty: no byte, or a text without an instruction"),
     (2, "more than 1,024 slots"),
     (3, "an incomplete last slot"),
@@ -109,6 +109,7 @@ pub const REFUSALS: [(u32, &'static str); 81] = [
         83,
         "a message that differs from the one of its kind and number that was heard",
     ),
+    (84, "bytes that differ from their checksum"),
     (90, "out of memory"),
     (91, "an empty handle"),
     (92, "an index out of range"),

@@ -15,7 +15,7 @@ use Rattle.clash_record.specs.laws.Orders.{names_total}
 use Rattle.clash_record.specs.Name.{Name}
 use Rattle.partition_table.specs.Tables.{Row, Table, rows_of}
 use Rattle.partition_table.specs.Views.{mapped}
-use Rattle.partition_table.specs.model.Walking.{drop_before, first_at, walk, IsPaired}
+use Rattle.partition_table.specs.model.Walking.{drop_before, first_at, walk, IsAhead, IsPaired, IsPast}
 use Rattle.upload_store.specs.laws.Mapped.{to_true}
 
 -- the test of the order, read
@@ -177,3 +177,26 @@ pub pairs_met : (a b : Table) → AllByRecursion (IsPaired a b) (walk (rows_of a
 pairs_met a b =
     paired_by a b (walk (rows_of a) (rows_of b)) (walk_owns (rows_of a) (rows_of b) (sorted_rows a))
     (walk_finds (rows_of a) (rows_of b) (sorted_rows a) (sorted_rows b))
+
+-- before the first name all rows are ahead
+pub all_ahead : (table : Table) → IsAhead table None (rows_of table)
+all_ahead table = record { sorted = sorted_rows table; all = λ name _. find_rows table name }
+
+past_both : (last : Option Name) (n q : Name) → IsPast last n → name_cmp n q ≡ Less → IsPast last q
+past_both None n q past less = tt
+past_both (Some m) n q past less = names_total.trans m n q past less
+
+-- the walk finds a name after the last one
+pub found_ahead : (table : Table) (last : Option Name) (n : Name) (ahead : List (Name × Registration))
+    → IsAhead table last ahead → IsPast last n
+    → first_at n (drop_before n ahead) ≡ option_map (λ row. row.registration) (get table n)
+found_ahead table last n ahead h past = first_found n ahead h.sorted ∙ h.all n past
+
+-- and then that name is the last one
+pub still_ahead : (table : Table) (last : Option Name) (n : Name) (ahead : List (Name × Registration))
+    → IsAhead table last ahead → IsPast last n → IsAhead table (Some n) (drop_before n ahead)
+still_ahead table last n ahead h past =
+    record {
+      sorted = sorted_behind n ahead h.sorted;
+      all = λ q less. found_behind n q ahead less ∙ h.all q (past_both last n q past less);
+    }

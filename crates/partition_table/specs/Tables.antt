@@ -31,7 +31,7 @@ pub record Row : Type 0 where
 abbrev pub Table : Type 0
 Table = FinMap name_cmp Row
 
--- the most names that a table holds, whatever its owner chooses
+-- the most names that any table holds
 abbrev pub most_names : ℕ
 most_names = 1048576
 

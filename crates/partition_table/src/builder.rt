@@ -51,6 +51,16 @@ impl TableBuilder {
         }
     }
 
+    /// Returns a builder without rows that has room for as many rows as this.
+    pub fn with_capacity(alloc: Global, rows: usize) -> Result<TableBuilder, AllocError>
+        ensures { IfOk result (λ builder. builder ≡ map.empty) }
+    {
+        Ok(TableBuilder {
+            rows: Vec::with_capacity(alloc, rows)?,
+            programs: BTreeMap::new(alloc),
+        })
+    }
+
     /// Adds a row under a name that has none, and keeps its program. Doesn't compare code: requires that each row that names
     /// the program has this code.
     ///

@@ -77,7 +77,7 @@ pub fn merge_fitting(
         gone_a: set_of(alloc, gone_a)?,
         gone_b: set_of(alloc, gone_b)?,
     };
-    let mut merged = TableBuilder::new(alloc);
+    let mut merged = TableBuilder::with_capacity(alloc, a.len().max(b.len()))?;
     parents.put_names_of_a(&mut merged, answers)?;
     parents.put_names_of_b_alone(&mut merged)?;
     let table = merged.finish(alloc)?;

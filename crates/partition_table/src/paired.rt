@@ -12,13 +12,13 @@ use std::cmp::Ordering;
 
 // The rows of a table from some name on.
 #[derive(Drop)]
-struct Ahead<'a> {
+pub(crate) struct Ahead<'a> {
     next: Option<(&'a Name, &'a Registration)>,
     rest: Rows<'a>,
 }
 
 impl<'a> Ahead<'a> {
-    fn new(table: &'a Table) -> Ahead<'a>
+    pub(crate) fn new(table: &'a Table) -> Ahead<'a>
         ensures kept { IsTable table.entry.now }
         ensures rows { rows_ahead result ≡ rows_of table.entry.now }
     {
@@ -30,7 +30,7 @@ impl<'a> Ahead<'a> {
     }
 
     // What the name is registered with. Leaves what is before the name.
-    fn find(&mut self, name: &Name) -> Option<&'a Registration>
+    pub(crate) fn find(&mut self, name: &Name) -> Option<&'a Registration>
         ensures left { rows_ahead self.new ≡ drop_before name.now (rows_ahead self.old) }
         ensures found { option_map (λ r. r.now) result ≡ first_at name.now (rows_ahead self.new) }
     {

@@ -27,7 +27,7 @@ pub fn name(bytes: &[u8]) -> Result<Name, BadName>
     stored[..bytes.len()].copy_from_slice(bytes);
     Ok(Name {
         bytes: stored,
-        len: bytes.len(),
+        len: bytes.len() as u8,
     })
 }
 

@@ -1,4 +1,4 @@
--- What a side is asked before it hears an offer.
+-- A side that hears an offer: whether it has heard one, and the clashes that it then finds.
 use Rattle.std.specs.Prelude.{Bool, false, List, [], is_some}
 use Rattle.std.specs.Option.{option_map_or}
 use Rattle.partition_table.specs.Tables.{Clash}

@@ -1,9 +1,11 @@
 -- Two tables walked side by side, as lists of entries in the order of names.
-use Rattle.std.specs.Prelude.{◌≡◌, if◌then◌else◌, Option, Some, None, List, [], ◌∷◌}
+use Rattle.std.specs.Prelude.{◌≡◌, true, if◌then◌else◌, Option, Some, None, List, [], ◌∷◌}
 use Rattle.std.specs.Borrow.{Bor}
 use Rattle.std.specs.Option.{option_map}
+use Rattle.std.specs.declared.cmp.Ordering.TheVariants.{Less}
 use Rattle.std.specs.Ordering.{is_lt, is_eq}
 use Rattle.std.specs.FinMap.{get}
+use Rattle.std.specs.FinMap.Entries.{find, is_sorted}
 use Rattle.std.specs.Map.Iter.{deref_pair}
 use Rattle.clash_record.specs.declared.registrations.Registration.{Registration}
 use Rattle.clash_record.specs.Orders.{name_cmp}
@@ -58,3 +60,14 @@ abbrev pub IsWithin : Table → Table → Type 0
 IsWithin a b =
     (name : Name) (row : Row) → get a name ≡ Some row
     → option_map (λ row. row.registration) (get b name) ≡ Some row.registration
+
+-- the name comes after the last one, if there is one
+abbrev pub IsPast : Option Name → Name → Type 0
+IsPast None name = Unit {0}
+IsPast (Some last) name = name_cmp last name ≡ Less
+
+-- rows that are ahead have what a table has under each name after the last one
+pub record IsAhead (table : Table) (last : Option Name) (ahead : List (Name × Registration)) : Type 0 where
+  pub sorted : is_sorted name_cmp ahead ≡ true
+  pub all : (name : Name) → IsPast last name
+      → find name_cmp name ahead ≡ option_map (λ row. row.registration) (get table name)

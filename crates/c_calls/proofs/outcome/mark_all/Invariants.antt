@@ -7,6 +7,8 @@ abbrev pub invariant-loop-i : goal.invariant-loop-i
 invariant-loop-i l = record {
   places : length l.marks ≡ length l.pairs;
   marked : take l.i l.marks ≡ map (mark_of l.finished) (take l.i l.pairs);
+  merged : l.merged ≡ l.finished.table;
+  of_a : l.of_a ≡ l.finished.a;
 }
 
 abbrev pub decreases-loop-i : goal.decreases-loop-i
