@@ -5,20 +5,14 @@ Follows docs/SCRIPTS.md.
 
 import re
 
-import machine
+import files
 import registry
+from files import hex_bytes
 from machine import Refused
 
 MAX_LINE = 20_000
 U32, U64 = (1 << 32) - 1, (1 << 64) - 1
 COUNTS = {b"upload": 3, b"register": 8, b"unregister": 3, b"whereis": 3, b"show": 2}
-
-
-def hex_bytes(digits):
-    """The bytes of hex digits, or 50."""
-    if len(digits) % 2 or not re.fullmatch(rb"[0-9a-fA-F]*", digits):
-        raise Refused(50)
-    return bytes.fromhex(digits.decode())
 
 
 def number(word, most):
@@ -57,10 +51,10 @@ class Script:
             raise Refused(51)
         return getattr(self, words[0].decode())(*words[1:])
 
-    def upload(self, label, digits):
+    def upload(self, label, code):
         if label in self.labels or label.decode() in registry.BUILTINS or len(label) > 32:
             raise Refused(53)
-        digest = self.store.upload(hex_bytes(digits))
+        digest = self.store.upload(files.code_of(code))
         self.labels[label] = digest
         return [f"uploaded {label.decode()} {len(self.store.programs[digest])} instructions"]
 

@@ -8,6 +8,9 @@ the texts on standard error are wrong.
 import os
 import subprocess
 import sys
+import tempfile
+
+import code_files
 
 ROOT = os.path.dirname(os.path.dirname(os.path.realpath(__file__)))
 
@@ -41,6 +44,54 @@ TASKS = [
         "1: ldxdw r0, [r10-8]\n"
         "      r0=0..18446744073709551615 r1=record[0] r10=stack[0] written[-8..-1]\n"
         "2: exit\n",
+    ),
+    # A signed byte: its signed range says more than the unsigned one, and then both say the same.
+    (
+        ["check", "--explain", "9112080000000000b7000000000000007502030000000000bfa30000000000000f2300000000000072030000010000009500000000000000"],
+        0,
+        "accepted 7 instructions\n",
+        "      r1=record[0] r10=stack[0]\n"
+        "0: ldxsb r2, [r1+8]\n"
+        "      r1=record[0] r2=0..18446744073709551615 signed -128..127 r10=stack[0]\n"
+        "1: mov64 r0, 0\n"
+        "      r0=0 r1=record[0] r2=0..18446744073709551615 signed -128..127 r10=stack[0]\n"
+        "2: jsge r2, 0, +3\n"
+        "      r0=0 r1=record[0] r2=18446744073709551488..18446744073709551615 r10=stack[0]\n"
+        "3: mov64 r3, r10\n"
+        "      r0=0 r1=record[0] r2=18446744073709551488..18446744073709551615 r3=stack[0] r10=stack[0]\n"
+        "4: add64 r3, r2\n"
+        "      r0=0 r1=record[0] r2=18446744073709551488..18446744073709551615 r3=stack[-128..-1] r10=stack[0]\n"
+        "5: stb [r3+0], 1\n"
+        "      r0=0 r1=record[0] r2=0..18446744073709551615 signed -128..127 r10=stack[0]\n"
+        "6: exit\n",
+    ),
+    # Two signed tests, from 7 down and from -8 up.
+    (
+        ["check", "--explain", "7912080000000000b7000000000000006502020007000000c5020100f8ffffffbf200000000000009500000000000000"],
+        0,
+        "accepted 6 instructions\n",
+        "      r1=record[0] r10=stack[0]\n"
+        "0: ldxdw r2, [r1+8]\n"
+        "      r1=record[0] r2=0..18446744073709551615 r10=stack[0]\n"
+        "1: mov64 r0, 0\n"
+        "      r0=0 r1=record[0] r2=0..18446744073709551615 r10=stack[0]\n"
+        "2: jsgt r2, 7, +2\n"
+        "      r0=0 r1=record[0] r2=0..18446744073709551615 signed -9223372036854775808..7 r10=stack[0]\n"
+        "3: jslt r2, -8, +1\n"
+        "      r0=0 r1=record[0] r2=0..18446744073709551615 signed -8..7 r10=stack[0]\n"
+        "4: mov64 r0, r2\n"
+        "      r0=0..18446744073709551615 signed -8..7 r1=record[0] r2=0..18446744073709551615 r10=stack[0]\n"
+        "5: exit\n",
+    ),
+    # Unsigned ranges alone have no signed one.
+    (
+        ["check", "--explain", "--profile", "1", "9110080000000000" + "9500000000000000"],
+        0,
+        "accepted 2 instructions\n",
+        "      r1=record[0] r10=stack[0]\n"
+        "0: ldxsb r0, [r1+8]\n"
+        "      r0=0..18446744073709551615 r1=record[0] r10=stack[0]\n"
+        "1: exit\n",
     ),
     # A wide load and a jump over an instruction that is never reached.
     (
@@ -117,6 +168,72 @@ SCRIPTS = [
     ),
 ]
 
+# Code that always answers 1, and files: their names and contents. The folder `folder` is there too.
+CODE = bytes.fromhex("b7000000010000009500000000000000")
+FILES = {
+    "digits": CODE.hex().encode(),
+    "spaced": code_files.spaced(CODE),
+    "bytes": CODE,
+    "object": code_files.object_file(CODE),
+    "relocated": code_files.object_file(CODE, relocated=True),
+    "other.machine": code_files.object_file(CODE, machine=62),
+    "no.code": code_files.object_file(b""),
+    "cut": code_files.object_file(CODE)[:63],
+    "empty": b"",
+    "odd": CODE.hex().encode()[:-1],
+    "longest": b" " * (1048576 - 2 * len(CODE)) + CODE.hex().encode(),
+    "too.long": b" " * 1048577,
+    "rejected": bytes.fromhex("9500000000000000"),
+    "@": CODE,
+    "-": CODE,
+}
+
+# Lines of one script with files, and the answer to each.
+FILE_LINES = [
+    ("upload l1 @digits", "uploaded l1 2 instructions"),
+    ("upload l2 @spaced", "uploaded l2 2 instructions"),
+    ("upload l3 @bytes", "uploaded l3 2 instructions"),
+    ("upload l4 @object", "uploaded l4 2 instructions"),
+    ("upload l5 @longest", "uploaded l5 2 instructions"),
+    ("  upload   l6  @./digits  ", "uploaded l6 2 instructions"),
+    ("upload l7 @@", "uploaded l7 2 instructions"),
+    ("upload l8 @-", "uploaded l8 2 instructions"),
+    ("upload x @relocated", "line 9: refused 8"),
+    ("upload x @other.machine", "line 10: refused 8"),
+    ("upload x @no.code", "line 11: refused 8"),
+    ("upload x @cut", "line 12: refused 8"),
+    ("upload x @empty", "line 13: refused 1"),
+    ("upload x @odd", "line 14: refused 50"),
+    ("upload x @too.long", "line 15: refused 57"),
+    ("upload x @missing", "line 16: refused 58"),
+    ("upload x @folder", "line 17: refused 58"),
+    ("upload x @digits/", "line 18: refused 58"),
+    ("upload x @", "line 19: refused 58"),
+    ("upload x @" + "y" * 5000, "line 20: refused 58"),
+    ("upload x @rejected", "line 21: refused 15 at slot 0"),
+    # The label is checked before the file, and the words of the line before both.
+    ("upload l1 @missing", "line 22: refused 53"),
+    ("upload exit @digits", "line 23: refused 53"),
+    ("upload x @two words", "line 24: refused 51"),
+    ("upload x @\x7f", "line 25: refused 51"),
+    # A refused line changes nothing, and only `upload` reads files.
+    ("register a db 1.10 5 0 - x", "line 26: refused 41"),
+    ("register a db 1.10 5 0 - @digits", "line 27: refused 41"),
+    ("register a db 1.10 5 0 - l4", "yes"),
+    ("register b db 2.20 9 0 - l4", "yes"),
+    ("show a", "db 1.10 5 0 l1\nend"),
+    ("heal 0", "db first word 0\nhealed 1 names"),
+    ("upload x @digits", "uploaded x 2 instructions"),
+]
+
+# Lines with a file, and the words for them.
+FILE_WORDS = (
+    "upload x @missing\nupload x @object\nupload y @odd\n",
+    "heal: line 1: refused 58: a file that can't be read\n"
+    "heal: line 3: refused 50: invalid hex digits, or the wrong number of them\n",
+)
+
+
 def registrations(count):
     """Returns a script that registers this many names on side a."""
     return "".join(f"register a n{k} 1.{k} 0 0 - exit\n" for k in range(count))
@@ -182,16 +299,58 @@ TEXTS = [
     (["judge", "--help"], "Judges a clash", "The record of the clash, in hex digits\n", "first in 2 steps\n"),
     (["judge", "01"], "error: judge takes RECORDHEX, or --name, --first and --second, and no others\n", "", "\n"),
     (["help", "run"], "Runs a script", "--names <N>", "1.10\n"),
+    (["help", "run"], "Runs a script", "hex digits, or @FILE", "1.10\n"),
+    (["help", "run"], "Runs a script", "$ printf 'register a db 1.10 5 0 - exit\\nheal 0\\nwhereis b db\\n' | heal run -\n", "1.10\n"),
+    (["help", "asm"], "Assembles", "$ printf 'mov64 r0, 1\\nexit\\n' | heal asm -\n", "9500000000000000\n"),
     (["help", "check"], "Checks whether", "--explain", "accepted 2 instructions\n"),
     ([b"\xff"], "error: an argument isn't UTF-8\n", "", "\n"),
 ]
 
 
 def refusals():
-    """Returns the number and the words of each row of docs/REFUSALS.md but 84, which the library alone gives."""
+    """Returns the number and the words of each row of docs/REFUSALS.md."""
     with open(f"{ROOT}/docs/REFUSALS.md", encoding="utf-8") as page:
         rows = [line.split("|") for line in page if line.startswith("| ") and line[2].isdigit()]
-    return [(row[1].strip(), row[3].strip()) for row in rows if row[1].strip() != "84"]
+    return [(row[1].strip(), row[3].strip()) for row in rows]
+
+
+def write_files(folder):
+    """Writes the files, the folder, and a file that others than root can't read."""
+    for name, content in FILES.items():
+        with open(os.path.join(folder, name), "wb") as file:
+            file.write(content)
+    os.mkdir(os.path.join(folder, "folder"))
+    with open(os.path.join(folder, "locked"), "wb") as file:
+        file.write(CODE)
+    os.chmod(os.path.join(folder, "locked"), 0)
+
+
+def run_in(folder, program, script):
+    """Returns the status, the output and the text on standard error of a script on standard input."""
+    done = subprocess.run(
+        [os.path.abspath(program), "run", "-"], input=script.encode(), capture_output=True, timeout=60, check=False, cwd=folder
+    )
+    return done.returncode, done.stdout.decode(), done.stderr.decode()
+
+
+def files_are_wrong(program):
+    """Checks the lines with files. Each is answered as `check` answers the file, or its digits."""
+    with tempfile.TemporaryDirectory() as folder:
+        write_files(folder)
+        script = "".join(line + "\n" for line, _ in FILE_LINES)
+        if run_in(folder, program, script)[:2] != (2, "".join(answer + "\n" for _, answer in FILE_LINES)):
+            return True
+        if run_in(folder, program, FILE_WORDS[0])[2] != FILE_WORDS[1]:
+            return True
+        if os.getuid() and run_in(folder, program, "upload x @locked")[:2] != (2, "line 1: refused 58\n"):
+            return True
+        # What `check` prints for a file is what `upload` answers, but for a file that can't be read.
+        for name in FILES:
+            checked = answered(program, ["check", f"@{os.path.join(folder, name)}"])[1]
+            due = checked.replace("accepted ", "uploaded x ") if checked.startswith("accepted") else f"line 1: {checked}"
+            if run_in(folder, program, f"upload x @{name}")[1] != due:
+                return True
+    return False
 
 
 def answered(program, words):
@@ -203,6 +362,8 @@ def answered(program, words):
 def main():
     program = sys.argv[1] if len(sys.argv) > 1 else f"{ROOT}/crates/heal_main/out/heal_main"
     wrong = []
+    if files_are_wrong(program):
+        wrong.append(["run", "-"])
     for words, status, output, text in TASKS:
         got = answered(program, words)
         due = (status, got[1] if output is None else output, got[2] if text is None else text)

@@ -23,12 +23,14 @@ import re
 import struct
 import subprocess
 import sys
+import tempfile
 import time
 
 ROOT = pathlib.Path(__file__).resolve().parent.parent
 sys.dont_write_bytecode = True
 sys.path.insert(0, str(ROOT / "oracle"))
 
+import code_files
 import machine
 import messages
 import oracle
@@ -39,7 +41,7 @@ import verifier
 from random_codes import EXIT, Codes, slot
 
 # The refusals that the commands can give.
-REACHABLE = {*range(1, 8), *range(10, 27), 30, 31, 32, 37, 41, 43, 44, 47, *range(50, 58), *range(60, 64)}
+REACHABLE = {*range(1, 9), *range(10, 27), 30, 31, 32, 37, 41, 43, 44, 47, *range(50, 59), *range(60, 64)}
 # Those that sides and replicas give too. 42 is a collision of digests, and 99 comes after 2^64 entries.
 OF_CALLS = {33, 34, 35, 36, 39, 40, 45, 46, 48, 49, *range(70, 85), 92, *range(94, 99)}
 
@@ -102,16 +104,47 @@ class Texts:
 
 # ---- Scripts ----
 
+class Files:
+    """A few files in a folder, written anew for each script."""
+
+    def __init__(self, folder):
+        self.folder = folder
+
+    def word(self, rng, code):
+        """Writes code to a file in some form, mostly a right one, and returns the word for the file."""
+        path = os.path.join(self.folder, f"f{rng.randrange(10**9)}")
+        if rng.random() < 0.05:
+            return f"@{path}"
+        with open(path, "wb") as file:
+            file.write(self.content(rng, code))
+        return f"@{path}"
+
+    def content(self, rng, code):
+        content = rng.choice([code, code.hex().encode(), code_files.spaced(code), code_files.object_file(code)])
+        if rng.random() < 0.1:
+            content = code_files.object_file(code, machine=rng.choice([247, 62]), relocated=rng.random() < 0.3,
+                                             name=rng.choice([b".text", b".text", b".data", b".texts"]))
+        return damaged(rng, content) if content and rng.random() < 0.3 else content
+
+    def clear(self):
+        for name in os.listdir(self.folder):
+            os.remove(os.path.join(self.folder, name))
+
+
 class Scripts:
-    def __init__(self, rng, codes):
-        self.rng, self.codes = rng, codes
+    def __init__(self, rng, codes, files):
+        self.rng, self.codes, self.files = rng, codes, files
+
+    def code_word(self, code):
+        """The word for code: its digits, or a file that has it."""
+        return self.files.word(self.rng, code) if self.rng.random() < 0.3 else code.hex()[:20_000]
 
     def uploads(self):
         """Uploads many codes, and has each accepted one judge clashes."""
         lines, accepted = [], []
         for index in range(60):
             code, label = self.codes.any(), f"p{index}"
-            lines.append(f"upload {label} {code.hex() or '0'}"[:20_000])
+            lines.append(f"upload {label} {self.code_word(code) or '0'}"[:20_000])
             if oracle.check(code.hex())[1] == 0:
                 accepted.append(label)
         for index in range(2 * len(accepted)):
@@ -160,7 +193,7 @@ class Scripts:
             return f"show {side}"
         if kind < 0.8:
             code = pick([self.codes.any(), slot(0xb7, imm=1) + EXIT, slot(0x79, 0, 1, 40) + slot(0x57, imm=3) + EXIT])
-            return f"upload {pick(labels[3:] * 3 + labels)} {code.hex()[:20_000]}"
+            return f"upload {pick(labels[3:] * 3 + labels)} {self.code_word(code)}"
         if kind < 0.83:
             return pick(["", "   ", "# c \xff", "  #", "#heal 0", " \t", "\r"])
         uptimes = pick(["", "", f" {self.number()} {pick([0, 1, 7])}"])
@@ -344,8 +377,8 @@ def examples_of_documents():
 # ---- Comparing ----
 
 class Comparison:
-    def __init__(self, program, library, seed):
-        self.program, self.library, self.seed = program, library, seed
+    def __init__(self, program, library, seed, files):
+        self.program, self.library, self.seed, self.files = program, library, seed, files
         self.sides, self.replicas = (map(importlib.import_module, ["random_sides", "random_replicas"]) if library else (None, None))
         self.examples = examples_of_documents()
         self.reached, self.counts = {}, {}
@@ -454,10 +487,10 @@ class Comparison:
                 return self.walk(self.sides if index % 8 == 3 else self.replicas, rng, codes)
             return all(self.loaded(codes.any(), rng.randbytes(160)) for _ in range(100))
         kind = rng.choice(["uploads", "uploads", "script", "script", "asm", "asm", "code"])
-        if kind == "uploads":
-            return self.script(Scripts(rng, codes).uploads())
-        if kind == "script":
-            return self.script(Scripts(rng, codes).any())
+        if kind in ("uploads", "script"):
+            self.files.clear()
+            scripts = Scripts(rng, codes, self.files)
+            return self.script(scripts.uploads() if kind == "uploads" else scripts.any())
         if kind == "asm":
             return all(self.asm(Texts(rng, codes).any()) for _ in range(10))
         record = rng.randbytes(rng.choice([160, 160, 160, 128, 127]))
@@ -488,7 +521,12 @@ def main():
         sys.path.insert(0, str(ROOT / "bindings" / "python"))
         library = Library(options.library)
     print(f"seed {options.seed}" + ("" if library else "; no library"), flush=True)
-    comparison = Comparison(options.program, library, options.seed)
+    with tempfile.TemporaryDirectory() as folder:
+        return compare_all(Comparison(options.program, library, options.seed, Files(folder)), options)
+
+
+def compare_all(comparison, options):
+    """Compares the case that is asked for, or the special ones and random ones. Returns the status."""
     if options.case is not None:
         return 0 if comparison.random_case(options.case) else 1
     stop, index, same = time.monotonic() + options.seconds, 0, False

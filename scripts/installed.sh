@@ -23,7 +23,8 @@ alone() {
 check_program() {
     [ "$(alone heal --version)" = "heal $version" ]
     for script in "$prefix"/share/heal/examples/*.heal; do
-        alone heal run "$script" > "$work/printed" 2> /dev/null || [ $? -eq 2 ]
+        # A path in a script is relative to the current folder.
+        (cd "$prefix/share/heal" && alone heal run "$script") > "$work/printed" 2> /dev/null || [ $? -eq 2 ]
         cmp "$work/printed" "${script%.heal}.out"
     done
     [ "$(alone heal check "$(cat "$prefix/share/heal/resolvers/later_stamp.hex")")" = "accepted 6 instructions" ]

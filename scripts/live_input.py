@@ -13,6 +13,8 @@ import time
 
 ROOT = os.path.dirname(os.path.dirname(os.path.realpath(__file__)))
 SECONDS = 20
+# A path is relative to the current folder.
+FILE = os.path.relpath(f"{ROOT}/resolvers/later_stamp.hex")
 
 # Parts of a script, and the answer to each. A comment has none, and a line may come in two parts.
 PARTS = [
@@ -20,7 +22,10 @@ PARTS = [
     ("# a comment\nwhereis a db\n", "1.10\n"),
     ("register b db 2.20 9 0 - exit\nsho", "yes\n"),
     ("w b\nunregister a nobody\n", "db 2.20 9 0 exit\nend\nline 6: refused 31\n"),
-    ("heal 0\nwhereis b db", "db first word 0\nexit 2.20\nhealed 1 names\n"),
+    (f"upload later @{FILE}\n", "uploaded later 6 instructions\n"),
+    (f"upload other @{FILE}.missing\nregister a web 1.1", "line 8: refused 58\n"),
+    (" 0 0 - later\n", "yes\n"),
+    ("heal 0\nwhereis b db", "db first word 0\nexit 2.20\nhealed 2 names\n"),
 ]
 LAST_ANSWER = "1.10\n"
 STATUS = 2

@@ -171,10 +171,19 @@ register b m 2.2 0 0 - notify-all
 heal 3
 show a
 END
+cat > "$out/from_file" <<END
+upload hash @$root/resolvers/name_hash.hex
+upload exit @$root/resolvers/name_hash.hex
+upload exits @$out/bytes
+upload missing @$out/missing
+register a db 1.10 5 0 - hash
+show a
+END
 printf '# a comment alone\n' > "$out/comments"
 printf 'greet a\nwhereis a db\nheal 01\n' > "$out/wrong"
 sweep_script "$out/uploaded" '[0-3]'
 sweep_script "$out/noticed" '[3-6]'
+sweep_script "$out/from_file" none
 sweep_script "$out/comments" none
 sweep_script "$out/wrong" none
 echo "$runs runs, none wrong"

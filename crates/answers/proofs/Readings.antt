@@ -1,6 +1,5 @@
 -- From the bytes that were read to those that the reader had, and on to the answer.
-use Rattle.std.specs.Prelude.{IfSome, option_map}
-use Rattle.std.proofs.Common.{◌≡◌, ◌≤◌, ◌+◌, ◌++◌, [], Ok, Err, IfOk, Result, Option, Some, None, inl, inr, ℕ, List, length, take, subst, arith, length-take, take_all}
+use Rattle.std.proofs.Common.{◌≡◌, ◌≤◌, ◌+◌, Ok, Err, IfOk, Result, Option, Some, None, inl, inr, ℕ, List, length, take, subst, arith, length-take, take_all}
 use Rattle.instruction_set.specs.declared.insn.Insn.{Insn}
 use Rattle.answers.specs.declared.failures.Failure.{Failure}
 use Rattle.answers.specs.declared.failures.Failure.TheVariants.{Refused, OutOfMemory}
@@ -8,7 +7,8 @@ use Rattle.numbered.specs.declared.NumberedRefusal.{NumberedRefusal}
 use Rattle.answers.specs.declared.printing.Answer.{Answer}
 use Rattle.answers.specs.declared.printing.Answer.TheVariants as said
 use Rattle.answers.specs.Refusals.{OnRefusal}
-use Rattle.answers.specs.Sources.{max_file_len, IsReading, IsText, IsNoText, IsFaulty, IsSource, IsNoSource, too_long, not_utf8, no_text, faulty}
+use Rattle.code_file.specs.Files.{max_file_len, IsReading}
+use Rattle.answers.specs.Sources.{IsText, IsNoText, IsFaulty, IsSource, IsNoSource, too_long, not_utf8, no_text, faulty}
 use Rattle.answers.specs.Lines.{IsOfBytes, answer_unless_memory}
 
 pub no_text_failure : (bytes : List ℕ) (f : Failure) → OnRefusal (IsNoText bytes) f → OnRefusal (IsNoSource bytes) f
@@ -22,21 +22,8 @@ faulty_failure bytes OutOfMemory is_text h = h
 
 pub ruleset sources = (no_text_failure, faulty_failure)
 
-given : (known : Option (List ℕ)) (bytes : List ℕ) → IfSome (option_map (take (max_file_len + 1)) known) (λ all. bytes
-    ≡ all) → IsReading known bytes
-given None bytes h = tt
-given (Some all) bytes h = h
-
--- the bytes that a reader returns up to a limit
-pub whole_read : {R : Type 0} (remaining : R → Option (List ℕ)) (reader inner : R) (limit : ℕ) (old bytes : List ℕ)
-    → inner ≡ reader → limit ≡ max_file_len + 1 → old ≡ []
-    → IfSome (option_map (take limit) (remaining inner)) (λ all. bytes ≡ old ++ all)
-    → IsReading (remaining reader) bytes
-whole_read remaining reader inner limit old bytes inner-is limit-is old-is h =
-    given (remaining reader) bytes (rw (inner-is, limit-is, old-is) at h)
-
 -- where reading gave few bytes they are all that there are
-pub few_are_all : (all : List ℕ) → length (take (max_file_len + 1) all) ≤ max_file_len → take (max_file_len + 1) all ≡ all
+few_are_all : (all : List ℕ) → length (take (max_file_len + 1) all) ≤ max_file_len → take (max_file_len + 1) all ≡ all
 few_are_all all few = take_all (max_file_len + 1) all (omega (arith, few, length-take (max_file_len + 1) all))
 
 -- what is wrong with the bytes that reading gave is wrong with all that there are

@@ -28,7 +28,8 @@ use Rattle.answers.specs.declared.printing.Answer.TheVariants.{Accepted, Ruled, 
 use Rattle.answers.specs.ClashFields.{IsClash, IsNoClash}
 use Rattle.answers.specs.CodeWords.{IsByDigits, IsOfFile, code_file}
 use Rattle.answers.specs.Details.{IsDetails}
-use Rattle.answers.specs.Sources.{OfBytes, IsSource, IsNoSource}
+use Rattle.answers.specs.Sources.{IsSource, IsNoSource}
+use Rattle.code_file.specs.Files.{OfBytes}
 use Rattle.answers.specs.Judging.{IsCodeText, IsCodeFault, IsProgram, IsProgramOver, IsProgramFault, IsProgramFaultOver, Ruling, IsRuling, least}
 use Rattle.output.specs.Sending.{AppendsFront}
 

@@ -1,31 +1,15 @@
 -- The text of a program in a file, and the faults of a file.
-use Rattle.std.specs.Prelude.{◌≡◌, ℕ, ◌+◌, ◌<◌, ◌≤◌, List, length, take, Option, Some, None, IfSome}
+use Rattle.std.specs.Prelude.{◌≡◌, ℕ, ◌<◌, ◌≤◌, List, length}
 use Rattle.std.specs.Str.{IsUtf8}
 use Rattle.instruction_set.specs.declared.insn.Insn.{Insn}
 use Rattle.assembler_text.specs.declared.faults.LineFault.{LineFault}
 use Rattle.assembler_text.specs.Faults.{line_fault_number, line_fault_place}
 use Rattle.assembler_text.specs.Grammar.{IsTextOf}
 use Rattle.assembler_text.specs.Refusals.{IsFirstFault}
+use Rattle.code_file.specs.Files.{max_file_len}
 use Rattle.numbered.specs.declared.NumberedRefusal.{NumberedRefusal}
 use Rattle.answers.specs.declared.failures.InputFault.TheVariants.{NotText, FileTooLong}
 use Rattle.answers.specs.Refusals.{refusal, IsInput}
-
--- ---- what reading gives
-
--- the maximum length of a file in bytes
-abbrev pub max_file_len : ℕ
-max_file_len = 1048576
-
--- if the content of the reader is known, the bytes are all of it, or one byte more than a file may have
-abbrev pub IsReading : Option (List ℕ) → List ℕ → Type 0
-IsReading known bytes = IfSome known (λ all. bytes ≡ take (max_file_len + 1) all)
-
--- the property holds for the content of the reader, or for some bytes if that is not known
-abbrev pub OfBytes : Option (List ℕ) → (List ℕ → Type 0) → Type 0
-OfBytes (Some bytes) P = P bytes
-OfBytes None P = (bytes : List ℕ) × P bytes
-
--- ---- what bytes give
 
 -- the bytes are a text, and not too many
 pub record IsText (bytes : List ℕ) : Type 0 where

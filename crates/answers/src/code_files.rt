@@ -1,18 +1,13 @@
 //! The code of a question in a file.
-ghost use Rattle.std.specs.Prelude.{◌≡◌, None, Err, IfOk, IfErr, option_map, string_bytes};
-ghost use Rattle.hex.specs.Hex.{encode_lower};
-ghost use Rattle.answers.specs.CodeWords.{IsFileCode, IsFileFault, IsOfFile, code_file, file_named, found_digits, told_file, with_code};
-ghost use Rattle.answers.specs.declared.failures.Failure.TheVariants.{OutOfMemory};
-ghost use Rattle.answers.specs.declared.printing.Answer.TheVariants.{DeviceFault};
-ghost use Rattle.answers.specs.Refusals.{OnRefusal};
+ghost use Rattle.std.specs.Prelude.{◌≡◌, None, IfOk, option_map};
+ghost use Rattle.code_file.specs.Files.{file_named};
+ghost use Rattle.answers.specs.CodeWords.{IsOfFile, code_file, found_digits, told_failure, told_file, with_code};
 
-use crate::failures::{Failure, InputFault, failure_of};
-use crate::files::{MAX_FILE_LEN, read_whole};
+use crate::failures::{Failure, failure_of};
 use crate::printing::Answer;
-use code_file::read_code_file;
+use code_file::FileFault;
 use std::alloc::{AllocError, Global};
-use std::fs;
-use std::io::{ErrorKind, Read};
+use std::io::Read;
 use std::rt::Files;
 use task::{ClashWords, Question};
 
@@ -79,39 +74,25 @@ pub(crate) fn with_code<'a: 'b, 'b>(question: &Question<'a>, digits: &'b str) ->
     }
 }
 
-// Returns the digits of the code in a file. Checks the number of bytes first.
-fn digits_of(alloc: Global, content: &[u8]) -> Result<String, Failure>
-    ensures ok { IfOk result (λ digits. IsFileCode content.now (string_bytes digits)) }
-    ensures err { IfErr result (OnRefusal (IsFileFault content.now)) }
+// Returns the answer of a failure, or out of memory.
+fn told_failure(failure: Failure) -> Result<Result<String, Answer>, AllocError>
+    ensures { result ≡ told_failure failure }
 {
-    if content.len() > MAX_FILE_LEN {
-        return Err(failure_of(&InputFault::FileTooLong));
-    }
-    match read_code_file(alloc, content) {
-        Ok(code) => digits(alloc, &code),
-        Err(fault) => Err(failure_of(&fault)),
+    match failure {
+        Failure::Refused(refusal) => Ok(Err(Answer::Refused(refusal))),
+        Failure::OutOfMemory => Err(AllocError),
     }
 }
 
-// Returns code in hex digits.
-fn digits(alloc: Global, code: &[u8]) -> Result<String, Failure>
-    ensures ok { IfOk result (λ digits. string_bytes digits ≡ encode_lower code.now) }
-    ensures err { IfErr result (λ failure. failure ≡ OutOfMemory) }
-{
-    match hex::encode(alloc, code) {
-        Ok(digits) => Ok(digits),
-        Err(AllocError) => Err(Failure::OutOfMemory),
-    }
-}
-
-// Separates running out of memory from the refusals of a file.
-fn told(found: Result<String, Failure>) -> Result<Result<String, Answer>, AllocError>
+// Separates running out of memory from the answers for a file without digits.
+fn told(found: Result<String, FileFault>) -> Result<Result<String, Answer>, AllocError>
     ensures { result ≡ told_file found }
 {
     match found {
         Ok(digits) => Ok(Ok(digits)),
-        Err(Failure::Refused(refusal)) => Ok(Err(Answer::Refused(refusal))),
-        Err(Failure::OutOfMemory) => Err(AllocError),
+        Err(FileFault::Unreadable) => Ok(Err(Answer::DeviceFault)),
+        Err(FileFault::TooLong) => told_failure(failure_of(&FileFault::TooLong)),
+        Err(FileFault::Code(fault)) => told_failure(failure_of(&fault)),
     }
 }
 
@@ -123,10 +104,7 @@ pub fn digits_from<R: Read + Drop>(
     // If the reader's bytes are known, these are the digits, or the answer, of all of them.
     ensures { IfOk result (λ found. IsOfFile (R.remaining reader) (found_digits found)) }
 {
-    match read_whole(alloc, reader) {
-        Ok(content) => told(digits_of(alloc, &content)),
-        Err(error) => unread(error.kind()),
-    }
+    told(code_file::digits_from(alloc, reader))
 }
 
 /// Returns the code in a file in hex digits, or the answer if there is none.
@@ -136,19 +114,5 @@ pub(crate) fn digits_in<R: Files + AllocGlobal>(
 ) -> Result<Result<String, Answer>, AllocError>
     ensures { IfOk result (λ found. IsOfFile None (found_digits found)) }
 {
-    match fs::open(rt, file) {
-        Ok(file) => digits_from(rt.alloc(), file),
-        Err(error) => unread(error.kind()),
-    }
-}
-
-// Converts an error of opening or reading a file.
-fn unread(kind: ErrorKind) -> Result<Result<String, Answer>, AllocError>
-    ensures { IfOk result (λ found. found ≡ Err DeviceFault) }
-{
-    if kind == ErrorKind::OutOfMemory {
-        Err(AllocError)
-    } else {
-        Ok(Err(Answer::DeviceFault))
-    }
+    told(code_file::digits_in(rt, file))
 }

@@ -1,29 +1,14 @@
-//! Reads the text of a program from a file.
+//! Reads the text of a program from the bytes of a file.
 ghost use Rattle.std.specs.Prelude.{◌≡◌, IfOk, IfErr};
 ghost use Rattle.assembler_text.specs.Grammar.{IsTextOf};
 ghost use Rattle.answers.specs.Refusals.{OnRefusal};
-ghost use Rattle.answers.specs.Sources.{IsFaulty, IsNoSource, IsNoText, IsReading, IsSource, IsText};
+ghost use Rattle.answers.specs.Sources.{IsFaulty, IsNoSource, IsNoText, IsSource, IsText};
 
 use crate::failures::{Failure, InputFault, failure_of};
 use assembler_text::assemble;
+use code_file::MAX_FILE_LEN;
 use instruction_set::Code;
 use std::alloc::Global;
-use std::io;
-use std::io::Read;
-
-/// The maximum length of a file in bytes.
-pub const MAX_FILE_LEN: usize = 1_048_576;
-
-/// Reads a reader to its end, or to one byte more than the maximum length of a file.
-pub fn read_whole<R: Read + Drop>(alloc: Global, reader: R) -> io::Result<Vec<u8>>
-    ensures { IfOk result (λ bytes. IsReading (R.remaining reader) bytes.items) }
-{
-    let mut bytes = Vec::new(alloc);
-    reader
-        .take(MAX_FILE_LEN as u64 + 1)
-        .read_to_end(&mut bytes)?;
-    Ok(bytes)
-}
 
 // Returns a file's bytes as text. Checks their number first.
 fn text_of(bytes: &[u8]) -> Result<&str, Failure>

@@ -1,3 +1,4 @@
 pub mod Windows
 pub mod Parts
 pub mod Sections
+pub mod WholeFiles

@@ -1,10 +1,14 @@
 //! The faults of a file of code.
-ghost use Rattle.std.specs.Prelude.{◌≡◌};
+ghost use Rattle.std.specs.Prelude.{◌≡◌, ◌⊎◌};
 ghost use Rattle.code_file.specs.CodeFiles.{fault_number, fault_place};
+ghost use Rattle.code_file.specs.Files.{file_fault_number, file_fault_place};
 ghost use Rattle.code_file.specs.declared.fault.CodeFileFault.TheVariants.{OutOfMemory};
+ghost use Rattle.code_file.specs.declared.fault.FileFault.TheVariants.{Code, Unreadable};
 
 use numbered::{Numbered, OUT_OF_MEMORY, Place, words_of};
 use std::alloc::AllocError;
+use std::io;
+use std::io::ErrorKind;
 use thiserror::Error;
 
 /// The reason why a file gives no code.
@@ -42,5 +46,68 @@ impl From<AllocError> for CodeFileFault {
 
     fn from(_: AllocError) -> CodeFileFault {
         CodeFileFault::OutOfMemory
+    }
+}
+
+/// The refusal of a file that can't be read: its number, and its words.
+pub const UNREADABLE: (u32, &'static str) = (58, "a file that can't be read");
+
+/// The reason why a file that is to be read gives no code.
+#[derive(Clone, Copy, Debug, PartialEq, Eq, Error)]
+pub enum FileFault {
+    /// The content of the file has no code, or memory ran out.
+    #[error("{0}")]
+    Code(CodeFileFault),
+    /// 57: a file of more than 1,048,576 bytes.
+    #[error("{}", words_of(57))]
+    TooLong,
+    /// 58: a file that can't be opened or read.
+    #[error("{}", UNREADABLE.1)]
+    Unreadable,
+}
+
+impl Numbered for FileFault {
+    ghost number_of = { file_fault_number };
+
+    ghost place_of = { file_fault_place };
+
+    fn number(&self) -> u32 {
+        match self {
+            FileFault::Code(fault) => fault.number(),
+            FileFault::TooLong => 57,
+            FileFault::Unreadable => UNREADABLE.0,
+        }
+    }
+
+    fn place(&self) -> Option<Place> {
+        None
+    }
+}
+
+impl From<CodeFileFault> for FileFault {
+    ghost from_gives = { λ cause fault. fault ≡ Code cause };
+
+    fn from(cause: CodeFileFault) -> FileFault {
+        FileFault::Code(cause)
+    }
+}
+
+impl From<AllocError> for FileFault {
+    ghost from_gives = { λ _ fault. fault ≡ Code OutOfMemory };
+
+    fn from(_: AllocError) -> FileFault {
+        FileFault::Code(CodeFileFault::OutOfMemory)
+    }
+}
+
+impl From<io::Error> for FileFault {
+    ghost from_gives = { λ _ fault. (fault ≡ Unreadable) ⊎ (fault ≡ Code OutOfMemory) };
+
+    fn from(error: io::Error) -> FileFault {
+        if error.kind() == ErrorKind::OutOfMemory {
+            FileFault::Code(CodeFileFault::OutOfMemory)
+        } else {
+            FileFault::Unreadable
+        }
     }
 }

@@ -1,11 +1,14 @@
-//! Reads code from the bytes of a file: an object file as clang writes it for BPF, hex digits, or the bytes of the code.
+//! Reads code from files, and from their bytes: an object file as clang writes it for BPF, hex digits, or the bytes of the
+//! code.
 #![tactic(auto)]
 
 mod fault;
 mod fields;
+mod files;
 mod object;
 mod reading;
 
-pub use fault::CodeFileFault;
+pub use fault::{CodeFileFault, FileFault, UNREADABLE};
+pub use files::{MAX_FILE_LEN, digits_from, digits_in, read_whole};
 pub use object::{code_in_object, one_code_theorem};
 pub use reading::{one_reading_theorem, read_code_file};

@@ -37,7 +37,7 @@ Example:
 
 const ASM_EXAMPLE: &'static str = "\
 Example:
-  $ printf 'mov64 r0, 1\nexit\n' | heal asm -
+  $ printf 'mov64 r0, 1\\nexit\\n' | heal asm -
   b7000000010000009500000000000000";
 
 const DIS_EXAMPLE: &'static str = "\
@@ -47,8 +47,11 @@ Example:
   exit";
 
 const RUN_EXAMPLE: &'static str = "\
+A line is register, unregister, whereis, show, heal or upload with its words. A program to upload is
+hex digits, or @FILE, with a path without spaces.
+
 Example:
-  $ printf 'register a db 1.10 5 0 - exit\nheal 0\nwhereis b db\n' | heal run -
+  $ printf 'register a db 1.10 5 0 - exit\\nheal 0\\nwhereis b db\\n' | heal run -
   yes
   healed 1 names
   1.10";

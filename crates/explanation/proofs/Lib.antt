@@ -1,3 +1,4 @@
 pub mod Longer
 pub mod Listed
 pub mod Ahead
+pub mod SignedWords

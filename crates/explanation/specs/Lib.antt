@@ -1,2 +1,3 @@
+pub mod SignedRanges
 pub mod StateTexts
 pub mod Listings

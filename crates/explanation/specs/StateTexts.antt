@@ -5,6 +5,7 @@ use Rattle.instruction_set.specs.declared.insn.Insn.{Insn}
 use Rattle.assembler_text.specs.Text.{text_of}
 use Rattle.abstract_value.specs.Domain.{Ops}
 use Rattle.abstract_value.specs.States.{View}
+use Rattle.explanation.specs.SignedRanges.{signed_text}
 use Rattle.abstract_value.specs.declared.states.Span.{Span}
 use Rattle.abstract_value.specs.declared.states.RegState.{RegState}
 use Rattle.abstract_value.specs.declared.states.RegState.TheVariants.{Scalar, Record, Stack, Unreadable}
@@ -18,9 +19,10 @@ abbrev pub span_text : Span → List ℕ
 span_text a = if int_le a.hi a.lo then codes "[" ++ (signed_decimal a.lo ++ codes "]")
     else codes "[" ++ (signed_decimal a.lo ++ (codes ".." ++ (signed_decimal a.hi ++ codes "]")))
 
--- what a register may hold: numbers, or an address by its offsets from the record's first byte or from the stack's end
+-- what a register may hold: numbers, as `0..255` or `0..18446744073709551615 signed -8..7`; or an address by its offsets
+-- from the record's first byte or from the stack's end
 abbrev pub contents_text : {D : Type 0} → Ops D → RegState D → List ℕ
-contents_text o (Scalar a) = range_text (o.low a) (o.high a)
+contents_text o (Scalar a) = range_text (o.low a) (o.high a) ++ signed_text o a
 contents_text o (Record a) = codes "record" ++ span_text a
 contents_text o (Stack a) = codes "stack" ++ span_text a
 contents_text o Unreadable = []

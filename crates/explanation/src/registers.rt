@@ -3,6 +3,7 @@ ghost use Rattle.std.specs.Prelude.{◌≡◌, ◌≤◌, IfOk, string_bytes};
 ghost use Rattle.abstract_value.specs.States.{view};
 ghost use Rattle.explanation.specs.StateTexts.{contents_text, range_text, register_text, registers_text, span_text};
 
+use crate::signed_range::signed_text;
 use abstract_value::{Domain, RegState, Span, State};
 use instruction_set::Register;
 use std::alloc::{AllocError, Global};
@@ -37,7 +38,9 @@ fn contents_text<D: Domain>(alloc: Global, contents: &RegState<D>) -> Result<Str
     match contents {
         RegState::Scalar(words) => {
             let (low, high) = words.bounds();
-            range_text(alloc, low, high)
+            let range = range_text(alloc, low, high)?;
+            let signed = signed_text(alloc, words)?;
+            format!(in alloc; "{range}{signed}")
         }
         RegState::Record(span) => {
             let offsets = span_text(alloc, span)?;

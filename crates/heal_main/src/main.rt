@@ -8,8 +8,9 @@ mod obeying;
 mod person;
 
 use answering::answer;
+use answers::refusal_words;
 use cluster::Healing;
-use numbered::{NumberedRefusal, words_of};
+use numbered::NumberedRefusal;
 use person::print_refusal_words;
 use script_engine::Narrator;
 use script_machine::Machine;
@@ -49,7 +50,7 @@ impl Narrator for StandardError<'_> {
 
     fn hear_refusal(&self, line: u64, refusal: NumberedRefusal) {
         let mut errors = StandardError { rt: self.rt };
-        let words = words_of(refusal.number);
+        let words = refusal_words(refusal.number);
         let _ = print_refusal_words(Ok(()), &mut errors, line, refusal, words);
     }
 

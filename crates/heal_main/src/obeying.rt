@@ -96,7 +96,7 @@ fn run<R: Files + Input + Threads + Wait + Sync + AllocGlobal, W: Write, N: Narr
 }
 
 // Carries out the script that a reader yields.
-fn run_from<T: Threads + Wait + Sync + AllocGlobal, R: Read, W: Write, N: Narrator>(
+fn run_from<T: Files + Threads + Wait + Sync + AllocGlobal, R: Read, W: Write, N: Narrator>(
     rt: &T,
     reader: &mut R,
     workers: Workers,

@@ -1,7 +1,9 @@
 -- A line uses at most one number of an exchange.
 use Rattle.std.proofs.Common.{◌≡◌, ℕ, ◌+◌, ◌≤◌, inl, inr, Bool, true, false, List, Option, Some, None, Result, Ok, Err, ap, arith}
+use Rattle.std.specs.Prelude.{MatchOption}
 use Rattle.std.specs.Bool.{MatchBool}
 use Rattle.hex.specs.Hex.{decode_of}
+use Rattle.code_file.specs.Files.{file_named}
 use Rattle.clash_record.specs.declared.side_id.SideId.{SideId}
 use Rattle.exchange_core.specs.declared.fault.SideFault.{SideFault}
 use Rattle.exchange_core.specs.Calls.{Call}
@@ -14,7 +16,7 @@ use Rattle.script_text.specs.Lines.{Line, Short, Long}
 use Rattle.script_machine.specs.declared.reply.Reply.{Reply}
 use Rattle.script_machine.specs.Machines.{Machine, resolver_of}
 use Rattle.script_machine.specs.Replies.{Answer, Says, Shows, Heals}
-use Rattle.script_machine.specs.Steps.{Step, AnswersLine, AnswersText, Answers, Replies, Refuses, Edits, RegisterStep, UploadsHex, is_free}
+use Rattle.script_machine.specs.Steps.{Step, AnswersLine, AnswersText, Answers, Replies, Refuses, Edits, RegisterStep, UploadStep, UploadsFile, UploadsHex, bad_label, by_digits, no_file_code, no_file, is_free}
 
 stays : (old new : Machine) → new ≡ old → new.latest ≤ old.latest + 1
 stays old new same = omega (arith, ap (λ (m : Machine). m.latest) same)
@@ -42,9 +44,23 @@ upload_step : (old : Machine) (label code : List ℕ) (free : Bool) (reply : Rep
 upload_step old label code true reply new h = uploaded old label (decode_of code) reply new h
 upload_step old label code false reply new h = stays old new h.1
 
+uploaded_from_file : (old : Machine) (label : List ℕ) (reply : Reply) (new : Machine) → UploadsFile old label reply new
+    → new.latest ≤ old.latest + 1
+uploaded_from_file old label reply new (bad_label taken h) = stays old new h.1
+uploaded_from_file old label reply new (by_digits content digits is_code h) =
+    upload_step old label digits (is_free old.labels label) reply new h
+uploaded_from_file old label reply new (no_file_code content fault free wrong h) = stays old new h.1
+uploaded_from_file old label reply new (no_file free h) = stays old new h.1
+
+uploaded_word : (old : Machine) (label word : List ℕ) (file : Option (List ℕ)) (reply : Reply) (new : Machine)
+    → MatchOption file (UploadStep old label word reply new) (λ file. UploadsFile old label reply new)
+    → new.latest ≤ old.latest + 1
+uploaded_word old label word (Some file) reply new h = uploaded_from_file old label reply new h
+uploaded_word old label word None reply new h = upload_step old label word (is_free old.labels label) reply new h
+
 replied : (old : Machine) (asked : Asked) (reply : Reply) (new : Machine) → Replies old asked reply new
     → new.latest ≤ old.latest + 1
-replied old (Upload label code) reply new h = upload_step old label code (is_free old.labels label) reply new h
+replied old (Upload label code) reply new h = uploaded_word old label code (file_named code) reply new h
 replied old (Register id name terms resolver) reply new h =
     registered old id name terms (resolver_of old.labels resolver) reply new h
 replied old (Unregister id name) reply new h = edited old id _ _ _ _ reply new h

@@ -14,6 +14,7 @@ use script_machine::Machine;
 use script_text::{LineBuffer, ReadBuffer, Stop, next_line};
 use std::alloc::{AllocError, Global};
 use std::io::{Read, Write};
+use std::rt::Files;
 use std::sync::Wait;
 use std::thread::Threads;
 
@@ -21,11 +22,14 @@ use std::thread::Threads;
 /// to each line. Returns the status: 3 if a line or the whole script was refused 90 or a device failed, else 2 if a line
 /// was refused, else 0.
 ///
+/// A line `upload LABEL @FILE` is carried out like the line with the digits of the file's code, or refused with the fault of
+/// the file. Any other line depends on no file.
+///
 /// Requires 1 to 16 workers, which judge the clashes of a `heal`; each of their posts passes the gate. Allocates the
 /// buffers first, and reads nothing if that fails. If a read fails, the unfinished line isn't carried out; if a write
 /// fails, a prefix of the output has been written.
 ///
-/// Flushes the writer before each read, and at no other time.
+/// Flushes the writer before each read of the reader, and at no other time.
 pub fn run_script<T, R, W, G>(
     rt: &T,
     reader: &mut R,
@@ -35,7 +39,7 @@ pub fn run_script<T, R, W, G>(
     gate: &G,
 ) -> u8
 where
-    T: Threads + Wait + Sync + AllocGlobal,
+    T: Files + Threads + Wait + Sync + AllocGlobal,
     R: Read,
     W: Write,
     G: Gate + Sync,
@@ -60,7 +64,7 @@ pub fn run_narrated<T, R, W, G, N>(
     narrator: &N,
 ) -> u8
 where
-    T: Threads + Wait + Sync + AllocGlobal,
+    T: Files + Threads + Wait + Sync + AllocGlobal,
     R: Read,
     W: Write,
     G: Gate + Sync,
@@ -109,7 +113,7 @@ fn flush_before_read<W: Write>(buffer: &ReadBuffer, writer: &mut W) -> Result<()
 
 // The lines, until the input or their numbers end, or a device fails.
 fn run_lines<
-    T: Threads + Wait + Sync + AllocGlobal,
+    T: Files + Threads + Wait + Sync + AllocGlobal,
     R: Read,
     W: Write,
     G: Gate + Sync,

@@ -18,11 +18,17 @@ use output::{DeviceFault, flush_after};
 use script_machine::{Machine, Reply, print_healing, print_reply};
 use script_text::{Command, LineBuffer, command_of};
 use std::io::Write;
+use std::rt::Files;
 use std::sync::Wait;
 use std::thread::Threads;
 
 // Carries out the line of this number and writes its answer. Returns the status of the line.
-pub(crate) fn serve<T: Threads + Wait + Sync + AllocGlobal, G: Gate + Sync, N: Narrator, W: Write>(
+pub(crate) fn serve<
+    T: Files + Threads + Wait + Sync + AllocGlobal,
+    G: Gate + Sync,
+    N: Narrator,
+    W: Write,
+>(
     crew: &Crew<'_, T, G, N>,
     machine: &mut Machine,
     writer: &mut W,
@@ -39,7 +45,7 @@ pub(crate) fn serve<T: Threads + Wait + Sync + AllocGlobal, G: Gate + Sync, N: N
 }
 
 // Carries out a line on a machine whose long journals are renewed, and writes its answer.
-fn answer<T: Threads + Wait + Sync + AllocGlobal, G: Gate + Sync, N: Narrator, W: Write>(
+fn answer<T: Files + Threads + Wait + Sync + AllocGlobal, G: Gate + Sync, N: Narrator, W: Write>(
     crew: &Crew<'_, T, G, N>,
     machine: &mut Machine,
     writer: &mut W,
@@ -62,7 +68,7 @@ fn answer<T: Threads + Wait + Sync + AllocGlobal, G: Gate + Sync, N: Narrator, W
 }
 
 // Carries out a command and writes its answer.
-fn obey<T: Threads + Wait + Sync + AllocGlobal, G: Gate + Sync, N: Narrator, W: Write>(
+fn obey<T: Files + Threads + Wait + Sync + AllocGlobal, G: Gate + Sync, N: Narrator, W: Write>(
     crew: &Crew<'_, T, G, N>,
     machine: &mut Machine,
     writer: &mut W,
@@ -73,14 +79,13 @@ fn obey<T: Threads + Wait + Sync + AllocGlobal, G: Gate + Sync, N: Narrator, W: 
     ensures { ServesAsked (machine_of machine.old) (machine_of machine.new) (asked command.now) number
         (W.contents writer.old) (W.contents writer.new) result }
 {
-    let alloc = crew.rt.alloc();
     match command {
         Command::Upload { label, code } => {
             say(
                 crew.narrator,
                 writer,
                 number,
-                &machine.upload(alloc, label, code),
+                &machine.upload_word(crew.rt, label, code),
             )
         }
         Command::Register {
@@ -116,7 +121,7 @@ fn obey<T: Threads + Wait + Sync + AllocGlobal, G: Gate + Sync, N: Narrator, W: 
 }
 
 // Heals the split and writes the outcome.
-fn heal<T: Threads + Wait + Sync + AllocGlobal, G: Gate + Sync, N: Narrator, W: Write>(
+fn heal<T: Files + Threads + Wait + Sync + AllocGlobal, G: Gate + Sync, N: Narrator, W: Write>(
     crew: &Crew<'_, T, G, N>,
     machine: &mut Machine,
     writer: &mut W,

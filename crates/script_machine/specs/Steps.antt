@@ -1,5 +1,5 @@
 -- The effect of a line, and its answer.
-use Rattle.std.specs.Prelude.{◌≡◌, ◌⊎◌, ℕ, ◌+◌, Bool, not, ◌&&◌, ◌||◌, if◌then◌else◌, List, [], ◌∷◌, ◌++◌, length, Option, Some, None, is_some, is_none, Result, Ok, Err, nat_le}
+use Rattle.std.specs.Prelude.{◌≡◌, ◌⊎◌, ℕ, ◌+◌, Bool, true, false, not, ◌&&◌, ◌||◌, if◌then◌else◌, List, [], ◌∷◌, ◌++◌, length, Option, Some, None, MatchOption, is_some, is_none, Result, Ok, Err, nat_le}
 use Rattle.std.specs.Bool.{MatchBool}
 use Rattle.std.specs.Option.{option_map}
 use Rattle.std.specs.List.{list_any}
@@ -7,6 +7,9 @@ use Rattle.std.specs.FinMap.{get}
 use Rattle.numbered.specs.declared.place.Place.{Place}
 use Rattle.numbered.specs.declared.refusal.NumberedRefusal.{NumberedRefusal}
 use Rattle.hex.specs.Hex.{decode_of}
+use Rattle.code_file.specs.Files.{IsFileCode, IsFileFault, file_named, file_fault_number, file_fault_place}
+use Rattle.code_file.specs.declared.fault.FileFault.{FileFault}
+use Rattle.code_file.specs.declared.fault.FileFault.TheVariants.{Unreadable}
 use Rattle.clash_record.specs.Name.{is_name}
 use Rattle.clash_record.specs.declared.registrations.ProgramId.{ProgramId}
 use Rattle.clash_record.specs.declared.registrations.Registration.{Registration}
@@ -84,6 +87,25 @@ abbrev pub UploadStep : Machine → List ℕ → List ℕ → Reply → Machine 
 UploadStep old label code reply new =
     MatchBool (is_free old.labels label) (UploadsHex old label (decode_of code) reply new)
     (Refuses 53 None old reply new)
+
+-- the line is refused for its file, and nothing changes
+abbrev pub RefusesFile : FileFault → Machine → Reply → Machine → Type 0
+RefusesFile fault old reply new = Refuses (file_fault_number fault) (file_fault_place fault) old reply new
+
+-- a file, whose content is known only by reading it, is uploaded as the digits of its code are; or it has no code; or it
+-- can't be read. The label is checked before the file
+pub data UploadsFile (old : Machine) (label : List ℕ) (reply : Reply) (new : Machine) : Type 0 where
+  bad_label : is_free old.labels label ≡ false → Refuses 53 None old reply new → UploadsFile old label reply new
+  by_digits : (content digits : List ℕ) → IsFileCode content digits → UploadStep old label digits reply new
+      → UploadsFile old label reply new
+  no_file_code : (content : List ℕ) → (fault : FileFault) → is_free old.labels label ≡ true → IsFileFault content fault
+      → RefusesFile fault old reply new → UploadsFile old label reply new
+  no_file : is_free old.labels label ≡ true → RefusesFile Unreadable old reply new → UploadsFile old label reply new
+
+-- the word for a program is `@` and a file, or hex digits
+abbrev pub UploadsWord : Machine → List ℕ → List ℕ → Reply → Machine → Type 0
+UploadsWord old label word reply new =
+    MatchOption (file_named word) (UploadStep old label word reply new) (λ file. UploadsFile old label reply new)
 
 -- ---- edits
 
@@ -173,7 +195,7 @@ pub record HealsAs (plan : Plan) (old : Machine) (healing : Healing) (new : Mach
 
 -- a reply to a request. A line may be refused when out of memory, and then nothing changes
 abbrev pub Replies : Machine → Asked → Reply → Machine → Type 0
-Replies old (Upload label code) reply new = UploadStep old label code reply new
+Replies old (Upload label code) reply new = UploadsWord old label code reply new
 Replies old (Register id name terms resolver) reply new =
     RegisterStep old id name terms (resolver_of old.labels resolver) reply new
 Replies old (Unregister id name) reply new = UnregisterStep old id name reply new

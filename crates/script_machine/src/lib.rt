@@ -3,6 +3,7 @@
 
 mod editing;
 mod fault;
+mod files;
 mod healed;
 mod healing;
 mod labels;

@@ -6,6 +6,7 @@ use partition_table::NameLimit;
 use script_engine::run_script;
 use std::io;
 use std::io::{ErrorKind, Read, Write};
+use std::rt::Files;
 use std::sync::Wait;
 use std::thread::Threads;
 
@@ -75,7 +76,7 @@ impl Write for PieceWriter {
 }
 
 /// Whether a script, carried out by four workers over these devices, ends with this status once just this was written.
-pub(crate) fn is_answered<T: Threads + Wait + Sync + AllocGlobal>(
+pub(crate) fn is_answered<T: Files + Threads + Wait + Sync + AllocGlobal>(
     rt: &T,
     script: &[u8],
     devices: (Device, Device),
@@ -85,7 +86,7 @@ pub(crate) fn is_answered<T: Threads + Wait + Sync + AllocGlobal>(
 }
 
 /// Like `is_answered`, on halves that may have as many names as `limit`.
-pub(crate) fn is_answered_within<T: Threads + Wait + Sync + AllocGlobal>(
+pub(crate) fn is_answered_within<T: Files + Threads + Wait + Sync + AllocGlobal>(
     rt: &T,
     limit: NameLimit,
     script: &[u8],
@@ -108,7 +109,7 @@ pub(crate) fn is_answered_within<T: Threads + Wait + Sync + AllocGlobal>(
 pub(crate) type Said = (&'static str, u8, &'static str);
 
 /// The first of these scripts that is answered otherwise, over devices that never fail.
-pub(crate) fn first_other<T: Threads + Wait + Sync + AllocGlobal>(
+pub(crate) fn first_other<T: Files + Threads + Wait + Sync + AllocGlobal>(
     rt: &T,
     scripts: &[Said],
 ) -> Option<&'static str> {

@@ -1,4 +1,4 @@
-//! Tests of scripts from end to end: answers to lines, lines that come one by one, devices that move a few bytes a call
+//! Tests of scripts from end to end: answers to lines, programs in files, lines that come one by one, devices that move a few bytes a call
 //! and fail at a call, and workers that judge concurrently.
 #![tactic(auto)]
 
@@ -6,6 +6,8 @@
 mod devices;
 #[cfg(test)]
 mod failing_devices;
+#[cfg(test)]
+mod files;
 #[cfg(test)]
 mod heals;
 #[cfg(test)]

@@ -8,6 +8,7 @@ use std::alloc::Global;
 use std::cell::Cell;
 use std::io;
 use std::io::{BufWriter, Read, Write};
+use std::rt::Files;
 use std::sync::Wait;
 use std::test::Fail;
 use std::thread::Threads;
@@ -90,7 +91,7 @@ impl<'a> Read for LineReader<'a> {
 /// Runs the reader's script, and returns whether it ends with status 0 and the writer takes all answers.
 fn is_run<T, R, W>(rt: &T, reader: &mut R, writer: &mut W) -> bool
 where
-    T: Threads + Wait + Sync + AllocGlobal,
+    T: Files + Threads + Wait + Sync + AllocGlobal,
     R: Read,
     W: Write,
 {
@@ -99,7 +100,7 @@ where
 }
 
 /// Checks that all earlier lines were answered before each read, and the last one at the end.
-fn is_each_answered<T: Threads + Wait + Sync + AllocGlobal>(rt: &T) -> io::Result<bool> {
+fn is_each_answered<T: Files + Threads + Wait + Sync + AllocGlobal>(rt: &T) -> io::Result<bool> {
     let taken = Taken::nothing();
     let mut reader = LineReader {
         next: 0,
@@ -124,7 +125,7 @@ fn whole_script(alloc: Global) -> io::Result<Vec<u8>> {
 /// Returns the number of writes for a script that is read in one piece, if it is run.
 fn writes_for<T>(rt: &T, mut script: &[u8]) -> io::Result<Option<usize>>
 where
-    T: Threads + Wait + Sync + AllocGlobal,
+    T: Files + Threads + Wait + Sync + AllocGlobal,
 {
     let taken = Taken::nothing();
     let mut writer = BufWriter::new(rt.alloc(), NotingWriter { taken: &taken })?;

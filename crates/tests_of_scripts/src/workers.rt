@@ -6,6 +6,7 @@ use partition_table::NameLimit;
 use script_engine::run_script;
 use std::alloc::Global;
 use std::io::Write;
+use std::rt::Files;
 use std::sync::Wait;
 use std::test::Fail;
 use std::thread::Threads;
@@ -25,7 +26,7 @@ fn clashing(alloc: Global, count: u32) -> Result<Vec<u8>, Fail> {
 }
 
 /// Checks that `workers` workers judge as many clashes of this script concurrently, one each.
-fn run_together<T: Threads + Wait + Sync + AllocGlobal + Clock>(
+fn run_together<T: Files + Threads + Wait + Sync + AllocGlobal + Clock>(
     rt: &T,
     workers: u32,
     script: &[u8],
@@ -49,7 +50,7 @@ fn run_together<T: Threads + Wait + Sync + AllocGlobal + Clock>(
 /// Checks that `workers` workers judge as many clashes concurrently.
 fn are_together<T>(rt: &T, workers: u32) -> Result<bool, Fail>
 where
-    T: Threads + Wait + Sync + AllocGlobal + Clock,
+    T: Files + Threads + Wait + Sync + AllocGlobal + Clock,
     requires { (0 < workers) × (workers ≤ 16) }
 {
     let script = clashing(rt.alloc(), workers)?;

@@ -1,5 +1,9 @@
-use Rattle.answers.proofs.CodeWords.{some_file}
+use Rattle.std.proofs.Common.{IfOk, None, sym, subst}
+use Rattle.answers.specs.CodeWords.{IsOfFile, found_digits}
+use Rattle.answers.proofs.CodeWords.{told_as}
 use Rattle.answers.proofs.code_files.digits_in.Goals as goal
 
-pub returns-in-Ok : goal.returns-in-Ok
-returns-in-Ok g c = some_file _ c.digits_from.result c.digits_from.ensures
+pub returns : goal.returns
+returns g c =
+    subst (λ told. IfOk told (λ found. IsOfFile None (found_digits found))) (sym c.told.ensures)
+    (told_as None c.digits_in.result c.digits_in.ensures.digits c.digits_in.ensures.refused)

@@ -1,6 +1,7 @@
 use Rattle.std.proofs.Common.{◌≡◌, ◌∙◌, List, ℕ, Option, Some, Bor, ap, refl, subst, sym}
 use Rattle.std.specs.Prelude.{IsSome, option_map}
-use Rattle.answers.specs.CodeWords.{IsFileCode, itself, of_file}
+use Rattle.code_file.specs.Files.{IsFileCode}
+use Rattle.answers.specs.CodeWords.{itself, of_file}
 use Rattle.answers.specs.Lines.{by_digits, without}
 use Rattle.answers.proofs.replying.reply_to.Goals as goal
 

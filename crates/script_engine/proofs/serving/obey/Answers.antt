@@ -12,9 +12,9 @@ use Rattle.script_engine.proofs.serving.obey.Goals as goal
 
 pub returns-in-Upload : goal.returns-in-Upload
 returns-in-Upload g c =
-    said _ _ _ _ c.upload.result c.say.result
-    (subst (λ (command : Command). Answers (machine_of c.args.machine.now) (asked command) (Says c.upload.result)
-    (machine_of c.upload.new.self)) (sym c.in-Upload.is) c.upload.ensures) c.say.ensures.sends c.say.ensures.status
+    said _ _ _ _ c.upload_word.result c.say.result
+    (subst (λ (command : Command). Answers (machine_of c.args.machine.now) (asked command) (Says c.upload_word.result)
+    (machine_of c.upload_word.new.self)) (sym c.in-Upload.is) c.upload_word.ensures) c.say.ensures.sends c.say.ensures.status
 
 pub returns-in-Register : goal.returns-in-Register
 returns-in-Register g c =

@@ -1,6 +1,6 @@
 use Rattle.std.specs.Io.Take.{take_limit, take_inner}
-use Rattle.answers.proofs.Readings.{whole_read}
-use Rattle.answers.proofs.files.read_whole.Goals as goal
+use Rattle.code_file.proofs.WholeFiles.{whole_read}
+use Rattle.code_file.proofs.files.read_whole.Goals as goal
 
 pub returns : goal.returns
 returns g c =
