@@ -1,7 +1,8 @@
 /*
  * Times the calls of replicas with NAMES names: replicas NAMES. Prints a line for each, the nanoseconds for each name: `register` on
  * a side; `edit` on a primary, with its entry copied out; `apply` on a backup; and in microseconds for all names: `snapshot`, copied
- * out, `follow`, and `memcpy` of as many bytes.
+ * out, into memory that the process touches for the first time, and `again`, into memory that it has touched; `follow`; and `memcpy`
+ * of as many bytes, into memory that it touches for the first time.
  */
 #include "heal.h"
 
@@ -79,6 +80,11 @@ int main(int argc, char **argv)
     snapshot = malloc(len);
     must(heal_bytes_copy(&message, snapshot, len), "copy");
     printf("snapshot %.1f\n", (now_ns() - start) / 1000);
+    heal_bytes_free(&message);
+    start = now_ns();
+    must(heal_replica_snapshot(&primary, &message), "snapshot");
+    must(heal_bytes_copy(&message, snapshot, len), "copy");
+    printf("again %.1f\n", (now_ns() - start) / 1000);
     copy = malloc(len);
     start = now_ns();
     memcpy(copy, snapshot, len);

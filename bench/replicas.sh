@@ -9,6 +9,6 @@ cc -O2 -o "$out/replicas" "$root/bench/replicas.c" -I"$root/bindings/c" "$lib/li
 for _ in $(seq 25); do
     "$out/replicas" "${1:-4096}" >> "$out/times"
 done
-for call in register edit apply snapshot memcpy follow; do
+for call in register edit apply snapshot again memcpy follow; do
     printf '%-10s %10s\n' $call "$(awk -v call=$call '$1 == call { print $2 }' "$out/times" | sort -g | head -1)"
 done

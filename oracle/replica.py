@@ -26,26 +26,68 @@ Snapshot = collections.namedtuple("Snapshot", "view op limit latest store rows p
 
 # ---- Bytes ----
 
-def checksum(data):
-    return hashlib.sha256(data).digest()[:8]
+WORD = (1 << 64) - 1
+
+
+def rotated(word, by):
+    return (word << by | word >> (64 - by)) & WORD
+
+
+def rounds(state, count):
+    """SipRound, as often as this."""
+    v0, v1, v2, v3 = state
+    for _ in range(count):
+        v0 = v0 + v1 & WORD
+        v1 = rotated(v1, 13) ^ v0
+        v0 = rotated(v0, 32)
+        v2 = v2 + v3 & WORD
+        v3 = rotated(v3, 16) ^ v2
+        v0 = v0 + v3 & WORD
+        v3 = rotated(v3, 21) ^ v0
+        v2 = v2 + v1 & WORD
+        v1 = rotated(v1, 17) ^ v2
+        v2 = rotated(v2, 32)
+    return v0, v1, v2, v3
+
+
+def siphash(data, key=(0, 0), compressing=1, finishing=3):
+    """SipHash of Aumasson and Bernstein: "SipHash: a fast short-input PRF", 2012."""
+    texts = struct.unpack("<4Q", b"uespemosmodnarodarenegylsetybdet")
+    v0, v1, v2, v3 = (text ^ key[at % 2] for at, text in enumerate(texts))
+    last = data[len(data) // 8 * 8:].ljust(7, b"\0") + bytes([len(data) % 256])
+    for (word,) in struct.iter_unpack("<Q", data[:len(data) // 8 * 8] + last):
+        v0, v1, v2, v3 = rounds((v0, v1, v2, v3 ^ word), compressing)
+        v0 ^= word
+    v0, v1, v2, v3 = rounds((v0, v1, v2 ^ 0xff, v3), finishing)
+    return v0 ^ v1 ^ v2 ^ v3
+
+
+# The paper's test vector of SipHash-2-4.
+assert siphash(bytes(range(15)), struct.unpack("<2Q", bytes(range(16))), 2, 4) == 0xa129ca6149be45e5
+
+
+def summed(data):
+    """The bytes and their checksum: SipHash-1-3 with the key 0."""
+    return data + struct.pack("<Q", siphash(data))
 
 
 def frame(kind, body):
-    message = messages.MAGIC + bytes([messages.VERSION, kind]) + struct.pack("<Q", len(body)) + body
-    return message + checksum(message)
+    return summed(summed(messages.MAGIC + bytes([messages.VERSION, kind]) + struct.pack("<Q", len(body))) + body)
 
 
 def unframed(kind, data):
     """A reader of the body of a message."""
     reader = messages.Reader(data)
     reader.header(kind)
-    end = reader.number(8) + 16
-    reader.take(end - 16)
+    size = reader.number(8)
+    reader.take(8)
+    refuse((84, summed(data[:16]) != data[:24]))
+    reader.take(size)
     reader.take(8)
     reader.end()
-    refuse((84, checksum(data[:end]) != data[end:]))
-    reader = messages.Reader(data[:end])
-    reader.take(16)
+    refuse((84, summed(data[:-8]) != data))
+    reader = messages.Reader(data[:-8])
+    reader.take(24)
     return reader
 
 

@@ -12,8 +12,8 @@ from random_sides import LETTERS, NAMES, PROGRAMS, guarded, to_library
 
 
 def framed_again(rng, data):
-    """The message with a changed body, under a right checksum."""
-    body = bytearray(data[16:-8])
+    """The message with a changed body, under right checksums."""
+    body = bytearray(data[24:-8])
     at = rng.choice([rng.randrange(len(body)), min(rng.randrange(36), len(body) - 1)])
     change = rng.randrange(4)
     if change < 2:
@@ -106,7 +106,7 @@ class Walk:
         return of_call.get(name, ())
 
     def message(self, name, latest):
-        """A message of any time; some are damaged, changed under a right checksum, or of the other kind."""
+        """A message of any time; some are damaged, changed under right checksums, or of the other kind."""
         kept = self.made[name if latest or self.rng.random() < 0.95 else self.rng.choice(["apply", "follow"])]
         data = kept[-1] if latest and kept else self.rng.choice(kept[-1:] * 4 + kept[-6:] + [b""])
         if data and not latest and self.rng.random() < 0.3:

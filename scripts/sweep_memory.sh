@@ -3,8 +3,8 @@
 # to answer as with ample memory, or to end with status 3 and print `refused 90`, or on standard error that memory ran out while
 # the words were read. Of a script, a line may be refused 90, and then the other lines answer as if it weren't there; a `heal` may
 # be refused with another number where no round could start a worker, or print words of a later round.
-# Then it runs memory_sweep, which has each call of the crates refused in turn, and looks whether each refusal was answered and
-# each answer had none. Needs what `rt ci` builds of both programs, and a C compiler.
+# Then it runs memory_sweep and memory_sweep_replicas, which have each call of the crates refused in turn, and looks whether each
+# refusal was answered and each answer had none. Needs what `rt ci` builds of the three programs, and a C compiler.
 set -e
 here=$(cd "$(dirname "$0")" && pwd)
 root=$here/..
@@ -84,7 +84,7 @@ is_right_script() {
     fi
 }
 
-# Reads the output of memory_sweep and of the library, and prints for each call how many requests it makes and how many refused
+# Reads the output of such a program and of the library, and prints for each call how many requests it makes and how many refused
 # ones it does without. A call is wrong if it reports a fault, if it was refused though no request was, if it answers though a
 # request was refused, if its last window refused a request, if it allocates and shouldn't, and if it should and was never
 # refused. A merge, and so a finish, collects its rows into a map: if the room for all rows is refused, it allocates row by row.
@@ -116,10 +116,10 @@ read_sweep() {
         }'
 }
 
-# Has each call of the crates refused in turn.
+# Has each call that this program makes refused in turn.
 sweep_calls() {
-    local folder=$root/crates/memory_sweep
-    LD_PRELOAD="$out/refuse.so" "$folder/out/memory_sweep" > "$out/said" 2>&1 || { tail -n 3 "$out/said" >&2; exit 1; }
+    local folder=$root/crates/$1
+    LD_PRELOAD="$out/refuse.so" "$folder/out/$1" > "$out/said" 2>&1 || { tail -n 3 "$out/said" >&2; exit 1; }
     diff <(grep '^call ' "$out/said") <(grep '^call ' "$folder/stdout") >&2
     read_sweep < "$out/said"
 }
@@ -187,4 +187,5 @@ sweep_script "$out/from_file" none
 sweep_script "$out/comments" none
 sweep_script "$out/wrong" none
 echo "$runs runs, none wrong"
-sweep_calls
+sweep_calls memory_sweep
+sweep_calls memory_sweep_replicas

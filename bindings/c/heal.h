@@ -529,8 +529,8 @@ uint32_t heal_replica_side(const heal_replica *replica, uint32_t id, heal_side *
    so that no edit is lost: exchange again. Returns 99 if no view number is left. */
 uint32_t heal_replica_change(heal_replica *replica, const heal_position *from, const heal_side *side);
 
-/* Reads what a log begins with, and nothing behind it. Returns 71 for bytes that begin with neither an entry nor a snapshot, and 82
-   for another version. */
+/* Reads what a log begins with, and nothing behind it. Returns 71 for bytes that begin with neither an entry nor a snapshot, 82 for
+   another version, and 84 for a header and a length that differ from their checksum: a changed length is no cut. */
 uint32_t heal_log_front(const uint8_t *log, size_t len, heal_front *front);
 
 #ifdef __cplusplus

@@ -287,6 +287,12 @@ static void check_log(void)
         REQUIRE(front.kind == HEAL_LOG_CUT && front.size == 0);
         RETURNS(70, heal_replica_apply(&reader, entry.bytes, len));
     }
+    for (size_t i = 0; i < 24; i++) {
+        entry.bytes[i] ^= 0x40;
+        uint32_t number = heal_log_front(entry.bytes, entry.len, &front);
+        REQUIRE(number == (i == 6 ? 82 : i < 8 ? 71 : 84));
+        entry.bytes[i] ^= 0x40;
+    }
     RETURNS(71, heal_log_front(text("no log at all"), 13, &front));
     RETURNS(71, apply(&reader, snapshot));
     RETURNS(71, follow(&reader, entry));

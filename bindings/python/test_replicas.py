@@ -47,7 +47,12 @@ class Replicas(unittest.TestCase):
                     for kind, message in messages(log[: len(log) - missing]):
                         (again.follow if kind is Kind.SNAPSHOT else again.apply)(message)
                     self.assertEqual(len(again.rows()), 5 if missing == 0 else 4)
-            last = [message for _, message in messages(log)][-1]
+            whole = [message for _, message in messages(log)]
+            at = len(whole[0]) + len(whole[1])
+            for place in range(8, 24):
+                changed = log[: at + place] + bytes([log[at + place] ^ 0x80]) + log[at + place + 1 :]
+                self.refused(84, list, messages(changed))
+            last = whole[-1]
             changed = last[:-1] + bytes([last[-1] ^ 1])
             with Replica(1, 3) as other:
                 self.refused(84, other.apply, changed)

@@ -61,6 +61,8 @@ logs_test() ->
     Body = byte_size(First) - 1,
     <<Front:Body/binary, Last>> = First,
     ?assertMatch({error, {84, _}}, heal:replica_apply(Other, <<Front/binary, (Last bxor 1)>>)),
+    <<Header:8/binary, Length:64/little, Rest/binary>> = First,
+    ?assertMatch({error, {84, _}}, heal:log_front(<<Header/binary, (Length bxor (1 bsl 40)):64/little, Rest/binary>>)),
     ?assertMatch({error, {71, _}}, heal:log_front(<<"no log at all">>)).
 
 %% Two primaries exchange, and one starts a view with the outcome.

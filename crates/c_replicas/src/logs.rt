@@ -15,7 +15,8 @@ pub struct HealLogFront {
     pub size: u64,
 }
 
-/// Returns what a log begins with. Rejects bytes that begin with no entry and no snapshot: 71, or 82 for another version.
+/// Returns what a log begins with. Rejects bytes that begin with no entry and no snapshot: 71, or 82 for another version; and a
+/// header and a length that differ from their checksum: 84.
 #[tactic(auto, using(crate::proofs::Fronts::read, crate::proofs::Fronts::unread))]
 pub fn log_front(log: &[u8]) -> Result<HealLogFront, u32>
     ensures { code.IsFront (code.front_of log.now) result }

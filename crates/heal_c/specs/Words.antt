@@ -13,11 +13,9 @@ as_bytes text (entry ∷ table) = (entry.0, text entry.1) ∷ as_bytes text tabl
 abbrev pub words_in : List (ℕ × List ℕ) → ℕ → List ℕ
 words_in table number = option_map_or (λ entry. entry.1) (find (λ entry. entry.0 == number) table) (codes "unknown refusal")
 
--- the words of a number: 84 is a refusal of replicas' messages, and the others are in the table of refusals
+-- the words of a number in the table of refusals
 abbrev pub words_of : ℕ → List ℕ
-words_of number =
-    if number == 84 then codes "bytes that differ from their checksum"
-    else words_in (as_bytes (λ text. text.now) REFUSALS) number
+words_of number = words_in (as_bytes (λ text. text.now) REFUSALS) number
 
 -- the words at the front of a buffer that has room for them; another buffer stays
 abbrev pub copied : List ℕ → List ℕ → List ℕ

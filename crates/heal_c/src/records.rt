@@ -72,16 +72,10 @@ pub extern "C" fn heal_refusal_words(number: u32, words: &mut [u8]) -> usize
     text.len()
 }
 
-// 84: a message of replicas whose bytes differ from their checksum.
-const CHECKSUM: u32 = 84;
-
 // Returns the words of a refusal.
 fn words_of(number: u32) -> &'static str
     ensures { result.now ≡ words_of number }
 {
-    if number == CHECKSUM {
-        return "bytes that differ from their checksum";
-    }
     words_for(refusals(), number)
 }
 

@@ -237,7 +237,8 @@ pub extern "C" fn heal_replica_change(
 
 /// Reads what a log begins with: a snapshot or an entry, and its length.
 ///
-/// Rejects bytes that begin with neither: 71, or 82 for another version.
+/// Rejects bytes that begin with neither: 71, or 82 for another version; and 84 for a header and a length that differ from their
+/// checksum.
 #[unsafe(no_mangle)]
 pub extern "C" fn heal_log_front(log: &[u8], front: &mut HealLogFront) -> u32
     ensures { (Gives (logs.front_of log.now) (λ found. front.new ≡ found) (front.new ≡ front.old) result)

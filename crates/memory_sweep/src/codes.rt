@@ -1,10 +1,9 @@
 //! Calls on the bytes, the text and the code of a program.
 
-use crate::fault::Fault;
-use crate::sweep::{Call, Subject, sweep};
 use assembler_text::{assemble, disassemble};
 use insn_codec::{Code, decode, encode};
 use program::{Profile, read_program};
+use refused_calls::{Call, Fault, Subject, sweep};
 use std::alloc::Global;
 use verifier::{Verified, verify, verify_peak};
 

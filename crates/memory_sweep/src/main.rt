@@ -5,17 +5,14 @@
 mod boards;
 mod callers;
 mod codes;
-mod comparing;
 mod exchange;
-mod fault;
 mod merging;
 mod rows;
 mod sides;
-mod sweep;
 mod tables;
 mod without_memory;
 
-use crate::fault::Fault;
+use refused_calls::Fault;
 
 fn main(rt: HostRuntime) -> Result<(), Fault> {
     codes::sweep_codes(&rt)?;

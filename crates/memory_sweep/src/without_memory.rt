@@ -2,9 +2,7 @@
 
 use crate::callers::{Caller, SEATS};
 use crate::exchange::{Exchange, NUMBER, SEED, WHOLE};
-use crate::fault::Fault;
 use crate::rows::clashing;
-use crate::sweep::{Starved, Subject};
 use crate::tables::is_same_list;
 use abstract_value::{Both, Domain, Interval};
 use answers::judge_one;
@@ -19,6 +17,7 @@ use interpreter::{Ended, run};
 use judge_pool::judge;
 use partition_table::{ClashList, Table, Verdict, word};
 use program::read_program;
+use refused_calls::{Fault, Starved, Subject};
 use upload_store::UploadStore;
 use verdict_board::{Draw, open};
 

@@ -1,5 +1,5 @@
 -- An entry that is read is spelled so, and what is spelled so is read.
-use Rattle.std.proofs.Common.{Vec, Global, ◌≡◌, ℕ, zero, suc, ◌-◌, ◌^◌, ◌<◌, ◌≤◌, Bool, cond, List, [], ◌∷◌, ◌++◌, length, Result, Ok, Err, refl, sym, ap, subst, ◌∙◌, append_assoc, arith, lit<}
+use Rattle.std.proofs.Common.{Vec, Global, ◌≡◌, ℕ, zero, suc, ◌-◌, ◌^◌, ◌<◌, ◌≤◌, Bool, cond, List, [], ◌∷◌, ◌++◌, length, drop, Result, Ok, Err, refl, sym, ap, subst, ◌∙◌, append_assoc, arith, lit<}
 use Rattle.std.specs.Prelude.{◌&&◌, IfOk, IsTrue, nat_lt, nat_le}
 use Rattle.std.specs.Int.{w32, w64, to_le_bytes}
 use Rattle.std.proofs.lemmas.Bool.{and_parts, leb-true}
@@ -20,9 +20,9 @@ use Rattle.exchange_codec.specs.laws.Names.{name_takes, name_again}
 use Rattle.exchange_codec.specs.laws.Rows.{bytes_take, bytes_again, behind, row_takes, row_again}
 use Rattle.replica.specs.declared.messages.Entry.{Entry}
 use Rattle.replica_codec.specs.declared.fault.ReplicaMessageFault.{ReplicaMessageFault}
-use Rattle.replica_codec.specs.Frames.{entry_header, frame_bytes, in_message, body_of}
+use Rattle.replica_codec.specs.Frames.{entry_header, frame_bytes, no_head, in_message, body_of}
 use Rattle.replica_codec.specs.Entries.{EditText, EntryText, edit_text, entry_text, IsKeptEdit, SpellsEntry, Registers, Unregisters, Uploads, Limits, Begins, position_bytes, plain, plain_row, registration_by, registers, edit_bytes, entry_bytes, IsPosition, IsEditText, IsEntryText, position_at, register_at, limit_at, edit_at, entry_at, entry_in, entry_due, entry_of}
-use Rattle.replica_codec.proofs.FrameLaws.{body_spelled, body_read, body_fits}
+use Rattle.replica_codec.proofs.FrameLaws.{in_ok, body_spelled, body_read, body_fits, body_written, behind_head}
 
 -- ---- positions
 
@@ -225,10 +225,6 @@ record HasBody (len : ℕ) (r : Result (List ℕ) ReplicaMessageFault) (t : Entr
   was : r ≡ Ok body
   text : entry_in body ≡ Ok t
 
-in_ok : (len : ℕ) (r : Result EntryText Fault) (t : EntryText) → in_message len r ≡ Ok t → r ≡ Ok t
-in_ok len (Ok x) t e = let same : x ≡ t = cc in ap Ok same
-in_ok len (Err f) t e = absurd cc
-
 body_there : (len : ℕ) (r : Result (List ℕ) ReplicaMessageFault) (t : EntryText) → entry_due len r ≡ Ok t → HasBody len r t
 body_there len (Ok body) t e = record { body = body; was = refl; text = in_ok (len - 8) (entry_in body) t e }
 body_there len (Err f) t e = absurd cc
@@ -251,17 +247,18 @@ entry_read t fits =
 
 -- ---- entries that are written
 
-pub encoded : {E : Type 0} (entry : Entry) (a b c body : List ℕ) (r : Result (Vec ℕ Global) E) → a ≡ []
-    → b ≡ a ++ position_bytes entry.at → c ≡ b ++ edit_bytes (edit_text entry.edit) → body ≡ c → IsPosition entry.at
-    → IsEditText (edit_text entry.edit) → IsKeptEdit entry.edit → length body < 2 ^ 64
-    → IfOk r (λ (v : Vec ℕ Global). v.items ≡ frame_bytes entry_header body)
+pub encoded : {E : Type 0} (entry : Entry) (a b c : List ℕ) (r : Result (Vec ℕ Global) E) → a ≡ no_head
+    → b ≡ a ++ position_bytes entry.at → c ≡ b ++ edit_bytes (edit_text entry.edit) → IsPosition entry.at
+    → IsEditText (edit_text entry.edit) → IsKeptEdit entry.edit → length c < 2 ^ 64
+    → IfOk r (λ (v : Vec ℕ Global). v.items ≡ frame_bytes entry_header (drop 24 c))
     → IfOk r (λ (v : Vec ℕ Global). SpellsEntry v.items entry)
-encoded entry a b c body (Ok v) none wrote_b wrote_c is at edit kept short h =
-    let whole : body ≡ entry_bytes (entry_text entry) =
-    is ∙ wrote_c ∙ ap (λ (x : List ℕ). x ++ edit_bytes (edit_text entry.edit)) (wrote_b ∙ ap (λ (x : List ℕ). x ++ position_bytes entry.at) none) in
+encoded entry a b c (Ok v) none wrote_b wrote_c at edit kept short h =
+    let placed : c ≡ no_head ++ entry_bytes (entry_text entry) =
+    wrote_c ∙ ap (λ (x : List ℕ). x ++ edit_bytes (edit_text entry.edit)) (wrote_b ∙ ap (λ (x : List ℕ). x ++ position_bytes entry.at) none)
+    ∙ append_assoc no_head (position_bytes entry.at) (edit_bytes (edit_text entry.edit)) in
     record {
-      is_text = record { at = at; edit = edit; short = subst (λ (x : List ℕ). length x < 2 ^ 64) whole short };
+      is_text = record { at = at; edit = edit; short = behind_head c (entry_bytes (entry_text entry)) placed short };
       kept = kept;
-      spelling = h ∙ ap (frame_bytes entry_header) whole;
+      spelling = h ∙ ap (frame_bytes entry_header) (body_written c (entry_bytes (entry_text entry)) placed);
     }
-encoded entry a b c body (Err e) none wrote_b wrote_c is at edit kept short h = tt
+encoded entry a b c (Err e) none wrote_b wrote_c at edit kept short h = tt

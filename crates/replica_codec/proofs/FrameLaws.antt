@@ -1,156 +1,242 @@
 -- A frame that is read is spelled so, and what is spelled so is read.
-use Rattle.std.proofs.Common.{◌≡◌, ℕ, zero, suc, ◌-◌, ◌^◌, ◌<◌, Bool, true, false, cond, eqb, List, [], ◌∷◌, ◌++◌, length, take, Result, Ok, Err, refl, sym, ap, subst, ◌∙◌, append_assoc, arith, lit<}
-use Rattle.std.specs.Int.{w32, w64, byte_at, bytes_high_first, to_le_bytes, to_be_bytes}
+use Rattle.std.proofs.Common.{◌≡◌, ℕ, zero, suc, ◌-◌, ◌^◌, ◌<◌, ◌≤◌, Bool, true, false, cond, eqb, List, [], ◌∷◌, ◌++◌, length, take, drop, Result, Ok, Err, refl, sym, ap, subst, ◌∙◌, append_assoc, arith, lit<}
+use Rattle.std.specs.Prelude.{slice_index_or}
+use Rattle.std.specs.Int.{w64, to_le_bytes}
 use Rattle.std.proofs.lemmas.Bool.{eqb-true}
-use Rattle.std.proofs.lemmas.List.{take_at, length-append, append-nil}
-use Rattle.std.specs.Prelude.{slice_index}
-use Rattle.sha2.specs.Sha256.{sha256, digest_bytes, final_hash, initial_hash_256}
+use Rattle.std.proofs.lemmas.List.{take_at, drop_at, length-append, length-drop, append-nil}
 use Rattle.exchange_codec.specs.declared.fault.Fault.{Fault}
 use Rattle.exchange_codec.specs.Reading.{◌>>=◌, number_at, bytes_at, header_at, ended}
-use Rattle.exchange_codec.specs.laws.Fields.{IsBytes, IsBytes-take, IsBytes-rest, bind_ok, ok_is, Takes, Takes-then, wide64, number_takes, number_again, header_takes, header_again, eqb_same, ended_ok}
+use Rattle.exchange_codec.specs.laws.Fields.{IsBytes, IsBytes-rest, bind_ok, ok_is, Takes, Takes-then, wide64, number_takes, number_again, header_takes, header_again, eqb_same, ended_ok}
 use Rattle.exchange_codec.specs.laws.Rows.{bytes_take, bytes_again}
 use Rattle.replica_codec.specs.declared.fault.ReplicaMessageFault.{ReplicaMessageFault}
 use Rattle.replica_codec.specs.declared.fault.ReplicaMessageFault.TheVariants.{Checksum}
-use Rattle.replica_codec.specs.Frames.{checksum, front_bytes, frame_bytes, frame_at, frame_of, in_message, checked, body_of}
+use Rattle.replica_codec.specs.Frames.{checksum, summed, head_bytes, front_bytes, frame_bytes, head_at, head_due, head_of, tail_at, tail_of, tail_due, in_message, checked, body_due, body_of, no_head}
+use Rattle.replica_codec.proofs.SumLaws.{sum_fits}
 
--- ---- a checksum fits into eight bytes
+-- ---- checksums
 
-byte_fits : (k n : ℕ) → byte_at k n < 256
-byte_fits zero n = omega arith
-byte_fits (suc k) n = omega arith
+abbrev found : {Y : Type 0} → Bool → Y → Result Y ReplicaMessageFault
+found right y = cond right (Ok y) (Err Checksum)
 
-word_fits : (k n : ℕ) → IsBytes (bytes_high_first k n)
-word_fits zero n i = lit< tt
-word_fits (suc k) n zero = byte_fits k n
-word_fits (suc k) n (suc i) = word_fits k n i
+found_inj : {Y : Type 0} (x y : Y) (b : Bool) → found b x ≡ Ok y → (b ≡ true) × (x ≡ y)
+found_inj x y true e = (refl, cc)
+found_inj x y false e = absurd cc
 
-both_fit : (xs ys : List ℕ) → IsBytes xs → IsBytes ys → IsBytes (xs ++ ys)
-both_fit [] ys p q i = q i
-both_fit (x ∷ xs) ys p q zero = p 0
-both_fit (x ∷ xs) ys p q (suc i) = both_fit xs ys (IsBytes-rest x xs p) q i
+pub checked_is : {Y : Type 0} (sum : ℕ) (before : List ℕ) (x y : Y) → checked sum before x ≡ Ok y
+    → (sum ≡ checksum before) × (x ≡ y)
+checked_is sum before x y e =
+    let g = found_inj x y (eqb sum (checksum before)) e in (eqb-true _ _ g.0, g.1)
 
-digest_fits : (h : List ℕ) (n : ℕ) → IsBytes (digest_bytes h n)
-unfolding digest_bytes
-digest_fits h zero i = lit< tt
-digest_fits h (suc n) i = both_fit (digest_bytes h n) (to_be_bytes w32 (slice_index h n)) (digest_fits h n) (word_fits 4 (slice_index h n)) i
+pub checked_met : {Y : Type 0} (sum : ℕ) (before : List ℕ) (y : Y) → sum ≡ checksum before → checked sum before y ≡ Ok y
+checked_met sum before y right =
+    ap (λ (b : Bool). found b y) (ap (λ (n : ℕ). eqb n (checksum before)) right ∙ eqb_same (checksum before))
 
-sha_fits : (bytes : List ℕ) → IsBytes (sha256 bytes)
-unfolding sha256
-sha_fits bytes = digest_fits (final_hash initial_hash_256 bytes) 8
+differs : (m n : ℕ) (b : Bool) → eqb m n ≡ b → (m ≡ n → ⊥) → eqb m n ≡ false
+differs m n true e other = absurd (other (eqb-true m n e))
+differs m n false e other = e
 
-pub sum_fits : (bytes : List ℕ) → checksum bytes < 2 ^ 64
-unfolding checksum
-sum_fits bytes = wide64.below (take 8 (sha256 bytes)) (IsBytes-take 8 (sha256 bytes) (sha_fits bytes))
+pub checked_unmet : {Y : Type 0} (sum : ℕ) (before : List ℕ) (y : Y) → (sum ≡ checksum before → ⊥)
+    → checked sum before y ≡ Err Checksum
+checked_unmet sum before y other =
+    ap (λ (b : Bool). found b y) (differs sum (checksum before) (eqb sum (checksum before)) refl other)
 
--- ---- frames
+-- what was read of a message
+pub in_ok : {Y : Type 0} (len : ℕ) (r : Result Y Fault) (y : Y) → in_message len r ≡ Ok y → r ≡ Ok y
+in_ok len (Ok x) y e = let same : x ≡ y = cc in ap Ok same
+in_ok len (Err f) y e = absurd cc
 
-abbrev Framed : ℕ → List ℕ → (List ℕ × ℕ) × List ℕ → Type 0
-Framed header bytes y =
-    Takes bytes (front_bytes header y.0.0 ++ to_le_bytes w64 y.0.1) y.1 × (length y.0.0 < 2 ^ 64)
+-- ---- heads
 
-pub frame_takes : (header : ℕ) (bytes : List ℕ) (x : (List ℕ × ℕ) × List ℕ) → IsBytes bytes → frame_at header bytes ≡ Ok x
-    → Framed header bytes x
-unfolding frame_at
-frame_takes header bytes x fits e =
-    let h = bind_ok (header_at header bytes) (λ rest. number_at w64 rest >>= λ len. bytes_at len.0 len.1 >>= λ body. number_at w64 body.1 >>= λ sum. Ok ((body.0, sum.0), sum.1)) x e in
-    let n = bind_ok (number_at w64 h.0) (λ len. bytes_at len.0 len.1 >>= λ body. number_at w64 body.1 >>= λ sum. Ok ((body.0, sum.0), sum.1)) x h.2 in
-    let b = bind_ok (bytes_at n.0.0 n.0.1) (λ body. number_at w64 body.1 >>= λ sum. Ok ((body.0, sum.0), sum.1)) x n.2 in
-    let s = bind_ok (number_at w64 b.0.1) (λ sum. Ok ((b.0.0, sum.0), sum.1)) x b.2 in
+-- a head before its checksum
+abbrev pub sized : ℕ → ℕ → List ℕ
+sized header len = to_le_bytes w64 header ++ to_le_bytes w64 len
+
+abbrev Headed : ℕ → List ℕ → (ℕ × ℕ) × List ℕ → Type 0
+Headed header bytes y = Takes bytes (sized header y.0.0 ++ to_le_bytes w64 y.0.1) y.1 × (y.0.0 < 2 ^ 64)
+
+head_takes : (header : ℕ) (bytes : List ℕ) (x : (ℕ × ℕ) × List ℕ) → IsBytes bytes → head_at header bytes ≡ Ok x
+    → Headed header bytes x
+unfolding head_at
+head_takes header bytes x fits e =
+    let h = bind_ok (header_at header bytes) (λ rest. number_at w64 rest >>= λ len. number_at w64 len.1 >>= λ sum. Ok ((len.0, sum.0), sum.1)) x e in
+    let n = bind_ok (number_at w64 h.0) (λ len. number_at w64 len.1 >>= λ sum. Ok ((len.0, sum.0), sum.1)) x h.2 in
+    let s = bind_ok (number_at w64 n.0.1) (λ sum. Ok ((n.0.0, sum.0), sum.1)) x n.2 in
     let th = header_takes header bytes h.0 fits h.1 in
     let tn = number_takes w64 (2 ^ 64) wide64 h.0 n.0.0 n.0.1 th.rest_fits n.1 in
-    let tb = bytes_take n.0.0 n.0.1 b.0 tn.0.rest_fits b.1 in
-    let ts = number_takes w64 (2 ^ 64) wide64 b.0.1 s.0.0 s.0.1 tb.0.rest_fits s.1 in
-    let counted : Takes h.0 (to_le_bytes w64 (length b.0.0)) n.0.1 = subst (λ (k : ℕ). Takes h.0 (to_le_bytes w64 k) n.0.1) (sym tb.1) tn.0 in
-    let e2 = Takes-then h.0 (to_le_bytes w64 (length b.0.0)) n.0.1 b.0.0 b.0.1 counted tb.0 in
-    let e1 = Takes-then bytes (to_le_bytes w64 header) h.0 (to_le_bytes w64 (length b.0.0) ++ b.0.0) b.0.1 th e2 in
-    let e0 = Takes-then bytes (front_bytes header b.0.0) b.0.1 (to_le_bytes w64 s.0.0) s.0.1 e1 ts.0 in
-    let made : (List ℕ × ℕ) × List ℕ = ((b.0.0, s.0.0), s.0.1) in
-    let short : length b.0.0 < 2 ^ 64 = omega (arith, tb.1, tn.1) in
-    subst (Framed header bytes) {x = made} (ok_is made x s.2) (e0, short)
+    let ts = number_takes w64 (2 ^ 64) wide64 n.0.1 s.0.0 s.0.1 tn.0.rest_fits s.1 in
+    let e1 = Takes-then bytes (to_le_bytes w64 header) h.0 (to_le_bytes w64 n.0.0) n.0.1 th tn.0 in
+    let e0 = Takes-then bytes (sized header n.0.0) n.0.1 (to_le_bytes w64 s.0.0) s.0.1 e1 ts.0 in
+    let made : (ℕ × ℕ) × List ℕ = ((n.0.0, s.0.0), s.0.1) in
+    subst (Headed header bytes) {x = made} (ok_is made x s.2) (e0, tn.1)
 
-pub frame_again : (header : ℕ) (body rest : List ℕ) (sum : ℕ) → header < 2 ^ 64 → length body < 2 ^ 64 → sum < 2 ^ 64
-    → frame_at header ((front_bytes header body ++ to_le_bytes w64 sum) ++ rest) ≡ Ok ((body, sum), rest)
-unfolding frame_at
-frame_again header body rest sum headed short summed =
-    let behind = to_le_bytes w64 sum ++ rest in
-    let regrouped : (front_bytes header body ++ to_le_bytes w64 sum) ++ rest
-    ≡ to_le_bytes w64 header ++ (to_le_bytes w64 (length body) ++ (body ++ (to_le_bytes w64 sum ++ rest))) =
-    append_assoc (front_bytes header body) (to_le_bytes w64 sum) rest
-    ∙ append_assoc (to_le_bytes w64 header) (to_le_bytes w64 (length body) ++ body) behind
-    ∙ ap (λ (x : List ℕ). to_le_bytes w64 header ++ x) (append_assoc (to_le_bytes w64 (length body)) body behind) in
-    ap (frame_at header) regrouped
-    ∙ rw (
-      header_again header (to_le_bytes w64 (length body) ++ (body ++ (to_le_bytes w64 sum ++ rest))) headed,
-      number_again w64 (2 ^ 64) wide64 (length body) (body ++ (to_le_bytes w64 sum ++ rest)) short,
-      bytes_again (length body) body (to_le_bytes w64 sum ++ rest) refl,
-      number_again w64 (2 ^ 64) wide64 sum rest summed,
+pub head_long : (header : ℕ) (bytes : List ℕ) (x : (ℕ × ℕ) × List ℕ) → IsBytes bytes → head_at header bytes ≡ Ok x
+    → 16 ≤ length bytes
+head_long header bytes x fits e =
+    let t = head_takes header bytes x fits e in
+    let long : 16 ≤ length ((sized header x.0.0 ++ to_le_bytes w64 x.0.1) ++ x.1) = omega arith in
+    subst (λ (b : List ℕ). 16 ≤ length b) (sym t.0.parts) long
+
+-- a head with any checksum, part by part
+abbrev pub head_parts : ℕ → ℕ → ℕ → List ℕ → List ℕ
+head_parts header len sum rest = to_le_bytes w64 header ++ (to_le_bytes w64 len ++ (to_le_bytes w64 sum ++ rest))
+
+pub head_again : (header len sum : ℕ) (rest : List ℕ) → header < 2 ^ 64 → len < 2 ^ 64 → sum < 2 ^ 64
+    → head_at header (head_parts header len sum rest) ≡ Ok ((len, sum), rest)
+unfolding head_at
+head_again header len sum rest headed short fits =
+    rw (
+      header_again header (to_le_bytes w64 len ++ (to_le_bytes w64 sum ++ rest)) headed,
+      number_again w64 (2 ^ 64) wide64 len (to_le_bytes w64 sum ++ rest) short,
+      number_again w64 (2 ^ 64) wide64 sum rest fits,
     ) refl
 
--- ---- frames that nothing follows
+-- the checksum is of the first sixteen bytes
+sixteen : (header len : ℕ) (bytes rest : List ℕ) → bytes ≡ sized header len ++ rest → take 16 bytes ≡ sized header len
+sixteen header len bytes rest e = ap (take 16) e ∙ take_at (sized header len) rest 16 refl
 
-pub frame_spelled : (header : ℕ) (bytes : List ℕ) (frame : List ℕ × ℕ) → IsBytes bytes → frame_of header bytes ≡ Ok frame
-    → (bytes ≡ front_bytes header frame.0 ++ to_le_bytes w64 frame.1) × (length frame.0 < 2 ^ 64)
-unfolding frame_of
-frame_spelled header bytes frame fits e =
-    let a = bind_ok (frame_at header bytes) ended frame e in
-    let g = ended_ok a.0 frame a.2 in
-    let k = frame_takes header bytes a.0 fits a.1 in
-    let text = front_bytes header a.0.0.0 ++ to_le_bytes w64 a.0.0.1 in
-    let whole : bytes ≡ front_bytes header a.0.0.0 ++ to_le_bytes w64 a.0.0.1 =
-    k.0.parts ∙ ap (λ (r : List ℕ). text ++ r) g.1 ∙ append-nil text in
-    subst (λ (f : List ℕ × ℕ). (bytes ≡ front_bytes header f.0 ++ to_le_bytes w64 f.1) × (length f.0 < 2 ^ 64)) g.0 (whole, k.1)
+pub head_parted : (header len sum : ℕ) (rest : List ℕ)
+    → head_parts header len sum rest ≡ sized header len ++ (to_le_bytes w64 sum ++ rest)
+head_parted header len sum rest =
+    sym (append_assoc (to_le_bytes w64 header) (to_le_bytes w64 len) (to_le_bytes w64 sum ++ rest))
 
-frame_read : (header : ℕ) (body : List ℕ) (sum : ℕ) → header < 2 ^ 64 → length body < 2 ^ 64 → sum < 2 ^ 64
-    → frame_of header (front_bytes header body ++ to_le_bytes w64 sum) ≡ Ok (body, sum)
-unfolding frame_of
-frame_read header body sum headed short summed =
-    let text = front_bytes header body ++ to_le_bytes w64 sum in
-    let all : frame_at header (front_bytes header body ++ to_le_bytes w64 sum) ≡ Ok ((body, sum), []) =
-    ap (frame_at header) (sym (append-nil text)) ∙ frame_again header body [] sum headed short summed in
+-- the length and the rest, unless the checksum is another
+pub head_found : (header len sum : ℕ) (bytes rest : List ℕ) → header < 2 ^ 64 → len < 2 ^ 64 → sum < 2 ^ 64
+    → bytes ≡ head_parts header len sum rest
+    → head_of header bytes ≡ checked sum (to_le_bytes w64 header ++ to_le_bytes w64 len) (len, rest)
+head_found header len sum bytes rest headed short fits e =
+    ap (λ (r : Result ((ℕ × ℕ) × List ℕ) Fault). head_due bytes (in_message (length bytes) r))
+    (ap (head_at header) e ∙ head_again header len sum rest headed short fits)
+    ∙ ap (λ (before : List ℕ). checked sum before (len, rest))
+    (sixteen header len bytes (to_le_bytes w64 sum ++ rest) (e ∙ head_parted header len sum rest))
+
+pub head_in : (header len : ℕ) (rest : List ℕ) → head_bytes header len ++ rest ≡ head_parts header len (checksum (sized header len)) rest
+head_in header len rest =
+    append_assoc (sized header len) (to_le_bytes w64 (checksum (sized header len))) rest
+    ∙ append_assoc (to_le_bytes w64 header) (to_le_bytes w64 len) (to_le_bytes w64 (checksum (sized header len)) ++ rest)
+
+pub head_read : (header len : ℕ) (bytes rest : List ℕ) → header < 2 ^ 64 → len < 2 ^ 64 → bytes ≡ head_bytes header len ++ rest
+    → head_of header bytes ≡ Ok (len, rest)
+head_read header len bytes rest headed short e =
+    head_found header len (checksum (sized header len)) bytes rest headed short (sum_fits (sized header len)) (e ∙ head_in header len rest)
+    ∙ checked_met (checksum (sized header len)) (sized header len) (len, rest) refl
+
+abbrev IsHeaded : ℕ → List ℕ → ℕ × List ℕ → Type 0
+IsHeaded header bytes head = Takes bytes (head_bytes header head.0) head.1 × (head.0 < 2 ^ 64)
+
+head_due_is : (header : ℕ) (bytes : List ℕ) (r : Result ((ℕ × ℕ) × List ℕ) Fault) (head : ℕ × List ℕ) → IsBytes bytes
+    → head_at header bytes ≡ r → head_due bytes (in_message (length bytes) r) ≡ Ok head → IsHeaded header bytes head
+head_due_is header bytes (Ok x) head fits was e =
+    let t = head_takes header bytes x fits was in
+    let last = to_le_bytes w64 x.0.1 in
+    let apart : bytes ≡ sized header x.0.0 ++ (last ++ x.1) = t.0.parts ∙ append_assoc (sized header x.0.0) last x.1 in
+    let g = checked_is x.0.1 (take 16 bytes) (x.0.0, x.1) head e in
+    let right : x.0.1 ≡ checksum (sized header x.0.0) = g.0 ∙ ap checksum (sixteen header x.0.0 bytes (last ++ x.1) apart) in
+    subst (IsHeaded header bytes) g.1 (
+      record {
+        parts = t.0.parts ∙ ap (λ (n : ℕ). (sized header x.0.0 ++ to_le_bytes w64 n) ++ x.1) right;
+        rest_fits = t.0.rest_fits;
+      },
+      t.1,
+    )
+head_due_is header bytes (Err f) head fits was e = absurd cc
+
+pub head_spelled : (header : ℕ) (bytes : List ℕ) (head : ℕ × List ℕ) → IsBytes bytes → head_of header bytes ≡ Ok head
+    → IsHeaded header bytes head
+head_spelled header bytes head fits e = head_due_is header bytes (head_at header bytes) head fits refl e
+
+-- ---- bodies with their checksums
+
+abbrev Tailed : ℕ → List ℕ → (List ℕ × ℕ) × List ℕ → Type 0
+Tailed len bytes y = (bytes ≡ (y.0.0 ++ to_le_bytes w64 y.0.1) ++ y.1) × (length y.0.0 ≡ len)
+
+tail_takes : (len : ℕ) (bytes : List ℕ) (x : (List ℕ × ℕ) × List ℕ) → IsBytes bytes → tail_at len bytes ≡ Ok x → Tailed len bytes x
+unfolding tail_at
+tail_takes len bytes x fits e =
+    let b = bind_ok (bytes_at len bytes) (λ body. number_at w64 body.1 >>= λ sum. Ok ((body.0, sum.0), sum.1)) x e in
+    let s = bind_ok (number_at w64 b.0.1) (λ sum. Ok ((b.0.0, sum.0), sum.1)) x b.2 in
+    let tb = bytes_take len bytes b.0 fits b.1 in
+    let ts = number_takes w64 (2 ^ 64) wide64 b.0.1 s.0.0 s.0.1 tb.0.rest_fits s.1 in
+    let e0 = Takes-then bytes b.0.0 b.0.1 (to_le_bytes w64 s.0.0) s.0.1 tb.0 ts.0 in
+    let made : (List ℕ × ℕ) × List ℕ = ((b.0.0, s.0.0), s.0.1) in
+    subst (Tailed len bytes) {x = made} (ok_is made x s.2) (e0.parts, tb.1)
+
+pub tail_again : (body rest : List ℕ) (sum : ℕ) → sum < 2 ^ 64
+    → tail_at (length body) (body ++ (to_le_bytes w64 sum ++ rest)) ≡ Ok ((body, sum), rest)
+unfolding tail_at
+tail_again body rest sum fits =
+    rw (
+      bytes_again (length body) body (to_le_bytes w64 sum ++ rest) refl,
+      number_again w64 (2 ^ 64) wide64 sum rest fits,
+    ) refl
+
+tail_spelled : (len : ℕ) (bytes : List ℕ) (tail : List ℕ × ℕ) → IsBytes bytes → tail_of len bytes ≡ Ok tail
+    → (bytes ≡ tail.0 ++ to_le_bytes w64 tail.1) × (length tail.0 ≡ len)
+unfolding tail_of
+tail_spelled len bytes tail fits e =
+    let a = bind_ok (tail_at len bytes) ended tail e in
+    let g = ended_ok a.0 tail a.2 in
+    let k = tail_takes len bytes a.0 fits a.1 in
+    let text = a.0.0.0 ++ to_le_bytes w64 a.0.0.1 in
+    let whole : bytes ≡ text = k.0 ∙ ap (λ (r : List ℕ). text ++ r) g.1 ∙ append-nil text in
+    subst (λ (t : List ℕ × ℕ). (bytes ≡ t.0 ++ to_le_bytes w64 t.1) × (length t.0 ≡ len)) g.0 (whole, k.1)
+
+tail_read : (body : List ℕ) (sum : ℕ) → sum < 2 ^ 64 → tail_of (length body) (body ++ to_le_bytes w64 sum) ≡ Ok (body, sum)
+unfolding tail_of
+tail_read body sum fits =
+    let all : tail_at (length body) (body ++ to_le_bytes w64 sum) ≡ Ok ((body, sum), []) =
+    ap (λ (last : List ℕ). tail_at (length body) (body ++ last)) (sym (append-nil (to_le_bytes w64 sum))) ∙ tail_again body [] sum fits in
     rw all refl
 
 -- ---- bodies
 
-abbrev sum_of : ℕ → List ℕ → ℕ
-sum_of header body = checksum (front_bytes header body)
+abbrev IsFramed : ℕ → List ℕ → List ℕ → Type 0
+IsFramed header bytes body = (bytes ≡ frame_bytes header body) × (length body < 2 ^ 64)
 
--- a body whose checksum is right
-record IsSummed (header : ℕ) (r : Result (List ℕ × ℕ) Fault) (body : List ℕ) : Type 0 where
-  frame : List ℕ × ℕ
-  was : r ≡ Ok frame
-  is : frame.0 ≡ body
-  sum : frame.1 ≡ sum_of header frame.0
+-- all but the last eight bytes
+all_but : (front last bytes : List ℕ) → length last ≡ 8 → bytes ≡ front ++ last → take (length bytes - 8) bytes ≡ front
+all_but front last bytes eight e =
+    let size : length bytes ≡ length (front ++ last) = ap length e in
+    let long : length front ≡ length bytes - 8 = omega (arith, size, eight, length-append front last) in
+    ap (take (length bytes - 8)) e ∙ take_at front last (length bytes - 8) long
 
-abbrev summed_as : Bool → List ℕ → Result (List ℕ) ReplicaMessageFault
-summed_as b x = cond b (Ok x) (Err Checksum)
+tail_due_is : (header : ℕ) (bytes : List ℕ) (head : ℕ × List ℕ) (r : Result (List ℕ × ℕ) Fault) (body : List ℕ)
+    → IsHeaded header bytes head → tail_of head.0 head.1 ≡ r → tail_due bytes (in_message (length bytes) r) ≡ Ok body
+    → IsFramed header bytes body
+tail_due_is header bytes head (Ok t) body h was e =
+    let k = tail_spelled head.0 head.1 t h.0.rest_fits was in
+    let last = to_le_bytes w64 t.1 in
+    let front = front_bytes header t.0 in
+    let apart : bytes ≡ front ++ last =
+    h.0.parts ∙ ap (λ (r : List ℕ). head_bytes header head.0 ++ r) k.0
+    ∙ ap (λ (n : ℕ). head_bytes header n ++ (t.0 ++ last)) (sym k.1)
+    ∙ sym (append_assoc (head_bytes header (length t.0)) t.0 last) in
+    let g = checked_is t.1 (take (length bytes - 8) bytes) t.0 body e in
+    let right : t.1 ≡ checksum front = g.0 ∙ ap checksum (all_but front last bytes (wide64.len t.1) apart) in
+    subst (IsFramed header bytes) g.1
+    (apart ∙ ap (λ (n : ℕ). front ++ to_le_bytes w64 n) right, subst (λ (n : ℕ). n < 2 ^ 64) (sym k.1) h.1)
+tail_due_is header bytes head (Err f) body h was e = absurd cc
 
-body_inj : (x y : List ℕ) (b : Bool) → summed_as b x ≡ Ok y → (b ≡ true) × (x ≡ y)
-body_inj x y true e = (refl, cc)
-body_inj x y false e = absurd cc
-
-summed : (header len : ℕ) (r : Result (List ℕ × ℕ) Fault) (body : List ℕ) → checked header (in_message len r) ≡ Ok body
-    → IsSummed header r body
-summed header len (Ok frame) body e =
-    let g = body_inj frame.0 body (eqb frame.1 (sum_of header frame.0)) e in
-    record { frame = frame; was = refl; is = g.1; sum = eqb-true _ _ g.0 }
-summed header len (Err f) body e = absurd cc
+body_due_is : (header : ℕ) (bytes : List ℕ) (r : Result (ℕ × List ℕ) ReplicaMessageFault) (body : List ℕ) → IsBytes bytes
+    → head_of header bytes ≡ r → body_due bytes r ≡ Ok body → IsFramed header bytes body
+body_due_is header bytes (Ok head) body fits was e =
+    tail_due_is header bytes head (tail_of head.0 head.1) body (head_spelled header bytes head fits was) refl e
+body_due_is header bytes (Err f) body fits was e = absurd cc
 
 pub body_spelled : (header : ℕ) (bytes body : List ℕ) → IsBytes bytes → body_of header bytes ≡ Ok body
     → (bytes ≡ frame_bytes header body) × (length body < 2 ^ 64)
-body_spelled header bytes body fits e =
-    let s = summed header (length bytes) (frame_of header bytes) body e in
-    let k = frame_spelled header bytes s.frame fits s.was in
-    let whole : bytes ≡ frame_bytes header s.frame.0 =
-    k.0 ∙ ap (λ (n : ℕ). front_bytes header s.frame.0 ++ to_le_bytes w64 n) s.sum in
-    subst (λ (b : List ℕ). (bytes ≡ frame_bytes header b) × (length b < 2 ^ 64)) s.is (whole, k.1)
+body_spelled header bytes body fits e = body_due_is header bytes (head_of header bytes) body fits refl e
 
 pub body_read : (header : ℕ) (body : List ℕ) → header < 2 ^ 64 → length body < 2 ^ 64
     → body_of header (frame_bytes header body) ≡ Ok body
 body_read header body headed short =
-    let n = length (frame_bytes header body) in
-    ap (λ (r : Result (List ℕ × ℕ) Fault). checked header (in_message n r))
-    (frame_read header body (sum_of header body) headed short (sum_fits (front_bytes header body)))
-    ∙ ap (λ (b : Bool). summed_as b body) (eqb_same (sum_of header body))
+    let bytes = frame_bytes header body in
+    let front = front_bytes header body in
+    let sum = checksum front in
+    let last = to_le_bytes w64 sum in
+    ap (body_due bytes) (head_read header (length body) bytes (body ++ last) headed short
+    (append_assoc (head_bytes header (length body)) body last))
+    ∙ ap (λ (r : Result (List ℕ × ℕ) Fault). tail_due bytes (in_message (length bytes) r)) (tail_read body sum (sum_fits front))
+    ∙ checked_met sum (take (length bytes - 8) bytes) body (ap checksum (sym (all_but front last bytes (wide64.len sum) refl)))
 
 -- ---- the bytes of a body
 
@@ -165,54 +251,49 @@ back_fits (x ∷ xs) ys h = back_fits xs ys (IsBytes-rest x (xs ++ ys) h)
 
 pub body_fits : (header : ℕ) (bytes body : List ℕ) → IsBytes bytes → bytes ≡ frame_bytes header body → IsBytes body
 body_fits header bytes body fits e =
-    let sized = to_le_bytes w64 (length body) ++ body in
-    back_fits (to_le_bytes w64 (length body)) body (back_fits (to_le_bytes w64 header) sized
-    (front_fits (front_bytes header body) (to_le_bytes w64 (sum_of header body)) (subst IsBytes e fits)))
-
--- ---- what the code compares
-
--- the bytes before the checksum
-pub front_is : (header : ℕ) (bytes body : List ℕ) (sum : ℕ) → IsBytes bytes → frame_of header bytes ≡ Ok (body, sum)
-    → take (length bytes - 8) bytes ≡ front_bytes header body
-front_is header bytes body sum fits e =
-    let k = frame_spelled header bytes (body, sum) fits e in
-    let front = front_bytes header body in
-    let last = to_le_bytes w64 sum in
-    let size : length (front ++ last) ≡ length bytes = ap length (sym k.0) in
-    let eight : length last ≡ 8 = wide64.len sum in
-    let long : length front ≡ length bytes - 8 = omega (arith, size, eight, length-append front last) in
-    ap (take (length bytes - 8)) k.0 ∙ take_at front last (length bytes - 8) long
-
-pub body_met : (header : ℕ) (bytes body : List ℕ) (sum : ℕ) → IsBytes bytes → frame_of header bytes ≡ Ok (body, sum)
-    → sum ≡ checksum (take (length bytes - 8) bytes) → body_of header bytes ≡ Ok body
-body_met header bytes body sum fits e same =
-    let right : sum ≡ sum_of header body = same ∙ ap checksum (front_is header bytes body sum fits e) in
-    ap (λ (r : Result (List ℕ × ℕ) Fault). checked header (in_message (length bytes) r)) e
-    ∙ ap (λ (b : Bool). summed_as b body) (ap (λ n. eqb n (sum_of header body)) right ∙ eqb_same (sum_of header body))
-
-differs : (m n : ℕ) (b : Bool) → eqb m n ≡ b → (m ≡ n → ⊥) → eqb m n ≡ false
-differs m n true e other = absurd (other (eqb-true m n e))
-differs m n false e other = e
-
-pub body_unmet : (header : ℕ) (bytes body : List ℕ) (sum : ℕ) → IsBytes bytes → frame_of header bytes ≡ Ok (body, sum)
-    → (sum ≡ checksum (take (length bytes - 8) bytes) → ⊥) → body_of header bytes ≡ Err Checksum
-body_unmet header bytes body sum fits e other =
-    let another = checksum (take (length bytes - 8) bytes) in
-    ap (λ (r : Result (List ℕ × ℕ) Fault). checked header (in_message (length bytes) r)) e
-    ∙ ap (λ (b : Bool). summed_as b body)
-    (ap (λ n. eqb sum (checksum n)) (sym (front_is header bytes body sum fits e)) ∙ differs sum another (eqb sum another) refl other)
+    back_fits (head_bytes header (length body)) body
+    (front_fits (front_bytes header body) (to_le_bytes w64 (checksum (front_bytes header body))) (subst IsBytes e fits))
 
 -- ---- a frame that is written
 
-pub framed_written : (header : ℕ) (body a b c d e : List ℕ) (n sum : ℕ) → a ≡ [] → n ≡ length body
-    → b ≡ a ++ to_le_bytes w64 header → c ≡ b ++ to_le_bytes w64 n → d ≡ c ++ body → sum ≡ checksum d
-    → e ≡ d ++ to_le_bytes w64 sum → e ≡ frame_bytes header body
-framed_written header body a b c d e n sum none size wrote_b wrote_c wrote_d sums wrote_e =
-    let sized : c ≡ to_le_bytes w64 header ++ to_le_bytes w64 (length body) =
-    wrote_c ∙ ap (λ (k : ℕ). b ++ to_le_bytes w64 k) size
-    ∙ ap (λ (x : List ℕ). x ++ to_le_bytes w64 (length body)) (wrote_b ∙ ap (λ (x : List ℕ). x ++ to_le_bytes w64 header) none) in
-    let front : d ≡ front_bytes header body =
-    wrote_d ∙ ap (λ (x : List ℕ). x ++ body) sized
-    ∙ append_assoc (to_le_bytes w64 header) (to_le_bytes w64 (length body)) body in
-    wrote_e ∙ ap (λ (x : List ℕ). x ++ to_le_bytes w64 sum) front
-    ∙ ap (λ (k : ℕ). front_bytes header body ++ to_le_bytes w64 k) (sums ∙ ap checksum front)
+-- what was written behind the place of a head
+pub body_written : (out body : List ℕ) → out ≡ no_head ++ body → drop 24 out ≡ body
+body_written out body e = ap (drop 24) e ∙ drop_at no_head body 24 refl
+
+pub behind_head : (out body : List ℕ) → out ≡ no_head ++ body → length out < 2 ^ 64 → length body < 2 ^ 64
+behind_head out body e short = omega (arith, ap length e, length-append no_head body, short)
+
+-- what fills a vector is all of it
+filled : (items w : List ℕ) (n : ℕ) → length w ≡ n → take n (w ++ drop (length w) items) ≡ w
+filled items w n size = take_at w (drop (length w) items) n size
+
+-- the head and the checksum are written
+pub framed_written : (header : ℕ) (items w front whole : List ℕ) (len n sum : ℕ) → len ≡ length items → n ≡ length items
+    → 24 ≤ length items → w ≡ head_bytes header (len - 24) ++ drop 24 items
+    → front ≡ take n (w ++ drop (length w) items) → sum ≡ checksum front
+    → whole ≡ take n (w ++ drop (length w) items) ++ to_le_bytes w64 sum → whole ≡ frame_bytes header (drop 24 items)
+framed_written header items w front whole len n sum counted sized long wrote read sums last =
+    let body = drop 24 items in
+    let behind : len - 24 ≡ length body = omega (arith, counted, length-drop 24 items) in
+    let is : w ≡ front_bytes header body = wrote ∙ ap (λ (k : ℕ). head_bytes header k ++ body) behind in
+    let size : length w ≡ n =
+    omega (arith, sized, long, ap length is, length-append (head_bytes header (length body)) body, length-drop 24 items) in
+    let all : take n (w ++ drop (length w) items) ≡ front_bytes header body = filled items w n size ∙ is in
+    last ∙ ap (λ (x : List ℕ). x ++ to_le_bytes w64 sum) all
+    ∙ ap (λ (k : ℕ). front_bytes header body ++ to_le_bytes w64 k) (sums ∙ ap checksum (read ∙ all))
+
+-- eight bytes that are read one by one
+abbrev pub eight : List ℕ → List ℕ → List ℕ
+eight xs rest =
+    slice_index_or xs 0 0 ∷ slice_index_or xs 1 0 ∷ slice_index_or xs 2 0 ∷ slice_index_or xs 3 0
+    ∷ slice_index_or xs 4 0 ∷ slice_index_or xs 5 0 ∷ slice_index_or xs 6 0 ∷ slice_index_or xs 7 0 ∷ rest
+
+-- the head is written byte by byte
+pub head_written : (header len sum : ℕ) (h l s : List ℕ) → h ≡ to_le_bytes w64 header → l ≡ to_le_bytes w64 len
+    → sum ≡ checksum (eight h (eight l [])) → s ≡ to_le_bytes w64 sum → eight h (eight l (eight s [])) ≡ head_bytes header len
+head_written header len sum h l s is_header is_len is_sum is_last =
+    let front : eight h (eight l []) ≡ sized header len =
+    ap (λ (xs : List ℕ). eight xs (eight l [])) is_header ∙ ap (λ (xs : List ℕ). to_le_bytes w64 header ++ eight xs []) is_len in
+    ap (λ (xs : List ℕ). eight xs (eight l (eight s []))) is_header
+    ∙ ap (λ (xs : List ℕ). to_le_bytes w64 header ++ eight xs (eight s [])) is_len
+    ∙ ap (λ (xs : List ℕ). sized header len ++ eight xs []) (is_last ∙ ap (to_le_bytes w64) (is_sum ∙ ap checksum front))

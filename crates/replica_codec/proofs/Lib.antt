@@ -1,7 +1,9 @@
+pub mod SumLaws
 pub mod FrameLaws
 pub mod EntryLaws
 pub mod EntryAnswers
 pub mod LogLaws
+pub mod LogMessages
 pub mod SnapshotLaws
 pub mod StoreLaws
 pub mod SnapshotAnswers

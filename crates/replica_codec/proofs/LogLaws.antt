@@ -1,5 +1,5 @@
--- The front of a log that begins with an entry or a snapshot, whole or cut.
-use Rattle.std.proofs.Common.{◌≡◌, ℕ, ◌-◌, ◌^◌, ◌<◌, List, [], ◌∷◌, ◌++◌, length, cond, eqb, Result, Ok, Err, refl, sym, ap, subst, ◌∙◌, append_assoc, arith, lit<, inl, inr}
+-- The front of a log that begins with a message, whole, cut or damaged.
+use Rattle.std.proofs.Common.{◌≡◌, ℕ, ◌-◌, ◌^◌, ◌<◌, Bool, false, true≢false, List, [], ◌∷◌, ◌++◌, length, cond, eqb, Result, Ok, Err, refl, sym, ap, subst, ◌∙◌, append_assoc, arith, lit<, inl, inr}
 use Rattle.std.specs.Prelude.{◌⊎◌}
 use Rattle.std.specs.Int.{w64, to_le_bytes}
 use Rattle.std.proofs.lemmas.Bool.{lt-ltb}
@@ -8,77 +8,58 @@ use Rattle.numbered.specs.Answers.{out_of_memory, ReturnsOrRunsOut}
 use Rattle.exchange_codec.specs.declared.fault.Fault.{Fault}
 use Rattle.exchange_codec.specs.declared.fault.FieldFault.TheVariants as wrongs
 use Rattle.exchange_codec.specs.declared.fault.MessageFault.TheVariants as message
-use Rattle.exchange_codec.specs.declared.fault.ReadError.{ReadError}
-use Rattle.exchange_codec.specs.declared.fault.ReadError.TheVariants as errors
-use Rattle.exchange_codec.specs.Reading.{◌>>=◌, number_at, bytes_at, Fails}
-use Rattle.exchange_codec.specs.laws.Fields.{wide64, number_again}
+use Rattle.exchange_codec.specs.Reading.{◌>>=◌, number_at, bytes_at, header_at}
+use Rattle.exchange_codec.specs.laws.Fields.{wide64, number_again, header_again}
 use Rattle.exchange_codec.specs.laws.Rows.{bytes_again}
-use Rattle.replica.specs.declared.messages.Entry.{Entry}
-use Rattle.replica.specs.Halves.{Half}
-use Rattle.replica_law.specs.Worlds.{Snapshot}
 use Rattle.replica_codec.specs.declared.fault.ReplicaMessageFault.{ReplicaMessageFault}
-use Rattle.replica_codec.specs.declared.fault.ReplicaMessageFault.TheVariants.{Message}
+use Rattle.replica_codec.specs.declared.fault.ReplicaMessageFault.TheVariants.{Message, Checksum}
 use Rattle.replica_codec.specs.declared.log.LogFront.{LogFront}
 use Rattle.replica_codec.specs.declared.log.LogFront.TheVariants as front
 use Rattle.replica_codec.specs.Faults.{replica_message_fault_number}
-use Rattle.replica_codec.specs.Frames.{entry_header, snapshot_header, checksum, front_bytes, frame_bytes, IsReadAs}
-use Rattle.replica_codec.specs.Entries.{entry_text, entry_bytes, SpellsEntry}
-use Rattle.replica_codec.specs.Snapshots.{snapshot_bytes, SpellsSnapshot}
-use Rattle.replica_codec.specs.Logs.{after_at, cut_by, entry_front, snapshot_front, front_else, front_at, front_due, front_of}
-use Rattle.replica_codec.proofs.FrameLaws.{sum_fits}
+use Rattle.replica_codec.specs.Frames.{entry_header, snapshot_header, checksum, head_bytes, front_bytes, frame_bytes, head_at, head_due, head_of, tail_at, in_message, checked, IsReadAs}
+use Rattle.replica_codec.specs.Logs.{IsDamaged, after_at, after_due, front_at, front_of, kind_at, kind_due, kind_or_wrong, or_cut, whole, whole_due}
+use Rattle.replica_codec.proofs.SumLaws.{sum_fits}
+use Rattle.replica_codec.proofs.FrameLaws.{sized, head_parts, head_in, head_found, head_read, tail_again, checked_unmet}
+
+-- ---- the kind of a message
+
+-- a header that a log's messages begin with
+abbrev pub IsKind : ℕ → Type 0
+IsKind header = ((tail : List ℕ) → kind_at (to_le_bytes w64 header ++ tail) ≡ Ok header) × (header < 2 ^ 64)
+
+pub entry_kind : IsKind entry_header
+unfolding kind_at
+entry_kind = (
+  λ tail. ap (λ (r : Result (ℕ × List ℕ) Fault). r >>= λ found. kind_or_wrong (to_le_bytes w64 entry_header ++ tail) found.0)
+      (number_again w64 (2 ^ 64) wide64 entry_header tail (lit< tt)),
+  lit< tt,
+)
+
+pub snapshot_kind : IsKind snapshot_header
+unfolding kind_at
+snapshot_kind = (
+  λ tail. ap (λ (r : Result (ℕ × List ℕ) Fault). r >>= λ found. kind_or_wrong (to_le_bytes w64 snapshot_header ++ tail) found.0)
+      (number_again w64 (2 ^ 64) wide64 snapshot_header tail (lit< tt)),
+  lit< tt,
+)
+
+-- the rest of a message of a kind
+by_kind : (header : ℕ) (bytes tail : List ℕ) → IsKind header → bytes ≡ to_le_bytes w64 header ++ tail
+    → front_at bytes ≡ after_due header bytes (head_of header bytes)
+by_kind header bytes tail kind e =
+    ap (λ (r : Result ℕ Fault). kind_due bytes (in_message (length bytes) r)) (ap kind_at e ∙ kind.0 tail)
+
+front_by : (bytes : List ℕ) (r : Result LogFront ReplicaMessageFault) → 0 < length bytes → front_at bytes ≡ r
+    → front_of bytes ≡ or_cut r
+front_by [] r some e = absurd (omega (arith, some))
+front_by (b ∷ bytes) r some e = ap or_cut e
 
 -- ---- a whole message
 
--- a message and what follows it, part by part
-abbrev parts : ℕ → List ℕ → ℕ → List ℕ → List ℕ
-parts header body sum rest =
-    to_le_bytes w64 header ++ (to_le_bytes w64 (length body) ++ (body ++ (to_le_bytes w64 sum ++ rest)))
-
-in_parts : (header : ℕ) (body rest : List ℕ)
-    → frame_bytes header body ++ rest ≡ parts header body (checksum (front_bytes header body)) rest
-in_parts header body rest =
-    let last = to_le_bytes w64 (checksum (front_bytes header body)) in
-    append_assoc (front_bytes header body) last rest
-    ∙ append_assoc (to_le_bytes w64 header) (to_le_bytes w64 (length body) ++ body) (last ++ rest)
-    ∙ ap (λ (x : List ℕ). to_le_bytes w64 header ++ x) (append_assoc (to_le_bytes w64 (length body)) body (last ++ rest))
-
-after_again : (body rest : List ℕ) (sum : ℕ) → length body < 2 ^ 64 → sum < 2 ^ 64
-    → after_at (to_le_bytes w64 (length body) ++ (body ++ (to_le_bytes w64 sum ++ rest))) ≡ Ok rest
+after_again : (body rest : List ℕ) (sum : ℕ) → sum < 2 ^ 64
+    → after_at (length body) (body ++ (to_le_bytes w64 sum ++ rest)) ≡ Ok rest
 unfolding after_at
-after_again body rest sum short summed =
-    rw (
-      number_again w64 (2 ^ 64) wide64 (length body) (body ++ (to_le_bytes w64 sum ++ rest)) short,
-      bytes_again (length body) body (to_le_bytes w64 sum ++ rest) refl,
-      number_again w64 (2 ^ 64) wide64 sum rest summed,
-    ) refl
-
--- the front after its header
-abbrev by_header : List ℕ → ℕ × List ℕ → Result LogFront Fault
-by_header bytes found = cond (eqb found.0 entry_header) (entry_front bytes found.1) (front_else found bytes)
-
-abbrev by_length : List ℕ → (ℕ → LogFront) → List ℕ → Result LogFront Fault
-by_length bytes make tail = after_at tail >>= λ after. Ok (make (length bytes - length after))
-
--- bytes that begin with this header are read as this kind of message
-abbrev Reads : ℕ → (ℕ → LogFront) → Type 0
-Reads header make = (bytes tail : List ℕ) → bytes ≡ to_le_bytes w64 header ++ tail → front_at bytes ≡ by_length bytes make tail
-
-entry_reads : Reads entry_header front.Entry
-unfolding front_at entry_front
-entry_reads bytes tail e =
-    ap (λ (r : Result (ℕ × List ℕ) Fault). r >>= by_header bytes)
-    (ap (number_at w64) e ∙ number_again w64 (2 ^ 64) wide64 entry_header tail (lit< tt))
-
-snapshot_reads : Reads snapshot_header front.Snapshot
-unfolding front_at snapshot_front
-snapshot_reads bytes tail e =
-    ap (λ (r : Result (ℕ × List ℕ) Fault). r >>= by_header bytes)
-    (ap (number_at w64) e ∙ number_again w64 (2 ^ 64) wide64 snapshot_header tail (lit< tt))
-
-front_by : (bytes : List ℕ) (r : Result LogFront ReplicaMessageFault) → 0 < length bytes
-    → front_due (length bytes) (front_at bytes) ≡ r → front_of bytes ≡ r
-front_by [] r some e = absurd (omega (arith, some))
-front_by (b ∷ bytes) r some e = e
+after_again body rest sum fits = rw (tail_again body rest sum fits) refl
 
 pub some_bytes : (header : ℕ) (bytes message body rest : List ℕ) → message ≡ frame_bytes header body → bytes ≡ message ++ rest
     → 0 < length bytes
@@ -87,34 +68,29 @@ some_bytes header bytes message body rest spelling e =
     let long : 0 < length (frame_bytes header body ++ rest) = omega arith in
     subst (λ (b : List ℕ). 0 < length b) (sym there) long
 
-module _ (header : ℕ) (make : ℕ → LogFront) (reads : Reads header make) where
-  whole_at : (bytes body rest : List ℕ) → length body < 2 ^ 64 → bytes ≡ frame_bytes header body ++ rest
-      → front_at bytes ≡ Ok (make (length bytes - length rest))
-  whole_at bytes body rest short e =
-      let sum = checksum (front_bytes header body) in
-      reads bytes (to_le_bytes w64 (length body) ++ (body ++ (to_le_bytes w64 sum ++ rest))) (e ∙ in_parts header body rest)
-      ∙ ap (λ (r : Result (List ℕ) Fault). r >>= λ after. Ok (make (length bytes - length after)))
-      (after_again body rest sum short (sum_fits (front_bytes header body)))
+-- a message and what follows it
+parted : (header : ℕ) (body rest : List ℕ) → frame_bytes header body ++ rest
+    ≡ head_bytes header (length body) ++ (body ++ (to_le_bytes w64 (checksum (front_bytes header body)) ++ rest))
+parted header body rest =
+    let last = to_le_bytes w64 (checksum (front_bytes header body)) in
+    append_assoc (front_bytes header body) last rest ∙ append_assoc (head_bytes header (length body)) body (last ++ rest)
 
-  first : (bytes message body rest : List ℕ) → length body < 2 ^ 64 → message ≡ frame_bytes header body → bytes ≡ message ++ rest
-      → front_of bytes ≡ Ok (make (length message))
-  first bytes message body rest short spelling e =
-      let there : bytes ≡ frame_bytes header body ++ rest = e ∙ ap (λ (m : List ℕ). m ++ rest) spelling in
-      let size : length bytes - length rest ≡ length message =
-      omega (arith, ap length e, length-append message rest) in
-      front_by bytes _ (some_bytes header bytes message body rest spelling e)
-      (ap (front_due (length bytes)) (whole_at bytes body rest short there)
-      ∙ ap (λ (n : ℕ). Ok (make n)) size)
-
-pub entry_first : (bytes message rest : List ℕ) (entry : Entry) → SpellsEntry message entry → bytes ≡ message ++ rest
-    → front_of bytes ≡ Ok (front.Entry (length message))
-entry_first bytes message rest entry s e =
-    first entry_header front.Entry entry_reads bytes message (entry_bytes (entry_text entry)) rest s.is_text.short s.spelling e
-
-pub snapshot_first : (bytes message rest : List ℕ) (t : Snapshot Half) → SpellsSnapshot message t → bytes ≡ message ++ rest
-    → front_of bytes ≡ Ok (front.Snapshot (length message))
-snapshot_first bytes message rest t s e =
-    first snapshot_header front.Snapshot snapshot_reads bytes message (snapshot_bytes t) rest s.short s.spelling e
+pub first : (header : ℕ) (bytes message body rest : List ℕ) → IsKind header → length body < 2 ^ 64 → message ≡ frame_bytes header body
+    → bytes ≡ message ++ rest → front_of bytes ≡ Ok (whole header (length message))
+first header bytes message body rest kind short spelling e =
+    let sum = checksum (front_bytes header body) in
+    let tail = body ++ (to_le_bytes w64 sum ++ rest) in
+    let there : bytes ≡ head_bytes header (length body) ++ tail =
+    e ∙ ap (λ (m : List ℕ). m ++ rest) spelling ∙ parted header body rest in
+    let size : length bytes - length rest ≡ length message = omega (arith, ap length e, length-append message rest) in
+    let reads : front_at bytes ≡ Ok (whole header (length message)) =
+    by_kind header bytes (to_le_bytes w64 (length body) ++ (to_le_bytes w64 (checksum (sized header (length body))) ++ tail)) kind
+    (there ∙ head_in header (length body) tail)
+    ∙ ap (after_due header bytes) (head_read header (length body) bytes tail kind.1 short there)
+    ∙ ap (λ (r : Result (List ℕ) Fault). whole_due header bytes (in_message (length bytes) r))
+    (after_again body rest sum (sum_fits (front_bytes header body)))
+    ∙ ap (λ (n : ℕ). Ok (whole header n)) size in
+    front_by bytes (Ok (whole header (length message))) (some_bytes header bytes message body rest spelling e) reads
 
 -- ---- a message that is cut
 
@@ -149,81 +125,139 @@ short_bytes n xs short = (length xs, rw (lt-ltb (length xs) n short) refl)
 bound : {A B : Type 0} (r : Result A Fault) (f : A → Result B Fault) → IsCut r → IsCut (r >>= f)
 bound r f h = (h.0, ap (λ (x : Result _ Fault). x >>= f) h.1)
 
--- the checksum is cut
-sum_cut : (xs more : List ℕ) (sum : ℕ) → 0 < length more → xs ++ more ≡ to_le_bytes w64 sum → length xs < 8
-sum_cut xs more sum some e =
-    let size : length (xs ++ more) ≡ length (to_le_bytes w64 sum) = ap length e in
-    let eight : length (to_le_bytes w64 sum) ≡ 8 = wide64.len sum in
+-- a number that is cut
+number_cut : (xs more : List ℕ) (n : ℕ) → 0 < length more → xs ++ more ≡ to_le_bytes w64 n → length xs < 8
+number_cut xs more n some e =
+    let size : length (xs ++ more) ≡ length (to_le_bytes w64 n) = ap length e in
+    let eight : length (to_le_bytes w64 n) ≡ 8 = wide64.len n in
     omega (arith, some, size, eight, length-append xs more)
 
--- the last two parts
-abbrev body_then : List ℕ → Result (List ℕ) Fault
-body_then bytes = number_at w64 bytes >>= λ sum. Ok sum.1
+-- a body or its checksum is cut
+abbrev sum_then : List ℕ × List ℕ → Result ((List ℕ × ℕ) × List ℕ) Fault
+sum_then body = number_at w64 body.1 >>= λ sum. Ok ((body.0, sum.0), sum.1)
 
-body_cut : (body xs more : List ℕ) (sum : ℕ) → 0 < length more → xs ++ more ≡ body ++ to_le_bytes w64 sum
-    → IsCut (bytes_at (length body) xs >>= λ b. body_then b.1)
-body_cut body xs more sum some e =
+tail_cut : (body xs more : List ℕ) (sum : ℕ) → 0 < length more → xs ++ more ≡ body ++ to_le_bytes w64 sum
+    → IsCut (tail_at (length body) xs)
+unfolding tail_at
+tail_cut body xs more sum some e =
     elim (cut_at body xs more (to_le_bytes w64 sum) e) [
-      | inl short ↦ bound (bytes_at (length body) xs) (λ b. body_then b.1) (short_bytes (length body) xs short)
+      | inl short ↦ bound (bytes_at (length body) xs) sum_then (short_bytes (length body) xs short)
       | inr (ys, is, behind) ↦
-          let last = bound (number_at w64 ys) (λ sum. Ok sum.1) (short_number ys (sum_cut ys more sum some behind)) in (
+          let last = bound (number_at w64 ys) (λ sum. Ok ((body, sum.0), sum.1)) (short_number ys (number_cut ys more sum some behind)) in (
             last.0,
-            ap (λ (r : Result (List ℕ × List ℕ) Fault). r >>= λ b. body_then b.1)
+            ap (λ (r : Result (List ℕ × List ℕ) Fault). r >>= sum_then)
                 (ap (bytes_at (length body)) is ∙ bytes_again (length body) body ys refl) ∙ last.1,
           )
     ]
 
-after_cut : (body xs more : List ℕ) (sum : ℕ) → length body < 2 ^ 64 → 0 < length more
-    → xs ++ more ≡ to_le_bytes w64 (length body) ++ (body ++ to_le_bytes w64 sum) → IsCut (after_at xs)
+after_cut : (len : ℕ) (xs : List ℕ) → IsCut (tail_at len xs) → IsCut (after_at len xs)
 unfolding after_at
-after_cut body xs more sum short some e =
-    elim (cut_at (to_le_bytes w64 (length body)) xs more (body ++ to_le_bytes w64 sum) e) [
-      | inl cut ↦ bound (number_at w64 xs) (λ len. bytes_at len.0 len.1 >>= λ b. body_then b.1)
-          (short_number xs (omega (arith, cut, wide64.len (length body))))
+after_cut len xs h = bound (tail_at len xs) (λ tail. Ok tail.1) h
+
+-- a length or the checksum after it is cut
+abbrev sum_behind : ℕ × List ℕ → Result ((ℕ × ℕ) × List ℕ) Fault
+sum_behind len = number_at w64 len.1 >>= λ sum. Ok ((len.0, sum.0), sum.1)
+
+head_by : (header : ℕ) (bytes tail : List ℕ) → header < 2 ^ 64 → bytes ≡ to_le_bytes w64 header ++ tail
+    → head_at header bytes ≡ (number_at w64 tail >>= sum_behind)
+unfolding head_at
+head_by header bytes tail headed e =
+    ap (λ (r : Result (List ℕ) Fault). r >>= λ rest. number_at w64 rest >>= sum_behind)
+    (ap (header_at header) e ∙ header_again header tail headed)
+
+len_cut : (header : ℕ) (bytes tail : List ℕ) → header < 2 ^ 64 → bytes ≡ to_le_bytes w64 header ++ tail → length tail < 8
+    → IsCut (head_at header bytes)
+len_cut header bytes tail headed e short =
+    let h = bound (number_at w64 tail) sum_behind (short_number tail short) in (h.0, head_by header bytes tail headed e ∙ h.1)
+
+head_sum_cut : (header len : ℕ) (bytes tail : List ℕ) → header < 2 ^ 64 → len < 2 ^ 64
+    → bytes ≡ to_le_bytes w64 header ++ (to_le_bytes w64 len ++ tail) → length tail < 8 → IsCut (head_at header bytes)
+head_sum_cut header len bytes tail headed fits e short =
+    let h = bound (number_at w64 tail) (λ sum. Ok ((len, sum.0), sum.1)) (short_number tail short) in (
+      h.0,
+      head_by header bytes (to_le_bytes w64 len ++ tail) headed e
+          ∙ ap (λ (r : Result (ℕ × List ℕ) Fault). r >>= sum_behind) (number_again w64 (2 ^ 64) wide64 len tail fits) ∙ h.1,
+    )
+
+-- where a log is cut: in a header, in the rest of a head, or behind a head
+in_kind : (bytes : List ℕ) → IsCut (kind_at bytes) → or_cut (front_at bytes) ≡ Ok front.Cut
+in_kind bytes h = ap (λ (r : Result ℕ Fault). or_cut (kind_due bytes (in_message (length bytes) r))) h.1
+
+in_head : (header : ℕ) (bytes tail : List ℕ) → IsKind header → bytes ≡ to_le_bytes w64 header ++ tail
+    → IsCut (head_at header bytes) → or_cut (front_at bytes) ≡ Ok front.Cut
+in_head header bytes tail kind e h =
+    ap or_cut (by_kind header bytes tail kind e)
+    ∙ ap (λ (r : Result ((ℕ × ℕ) × List ℕ) Fault). or_cut (after_due header bytes (head_due bytes (in_message (length bytes) r)))) h.1
+
+behind_head : (header len : ℕ) (bytes tail rest : List ℕ) → IsKind header → bytes ≡ to_le_bytes w64 header ++ tail
+    → head_of header bytes ≡ Ok (len, rest) → IsCut (after_at len rest) → or_cut (front_at bytes) ≡ Ok front.Cut
+behind_head header len bytes tail rest kind e head h =
+    ap or_cut (by_kind header bytes tail kind e) ∙ ap (λ (r : Result (ℕ × List ℕ) ReplicaMessageFault). or_cut (after_due header bytes r)) head
+    ∙ ap (λ (r : Result (List ℕ) Fault). or_cut (whole_due header bytes (in_message (length bytes) r))) h.1
+
+short_kind : (bytes : List ℕ) → length bytes < 8 → IsCut (kind_at bytes)
+unfolding kind_at
+short_kind bytes short = bound (number_at w64 bytes) (λ found. kind_or_wrong bytes found.0) (short_number bytes short)
+
+-- the parts of a message: a header, a length and their checksum, a body and a checksum
+front_cut : (header sum : ℕ) (body bytes more : List ℕ) → IsKind header → length body < 2 ^ 64 → 0 < length more
+    → bytes ++ more ≡ head_parts header (length body) (checksum (sized header (length body))) (body ++ to_le_bytes w64 sum)
+    → or_cut (front_at bytes) ≡ Ok front.Cut
+front_cut header sum body bytes more kind short some e =
+    let len = length body in
+    let right = checksum (sized header len) in
+    let tail = body ++ to_le_bytes w64 sum in
+    elim (cut_at (to_le_bytes w64 header) bytes more (to_le_bytes w64 len ++ (to_le_bytes w64 right ++ tail)) e) [
+      | inl cut ↦ in_kind bytes (short_kind bytes (omega (arith, cut, wide64.len header)))
       | inr (ys, is, behind) ↦
-          let rest = body_cut body ys more sum some behind in (
-            rest.0,
-            ap (λ (r : Result (ℕ × List ℕ) Fault). r >>= λ len. bytes_at len.0 len.1 >>= λ b. body_then b.1)
-                (ap (number_at w64) is ∙ number_again w64 (2 ^ 64) wide64 (length body) ys short) ∙ rest.1,
-          )
+          elim (cut_at (to_le_bytes w64 len) ys more (to_le_bytes w64 right ++ tail) behind) [
+            | inl cut ↦ in_head header bytes ys kind is (len_cut header bytes ys kind.1 is (omega (arith, cut, wide64.len len)))
+            | inr (zs, be, after) ↦
+                let there = is ∙ ap (λ (y : List ℕ). to_le_bytes w64 header ++ y) be in
+                elim (cut_at (to_le_bytes w64 right) zs more tail after) [
+                  | inl cut ↦
+                      in_head header bytes (to_le_bytes w64 len ++ zs) kind there
+                      (head_sum_cut header len bytes zs kind.1 short there (omega (arith, cut, wide64.len right)))
+                  | inr (ws, has, last) ↦
+                      let all = there ∙ ap (λ (z : List ℕ). to_le_bytes w64 header ++ (to_le_bytes w64 len ++ z)) has in
+                      behind_head header len bytes (to_le_bytes w64 len ++ zs) ws kind there
+                      (head_read header len bytes ws kind.1 short (all ∙ sym (head_in header len ws)))
+                      (after_cut len ws (tail_cut body ws more sum some last))
+                ]
+          ]
     ]
 
-cut_due : (len : ℕ) (r : Result LogFront Fault) → IsCut r → front_due len r ≡ Ok front.Cut
-cut_due len r h = ap (front_due len) h.1
+pub cut : (header : ℕ) (bytes more body : List ℕ) → IsKind header → 0 < length bytes → 0 < length more → length body < 2 ^ 64
+    → bytes ++ more ≡ frame_bytes header body → front_of bytes ≡ Ok front.Cut
+cut header bytes more body kind some rest short spelling =
+    let sum = checksum (front_bytes header body) in
+    let there = spelling ∙ append_assoc (head_bytes header (length body)) body (to_le_bytes w64 sum)
+    ∙ head_in header (length body) (body ++ to_le_bytes w64 sum) in
+    front_by bytes (front_at bytes) some refl ∙ front_cut header sum body bytes more kind short rest there
 
-module _ (header : ℕ) (make : ℕ → LogFront) (reads : Reads header make) where
-  front_cut : (body xs more : List ℕ) (sum : ℕ) → length body < 2 ^ 64 → 0 < length more
-      → xs ++ more ≡ to_le_bytes w64 header ++ (to_le_bytes w64 (length body) ++ (body ++ to_le_bytes w64 sum))
-      → IsCut (front_at xs)
-  unfolding front_at
-  front_cut body xs more sum short some e =
-      elim (cut_at (to_le_bytes w64 header) xs more (to_le_bytes w64 (length body) ++ (body ++ to_le_bytes w64 sum)) e) [
-        | inl cut ↦ bound (number_at w64 xs) (by_header xs) (short_number xs (omega (arith, cut, wide64.len header)))
-        | inr (ys, is, behind) ↦
-            let rest = bound (after_at ys) (λ after. Ok (make (length xs - length after))) (after_cut body ys more sum short some behind) in
-            (rest.0, reads xs ys is ∙ rest.1)
-      ]
+-- ---- a head that was changed
 
-  cut : (bytes more body : List ℕ) → 0 < length bytes → 0 < length more → length body < 2 ^ 64
-      → bytes ++ more ≡ frame_bytes header body → front_of bytes ≡ Ok front.Cut
-  cut bytes more body some rest short spelling =
-      let last = to_le_bytes w64 (checksum (front_bytes header body)) in
-      let there : bytes ++ more ≡ to_le_bytes w64 header ++ (to_le_bytes w64 (length body) ++ (body ++ last)) =
-      spelling ∙ append_assoc (to_le_bytes w64 header) (to_le_bytes w64 (length body) ++ body) last
-      ∙ ap (λ (x : List ℕ). to_le_bytes w64 header ++ x) (append_assoc (to_le_bytes w64 (length body)) body last) in
-      front_by bytes (Ok front.Cut) some
-      (cut_due (length bytes) (front_at bytes)
-      (front_cut body bytes more (checksum (front_bytes header body)) short rest there))
+damaged_as : (header : ℕ) (bytes : List ℕ) (d : IsDamaged bytes) → header ≡ d.header → IsKind header → front_at bytes ≡ Err Checksum
+damaged_as header bytes d same kind =
+    let there : bytes ≡ head_parts header d.len d.sum d.rest =
+    d.parts ∙ ap (λ (h : ℕ). head_parts h d.len d.sum d.rest) (sym same) in
+    let other : d.sum ≡ checksum (sized header d.len) → ⊥ =
+    λ e. d.other (e ∙ ap (λ (h : ℕ). checksum (sized h d.len)) same) in
+    by_kind header bytes (to_le_bytes w64 d.len ++ (to_le_bytes w64 d.sum ++ d.rest)) kind there
+    ∙ ap (after_due header bytes) (head_found header d.len d.sum bytes d.rest kind.1 d.short d.summed there
+    ∙ checked_unmet d.sum (sized header d.len) (d.len, d.rest) other)
 
-pub entry_cut : (bytes more : List ℕ) (entry : Entry) → 0 < length bytes → 0 < length more → SpellsEntry (bytes ++ more) entry
-    → front_of bytes ≡ Ok front.Cut
-entry_cut bytes more entry some rest s =
-    cut entry_header front.Entry entry_reads bytes more (entry_bytes (entry_text entry)) some rest s.is_text.short s.spelling
+damaged_front : (bytes : List ℕ) → IsDamaged bytes → front_at bytes ≡ Err Checksum
+damaged_front bytes d =
+    elim d.kind [
+      | inl entry ↦ damaged_as entry_header bytes d (sym entry) entry_kind
+      | inr snapshot ↦ damaged_as snapshot_header bytes d (sym snapshot) snapshot_kind
+    ]
 
-pub snapshot_cut : (bytes more : List ℕ) (t : Snapshot Half) → 0 < length bytes → 0 < length more
-    → SpellsSnapshot (bytes ++ more) t → front_of bytes ≡ Ok front.Cut
-snapshot_cut bytes more t some rest s =
-    cut snapshot_header front.Snapshot snapshot_reads bytes more (snapshot_bytes t) some rest s.short s.spelling
+pub damaged : (bytes : List ℕ) → IsDamaged bytes → front_of bytes ≡ Err Checksum
+damaged bytes d =
+    let long : 0 < length (head_parts d.header d.len d.sum d.rest) = omega arith in
+    front_by bytes (Err Checksum) (subst (λ (b : List ℕ). 0 < length b) (sym d.parts) long) (damaged_front bytes d)
 
 -- ---- answers
 
@@ -239,6 +273,9 @@ front_inj x y e = cc
 not_front : (x : LogFront) (f : ReplicaMessageFault) → fronts x ≡ refuses f → ⊥
 not_front x f e = cc
 
+fault_inj : (f g : ReplicaMessageFault) → refuses f ≡ refuses g → f ≡ g
+fault_inj f g e = cc
+
 -- what is read is the answer, unless memory ran out
 pub read_is : (read r : Result LogFront ReplicaMessageFault) (y : LogFront) → IsReadAs (λ x. x) read r → read ≡ Ok y
     → ReturnsOrRunsOut replica_message_fault_number r (Ok y)
@@ -246,18 +283,52 @@ read_is read (Ok x) y h e = inl (ap Ok (front_inj x y (sym h ∙ e)))
 read_is read (Err f) y (inl h) e = absurd (not_front y f (sym e ∙ h))
 read_is read (Err f) y (inr out) e = inr out
 
-pub front_read : (bytes : List ℕ) (x : LogFront) → 0 < length bytes → front_at bytes ≡ Ok x → front_of bytes ≡ Ok x
-front_read bytes x some e = front_by bytes (Ok x) some (ap (front_due (length bytes)) e)
+pub fault_is : (read r : Result LogFront ReplicaMessageFault) (g : ReplicaMessageFault) → IsReadAs (λ x. x) read r → read ≡ Err g
+    → ReturnsOrRunsOut replica_message_fault_number r (Err g)
+fault_is read (Ok x) g h e = absurd (not_front x g (sym h ∙ e))
+fault_is read (Err f) g (inl h) e = inl (ap Err (fault_inj f g (sym h ∙ e)))
+fault_is read (Err f) g (inr out) e = inr out
 
--- an error of reading, as the front
-pub front_failed : (bytes : List ℕ) (e : ReadError) (r : Result LogFront ReplicaMessageFault) → 0 < length bytes
-    → Fails e (front_at bytes) → IsReadAs (λ x. x) (cut_by (length bytes) e) r → IsReadAs (λ x. x) (front_of bytes) r
-front_failed bytes errors.Memory (Ok x) some e h = absurd (not_front x (Message message.OutOfMemory) (sym h))
-front_failed bytes errors.Memory (Err f) some e (inl h) = inr (out h)
-  where
-    out : refuses (Message message.OutOfMemory) ≡ refuses f → replica_message_fault_number f ≡ out_of_memory
-    out h = let same : f ≡ Message message.OutOfMemory = cc in ap replica_message_fault_number same
-front_failed bytes errors.Memory (Err f) some e (inr h) = inr h
-front_failed bytes (errors.Fault g) r some e h =
-    subst (λ (read : Result LogFront ReplicaMessageFault). IsReadAs (λ x. x) read r)
-    (sym (front_by bytes (cut_by (length bytes) (errors.Fault g)) some (ap (front_due (length bytes)) e))) h
+-- what `or_cut` makes of a fault
+cut_or_same : (f : ReplicaMessageFault) → ((or_cut (Err f) ≡ Ok front.Cut) × (replica_message_fault_number f ≡ 70)) ⊎ (or_cut (Err f) ≡ Err f)
+cut_or_same (Message (message.Field wrongs.Cut at)) = inl (refl, refl)
+cut_or_same (Message (message.Field wrongs.Header at)) = inr refl
+cut_or_same (Message (message.Field wrongs.Trailing at)) = inr refl
+cut_or_same (Message (message.Field wrongs.Count at)) = inr refl
+cut_or_same (Message (message.Field wrongs.Side at)) = inr refl
+cut_or_same (Message (message.Field wrongs.Name at)) = inr refl
+cut_or_same (Message (message.Field wrongs.Resolver at)) = inr refl
+cut_or_same (Message (message.Field wrongs.Version at)) = inr refl
+cut_or_same (Message (message.Item fault at)) = inr refl
+cut_or_same (Message message.OutOfMemory) = inr refl
+cut_or_same Checksum = inr refl
+
+abbrev Fronts : Type 0
+Fronts = Result LogFront ReplicaMessageFault
+
+cut_kept : (read : Fronts) (f : ReplicaMessageFault) → IsReadAs (λ x. x) read (Err f) → IsReadAs (λ x. x) (or_cut read) (or_cut (Err f))
+cut_kept read f (inl h) =
+    elim (cut_or_same f) [
+      | inl (cut, number) ↦ subst (IsReadAs (λ x. x) (or_cut read)) (sym cut) (ap or_cut h ∙ cut)
+      | inr same ↦ subst (IsReadAs (λ x. x) (or_cut read)) (sym same) (inl (ap or_cut h ∙ same))
+    ]
+cut_kept read f (inr out) =
+    elim (cut_or_same f) [
+      | inl (cut, number) ↦ absurd (omega (arith, number, out))
+      | inr same ↦ subst (IsReadAs (λ x. x) (or_cut read)) (sym same) (inr out)
+    ]
+
+or_cut_kept : (read made : Fronts) → IsReadAs (λ x. x) read made → IsReadAs (λ x. x) (or_cut read) (or_cut made)
+or_cut_kept read (Ok x) h = ap or_cut h
+or_cut_kept read (Err f) h = cut_kept read f h
+
+some : (bytes : List ℕ) (b : Bool) → b ≡ eqb (length bytes) 0 → b ≡ false → 0 < length bytes
+some [] b is none = absurd (true≢false (sym is ∙ none))
+some (x ∷ bytes) b is none = omega arith
+
+-- what is read of bytes, of which there are some
+pub front_taken : (bytes : List ℕ) (b : Bool) (made r : Fronts) → b ≡ eqb (length bytes) 0 → b ≡ false
+    → IsReadAs (λ x. x) (front_at bytes) made → r ≡ or_cut made → IsReadAs (λ x. x) (front_of bytes) r
+front_taken bytes b made r is none h e =
+    subst (λ (read : Fronts). IsReadAs (λ x. x) read r) (sym (front_by bytes (front_at bytes) (some bytes b is none) refl))
+    (subst (IsReadAs (λ x. x) (or_cut (front_at bytes))) (sym e) (or_cut_kept (front_at bytes) made h))

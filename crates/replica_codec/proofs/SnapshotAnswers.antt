@@ -1,5 +1,5 @@
 -- The answers of `decode_snapshot`.
-use Rattle.std.proofs.Common.{Vec, Global, append_assoc, ◌≡◌, ℕ, zero, suc, ◌-◌, ◌+◌, ◌^◌, ◌<◌, ◌≤◌, Bool, true, false, List, [], ◌∷◌, ◌++◌, length, take, Some, Result, Ok, Err, refl, sym, ap, subst, ◌∙◌, arith, inl, inr}
+use Rattle.std.proofs.Common.{Vec, Global, append_assoc, ◌≡◌, ℕ, zero, suc, ◌-◌, ◌+◌, ◌^◌, ◌<◌, ◌≤◌, Bool, true, false, List, [], ◌∷◌, ◌++◌, length, take, drop, Some, Result, Ok, Err, refl, sym, ap, subst, ◌∙◌, arith, inl, inr}
 use Rattle.std.specs.Prelude.{◌⊎◌, ◌&&◌, IsTrue, nat_lt, nat_le, IfOk, IfErr, map, slice_get}
 use Rattle.std.specs.List.{flat_map, AllByRecursion}
 use Rattle.std.specs.Int.{w32, to_le_bytes}
@@ -31,7 +31,8 @@ use Rattle.exchange_codec.specs.declared.fault.FieldFault.TheVariants as field
 use Rattle.replica_codec.specs.declared.fault.ReplicaMessageFault.{ReplicaMessageFault}
 use Rattle.replica_codec.specs.declared.fault.ReplicaMessageFault.TheVariants.{Message}
 use Rattle.replica_codec.specs.Faults.{replica_message_fault_number}
-use Rattle.replica_codec.specs.Frames.{snapshot_header, frame_bytes}
+use Rattle.replica_codec.specs.Frames.{snapshot_header, frame_bytes, no_head}
+use Rattle.replica_codec.proofs.FrameLaws.{body_written, behind_head}
 use Rattle.replica_codec.specs.Entries.{position_bytes}
 use Rattle.replica_codec.specs.Snapshots.{latest_bytes, codes_bytes, SnapshotText, snapshot_text, snapshot_bytes, text_bytes, store_codes, AreStored, IsStoreOf, IsStoredFault, IsFirstStoredFault, SpellsSnapshot, IsSnapshotText, IsSnapshotFault, text_of, is_above, behind}
 use Rattle.replica_codec.specs.Stores.{FitsBehind, IsPartsFault, IsSnapshotOf}
@@ -390,30 +391,31 @@ table_refused text rest place items store f r stored size is (inr out) =
 pub is_limit : (n : ℕ) → 0 < n → n ≤ most_names → IsTrue (nat_lt 0 n && nat_le n most_names)
 is_limit n some few = and_from (nat_lt 0 n) (nat_le n most_names) (lt-ltb 0 n some) (le-leb n most_names few)
 
-pub encoded : {E : Type 0} (s : Snapshot Half) (a b c d e f body : List ℕ) (r : Result (Vec ℕ Global) E) → a ≡ []
+pub encoded : {E : Type 0} (s : Snapshot Half) (a b c d e f : List ℕ) (r : Result (Vec ℕ Global) E) → a ≡ no_head
     → b ≡ a ++ position_bytes s.at → c ≡ b ++ to_le_bytes w32 s.state.limit → d ≡ c ++ latest_bytes s.state.latest
-    → e ≡ d ++ codes_bytes (store_codes s.state.store) → f ≡ e ++ table_bytes (table_text s.state.table) → body ≡ f
+    → e ≡ d ++ codes_bytes (store_codes s.state.store) → f ≡ e ++ table_bytes (table_text s.state.table)
     → IsSnapshotText (snapshot_text s) → AreStored s.state.store → IsTableText (table_text s.state.table)
-    → IsTable s.state.table → length body < 2 ^ 64
-    → IfOk r (λ (v : Vec ℕ Global). v.items ≡ frame_bytes snapshot_header body)
+    → IsTable s.state.table → length f < 2 ^ 64
+    → IfOk r (λ (v : Vec ℕ Global). v.items ≡ frame_bytes snapshot_header (drop 24 f))
     → IfOk r (λ (v : Vec ℕ Global). SpellsSnapshot v.items s)
-encoded s a b c d e f body (Ok v) none wrote_b wrote_c wrote_d wrote_e wrote_f is text stored rows kept short h =
+encoded s a b c d e f (Ok v) none wrote_b wrote_c wrote_d wrote_e wrote_f text stored rows kept short h =
     let p = position_bytes s.at in
     let n = to_le_bytes w32 s.state.limit in
     let l = latest_bytes s.state.latest in
     let k = codes_bytes (store_codes s.state.store) in
     let t = table_bytes (table_text s.state.table) in
-    let front : e ≡ text_bytes (snapshot_text s) =
+    let front : e ≡ no_head ++ text_bytes (snapshot_text s) =
     wrote_e ∙ ap (λ (x : List ℕ). x ++ k) (wrote_d ∙ ap (λ (x : List ℕ). x ++ l) (wrote_c
     ∙ ap (λ (x : List ℕ). x ++ n) (wrote_b ∙ ap (λ (x : List ℕ). x ++ p) none)))
-    ∙ append_assoc (p ++ n) l k ∙ append_assoc p n (l ++ k) in
-    let whole : body ≡ snapshot_bytes s = is ∙ wrote_f ∙ ap (λ (x : List ℕ). x ++ t) front in
+    ∙ append_assoc ((no_head ++ p) ++ n) l k ∙ append_assoc (no_head ++ p) n (l ++ k) ∙ append_assoc no_head p (n ++ (l ++ k)) in
+    let placed : f ≡ no_head ++ snapshot_bytes s =
+    wrote_f ∙ ap (λ (x : List ℕ). x ++ t) front ∙ append_assoc no_head (text_bytes (snapshot_text s)) t in
     record {
       is_text = text;
       stored = stored;
       rows = rows;
       kept = kept;
-      short = subst (λ (x : List ℕ). length x < 2 ^ 64) whole short;
-      spelling = h ∙ ap (frame_bytes snapshot_header) whole;
+      short = behind_head f (snapshot_bytes s) placed short;
+      spelling = h ∙ ap (frame_bytes snapshot_header) (body_written f (snapshot_bytes s) placed);
     }
-encoded s a b c d e f body (Err x) none wrote_b wrote_c wrote_d wrote_e wrote_f is text stored rows kept short h = tt
+encoded s a b c d e f (Err x) none wrote_b wrote_c wrote_d wrote_e wrote_f text stored rows kept short h = tt

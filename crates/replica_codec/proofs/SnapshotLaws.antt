@@ -14,7 +14,7 @@ use Rattle.replica_codec.specs.declared.fault.ReplicaMessageFault.{ReplicaMessag
 use Rattle.replica_codec.specs.Entries.{position_bytes, sized_code, position_at, limit_at}
 use Rattle.replica_codec.specs.Frames.{snapshot_header, frame_bytes, in_message, body_of}
 use Rattle.replica_codec.specs.Snapshots.{SnapshotText, latest_bytes, codes_bytes, text_bytes, IsSnapshotText, latest_at, code_at, codes_at, text_at, text_due, text_of}
-use Rattle.replica_codec.proofs.FrameLaws.{body_spelled, body_read, body_fits}
+use Rattle.replica_codec.proofs.FrameLaws.{in_ok, body_spelled, body_read, body_fits}
 use Rattle.replica_codec.proofs.EntryLaws.{position_takes, position_again, limit_takes, limit_again}
 
 -- ---- the greatest number
@@ -130,10 +130,6 @@ record HasBody (r : Result (List ℕ) ReplicaMessageFault) (x : SnapshotText × 
   body : List ℕ
   was : r ≡ Ok body
   text : text_at body ≡ Ok x
-
-in_ok : (len : ℕ) (r : Result (SnapshotText × List ℕ) Fault) (x : SnapshotText × List ℕ) → in_message len r ≡ Ok x → r ≡ Ok x
-in_ok len (Ok y) x e = let same : y ≡ x = cc in ap Ok same
-in_ok len (Err f) x e = absurd cc
 
 body_there : (len : ℕ) (r : Result (List ℕ) ReplicaMessageFault) (x : SnapshotText × List ℕ) → text_due len r ≡ Ok x → HasBody r x
 body_there len (Ok body) x e = record { body = body; was = refl; text = in_ok (len - 8) (text_at body) x e }

@@ -1,7 +1,7 @@
--- The frame of a message: a header, the length of the body, the body, and a checksum of all bytes before it.
-use Rattle.std.specs.Prelude.{◌≡◌, ℕ, ◌==◌, if◌then◌else◌, ◌⊎◌, List, ◌++◌, length, take, Result, Ok, Err}
-use Rattle.std.specs.Int.{w64, to_le_bytes, from_le_bytes}
-use Rattle.sha2.specs.Sha256.{sha256}
+-- The frame of a message: a header and the length of the body, with their checksum; the body; and a checksum of all bytes before it.
+use Rattle.std.specs.Prelude.{◌≡◌, ℕ, ◌-◌, ◌==◌, if◌then◌else◌, ◌⊎◌, List, ◌++◌, length, take, replicate, Result, Ok, Err}
+use Rattle.std.specs.Int.{w64, to_le_bytes}
+use Rattle.std.specs.Hash.DefaultHasher as sip
 use Rattle.numbered.specs.Answers.{out_of_memory}
 use Rattle.exchange_codec.specs.declared.fault.Fault.{Fault}
 use Rattle.exchange_codec.specs.Placing.{placed}
@@ -17,43 +17,76 @@ entry_header = 0x0301_4358_4C41_4548
 abbrev pub snapshot_header : ℕ
 snapshot_header = 0x0401_4358_4C41_4548
 
--- the first eight bytes of the SHA-256 digest (FIPS 180-4)
+-- SipHash-1-3 (Aumasson and Bernstein, 2012) with the key 0, as Rust's `DefaultHasher` computes it of one `write`
 unfoldable pub checksum : List ℕ → ℕ
-checksum bytes = from_le_bytes w64 (take 8 (sha256 bytes))
+checksum bytes = sip.finish (sip.write sip.initial bytes)
+
+-- the bytes, and their checksum
+abbrev pub summed : List ℕ → List ℕ
+summed bytes = bytes ++ to_le_bytes w64 (checksum bytes)
+
+-- the head of a message with a body of this length
+abbrev pub head_bytes : ℕ → ℕ → List ℕ
+head_bytes header len = summed (to_le_bytes w64 header ++ to_le_bytes w64 len)
 
 abbrev pub front_bytes : ℕ → List ℕ → List ℕ
-front_bytes header body = to_le_bytes w64 header ++ (to_le_bytes w64 (length body) ++ body)
+front_bytes header body = head_bytes header (length body) ++ body
 
 abbrev pub frame_bytes : ℕ → List ℕ → List ℕ
-frame_bytes header body = front_bytes header body ++ to_le_bytes w64 (checksum (front_bytes header body))
+frame_bytes header body = summed (front_bytes header body)
 
--- ---- reading them
+-- the place of a head, before the length of the body is known
+abbrev pub no_head : List ℕ
+no_head = replicate 24 0
 
--- a body and its checksum
-unfoldable pub frame_at : ℕ → List ℕ → Result ((List ℕ × ℕ) × List ℕ) Fault
-frame_at header bytes = do
+-- ---- reading them, from the left
+
+-- a length and its checksum
+unfoldable pub head_at : ℕ → List ℕ → Result ((ℕ × ℕ) × List ℕ) Fault
+head_at header bytes = do
   rest ← header_at header bytes
   len ← number_at w64 rest
-  body ← bytes_at len.0 len.1
+  sum ← number_at w64 len.1
+  Ok ((len.0, sum.0), sum.1)
+
+-- a body of this length and its checksum
+unfoldable pub tail_at : ℕ → List ℕ → Result ((List ℕ × ℕ) × List ℕ) Fault
+tail_at len bytes = do
+  body ← bytes_at len bytes
   sum ← number_at w64 body.1
   Ok ((body.0, sum.0), sum.1)
 
-unfoldable pub frame_of : ℕ → List ℕ → Result (List ℕ × ℕ) Fault
-frame_of header bytes = frame_at header bytes >>= ended
+unfoldable pub tail_of : ℕ → List ℕ → Result (List ℕ × ℕ) Fault
+tail_of len bytes = tail_at len bytes >>= ended
 
 -- what is read at the end of the first `len` bytes of a message, a fault with its place
 abbrev pub in_message : {Y : Type 0} → ℕ → Result Y Fault → Result Y ReplicaMessageFault
 in_message len (Ok y) = Ok y
 in_message len (Err f) = Err (Message (placed len f))
 
--- the body, unless the checksum is another
-abbrev pub checked : ℕ → Result (List ℕ × ℕ) ReplicaMessageFault → Result (List ℕ) ReplicaMessageFault
-checked header (Ok frame) = if frame.1 == checksum (front_bytes header frame.0) then Ok frame.0 else Err Checksum
-checked header (Err f) = Err f
+-- this, unless the checksum that was read isn't that of the bytes before it
+abbrev pub checked : {Y : Type 0} → ℕ → List ℕ → Y → Result Y ReplicaMessageFault
+checked sum before y = if sum == checksum before then Ok y else Err Checksum
+
+abbrev pub head_due : List ℕ → Result ((ℕ × ℕ) × List ℕ) ReplicaMessageFault → Result (ℕ × List ℕ) ReplicaMessageFault
+head_due bytes (Ok head) = checked head.0.1 (take 16 bytes) (head.0.0, head.1)
+head_due bytes (Err f) = Err f
+
+-- the length of the body, and what follows the head
+abbrev pub head_of : ℕ → List ℕ → Result (ℕ × List ℕ) ReplicaMessageFault
+head_of header bytes = head_due bytes (in_message (length bytes) (head_at header bytes))
+
+abbrev pub tail_due : List ℕ → Result (List ℕ × ℕ) ReplicaMessageFault → Result (List ℕ) ReplicaMessageFault
+tail_due bytes (Ok tail) = checked tail.1 (take (length bytes - 8) bytes) tail.0
+tail_due bytes (Err f) = Err f
+
+abbrev pub body_due : List ℕ → Result (ℕ × List ℕ) ReplicaMessageFault → Result (List ℕ) ReplicaMessageFault
+body_due bytes (Ok head) = tail_due bytes (in_message (length bytes) (tail_of head.0 head.1))
+body_due bytes (Err f) = Err f
 
 -- the body of a message
 abbrev pub body_of : ℕ → List ℕ → Result (List ℕ) ReplicaMessageFault
-body_of header bytes = checked header (in_message (length bytes) (frame_of header bytes))
+body_of header bytes = body_due bytes (head_of header bytes)
 
 -- what a function returned, seen by view, is this, or memory ran out
 abbrev pub IsReadAs : {X Y : Type 0} → (X → Y) → Result Y ReplicaMessageFault → Result X ReplicaMessageFault → Type 0

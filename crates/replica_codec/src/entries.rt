@@ -9,7 +9,7 @@ ghost use Rattle.replica_codec.specs.Faults.{replica_message_fault_number};
 use crate::building::entry_by;
 use crate::edits::{push_edit, push_position};
 use crate::fault::ReplicaMessageFault;
-use crate::frames::{ENTRY, framed};
+use crate::frames::{ENTRY, framed, started};
 use crate::texts::entry_of;
 use insn_codec::one_reading_theorem;
 use program::Profile;
@@ -17,14 +17,17 @@ use replica::Entry;
 use std::alloc::{AllocError, Global};
 use verifier::one_verdict_theorem;
 
+// The most bytes in the body of an entry without code: a position, and a registration by a program.
+const ROOM: usize = 28 + 1 + 33 + 40 + 33;
+
 /// Encodes an entry. Fails only when out of memory.
 pub fn encode_entry(alloc: Global, entry: &Entry) -> Result<Vec<u8>, AllocError>
     ensures { IfOk result (λ bytes. SpellsEntry bytes.items entry.now) }
 {
-    let mut body = Vec::new(alloc);
-    push_position(&mut body, entry.at)?;
-    push_edit(alloc, &mut body, &entry.edit)?;
-    framed(alloc, ENTRY, &body)
+    let mut out = started(alloc, ROOM)?;
+    push_position(&mut out, entry.at)?;
+    push_edit(alloc, &mut out, &entry.edit)?;
+    framed(ENTRY, out)
 }
 
 /// Decodes untrusted bytes as an entry.
@@ -32,7 +35,8 @@ pub fn encode_entry(alloc: Global, entry: &Entry) -> Result<Vec<u8>, AllocError>
 /// Verifies an uploaded program again, and computes its id. The transport ensures that a primary made the entry.
 ///
 /// Rejects the first of these: an invalid frame, with its byte: 71 for another message, 82 for another version, 70 for bytes
-/// that end within a field and 72 for extra bytes; 84 for a checksum that isn't that of the bytes; an invalid field of the
+/// that end within a field and 72 for extra bytes; 84 for a checksum, of the head or the message, that isn't that of the bytes
+/// before it; an invalid field of the
 /// body, with its byte: 70, 71 for an unknown kind of edit, 72, 73 for a count or a limit out of its range, 75 for an invalid
 /// name and 76 for an unknown resolver or a row with code; and 81 for code that the verifier rejects, with its fault.
 /// Returns 90 when out of memory.

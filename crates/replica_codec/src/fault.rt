@@ -5,7 +5,7 @@ ghost use Rattle.replica_codec.specs.declared.fault.ReplicaMessageFault.TheVaria
 ghost use Rattle.replica_codec.specs.Faults.{replica_message_fault_number, replica_message_fault_place};
 
 use exchange_codec::MessageFault;
-use numbered::{Numbered, Place};
+use numbered::{Numbered, Place, words_of};
 use std::alloc::AllocError;
 use thiserror::Error;
 
@@ -16,7 +16,7 @@ pub enum ReplicaMessageFault {
     #[error(transparent)]
     Message(MessageFault),
     /// 84: the bytes differ from their checksum.
-    #[error("bytes that differ from their checksum")]
+    #[error("{}", words_of(self.number()))]
     Checksum,
 }
 

@@ -1,8 +1,9 @@
 //! Logs: snapshots and entries, one after the other.
-ghost use Rattle.std.specs.Prelude.{◌≡◌, ◌<◌, ◌++◌, List, ℕ, Ok, length};
+ghost use Rattle.std.specs.Prelude.{◌≡◌, ◌<◌, ◌++◌, List, ℕ, Ok, Err, length};
 ghost use Rattle.numbered.specs.Answers.{ReturnsOrRunsOut};
 ghost use Rattle.exchange_codec.specs.Reading.{Gives};
 ghost use Rattle.replica.specs.declared.messages.Entry as entries;
+ghost use Rattle.replica_codec.specs.declared.fault.ReplicaMessageFault.TheVariants.{Checksum};
 ghost use Rattle.replica_codec.specs.declared.log.LogFront.TheVariants as front;
 ghost use Rattle.replica_law.specs.Worlds as law;
 ghost use Rattle.replica.specs.Halves.{Half};
@@ -10,11 +11,11 @@ ghost use Rattle.replica_codec.specs.Entries.{SpellsEntry};
 ghost use Rattle.replica_codec.specs.Snapshots.{SpellsSnapshot};
 ghost use Rattle.replica_codec.specs.Faults.{replica_message_fault_number};
 ghost use Rattle.replica_codec.specs.Frames.{IsReadAs};
-ghost use Rattle.replica_codec.specs.Logs.{after_at, cut_by, entry_front, front_at, front_of, snapshot_front};
+ghost use Rattle.replica_codec.specs.Logs.{IsDamaged, after_at, front_at, front_of, kind_at, or_cut, whole};
 
 use crate::fault::ReplicaMessageFault;
-use crate::frames::{ENTRY, SNAPSHOT};
-use exchange_codec::{Fault, FieldFault, ReadError, bytes_at, header_fault, u64_at};
+use crate::frames::{ENTRY, SNAPSHOT, head_of, tail_at};
+use exchange_codec::{FieldFault, MessageFault, ReadError, header_fault, u64_at};
 
 /// The first message of a log.
 #[derive(Clone, Copy, Debug, PartialEq, Eq)]
@@ -32,7 +33,8 @@ pub enum LogFront {
 /// Returns the kind and the length of the first message of a log, without reading its body. Allocates nothing.
 ///
 /// A caller that decodes each message and goes on behind it reads a log up to its last whole message. Rejects bytes that
-/// begin with no entry and no snapshot: 71, or 82 for another version, at byte 0.
+/// begin with no entry and no snapshot: 71, or 82 for another version, at byte 0; and a header and a length that differ from
+/// their checksum: 84. So a changed length doesn't make a log look cut.
 pub fn read_front(bytes: &[u8]) -> Result<LogFront, ReplicaMessageFault>
     ensures exact { IsReadAs (λ front. front) (front_of bytes.now) result }
     // The length of an entry that the bytes begin with.
@@ -51,71 +53,75 @@ pub fn read_front(bytes: &[u8]) -> Result<LogFront, ReplicaMessageFault>
     ensures cut_snapshot { (more : List ℕ) (s : law.Snapshot Half) → 0 < length bytes.now → 0 < length more
         → SpellsSnapshot (bytes.now ++ more) s
         → ReturnsOrRunsOut replica_message_fault_number result (Ok front.Cut) }
+    // A changed head isn't cut, however long its message is.
+    ensures damaged { IsDamaged bytes.now → ReturnsOrRunsOut replica_message_fault_number result (Err Checksum) }
 {
     if bytes.is_empty() {
         return Ok(LogFront::End);
     }
-    match front_at(bytes) {
-        Ok(front) => Ok(front),
-        Err(error) => cut_or(bytes.len(), error),
-    }
+    or_cut(front_at(bytes))
 }
 
-// Returns that the bytes end within a message, or the fault of a message of `len` bytes.
-fn cut_or(len: usize, error: ReadError) -> Result<LogFront, ReplicaMessageFault>
-    ensures { IsReadAs (λ front. front) (cut_by len error) result }
+// Returns what was read, or that the bytes end within a message.
+fn or_cut(read: Result<LogFront, ReplicaMessageFault>) -> Result<LogFront, ReplicaMessageFault>
+    ensures { result ≡ or_cut read }
 {
-    match error {
-        ReadError::Fault(
-            Fault {
-                what: FieldFault::Cut,
-                ..
-            },
+    match read {
+        Err(
+            ReplicaMessageFault::Message(
+                MessageFault::Field {
+                    fault: FieldFault::Cut,
+                    ..
+                },
+            ),
         ) => Ok(LogFront::Cut),
-        error => Err(ReplicaMessageFault::Message(error.told(len))),
+        read => read,
     }
 }
 
-// The first message.
-#[tactic(auto, unfolding(crate::specs::Logs::front_at))]
-fn front_at(bytes: &[u8]) -> Result<LogFront, ReadError>
-    ensures { Gives (λ x. x) result (front_at bytes.now) }
+// A whole message at the front.
+fn front_at(bytes: &[u8]) -> Result<LogFront, ReplicaMessageFault>
+    ensures { IsReadAs (λ front. front) (front_at bytes.now) result }
 {
-    let (found, rest) = u64_at(bytes)?;
-    if found == ENTRY {
-        return entry_front(bytes, rest);
+    let header = match kind_at(bytes) {
+        Ok(header) => header,
+        Err(error) => return Err(ReplicaMessageFault::Message(error.told(bytes.len()))),
+    };
+    let (len, rest) = head_of(header, bytes)?;
+    match after_at(len, rest) {
+        Ok(after) => Ok(whole(header, bytes.len().saturating_sub(after.len()))),
+        Err(error) => Err(ReplicaMessageFault::Message(error.told(bytes.len()))),
     }
-    if found == SNAPSHOT {
-        return snapshot_front(bytes, rest);
+}
+
+// The header of an entry or a snapshot at the front.
+#[tactic(auto, unfolding(crate::specs::Logs::kind_at))]
+fn kind_at(bytes: &[u8]) -> Result<u64, ReadError>
+    ensures { Gives (λ x. x) result (kind_at bytes.now) }
+{
+    let (found, _) = u64_at(bytes)?;
+    if found == ENTRY || found == SNAPSHOT {
+        return Ok(found);
     }
     Err(ReadError::at(header_fault(found), bytes))
 }
 
-// An entry at the front. The second bytes come after its header.
-#[tactic(auto, unfolding(crate::specs::Logs::entry_front))]
-fn entry_front(bytes: &[u8], rest: &[u8]) -> Result<LogFront, ReadError>
-    ensures { Gives (λ x. x) result (entry_front bytes.now rest.now) }
+// Returns a whole message of this kind and length.
+fn whole(header: u64, len: usize) -> LogFront
+    ensures { result ≡ whole header len }
 {
-    let after = after_at(rest)?;
-    Ok(LogFront::Entry(bytes.len().saturating_sub(after.len())))
+    if header == ENTRY {
+        LogFront::Entry(len)
+    } else {
+        LogFront::Snapshot(len)
+    }
 }
 
-// A snapshot at the front. The second bytes come after its header.
-#[tactic(auto, unfolding(crate::specs::Logs::snapshot_front))]
-fn snapshot_front(bytes: &[u8], rest: &[u8]) -> Result<LogFront, ReadError>
-    ensures { Gives (λ x. x) result (snapshot_front bytes.now rest.now) }
-{
-    let after = after_at(rest)?;
-    Ok(LogFront::Snapshot(bytes.len().saturating_sub(after.len())))
-}
-
-// What follows a message, of which these bytes come after the header.
+// What follows a message with a body of this length, of which these bytes come after the head.
 #[tactic(auto, unfolding(crate::specs::Logs::after_at))]
-fn after_at(bytes: &[u8]) -> Result<&[u8], ReadError>
-    ensures { Gives (λ x. x.now) result (after_at bytes.now) }
+fn after_at(len: u64, bytes: &[u8]) -> Result<&[u8], ReadError>
+    ensures { Gives (λ x. x.now) result (after_at len bytes.now) }
 {
-    let (len, rest) = u64_at(bytes)?;
-    let (_, rest) = bytes_at(len as usize, rest)?;
-    let (_, rest) = u64_at(rest)?;
-    Ok(rest)
+    let (_, after) = tail_at(len, bytes)?;
+    Ok(after)
 }

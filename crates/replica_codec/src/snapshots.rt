@@ -14,7 +14,7 @@ ghost use Rattle.replica_codec.specs.Stores.{FitsBehind, IsPartsFault, IsSnapsho
 use crate::building::limit_of;
 use crate::edits::push_position;
 use crate::fault::ReplicaMessageFault;
-use crate::frames::{SNAPSHOT, SUM, framed};
+use crate::frames::{SNAPSHOT, SUM, framed, started};
 use crate::snapshot_texts::{SnapshotText, text_of};
 use crate::stores::{push_codes, store_of};
 use exchange_codec::{
@@ -26,18 +26,21 @@ use replica::{Half, Snapshot};
 use std::alloc::{AllocError, Global};
 use verifier::one_verdict_theorem;
 
+// The bytes of a row with a name of 22 bytes and a built-in resolver: the room that a row gets before it is written.
+const ROW: usize = 64;
+
 /// Encodes a snapshot. Fails only when out of memory.
 pub fn encode_snapshot(alloc: Global, snapshot: &Snapshot) -> Result<Vec<u8>, AllocError>
     ensures { IfOk result (λ bytes. SpellsSnapshot bytes.items snapshot.now) }
 {
     let half = snapshot.half();
-    let mut body = Vec::new(alloc);
-    push_position(&mut body, snapshot.position())?;
-    push_u32(&mut body, half.limit().names() as u32)?;
-    push_latest(&mut body, half.latest())?;
-    push_codes(alloc, &mut body, half.store())?;
-    push_table(alloc, &mut body, half.table())?;
-    framed(alloc, SNAPSHOT, &body)
+    let mut out = started(alloc, half.table().len().saturating_mul(ROW))?;
+    push_position(&mut out, snapshot.position())?;
+    push_u32(&mut out, half.limit().names() as u32)?;
+    push_latest(&mut out, half.latest())?;
+    push_codes(alloc, &mut out, half.store())?;
+    push_table(alloc, &mut out, half.table())?;
+    framed(SNAPSHOT, out)
 }
 
 // Writes the greatest number of an exchange at the end, if there is one.

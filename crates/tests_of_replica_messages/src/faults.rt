@@ -2,11 +2,11 @@
 use crate::entries::again;
 use crate::rows::{BEGIN, ENTRIES, LIMIT, REGISTER, UNREGISTER, UPLOAD};
 use numbered::{NumberedRefusal, OUT_OF_MEMORY, Place};
-use sha2::{Digest, Sha256};
 use std::alloc::Global;
+use std::hash::{DefaultHasher, Hasher};
 use std::test::Fail;
 
-/// An entry with the byte at a place replaced and its checksum made anew, and the fault of that.
+/// An entry with the byte at a place replaced and its checksums made anew, and the fault of that.
 type Row = (&'static [u8], usize, u8, u32, Option<Place>);
 
 #[rattlefmt::skip]
@@ -14,38 +14,49 @@ const ROWS: [Row; 16] = [
     (&BEGIN, 0, 0x49, 71, Some(Place::Byte(0))),
     (&BEGIN, 6, 2, 82, Some(Place::Byte(0))),
     (&BEGIN, 7, 4, 71, Some(Place::Byte(0))),
-    (&BEGIN, 8, 38, 70, Some(Place::Byte(54))),
-    (&BEGIN, 8, 36, 72, Some(Place::Byte(60))),
-    (&BEGIN, 44, 5, 71, Some(Place::Byte(44))),
-    (&BEGIN, 44, 3, 72, Some(Place::Byte(49))),
-    (&LIMIT, 46, 0, 73, Some(Place::Byte(45))),
-    (&LIMIT, 47, 0x11, 73, Some(Place::Byte(45))),
-    (&UNREGISTER, 45, 1, 72, Some(Place::Byte(47))),
-    (&UNREGISTER, 45, 3, 70, Some(Place::Byte(45))),
-    (&UNREGISTER, 46, 0x20, 75, Some(Place::Byte(45))),
-    (&REGISTER, 88, 5, 76, Some(Place::Byte(88))),
-    (&REGISTER, 88, 3, 70, Some(Place::Byte(89))),
-    (&UPLOAD, 46, 0x21, 73, Some(Place::Byte(45))),
-    (&UPLOAD, 49, 0xff, 81, Some(Place::Item(0))),
+    (&BEGIN, 8, 38, 70, Some(Place::Byte(62))),
+    (&BEGIN, 8, 36, 72, Some(Place::Byte(68))),
+    (&BEGIN, 52, 5, 71, Some(Place::Byte(52))),
+    (&BEGIN, 52, 3, 72, Some(Place::Byte(57))),
+    (&LIMIT, 54, 0, 73, Some(Place::Byte(53))),
+    (&LIMIT, 55, 0x11, 73, Some(Place::Byte(53))),
+    (&UNREGISTER, 53, 1, 72, Some(Place::Byte(55))),
+    (&UNREGISTER, 53, 3, 70, Some(Place::Byte(53))),
+    (&UNREGISTER, 54, 0x20, 75, Some(Place::Byte(53))),
+    (&REGISTER, 96, 5, 76, Some(Place::Byte(96))),
+    (&REGISTER, 96, 3, 70, Some(Place::Byte(97))),
+    (&UPLOAD, 54, 0x21, 73, Some(Place::Byte(53))),
+    (&UPLOAD, 57, 0xff, 81, Some(Place::Item(0))),
 ];
 
-// The entry with the byte replaced, and the checksum of that.
-fn changed(alloc: Global, row: &Row) -> Result<Vec<u8>, Fail> {
-    let front = row.0.len().saturating_sub(8);
-    let mut bytes = Vec::new(alloc);
-    bytes.extend_from_slice(row.0.get(..front).unwrap_or(&[]))?;
-    if let Some(byte) = bytes.get_mut(row.1) {
-        *byte = row.2;
+// Makes the checksum of the bytes before a place anew.
+fn sum_again(bytes: &mut [u8], at: usize) {
+    let mut hasher = DefaultHasher::new();
+    hasher.write(bytes.get(..at).unwrap_or(&[]));
+    let sum = hasher.finish().to_le_bytes();
+    for i in 0..8 {
+        if let (Some(byte), Some(new)) = (bytes.get_mut(at.saturating_add(i)), sum.get(i)) {
+            *byte = *new;
+        }
     }
-    let digest = Sha256::digest(&bytes);
-    bytes.extend_from_slice(digest.get(..8).unwrap_or(&[]))?;
+}
+
+/// Returns a message with a byte replaced, under right checksums.
+pub(crate) fn changed(alloc: Global, message: &[u8], at: usize, new: u8) -> Result<Vec<u8>, Fail> {
+    let mut bytes = Vec::new(alloc);
+    bytes.extend_from_slice(message)?;
+    if let Some(byte) = bytes.get_mut(at) {
+        *byte = new;
+    }
+    sum_again(&mut bytes, 16);
+    sum_again(&mut bytes, message.len().saturating_sub(8));
     Ok(bytes)
 }
 
 #[test]
 fn faults_have_their_number_and_place(rt: HostRuntime) -> Result<(), Fail> {
     for row in &ROWS {
-        let bytes = changed(rt.alloc(), row)?;
+        let bytes = changed(rt.alloc(), row.0, row.1, row.2)?;
         let expected = Some(NumberedRefusal {
             number: row.3,
             place: row.4,
@@ -55,11 +66,10 @@ fn faults_have_their_number_and_place(rt: HostRuntime) -> Result<(), Fail> {
     Ok(())
 }
 
-// How many changes of one byte are decoded, how many have another fault than 84 from byte 16 on, before the checksum, and how many
-// other ones are refused but for memory.
+// How many changes of one byte are decoded, how many have another fault than 84 from byte 8 on, and how many other ones are
+// refused but for memory.
 fn changes(alloc: Global, entry: &[u8]) -> Result<(u32, u32, u32), Fail> {
     let (mut decoded, mut missed, mut refused) = (0u32, 0u32, 0u32);
-    let last = entry.len().saturating_sub(8);
     for at in 0..entry.len() {
         let mut bytes = Vec::new(alloc);
         bytes.extend_from_slice(entry)?;
@@ -69,9 +79,7 @@ fn changes(alloc: Global, entry: &[u8]) -> Result<(u32, u32, u32), Fail> {
         match again(alloc, &bytes) {
             Ok(_) => decoded = decoded.wrapping_add(1),
             Err(fault) if fault.number == OUT_OF_MEMORY => {}
-            Err(fault) if (16..last).contains(&at) && fault.number != 84 => {
-                missed = missed.wrapping_add(1);
-            }
+            Err(fault) if at >= 8 && fault.number != 84 => missed = missed.wrapping_add(1),
             Err(_) => refused = refused.wrapping_add(1),
         }
     }

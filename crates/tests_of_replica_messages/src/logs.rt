@@ -67,6 +67,35 @@ fn a_log_is_read_up_to_its_last_whole_entry(rt: HostRuntime) -> Result<(), Fail>
     Ok(())
 }
 
+// How many changes of a byte in the head of the entry at this place are refused, each only when the entry is met.
+fn refused_heads(alloc: Global, at: usize) -> Result<u32, Fail> {
+    let mut refused = 0u32;
+    for place in 0..24 {
+        for change in [1, 0x80, 0xff] {
+            let (mut log, _) = documented(alloc)?;
+            if let Some(byte) = log.get_mut(at.saturating_add(place)) {
+                *byte ^= change;
+            }
+            match walk(&log) {
+                Err(fault) if place < 8 && fault.number == 71 => refused = refused.wrapping_add(1),
+                Err(fault) if place == 6 && fault.number == 82 => refused = refused.wrapping_add(1),
+                Err(fault) if fault.number == 84 => refused = refused.wrapping_add(1),
+                _ => {}
+            }
+        }
+    }
+    Ok(refused)
+}
+
+#[test]
+fn a_changed_head_is_no_cut(rt: HostRuntime) -> Result<(), Fail> {
+    let (_, ends) = documented(rt.alloc())?;
+    for at in ends.iter().take(6) {
+        assert_eq!(rt; refused_heads(rt.alloc(), *at)?, 72, "{at}");
+    }
+    Ok(())
+}
+
 #[test]
 fn other_bytes_are_no_log(rt: HostRuntime) {
     let refused = |number| {

@@ -1,12 +1,12 @@
 //! Snapshots by hand, encoded and decoded, and their faults.
 use crate::entries::{AT, FIRST};
+use crate::faults::changed;
 use crate::rows::{EMPTY, FULL};
 use clash_record::{Builtin, Owner, Registration, ResolverId, name};
 use numbered::{NumberedRefusal, OUT_OF_MEMORY, Place, refusal_of};
 use partition_table::{NameLimit, Table};
 use replica::{Half, Snapshot};
 use replica_codec::{LogFront, decode_snapshot, encode_snapshot, read_front};
-use sha2::{Digest, Sha256};
 use std::alloc::Global;
 use std::test::Fail;
 use upload_store::UploadStore;
@@ -78,49 +78,37 @@ fn is_same_again(alloc: Global, row: &[u8]) -> bool {
 fn snapshots_are_decoded_as_documented(rt: HostRuntime) -> Result<(), Fail> {
     assert!(rt; is_same_again(rt.alloc(), &EMPTY));
     assert!(rt; is_same_again(rt.alloc(), &FULL));
-    assert_eq!(rt; read_front(&FULL)?, LogFront::Snapshot(221));
+    assert_eq!(rt; read_front(&FULL)?, LogFront::Snapshot(229));
     Ok(())
 }
 
-/// The second snapshot with the byte at a place replaced and its checksum made anew, and the fault of that.
+/// The second snapshot with the byte at a place replaced and its checksums made anew, and the fault of that.
 type Row = (usize, u8, u32, Place);
 
-// Its programs are at 65 and 85, its rows at 105 and 169.
+// Its programs are at 73 and 93, its rows at 113 and 177.
 #[rattlefmt::skip]
 const ROWS: [Row; 15] = [
     (7, 3, 71, Place::Byte(0)),
-    (44, 0, 73, Place::Byte(44)),
-    (48, 2, 73, Place::Byte(48)),
-    (58, 2, 73, Place::Byte(57)),
-    (62, 0x21, 73, Place::Byte(61)),
-    (65, 0xff, 81, Place::Item(0)),
-    (85, 0xff, 81, Place::Item(1)),
-    (69, 1, 78, Place::Item(1)),
-    (89, 2, 78, Place::Item(1)),
-    (101, 3, 70, Place::Byte(213)),
-    (101, 1, 72, Place::Byte(169)),
-    (106, 0x20, 75, Place::Byte(105)),
-    (148, 5, 76, Place::Byte(148)),
-    (153, 0xff, 81, Place::Item(2)),
-    (170, 0x61, 78, Place::Item(3)),
+    (52, 0, 73, Place::Byte(52)),
+    (56, 2, 73, Place::Byte(56)),
+    (66, 2, 73, Place::Byte(65)),
+    (70, 0x21, 73, Place::Byte(69)),
+    (73, 0xff, 81, Place::Item(0)),
+    (93, 0xff, 81, Place::Item(1)),
+    (77, 1, 78, Place::Item(1)),
+    (97, 2, 78, Place::Item(1)),
+    (109, 3, 70, Place::Byte(221)),
+    (109, 1, 72, Place::Byte(177)),
+    (114, 0x20, 75, Place::Byte(113)),
+    (156, 5, 76, Place::Byte(156)),
+    (161, 0xff, 81, Place::Item(2)),
+    (178, 0x61, 78, Place::Item(3)),
 ];
-
-// The snapshot with the byte replaced, and the checksum of that.
-fn changed(alloc: Global, row: &Row) -> Result<Vec<u8>, Fail> {
-    let mut bytes = Vec::new(alloc);
-    bytes.extend_from_slice(FULL.get(..213).unwrap_or(&[]))?;
-    if let Some(byte) = bytes.get_mut(row.0) {
-        *byte = row.1;
-    }
-    let digest = Sha256::digest(&bytes);
-    bytes.extend_from_slice(digest.get(..8).unwrap_or(&[]))?;
-    Ok(bytes)
-}
 
 #[test]
 fn faults_have_their_number_and_place(rt: HostRuntime) -> Result<(), Fail> {
     for row in &ROWS {
-        let bytes = changed(rt.alloc(), row)?;
+        let bytes = changed(rt.alloc(), &FULL, row.0, row.1)?;
         let expected = Some(NumberedRefusal {
             number: row.2,
             place: Some(row.3),

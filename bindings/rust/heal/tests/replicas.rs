@@ -1,5 +1,5 @@
 //! Replicas from several threads.
-use heal::{Life, Owner, Refusal, Registration, Replica, SideId};
+use heal::{log_front, Life, Owner, Refusal, Registration, Replica, SideId};
 use std::thread;
 
 fn replica(node: u32) -> Replica {
@@ -73,5 +73,9 @@ fn refusals_have_names() {
     let refused = backup.apply(&changed).expect_err("a changed byte");
     assert_eq!(refused.refusal(), Some(Refusal::Checksum));
     assert!(refused.to_string().contains("checksum"));
+    let mut longer = next.clone();
+    longer[15] ^= 1;
+    let refused = log_front(&longer).expect_err("a changed length");
+    assert_eq!(refused.refusal(), Some(Refusal::Checksum));
     backup.apply(&next).expect("the next entry");
 }

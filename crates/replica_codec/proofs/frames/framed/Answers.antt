@@ -1,11 +1,12 @@
-use Rattle.std.proofs.Common.{List, ℕ, length, refl, ap, ◌∙◌}
-use Rattle.replica_codec.specs.Frames.{checksum}
+use Rattle.std.proofs.Common.{List, ℕ, ◌-◌, ◌++◌, drop, ap, arith, ◌∙◌}
+use Rattle.replica_codec.specs.Frames.{head_bytes}
 use Rattle.replica_codec.proofs.FrameLaws.{framed_written}
 use Rattle.replica_codec.proofs.frames.framed.Goals as goal
 
 pub returns-clause-written : goal.returns-clause-written
 returns-clause-written c =
-    framed_written c.args.header c.args.body.now c.new-out.result.items c.push_u64.new.out.items c.push_u64-2.new.out.items
-    c.extend_from_slice.new.self.items c.push_u64-3.new.out.items (length c.args.body.now) c.checksum-sum.result
-    c.new-out.ensures.items refl c.in_ok-push_u64.ensures c.in_ok-push_u64-2.ensures c.in_ok-extend_from_slice.ensures.items
-    (c.checksum-sum.ensures ∙ ap (λ (x : List ℕ). checksum x) c.deref.ensures.value) c.in_ok-push_u64-3.ensures
+    let wrote = c.write_head.ensures
+    ∙ ap (λ (xs : List ℕ). head_bytes c.args.header (c.len-len.result - 24) ++ drop 24 xs) c.deref_mut.ensures.value in
+    framed_written c.args.header c.args.out.items c.write_head.new.bytes c.deref.result.now c.push_u64.new.out.items c.len-len.result
+    c.args.out.len c.checksum-sum.result (omega (arith, c.len-len.ensures, c.args.out.ok)) (c.args.out.ok).0 c.requires
+    wrote c.deref.ensures.value c.checksum-sum.ensures c.in_ok-push_u64.ensures

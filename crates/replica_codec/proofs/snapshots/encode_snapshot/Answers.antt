@@ -10,14 +10,14 @@ pub returns : goal.returns
 returns c =
     let state : Half = record {
       store = c.store.result.now;
-      table = c.table.result.now;
+      table = c.table-2.result.now;
       limit = c.names.result;
       latest = c.latest.result;
     } in
     let made : Snapshot Half = record { at = c.position.result; state = state } in
     let half = c.half-half.ensures in
     let store = c.store.ensures ∙ ap (λ (h : Half). h.store) half in
-    let table = c.table.ensures ∙ ap (λ (h : Half). h.table) half in
+    let table = c.table-2.ensures ∙ ap (λ (h : Half). h.table) half in
     let limit = c.names.ensures ∙ c.limit.ensures ∙ ap (λ (h : Half). h.limit) half in
     let latest = c.latest.ensures ∙ ap (λ (h : Half). h.latest) half in
     let is : made ≡ c.args.snapshot.now = λ i. record {
@@ -25,10 +25,10 @@ returns c =
       state = record { store = store i; table = table i; limit = limit i; latest = latest i };
     } in
     subst (λ (s : Snapshot Half). IfOk c.framed.result (λ (v : Vec ℕ Global). SpellsSnapshot v.items s)) is
-    (encoded made c.new-body.result.items c.push_position.new.out.items c.push_u32.new.out.items c.push_latest.new.out.items
-    c.push_codes.new.out.items c.push_table.new.out.items c.deref.result.now c.framed.result
-    c.new-body.ensures.items c.in_ok-push_position.ensures.written c.in_ok-push_u32.ensures c.in_ok-push_latest.ensures.written
-    c.in_ok-push_codes.ensures.written c.in_ok-push_table.ensures.written c.deref.ensures.value
+    (encoded made c.in_ok-out.out.items c.push_position.new.out.items c.push_u32.new.out.items c.push_latest.new.out.items
+    c.push_codes.new.out.items c.push_table.new.out.items c.framed.result
+    c.in_ok-out.ensures c.in_ok-push_position.ensures.written c.in_ok-push_u32.ensures c.in_ok-push_latest.ensures.written
+    c.in_ok-push_codes.ensures.written c.in_ok-push_table.ensures.written
     (record {
       at = c.in_ok-push_position.ensures.fits;
       limit = is_limit c.names.result (omega (arith, c.names.ensures, c.limit.result.some)) (omega (arith, c.names.ensures, c.limit.result.few));

@@ -8,6 +8,8 @@ use insn_codec::CodecFault;
 use numbered::{Numbered, OUT_OF_MEMORY};
 use partition_table::TableFault;
 use program::ProgramFault;
+use replica::ReplicaFault;
+use replica_codec::ReplicaMessageFault;
 use std::alloc::AllocError;
 use std::io;
 use upload_store::UploadFault;
@@ -15,7 +17,7 @@ use verifier::VerifyFault;
 
 /// The reason why a call failed.
 #[derive(Clone, Copy, Debug)]
-pub(crate) enum Fault {
+pub enum Fault {
     /// It was refused with this number.
     Refused(u32),
     /// Nothing can be printed.
@@ -26,7 +28,7 @@ pub(crate) enum Fault {
 
 impl Fault {
     /// Checks whether memory ran out.
-    pub(crate) fn is_out_of_memory(self) -> bool {
+    pub fn is_out_of_memory(self) -> bool {
         matches!(self, Fault::Refused(OUT_OF_MEMORY))
     }
 }
@@ -75,6 +77,18 @@ impl From<TableFault> for Fault {
 
 impl From<SideFault> for Fault {
     fn from(refusal: SideFault) -> Fault {
+        Fault::Refused(refusal.number())
+    }
+}
+
+impl From<ReplicaFault> for Fault {
+    fn from(refusal: ReplicaFault) -> Fault {
+        Fault::Refused(refusal.number())
+    }
+}
+
+impl From<ReplicaMessageFault> for Fault {
+    fn from(refusal: ReplicaMessageFault) -> Fault {
         Fault::Refused(refusal.number())
     }
 }

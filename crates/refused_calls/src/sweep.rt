@@ -14,7 +14,7 @@ const MOST_REQUESTS: u32 = 200;
 const ANSWERED_WINDOWS: u32 = 4;
 
 /// What a call is made on, with the answers that it gave.
-pub(crate) trait Subject: Drop {
+pub trait Subject: Drop {
     /// Checks whether callers see the same of both.
     fn is_same(&self, other: &Self) -> bool;
 
@@ -25,7 +25,7 @@ pub(crate) trait Subject: Drop {
 }
 
 /// A call on such a subject.
-pub(crate) trait Call<S> {
+pub trait Call<S> {
     /// The call's name, as it is printed.
     fn name(&self) -> &'static str;
 
@@ -48,7 +48,7 @@ enum Outcome {
 }
 
 /// Makes the call with each of its requests for memory refused in turn, and prints whether it is right.
-pub(crate) fn sweep<S: Subject, C: Call<S>>(rt: &HostRuntime, call: &C) -> Result<(), Fault> {
+pub fn sweep<S: Subject, C: Call<S>>(rt: &HostRuntime, call: &C) -> Result<(), Fault> {
     println!(rt; "call {}", call.name())?;
     let end = refuse_each(rt, call)?;
     println!(rt; "{end}")?;
@@ -142,13 +142,13 @@ fn is_as_unrefused<S: Subject, C: Call<S>>(
 
 /// Calls that are made while each request for memory is refused, and whether all could be printed so far.
 #[derive(Drop)]
-pub(crate) struct Starved<'r> {
+pub struct Starved<'r> {
     rt: &'r HostRuntime,
     printed: Result<(), Fault>,
 }
 
 impl<'r> Starved<'r> {
-    pub(crate) fn new(rt: &'r HostRuntime) -> Starved<'r> {
+    pub fn new(rt: &'r HostRuntime) -> Starved<'r> {
         Starved {
             rt,
             printed: Ok(()),
@@ -156,26 +156,26 @@ impl<'r> Starved<'r> {
     }
 
     /// Of this a call's subjects are made, before memory is refused.
-    pub(crate) fn alloc(&self) -> Global {
+    pub fn alloc(&self) -> Global {
         self.rt.alloc()
     }
 
     /// Refuses each request for memory from now on, for a call of this name.
-    pub(crate) fn refuse(&mut self, name: &str) {
+    pub fn refuse(&mut self, name: &str) {
         if self.printed.is_ok() {
             self.printed = print_refusal(self.rt, name);
         }
     }
 
     /// Refuses none any more, and prints whether the call's answer is the wanted one.
-    pub(crate) fn gave<A: PartialEq + Drop>(&mut self, answer: A, wanted: A) {
+    pub fn gave<A: PartialEq + Drop>(&mut self, answer: A, wanted: A) {
         if self.printed.is_ok() {
             self.printed = print_answer(self.rt, answer, wanted);
         }
     }
 
     /// Why something couldn't be printed, if so.
-    pub(crate) fn end(self) -> Result<(), Fault> {
+    pub fn end(self) -> Result<(), Fault> {
         self.printed
     }
 }

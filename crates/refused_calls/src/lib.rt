@@ -1,0 +1,10 @@
+//! Calls made while each of their requests for memory is refused in turn, for programs that sweep them.
+#![tactic(auto)]
+
+mod comparing;
+mod fault;
+mod sweep;
+
+pub use comparing::{is_same_option, is_same_program, is_same_table};
+pub use fault::Fault;
+pub use sweep::{Call, Starved, Subject, sweep};
