@@ -1,66 +1,255 @@
-%% Measures how long two nodes on one machine take to heal 4,096 clashing names: by `global', and by heal_registry.
+%% Measures heal_registry and `global' one after the other on the same nodes of one machine, which connect over the loopback interface.
 %%
-%% Each healing has two fresh nodes that are apart, each with a process for every name. The time is that from the connection until
-%% both nodes have finished; afterwards they must answer alike for every name. Both use a resolver that notifies the loser.
+%% On 2, 4 and 8 nodes: registrations on the primary and on another node, with one client and with eight; lookups; memory; and
+%% healings of two halves whose names all clash, by a resolver that notifies the loser, while a client goes on to register. Then
+%% `global' and heal_registry heal more and more clashes, as far as `global' goes. A table compares the outcome with the goals.
 -module(heal_bench).
 
--export([main/0, answers/2, register_global/3]).
+-export([main/1]).
+-export([rates/4, lookups/3, fill/3, clear/2, memory/1, answers/2, longest/1, stop_longest/1]).
 
--define(NAMES, 4096).
--define(ROUNDS, 25).
+%% How long one measurement of a rate takes, the clashes that are healed, how often, and how long `global' may take.
+-record(plan, {nodes, milliseconds, clashes, rounds, names, alone, limit}).
 
-main() ->
-    Rounds = [{healing(fun by_global/2), healing(fun by_registry/2)} || _ <- lists:seq(1, ?ROUNDS)],
-    {Global, Registry} = lists:unzip(Rounds),
-    io:format("~p clashing names, two nodes, OTP ~s, ~p schedulers, ~p rounds in turn, milliseconds:~n",
-              [?NAMES, erlang:system_info(otp_release), erlang:system_info(schedulers), ?ROUNDS]),
-    [io:format("~-14s least ~8.1f  median ~8.1f~n", [Name, least(Times), median(Times)])
-     || {Name, Times} <- [{"global", Global}, {"heal_registry", Registry}]],
-    io:format("heal_registry takes ~.3f of global's time, by the medians~n", [median(Registry) / median(Global)]),
+plan(full) ->
+    #plan{nodes = [2, 4, 8], milliseconds = 3000, clashes = [4096, 16384], rounds = 5, names = 16384,
+          alone = [1024, 4096, 16384, 65536], limit = 600};
+plan(short) ->
+    #plan{nodes = [2, 4], milliseconds = 200, clashes = [512], rounds = 1, names = 1024, alone = [256, 1024], limit = 30}.
+
+-define(REGISTRIES, [global, heal_registry]).
+-define(OPTIONS, #{names => 1048576, exchange_timeout => 60000, edit_timeout => 60000}).
+
+main(Mode) ->
+    Plan = plan(Mode),
+    io:format("~s: OTP ~s, ~p schedulers~n", [Mode, erlang:system_info(otp_release), erlang:system_info(schedulers)]),
+    {Time, Rows} = timer:tc(fun() -> lists:append([on(Count, Plan) || Count <- Plan#plan.nodes]) end),
+    alone(Plan),
+    goals(Rows, Plan),
+    io:format("~.1f seconds without the last series~n", [Time / 1.0e6]),
     halt(0).
 
-least(Times) ->
-    lists:min(Times) / 1000.
+on(Count, Plan) ->
+    Edits = with_nodes(Count, fun(Nodes) -> edits(Count, Nodes, Plan) end),
+    Heals = [{{Count, {heal, Clashes}, Registry}, heal(Count, Clashes, Registry, Plan)} || Clashes <- Plan#plan.clashes, Registry <- ?REGISTRIES],
+    [io:format("~p nodes, ~p clashes: ~s heals in ~.1f ms (least ~.1f), and the longest registration meanwhile takes ~.1f ms~n",
+               [Count, Clashes, Registry, Median, Least, Longest]) || {{_, {heal, Clashes}, Registry}, {Median, Least, Longest}} <- Heals],
+    Edits ++ Heals.
 
-median(Times) ->
-    lists:nth(?ROUNDS div 2 + 1, lists:sort(Times)) / 1000.
+with_nodes(Count, Run) ->
+    Nodes = [heal_cluster:start(Letter, ["-kernel", "prevent_overlapping_partitions", "false"])
+             || Letter <- lists:sublist([a, b, c, d, e, f, g, h], Count)],
+    try
+        Run(Nodes)
+    after
+        [heal_cluster:stop(It) || It <- Nodes]
+    end.
 
-names() ->
-    [iolist_to_binary(["name", integer_to_list(N)]) || N <- lists:seq(1, ?NAMES)].
+%% ---- Edits, lookups and memory ----
 
-%% Returns the time of one healing in microseconds.
-healing(By) ->
-    Nodes = [A, B] = [heal_cluster:start(Letter) || Letter <- [a, b]],
-    Time = By(A, B),
-    [heal_cluster:stop(It) || It <- Nodes],
-    Time.
+edits(Count, Nodes, Plan) ->
+    [heal_cluster:start_registry(It, any, ?OPTIONS) || It <- Nodes],
+    heal_cluster:mesh(Nodes),
+    heal_cluster:one_part(Nodes),
+    [ok = heal_cluster:call(It, global, sync, []) || It <- Nodes],
+    #{primary := Primary} = heal_cluster:status(hd(Nodes)),
+    {[First], [Other | _]} = lists:partition(fun(It) -> heal_cluster:node_of(It) =:= Primary end, Nodes),
+    Rates = [begin
+                 {Rate, P99} = heal_cluster:call(It, ?MODULE, rates, [Registry, Clients, Plan#plan.milliseconds, Where]),
+                 io:format("~p nodes: ~s registers ~.1f a second on ~s with ~p clients, p99 ~.2f ms~n",
+                           [Count, Registry, Rate, Where, Clients, P99]),
+                 {{Count, {register, Where, Clients}, Registry}, {Rate, P99}}
+             end || Registry <- ?REGISTRIES, {Where, It} <- [{primary, First}, {other, Other}], Clients <- [1, 8]],
+    Memory = [{{Count, memory, Registry}, memory(Registry, First, Other, Plan)} || Registry <- ?REGISTRIES],
+    [io:format("~p nodes: ~s takes ~.1f bytes for each name on a node~n", [Count, Registry, Bytes]) || {{_, _, Registry}, Bytes} <- Memory],
+    Lookups = [{{Count, whereis, Registry}, heal_cluster:call(Other, ?MODULE, lookups, [Registry, 1000, Plan#plan.milliseconds])}
+               || Registry <- ?REGISTRIES],
+    [io:format("~p nodes: ~s looks ~.2f million names up a second~n", [Count, Registry, Rate / 1.0e6]) || {{_, _, Registry}, Rate} <- Lookups],
+    Rates ++ Memory ++ Lookups.
 
-by_global(A, B) ->
-    [heal_cluster:own_each(It, {?MODULE, register_global}, names(), #{}) || It <- [A, B]],
-    {Time, _} = timer:tc(fun() ->
-        heal_cluster:connect(A, B),
-        [ok = heal_cluster:call(It, global, sync, []) || It <- [A, B]]
-    end),
-    alike(A, B, global),
-    Time.
+%% Each client registers and unregisters names for a while. Returns how many registrations a second they make, of the time that
+%% registrations take, and the time in milliseconds within which 99 of 100 end.
+rates(Registry, Clients, Milliseconds, Where) ->
+    End = erlang:monotonic_time(millisecond) + Milliseconds,
+    Self = self(),
+    Pids = [spawn_link(fun() -> Self ! {self(), client(Registry, {Where, N, 0}, End, [])} end) || N <- lists:seq(1, Clients)],
+    Times = lists:append([receive {Pid, Of} -> Of end || Pid <- Pids]),
+    Sorted = lists:sort(Times),
+    {Clients * length(Times) * 1.0e9 / lists:sum(Times), lists:nth(max(1, length(Times) * 99 div 100), Sorted) / 1.0e6}.
 
-register_global(Name, Pid, _Options) ->
-    global:register_name(Name, Pid, fun global:random_notify_name/3).
+client(Registry, {Where, N, Count}, End, Times) ->
+    case erlang:monotonic_time(millisecond) >= End of
+        true -> Times;
+        false ->
+            Name = list_to_atom(lists:concat([Where, N, "_", Count rem 1000])),
+            Before = erlang:monotonic_time(nanosecond),
+            yes = Registry:register_name(Name, self()),
+            Time = erlang:monotonic_time(nanosecond) - Before,
+            _ = Registry:unregister_name(Name),
+            client(Registry, {Where, N, Count + 1}, End, [Time | Times])
+    end.
 
-by_registry(A, B) ->
-    [heal_cluster:start_registry(It, [A, B], #{}) || It <- [A, B]],
-    [heal_cluster:own_each(It, {heal_registry, register}, names(), #{resolver => notify}) || It <- [A, B]],
-    {Time, _} = timer:tc(fun() ->
-        heal_cluster:connect(A, B),
-        heal_cluster:joined(A, B)
-    end),
-    alike(A, B, heal_registry),
-    Time.
+%% Returns how many lookups a second one client makes.
+lookups(Registry, Count, Milliseconds) ->
+    Names = fill(Registry, "l", Count),
+    End = erlang:monotonic_time(millisecond) + Milliseconds,
+    {Time, Rounds} = timer:tc(fun() -> look(Registry, Names, End, 0) end),
+    clear(Registry, Names),
+    Rounds * Count * 1.0e6 / Time.
 
-%% Both nodes answer alike, and know every name.
-alike(A, B, Module) ->
-    [Of, Of] = [heal_cluster:call(It, ?MODULE, answers, [Module, names()]) || It <- [A, B]],
-    ?NAMES = length([Pid || Pid <- Of, is_pid(Pid)]).
+look(Registry, Names, End, Rounds) ->
+    [Registry:whereis_name(Name) || Name <- Names],
+    case erlang:monotonic_time(millisecond) >= End of true -> Rounds + 1; false -> look(Registry, Names, End, Rounds + 1) end.
 
-answers(Module, Names) ->
-    [Module:whereis_name(Name) || Name <- Names].
+%% The memory of a node for each name whose process is on another one.
+memory(Registry, At, Other, #plan{names = Count}) ->
+    Before = heal_cluster:call(Other, ?MODULE, memory, [Registry]),
+    Names = heal_cluster:call(At, ?MODULE, fill, [Registry, "m", Count]),
+    Last = lists:last(Names),
+    heal_cluster:eventually(fun() -> heal_cluster:call(Other, Registry, whereis_name, [Last]) =/= undefined end),
+    After = heal_cluster:call(Other, ?MODULE, memory, [Registry]),
+    heal_cluster:call(At, ?MODULE, clear, [Registry, Names]),
+    (After - Before) / Count.
+
+memory(_Registry) ->
+    [erlang:garbage_collect(Pid) || Pid <- processes()],
+    timer:sleep(100),
+    erlang:memory(processes_used) + erlang:memory(ets) + erlang:memory(binary).
+
+%% Registers this many names, each of a process of its own.
+fill(Registry, Prefix, Count) ->
+    Names = [iolist_to_binary([Prefix, integer_to_list(N)]) || N <- lists:seq(1, Count)],
+    [registered(Registry, Name, spawn(heal_cluster, serve, [[]])) || Name <- Names],
+    Names.
+
+registered(global, Name, Pid) -> yes = global:register_name(Name, Pid, fun global:random_notify_name/3);
+registered(heal_registry, Name, Pid) -> ok = heal_registry:register(Name, Pid, #{resolver => notify}).
+
+clear(Registry, Names) ->
+    [exit(Pid, kill) || Name <- Names, Pid <- [Registry:whereis_name(Name)], is_pid(Pid)],
+    heal_cluster:eventually(fun() -> lists:all(fun(Name) -> Registry:whereis_name(Name) =:= undefined end, Names) end).
+
+%% ---- Healing ----
+
+heal(Count, Clashes, Registry, #plan{rounds = Rounds}) ->
+    Times = [healing(Count, Clashes, Registry) || _ <- lists:seq(1, Rounds)],
+    {Heals, Longest} = lists:unzip(Times),
+    {lists:nth(Rounds div 2 + 1, lists:sort(Heals)) / 1000, lists:min(Heals) / 1000, lists:max(Longest) / 1000}.
+
+%% The time from the connection of two halves until all nodes answer alike, and that of the longest registration meanwhile.
+healing(Count, Clashes, Registry) ->
+    with_nodes(Count, fun(Nodes) ->
+        {Left, Right} = Halves = lists:split(Count div 2, Nodes),
+        [heal_cluster:start_registry(It, any, ?OPTIONS) || Registry =:= heal_registry, It <- Nodes],
+        [gathered(Registry, Half) || Half <- tuple_to_list(Halves)],
+        [heal_cluster:call(hd(Half), ?MODULE, fill, [Registry, "n", Clashes]) || Half <- [Left, Right]],
+        [filled(Registry, Half, Clashes) || Half <- [Left, Right]],
+        Client = heal_cluster:call(hd(Left), ?MODULE, longest, [Registry]),
+        {Time, _} = timer:tc(fun() -> heal_cluster:mesh(Nodes), gathered(Registry, Nodes), settled(Registry, Nodes, Clashes) end),
+        {Time, heal_cluster:call(hd(Left), ?MODULE, stop_longest, [Client])}
+    end).
+
+gathered(global, Nodes) ->
+    heal_cluster:mesh(Nodes),
+    [ok = heal_cluster:call(It, global, sync, []) || It <- Nodes];
+gathered(heal_registry, Nodes) ->
+    heal_cluster:mesh(Nodes),
+    Names = [heal_cluster:node_of(It) || It <- Nodes],
+    heal_cluster:eventually(fun() ->
+        case lists:usort([maps:with([primary, view, members], heal_cluster:status(It)) || It <- Nodes]) of
+            [#{members := Names}] -> true;
+            _ -> false
+        end
+    end).
+
+filled(Registry, Nodes, Count) ->
+    Last = iolist_to_binary(["n", integer_to_list(Count)]),
+    heal_cluster:eventually(fun() -> [] =:= [It || It <- Nodes, heal_cluster:call(It, Registry, whereis_name, [Last]) =:= undefined] end).
+
+settled(Registry, Nodes, Count) ->
+    heal_cluster:eventually(fun() ->
+        case lists:usort([heal_cluster:call(It, ?MODULE, answers, [Registry, Count]) || It <- Nodes]) of
+            [{Count, _}] -> true;
+            _ -> false
+        end
+    end).
+
+%% How many of the names a node knows, and a digest of their processes.
+answers(Registry, Count) ->
+    Pids = [Registry:whereis_name(iolist_to_binary(["n", integer_to_list(N)])) || N <- lists:seq(1, Count)],
+    {length([Pid || Pid <- Pids, is_pid(Pid)]), erlang:phash2(Pids)}.
+
+%% A client that registers names until it is stopped.
+longest(Registry) ->
+    spawn(fun() -> register_on(Registry, 0, 0) end).
+
+register_on(Registry, N, Longest) ->
+    receive
+        {stop, From} -> From ! {self(), Longest}
+    after 1 ->
+        Name = {longest, N},
+        {Time, yes} = timer:tc(fun() -> Registry:register_name(Name, self()) end),
+        _ = Registry:unregister_name(Name),
+        register_on(Registry, N + 1, max(Time, Longest))
+    end.
+
+stop_longest(Client) ->
+    Client ! {stop, self()},
+    receive {Client, Longest} -> Longest end.
+
+%% ---- More clashes ----
+
+%% Two nodes heal more and more clashes. `global' stops once it has taken so long.
+alone(#plan{alone = Series, limit = Limit}) ->
+    lists:foldl(fun(Clashes, Last) ->
+        {Heal, _} = healing(2, Clashes, heal_registry),
+        case Last of
+            late -> io:format("~p clashes: heal_registry ~.1f ms, global not tried~n", [Clashes, Heal / 1000]), late;
+            _ ->
+                Global = within(Limit, fun() -> element(1, healing(2, Clashes, global)) end),
+                io:format("~p clashes: heal_registry ~.1f ms, global ~s~n", [Clashes, Heal / 1000, spelled(Global, Limit)]),
+                Global
+        end
+    end, 0, Series).
+
+within(Seconds, Run) ->
+    Self = self(),
+    {Pid, Monitor} = spawn_monitor(fun() -> Self ! {self(), Run()} end),
+    receive
+        {Pid, Time} -> demonitor(Monitor, [flush]), Time;
+        {'DOWN', Monitor, _, _, _} -> late
+    after Seconds * 1000 ->
+        demonitor(Monitor, [flush]),
+        exit(Pid, kill),
+        late
+    end.
+
+spelled(late, Limit) -> io_lib:format("more than ~p s", [Limit]);
+spelled(Time, _Limit) -> io_lib:format("~.1f ms", [Time / 1000]).
+
+%% ---- Goals ----
+
+goals(Rows, #plan{nodes = Counts, clashes = Series}) ->
+    Of = fun(Key) -> proplists:get_value(Key, Rows) end,
+    Rate = fun(Count, Where, Clients, Registry) -> element(1, Of({Count, {register, Where, Clients}, Registry})) end,
+    io:format("~n| goal | nodes | seen | |~n|---|---|---|---|~n"),
+    [goal(Words, Count, Seen, Holds) || Count <- Counts, {Words, Seen, Holds} <- [
+        {io_lib:format("registrations on the ~s node at least ~p times global's, ~p clients", [Where, Least, Clients]), Times, Times >= Least}
+        || {Where, Least} <- [{primary, 40}, {other, 15}], Clients <- [1, 8],
+           Times <- [Rate(Count, Where, Clients, heal_registry) / Rate(Count, Where, Clients, global)]
+    ] ++ [
+        {io_lib:format("p99 under 2 ms on the ~s node with 8 clients", [Where]), P99, P99 < 2}
+        || Where <- [primary, other], {_, P99} <- [Of({Count, {register, Where, 8}, heal_registry})]
+    ] ++ [
+        {"lookups as many as global's", Part, Part >= 1} || Part <- [Of({Count, whereis, heal_registry}) / Of({Count, whereis, global})]
+    ] ++ [
+        {"memory for each name at most global's", Part, Part =< 1} || Part <- [Of({Count, memory, heal_registry}) / Of({Count, memory, global})]
+    ] ++ lists:append([
+        [{io_lib:format("~p clashes in 0.05 of global's time", [Clashes]), Heals / Global, Heals / Global =< 0.05},
+         {io_lib:format("longest registration during ~p clashes under 100 ms", [Clashes]), Longest, Longest < 100}]
+        || Clashes <- Series, {Heals, _, Longest} <- [Of({Count, {heal, Clashes}, heal_registry})],
+           {Global, _, _} <- [Of({Count, {heal, Clashes}, global})]
+    ])].
+
+goal(Words, Count, Seen, Holds) ->
+    io:format("| ~s | ~p | ~.3f | ~s |~n", [Words, Count, Seen / 1, case Holds of true -> "ok"; false -> "missed" end]).

@@ -37,6 +37,8 @@ released(Number, Owner, Part = #part{unreleased = Unreleased, requested = Reques
 
 %% A view that this node follows since may have the name for a moment, until its home has dropped it there too.
 -spec leave(#call{}, heal:owner(), #part{}) -> #part{}.
+leave(Call = #call{edit = {change, _, _, _}}, Owner, Part) ->
+    heal_edits:answer(Call, {ok, Owner}, Part);
 leave(Call = #call{edit = {unregister, Name, _}}, Owner, Part = #part{leaving = Leaving}) ->
     case (heal_state:half(Part))#half.names of
         #{Name := #row{registration = #{owner := Owner}}} -> Part#part{leaving = Leaving#{Owner => Call}};

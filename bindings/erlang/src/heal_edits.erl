@@ -15,11 +15,13 @@
     {adopt, heal:name(), Term :: term(), Options :: map(), pid(), node()}
     | {register, heal:name(), #row{}}
     | {unregister, heal:name(), heal:owner() | any}
+    | {change, heal:name(), heal:owner() | any, heal_replica:changes()}
     | {upload, Id :: binary(), Code :: binary()}
     | bad.
 -type answer() ::
     ok | {ok, Id :: binary() | heal:owner()}
-    | {error, pos_integer() | noproc | not_held | bad_edit | {timeout | noconnection, not_made | unknown}}.
+    | {error, pos_integer() | noproc | not_held | bad_edit | {timeout | noconnection, not_made | unknown}
+        | {not_stored, Problem :: term()}}.
 
 %% Carries out an edit for a caller of this node.
 -spec call(From :: term(), edit(), #part{}) -> #part{}.
@@ -78,6 +80,11 @@ released_by_death(Name, Owner, Part) ->
 -spec answer(#call{}, answer(), #part{}) -> #part{}.
 answer(#call{from = From}, _Answer, Part) when From =:= none; element(1, From) =:= home ->
     Part;
+answer(Call = #call{from = {caller, From}, edit = {upload, Id, _}}, Answer = {ok, Id}, Part) ->
+    case heal_storing:is_awaited(Id, Part) of
+        true -> heal_storing:await(Call, Id, Part);
+        false -> heal_state:add({reply, From, Answer}, Part)
+    end;
 answer(#call{from = {caller, From}}, Answer, Part) ->
     heal_state:add({reply, From, Answer}, Part);
 answer(#call{from = {member, Node, Number}}, Answer, Part) ->
@@ -108,10 +115,11 @@ expired(Part = #part{waiting = Waiting, requested = Requested, adopting = Adopti
     {Unreleased, Releases} = split(IsLate, Part#part.unreleased),
     {Arriving, Arrivals} = split(IsLate, Part#part.arriving),
     {Leaving, Leaves} = split(IsLate, Part#part.leaving),
+    {Storing, Stores} = lists:partition(fun({_, Call}) -> IsLate(Call) end, Part#part.storing),
     Kept = Part#part{waiting = Rest, requested = maps:merge(Requested, Forgotten), adopting = Adopts, unreleased = Releases,
-                     arriving = Arrivals, leaving = Leaves},
+                     arriving = Arrivals, leaving = Leaves, storing = Stores},
     Calls = Late ++ lists:append([maps:values(Some) || Some <- [Sent, Unreleased, Arriving, Leaving]])
-        ++ [Call || {_, Call} <- maps:values(Adopted)],
+        ++ [Call || {_, Call} <- Storing ++ maps:values(Adopted)],
     lists:foldl(fun(Call, Sum) -> answer(Call, {error, {timeout, whether(Call)}}, Sum) end, Kept, Calls).
 
 split(_IsLate, Calls) when Calls =:= #{} ->

@@ -69,7 +69,8 @@ entered(Number, Made, Answer, Before, Part = #part{requested = Requested, unrele
     case {maps:take(Number, Requested), Made} of
         {error, _} ->
             Part;
-        {{Call, Rest}, {now, {unregister, Name}}} ->
+        {{Call, Rest}, {now, Edit}} when element(1, Edit) =:= unregister; element(1, Edit) =:= change ->
+            Name = element(2, Edit),
             #{Name := #row{home = Home}} = (heal_state:half(Before))#half.names,
             case lists:member(Home, [heal_state:life(Part), heal_state:primary(Part)]) of
                 true -> heal_edits:answer(Call, Answer, Part#part{requested = Rest});
@@ -119,11 +120,13 @@ skipped(Part = #part{requested = Requested}) ->
     end,
     heal_arrivals:all_arrived(maps:fold(Skip, Part#part{gap = none}, Requested)).
 
+restart(Call = #call{edit = {change, _, _, _}, released = Owner}, Part) when Owner =/= none ->
+    heal_edits:answer(Call, {ok, Owner}, Part);
 restart(Call = #call{from = From, edit = Edit}, Part = #part{waiting = Waiting}) ->
     case {is_made(Edit, Part), From} of
         {{true, Name, Row}, _} -> claim(Call, Name, Row, Part);
         {false, none} -> Part;
-        {false, _} -> Part#part{waiting = [Call | Waiting]}
+        {false, _} -> Part#part{waiting = [Call#call{is_repeated = true} | Waiting]}
     end.
 
 %% A registration of this node is made: it is claimed, unless this node has come to answer for another one of the name.
@@ -152,6 +155,8 @@ finish(Call = #call{edit = {register, Name, Row = #row{home = Home}}}, ok, Part)
         {Home, false} -> heal_arrivals:arriving(Name, Call, heal_home:missing([Name], heal_home:claim(Name, Row, Part)));
         _ -> heal_edits:answer(Call, ok, Part)
     end;
+finish(Call = #call{edit = {change, _, _, _}, is_repeated = true}, {error, _}, Part) ->
+    heal_edits:answer(Call, {error, {timeout, unknown}}, Part);
 finish(Call = #call{edit = {unregister, Name, any}}, Answer = {error, 31}, Part) ->
     heal_edits:answer(Call, Answer, disowned(Call, Name, Part));
 finish(Call, Answer, Part) ->

@@ -6,7 +6,7 @@
 
 -include("heal_part.hrl").
 
--export([claim/3, missing/2, is_taken/3, disown/2, is_own/3, waiting/1, conflicts/3, flag/2, losers/4]).
+-export([claim/3, change/3, missing/2, is_taken/3, disown/2, is_own/3, waiting/1, conflicts/3, flag/2, losers/4]).
 -export([swap/2, differences/1, settle/1, restrict/2]).
 -export_type([loss/0, loser/0]).
 
@@ -27,6 +27,12 @@ claim(_Name, _Row, Part) ->
 missing(Names, Part = #part{own = Own}) ->
     Rows = [{Name, Row} || Name <- Names, #{Name := #own{row = Row}} <- [Own]],
     lists:foldl(fun({Name, Row}, Sum) -> heal_state:add({keep, {own, Name}, Row}, Sum) end, Part, Rows).
+
+%% A registration that this node answers for is changed.
+-spec change(heal:name(), #row{}, #part{}) -> #part{}.
+change(Name, Row, Part = #part{own = Own}) ->
+    #{Name := Entry} = Own,
+    heal_state:add({keep, {own, Name}, Row}, Part#part{own = Own#{Name := Entry#own{row = Row}}}).
 
 %% Returns whether this node answers for another registration of the name.
 -spec is_taken(heal:name(), heal:owner(), #part{}) -> boolean().
@@ -101,7 +107,8 @@ differs(Name, Row, Old) ->
 is_moved(Row = #row{pid = Pid}, Other = #row{pid = Pid}) -> owner(Row) =/= owner(Other);
 is_moved(_Row, _Other) -> false.
 
-%% Returns the edits that the part lacks: registrations and programs of this node, and names that it answers for no more.
+%% Returns the edits that the part lacks: registrations and programs of this node, their changes, and names that it answers for no
+%% more.
 -spec differences(#part{}) -> [heal_edits:edit()].
 differences(Part = #part{own = Own, programs = Programs}) ->
     #half{names = Names, programs = Known} = heal_state:half(Part),
@@ -110,9 +117,12 @@ differences(Part = #part{own = Own, programs = Programs}) ->
     Restored = [{register, Name, Row} || {Name, #own{row = Row, lost = none}} <- maps:to_list(Lacking)],
     Dropped = [{unregister, Name, owner(Row)} || {Name, Row = #row{home = Home}} <- maps:to_list(Names), Home =:= Life,
                                                  not is_own(Name, owner(Row), Part)],
+    Changed = [{change, Name, owner(Row), maps:remove(owner, Registration)}
+               || {Name, #own{row = Row = #row{registration = Registration}, lost = none}} <- maps:to_list(Own),
+                  #{Name := Other} <- [Names], Other =/= Row, owner(Other) =:= owner(Row)],
     Room = max(0, ?MAX_PROGRAMS - map_size(Known)),
     Uploads = lists:sublist([{upload, Id, Code} || {Id, Code} <- maps:to_list(maps:without(maps:keys(Known), Programs))], Room),
-    Dropped ++ Uploads ++ Restored.
+    Dropped ++ Uploads ++ Restored ++ Changed.
 
 %% The view is settled: notifies losers whose name another process has, and returns the edits that restore the others.
 -spec settle(#part{}) -> {[heal_edits:edit()], #part{}}.

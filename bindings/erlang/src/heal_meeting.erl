@@ -239,8 +239,11 @@ united(OfA, OfB) ->
     maps:merge(OfA, maps:from_list(lists:sublist(More, ?MAX_PROGRAMS - map_size(OfA)))).
 
 row(Name, Owner, #open{own = Own, others = Others, handle = Handle}, World) ->
-    case Own of
-        #{Name := Row = #row{registration = #{owner := Owner}}} ->
+    case {Own, Others} of
+        %% Both parts have the registration, perhaps one of them before a change.
+        {#{Name := Row = #row{registration = #{owner := Owner}}}, #{Name := {Owner, _, _, _}}} ->
+            Row#row{registration = World:registration(Name, Handle)};
+        {#{Name := Row = #row{registration = #{owner := Owner}}}, _} ->
             Row;
         _ ->
             #{Name := {Owner, Pid, Term, Home}} = Others,

@@ -1,7 +1,8 @@
 %% @private Names, registrations and notices, as heal_resolver and heal_registry use them.
 -module(heal_names).
 
--export([bytes/1, name/1, is_name/1, is_same/2, options/1, registration/3, serial/0, seed/0, uptime/0, notices/1, deliver/3]).
+-export([bytes/1, name/1, is_name/1, is_same/2, options/1, are_options/1, registration/3, serial/0, seed/0, uptime/0]).
+-export([notices/1, deliver/3]).
 -export_type([notice/0]).
 
 -type notice() :: {exit | conflict | conflict_with, first | second}.
@@ -63,12 +64,17 @@ is_printable(Rest) -> Rest =:= <<>>.
 %% `{bad_setting, resolver, Value}' if the application's setting `resolver' isn't a resolver.
 -spec options(map()) -> map().
 options(Options) when is_map(Options) ->
-    case lists:all(fun is_option/1, maps:to_list(Options)) of
+    case are_options(Options) of
         true -> maps:merge(#{stamp => erlang:system_time(millisecond), weight => 0, extra => ?NOTHING}, resolved(Options));
         false -> error(badarg, [Options])
     end;
 options(Options) ->
     error(badarg, [Options]).
+
+%% Returns whether these are some of the options of a registration.
+-spec are_options(map()) -> boolean().
+are_options(Options) ->
+    lists:all(fun is_option/1, maps:to_list(Options)).
 
 is_option({Key, Word}) when Key =:= stamp; Key =:= weight -> is_integer(Word) andalso Word >= 0 andalso Word < 1 bsl 64;
 is_option({extra, <<_:128>>}) -> true;

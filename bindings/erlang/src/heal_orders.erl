@@ -29,6 +29,14 @@ plan({unregister, Name, Whose}, Part) ->
         _ when Whose =:= any, Part#part.settle_by =/= none -> wait;
         _ -> {answer, {error, 31}}
     end;
+plan({change, Name, Whose, Changes}, Part) ->
+    case (heal_state:half(Part))#half.names of
+        #{Name := #row{registration = #{owner := Owner}}} when Whose =:= any; Whose =:= Owner ->
+            {edit, {change, Name, Changes}, {ok, Owner}};
+        #{Name := _} -> {answer, {error, not_held}};
+        _ when Whose =:= any, Part#part.settle_by =/= none -> wait;
+        _ -> {answer, {error, 31}}
+    end;
 plan({upload, Id, Code}, _Part) ->
     {edit, {upload, Id, Code}, {ok, Id}};
 plan(bad, _Part) ->
@@ -59,8 +67,9 @@ make(Call, Edit, Answer, Part = #part{replica = Replica}) ->
 %% The request that an entry answers. A caller of this node whose edit another home has to confirm needs a number too.
 by(#call{from = {member, Node, Number}}, _Edit, Part) ->
     {{Node, Number}, Part};
-by(#call{from = {caller, _}}, {unregister, Name}, Part = #part{node = Node, requests = Last}) ->
-    case is_home(Name, Part) of
+by(#call{from = {caller, _}}, Edit, Part = #part{node = Node, requests = Last}) when element(1, Edit) =:= unregister;
+                                                                                    element(1, Edit) =:= change ->
+    case is_home(element(2, Edit), Part) of
         true -> {none, Part};
         false -> {{Node, Last + 1}, Part#part{requests = Last + 1}}
     end;
@@ -139,11 +148,20 @@ applied({unregister, Name}, By, Before, Part) ->
         {true, false} -> heal_home:missing([Name], Dropped);
         {false, _} -> Dropped
     end;
+applied({change, Name, _}, By, _Before, Part) ->
+    #{Name := Row = #row{home = Home, registration = #{owner := Owner}}} = (heal_state:half(Part))#half.names,
+    Shown = heal_state:add({rows, [{Name, Row}], []}, note(Owner, Part)),
+    case {Home =:= heal_state:life(Part), heal_home:is_own(Name, Owner, Part)} of
+        {true, true} -> confirm(Owner, By, heal_home:change(Name, Row, Shown));
+        %% Its process has ended.
+        {true, false} -> confirm(Owner, By, heal_state:add({hide, Name}, Shown));
+        {false, _} -> Shown
+    end;
 applied({upload, Id, Code}, _By, _Before, Part = #part{programs = Programs}) ->
     Known = Programs#{Id => Code},
     heal_state:add({keep, programs, Known}, Part#part{programs = Known}).
 
-%% A primary remembers what it has unregistered lately: a home that doesn't know so yet may want to restore it.
+%% A primary remembers what it has unregistered or changed lately: a home that doesn't know so yet may want to restore it.
 note(Owner, Part = #part{dropped = Dropped, members = Members}) when Members =/= #{} ->
     {_, Operation} = heal_state:at(Part),
     case map_size(Dropped) < ?REMEMBERED of
@@ -161,18 +179,25 @@ is_current({member, Node, _}, _Edit, Part = #part{peers = Peers}) ->
         #{Node := #peer{at = {View, _}}} -> true;
         _ -> false
     end;
-is_current({home, Operation}, {register, _, #row{registration = #{owner := Owner}}}, #part{dropped = Dropped, since = Since}) ->
-    Operation >= Since andalso maps:get(Owner, Dropped, 0) =< Operation;
+is_current({home, Operation}, {register, _, #row{registration = #{owner := Owner}}}, Part) ->
+    is_later(Operation, Owner, Part);
+is_current({home, Operation}, {change, _, Owner, _}, Part) ->
+    is_later(Operation, Owner, Part);
 is_current(_From, _Edit, _Part) ->
     true.
 
+is_later(Operation, Owner, #part{dropped = Dropped, since = Since}) ->
+    Operation >= Since andalso maps:get(Owner, Dropped, 0) =< Operation.
+
 %% This node answers no more for a name that another one has unregistered, and confirms it.
-release(Name, Owner, By, Part = #part{node = Self}) ->
-    Released = case heal_home:is_own(Name, Owner, Part) of
-        true -> heal_home:disown(Name, Part);
-        false -> Part
-    end,
-    case By of
-        {Node, Number} when Node =/= Self -> heal_state:send(Node, {released, Number, Owner}, Released);
-        _ -> Released
+release(Name, Owner, By, Part) ->
+    case heal_home:is_own(Name, Owner, Part) of
+        true -> confirm(Owner, By, heal_home:disown(Name, Part));
+        false -> confirm(Owner, By, Part)
     end.
+
+%% The home of a name confirms an edit of it to the node that requested it.
+confirm(Owner, {Node, Number}, Part = #part{node = Self}) when Node =/= Self ->
+    heal_state:send(Node, {released, Number, Owner}, Part);
+confirm(_Owner, _By, Part) ->
+    Part.

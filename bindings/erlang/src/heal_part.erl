@@ -13,7 +13,7 @@
 
 -include("heal_part.hrl").
 
--export([new/1, handle/3, status/1, position/1, tick/1]).
+-export([new/1, handle/3, upgrade/1, status/1, position/1, tick/1]).
 -export_type([part/0, event/0, action/0, settings/0, status/0]).
 
 -opaque part() :: #part{}.
@@ -35,6 +35,8 @@
     replica => heal_replica:replica(),
     own => #{heal:name() => #row{}},
     programs => #{Id :: binary() => Code :: binary()},
+    %% What is on the disk.
+    disk => heal_storing:stored(),
     greatest => non_neg_integer(),
     problems => heal_peers:problems()
 }.
@@ -47,6 +49,7 @@
     | {call, From :: term(), heal_edits:edit()}
     | {sync, From :: term()}
     | {died, heal:name(), heal:owner()}
+    | {disk, Stored :: [Id :: binary()], Lacking :: [Id :: binary()], Problem :: none | term()}
     | tick.
 -type action() ::
     {send, node(), Body :: term()}
@@ -66,6 +69,7 @@
 %% Starts a node's registry, with the replica and the registrations that it had before.
 -spec new(settings()) -> {[action()], part()}.
 new(Settings = #{life := Life = {Node, _}}) ->
+    {Stored, Unwritable} = heal_storing:new(maps:get(disk, Settings, none)),
     Part = #part{
         node = Node,
         number = maps:get(number, Settings),
@@ -81,13 +85,37 @@ new(Settings = #{life := Life = {Node, _}}) ->
         problems = maps:get(problems, Settings, #{}),
         now = maps:get(now, Settings),
         seq = maps:get(seq, Settings),
-        requests = maps:get(seq, Settings)
+        requests = maps:get(seq, Settings),
+        stored = Stored,
+        unwritable = Unwritable
     },
     Up = fun({Other, Type}, Sum) -> heal_peers:link({up, Other, Type}, Sum) end,
     taken(heal_view:resume(lists:foldl(Up, Part, maps:get(connected, Settings)))).
 
 taken(Part = #part{out = Out}) ->
     {lists:reverse(Out), Part#part{out = []}}.
+
+%% Takes the state of an earlier version over: the fields that it lacks are the last ones.
+-spec upgrade(Earlier :: part()) -> part().
+upgrade(Earlier) ->
+    Part = later(Earlier, record_info(size, part), [none, none, []]),
+    #part{waiting = Waiting, requested = Requested, unreleased = Unreleased, adopting = Adopting} = Part,
+    #part{arriving = Arriving, leaving = Leaving, storing = Storing} = Part,
+    Each = fun(_, Call) -> call(Call) end,
+    Part#part{
+        waiting = [call(Call) || Call <- Waiting],
+        requested = maps:map(Each, Requested),
+        unreleased = maps:map(Each, Unreleased),
+        adopting = maps:map(fun(_, {Node, Call}) -> {Node, call(Call)} end, Adopting),
+        arriving = maps:map(Each, Arriving),
+        leaving = maps:map(Each, Leaving),
+        storing = [{Id, call(Call)} || {Id, Call} <- Storing]
+    }.
+
+call(Earlier) -> later(Earlier, record_info(size, call), [false]).
+
+later(Record, Size, Last) ->
+    list_to_tuple(tuple_to_list(Record) ++ lists:nthtail(length(Last) - (Size - tuple_size(Record)), Last)).
 
 %% Handles an event. `Now' is a time in milliseconds that never decreases, from 0 on.
 -spec handle(event(), Now :: integer(), part()) -> {[action()], part()}.
@@ -104,6 +132,8 @@ event({died, Name, Owner}, Part) ->
     heal_edits:died(Name, Owner, Part);
 event({sync, From}, Part = #part{syncing = Syncing}) ->
     settled(Part#part{syncing = [From | Syncing]});
+event({disk, Ids, Lacking, Problem}, Part) ->
+    settled(heal_storing:reported(Ids, Lacking, Problem, Part));
 event(tick, Part) ->
     act(heal_meeting:expired(heal_edits:expired(heal_peers:pulse(Part))));
 event({Kind, Node}, Part) when Kind =:= connecting; Kind =:= attempted ->

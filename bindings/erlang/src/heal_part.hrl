@@ -49,7 +49,9 @@
     deadline = none :: none | integer(),
     %% The home has confirmed that it answers no more for this owner, before the entry has come.
     released = none :: none | heal:owner(),
-    is_sent = false :: boolean()
+    is_sent = false :: boolean(),
+    %% It was sent in an earlier view, which may have made it.
+    is_repeated = false :: boolean()
 }).
 
 %% An exchange: this node leads it and waits for an answer (`asking'), has answered (`engaged'), or both have begun (`open').
@@ -95,7 +97,7 @@
     members = #{} :: #{node() => #member{}},
     settle_by = none :: none | integer(),
     losers = [] :: [heal_home:loser()],
-    %% What it has unregistered in its view after the operation `since', with the operation.
+    %% What it has unregistered or changed in its view after the operation `since', with the operation.
     dropped = #{} :: #{heal:owner() => pos_integer()},
     since = 0 :: non_neg_integer(),
     %% Of a backup: its primary is gone or has moved on, and it waits for another view until this time.
@@ -120,5 +122,11 @@
     %% Callers that unregistered a name which this node still has.
     leaving = #{} :: #{heal:owner() => #call{}},
     syncing = [] :: [term()],
-    problems = #{} :: heal_peers:problems()
+    problems = #{} :: heal_peers:problems(),
+    %% Fields of later versions follow, so that a version takes over a state of an earlier one by adding the last fields.
+    %%
+    %% The programs on this node's disk, or `none' without a disk; why it can't be written; uploads that wait for it.
+    stored = none :: none | #{Id :: binary() => stored},
+    unwritable = none :: none | term(),
+    storing = [] :: [{Id :: binary(), #call{}}]
 }).

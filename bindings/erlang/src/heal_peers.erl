@@ -11,7 +11,7 @@
 -define(MAX_PROGRAMS, 256).
 
 -type refusal() :: nodes | scope | hidden | numbers | version.
--type problems() :: #{refusal() | silent | pos_integer() => {node(), Info :: term()}}.
+-type problems() :: #{refusal() | silent | dir | pos_integer() => {node(), Info :: term()}}.
 -type here() :: #{
     life := heal_replica:life(),
     seq := pos_integer(),
@@ -278,7 +278,7 @@ report(Part = #part{links = Links, peers = Peers, problems = Last}) ->
     View = heal_state:view(Part),
     Refused = [{Why, {Node, Info}} || {Node, #link{state = {refused, Why, Info}}} <- maps:to_list(Links)],
     Failed = [{Why, {Node, none}} || {Node, #peer{failed = Why, at = {Of, _}}} <- maps:to_list(Peers), Why =/= none, Of =/= View],
-    case maps:from_list(lists:reverse(lists:sort(Refused ++ Failed ++ full(Part)))) of
+    case maps:from_list(lists:reverse(lists:sort(Refused ++ Failed ++ full(Part) ++ heal_storing:broken(Part)))) of
         Last -> Part;
         Problems -> heal_state:add({problems, Problems}, heal_state:add({keep, reported, Problems}, Part#part{problems = Problems}))
     end.

@@ -2,13 +2,14 @@
 %%
 %% A problem is the number of a refusal, such as 37 or 42 where the names or programs of both parts don't fit, and 43 for a
 %% program that the part has no room for; `nodes', `scope' or `hidden' for another node's settings; `numbers' for two nodes of one
-%% number; `version' for another version of the messages; `silent' for a node that doesn't answer.
+%% number; `version' for another version of the messages; `silent' for a node that doesn't answer; `dir' for a disk that can't be
+%% written.
 -module(heal_problems).
 
 -export([report/1, over/1, all/0]).
 -export_type([problem/0]).
 
--type problem() :: pos_integer() | heal_peers:refusal() | silent.
+-type problem() :: pos_integer() | heal_peers:refusal() | silent | dir.
 
 %% Logs what is new and clears what is over.
 -spec report(heal_peers:problems()) -> ok.
@@ -30,10 +31,21 @@ words(version, Node, Version) ->
     io_lib:format("stays apart from ~p, whose messages have version ~p", [Node, Version]);
 words(silent, Node, _None) ->
     io_lib:format("~p doesn't answer: it hangs, or its heal has another version", [Node]);
+words(dir, _Node, {File, Why}) ->
+    io_lib:format("programs aren't kept in ~ts: ~ts", [File, unwritable(Why)]);
 words(43, Node, _None) ->
     io_lib:format("~p lacks programs: ~ts", [Node, heal:refusal_words(43)]);
 words(Number, Node, _None) ->
     io_lib:format("can't heal with ~p: ~ts", [Node, heal:refusal_words(Number)]).
+
+unwritable({create, Why}) -> io_lib:format("its folder can't be created (~p)", [Why]);
+unwritable({read, Why}) -> io_lib:format("it can't be read (~p)", [Why]);
+unwritable({write, Why}) -> io_lib:format("it can't be written (~p)", [Why]);
+unwritable(not_a_log) -> "it isn't a log of heal_registry, or of another version; move it away";
+unwritable({damaged, Byte}) -> io_lib:format("it is damaged at byte ~p; what is before is used; move it away", [Byte]);
+unwritable(replaced) -> "another node of this name has written it; start this registry again once that node has ended";
+unwritable(ended) -> "the process that writes it has ended, and starts again";
+unwritable(Refusal) -> heal:refusal_words(Refusal).
 
 %% Logs a problem and sets its alarm, unless it is known.
 -spec found(problem(), Words :: unicode:chardata()) -> ok.

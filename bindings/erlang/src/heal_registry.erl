@@ -20,8 +20,8 @@
 
 -include("heal_replica.hrl").
 
--export([start_link/1, register_name/2, register/3, unregister_name/1, whereis_name/1, send/2]).
--export([upload/1, names/0, count/0, info/1, status/0, sync/0, subscribe/0, subscribe/1, unsubscribe/1]).
+-export([start_link/1, register_name/2, register/3, update/2, set_resolver/2, unregister_name/1, whereis_name/1, send/2]).
+-export([upload/1, names/0, names/1, count/0, info/1, status/0, sync/0, subscribe/0, subscribe/1, unsubscribe/1]).
 -export_type([options/0, reason/0, info/0]).
 
 -compile({no_auto_import, [register/2]}).
@@ -31,6 +31,7 @@
 -define(PAUSE, 20).
 -define(PATIENCE, 5000).
 -define(NAME_TAKEN, 30).
+-define(NO_SUCH_NAME, 31).
 
 -type options() :: #{
     nodes := any | [node()],
@@ -39,12 +40,14 @@
     edit_timeout => pos_integer(),
     exchange_timeout => pos_integer(),
     reconnect_interval => pos_integer() | never,
+    dir => file:name_all() | none,
     send => fun((node(), term()) -> term())
 }.
--type reason() :: heal:refusal() | noproc | {same_digest, Name :: term()} | {timeout | noconnection | ended, not_made | unknown}.
-%% A refusal; the process has ended; another term has the digest of this name; or the reason why an edit got no answer, and
-%% whether it may have been made. `timeout': within `edit_timeout'. `noconnection': the node of the process isn't connected.
-%% `ended': the registry ended.
+-type reason() :: heal:refusal() | noproc | {same_digest, Name :: term()} | {not_stored, heal_log:problem()} | bad_edit
+    | {timeout | noconnection | ended, not_made | unknown}.
+%% A refusal; the process has ended; another term has the digest of this name; the part has the program and this node's disk hasn't;
+%% the primary has an earlier version, which doesn't know the edit; or the reason why an edit got no answer, and whether it may have
+%% been made. `timeout': within `edit_timeout'. `noconnection': the node of the process isn't connected. `ended': the registry ended.
 -type info() :: #{
     name := term(),
     pid := pid(),
@@ -60,8 +63,8 @@
 %% the registry in the same `scope'. `names' is how many names a part may have, up to 1,048,576. The application's settings have the
 %% same names as the other options, which are in milliseconds.
 %% `edit_timeout' limits how long an edit waits, `exchange_timeout' how long an exchange waits for the other node. The registry
-%% connects nodes that are apart every `reconnect_interval', unless that is `never'. `send' replaces how messages are sent to
-%% other nodes, for tests.
+%% connects nodes that are apart every `reconnect_interval', unless that is `never'. Programs and the greatest number of an exchange
+%% are kept in the folder `dir', unless that is `none'. `send' replaces how messages are sent to other nodes, for tests.
 -spec start_link(options()) -> gen_server:start_ret().
 start_link(Options) ->
     ok = heal_keeper:hold(self()),
@@ -102,6 +105,33 @@ taken(Bytes, Name, Refused) ->
 other(_Other, true, Refused) -> Refused;
 other(Other, false, _Refused) -> {error, {same_digest, Other}}.
 
+%% @doc Changes the registration of a name: those of `stamp', `weight', `extra' and `resolver' that are given. Returns refusal 31 if
+%% nobody has the name, and 41 if the program is unknown. Raises `badarg' for an argument of another kind.
+-spec update(Name :: term(), Options :: map()) -> ok | {error, reason()}.
+update(Name, Options) when is_map(Options) ->
+    _ = heal_names:are_options(Options) orelse error(badarg, [Name, Options]),
+    _ = heal_table:is_running() orelse not_running(),
+    Bytes = heal_names:name(Name),
+    case heal_table:row(Bytes) of
+        {ok, #row{term = Other}} -> update(Bytes, Options, heal_names:is_same(Other, Name));
+        none -> update(Bytes, Options, true)
+    end;
+update(Name, Options) ->
+    error(badarg, [Name, Options]).
+
+update(_Bytes, _Options, false) ->
+    {error, {?NO_SUCH_NAME, heal:refusal_words(?NO_SUCH_NAME)}};
+update(Bytes, Options, true) ->
+    case call({edit, {change, Bytes, any, Options}}) of
+        {ok, _Owner} -> ok;
+        Refused -> Refused
+    end.
+
+%% @doc Changes the resolver of a name, as {@link update/2} does.
+-spec set_resolver(Name :: term(), heal:resolver()) -> ok | {error, reason()}.
+set_resolver(Name, Resolver) ->
+    update(Name, #{resolver => Resolver}).
+
 %% @doc Unregisters a name. It is `ok' too if nobody has the name.
 -spec unregister_name(Name :: term()) -> ok | {error, reason()}.
 unregister_name(Name) ->
@@ -120,12 +150,23 @@ unregister_bytes(Bytes) ->
 
 %% @doc Returns the process of a name, as this node knows it.
 -spec whereis_name(Name :: term()) -> pid() | undefined.
+whereis_name(Name) when is_atom(Name) ->
+    spelled(atom_to_binary(Name), Name);
+whereis_name(Name) when is_binary(Name) ->
+    spelled(Name, Name);
 whereis_name(Name) ->
-    case heal_table:find(heal_names:name(Name), Name) of
-        {ok, Pid} -> Pid;
-        none -> undefined;
-        not_running -> not_running()
+    found(heal_table:find(heal_names:name(Name), Name)).
+
+%% Most names are printable: what the table has under the bytes is it, and only what it lacks has to be looked at.
+spelled(Bytes, Name) ->
+    case heal_table:find(Bytes, Name) of
+        none -> found(heal_table:find(heal_names:name(Name), Name));
+        Found -> found(Found)
     end.
+
+found({ok, Pid}) -> Pid;
+found(none) -> undefined;
+found(not_running) -> not_running().
 
 %% @doc Sends a message to the process of a name.
 -spec send(Name :: term(), Message :: term()) -> pid().
@@ -135,7 +176,8 @@ send(Name, Message) ->
         Pid -> Pid ! Message, Pid
     end.
 
-%% @doc Verifies a program and keeps it on all nodes of the part for registrations. Returns its id.
+%% @doc Verifies a program and keeps it on all nodes of the part for registrations. Returns its id. With the setting `dir' the program
+%% is then on the disk of this node.
 -spec upload(Code :: binary()) -> {ok, Id :: binary()} | {error, reason()}.
 upload(Code) when is_binary(Code) ->
     _ = heal_table:is_running() orelse not_running(),
@@ -154,6 +196,14 @@ upload(Code) ->
 names() ->
     _ = heal_table:is_running() orelse not_running(),
     heal_table:names().
+
+%% @doc Returns the names of a process, in the form in which they were registered. It reads the whole table.
+-spec names(pid()) -> [term()].
+names(Pid) when is_pid(Pid) ->
+    _ = heal_table:is_running() orelse not_running(),
+    heal_table:names(Pid);
+names(Other) ->
+    error(badarg, [Other]).
 
 %% @doc Returns how many names this node knows.
 -spec count() -> non_neg_integer().

@@ -1,4 +1,4 @@
-%% @private A node's copy of a part's names, at a position: the calls and refusals of the crate `replica'.
+%% @private A node's copy of a part's names, at a position: the calls and refusals of the crate `replica', and the edit `change'.
 %%
 %% A position is a view and the number of an operation. Two replicas at one position hold one half. A primary carries an edit
 %% out and returns its entry; a backup applies the entries of its view in order, or follows a snapshot. Any replica may start a
@@ -9,7 +9,7 @@
 
 -export([start/1, resume/4, within/2, limit/1, life/1, position/1, half/1, led/1, is_primary/1]).
 -export([lead/1, change/3, edit/2, snapshot/1, follow/2, apply/2]).
--export_type([replica/0, life/0, view/0, position/0, half/0, row/0, edit/0, entry/0, snapshot/0, refusal/0]).
+-export_type([replica/0, life/0, view/0, position/0, half/0, row/0, edit/0, changes/0, entry/0, snapshot/0, refusal/0]).
 
 -define(USUAL_LIMIT, 4096).
 -define(MAX_PROGRAMS, 256).
@@ -30,7 +30,10 @@
 -type position() :: {view(), Operation :: non_neg_integer()}.
 -type half() :: #half{}.
 -type row() :: #row{}.
--type edit() :: {register, heal:name(), row()} | {unregister, heal:name()} | {upload, Id :: binary(), Code :: binary()}.
+-type edit() :: {register, heal:name(), row()} | {unregister, heal:name()} | {change, heal:name(), changes()}
+    | {upload, Id :: binary(), Code :: binary()}.
+%% Some of the options of a registration.
+-type changes() :: #{stamp | weight | extra | resolver => term()}.
 -type entry() :: {position(), edit()}.
 -type snapshot() :: {position(), half()}.
 -type refusal() :: 30..32 | 41..43 | 49 | 95..99.
@@ -147,6 +150,13 @@ edited({register, Name, Row}, Limit, Half = #half{names = Names}) ->
 edited({unregister, Name}, _Limit, Half = #half{names = Names}) ->
     case Names of
         #{Name := _} -> {ok, Half#half{names = maps:remove(Name, Names)}};
+        _ -> {error, 31}
+    end;
+edited({change, Name, Changes}, _Limit, Half = #half{names = Names, programs = Programs}) ->
+    case {Names, Changes} of
+        {#{Name := _}, #{resolver := {program, Id}}} when not is_map_key(Id, Programs) -> {error, 41};
+        {#{Name := Row = #row{registration = Registration}}, _} ->
+            {ok, Half#half{names = Names#{Name := Row#row{registration = maps:merge(Registration, Changes)}}}};
         _ -> {error, 31}
     end;
 edited({upload, Id, Code}, _Limit, Half = #half{programs = Programs}) ->

@@ -16,7 +16,7 @@
 
 -export([start_link/0, upload/1, register/3, register_name/2, register_name/3, unregister_name/1, whereis_name/1, send/2]).
 -export([resolve/3]).
--export([init/1, handle_call/3, handle_cast/2, handle_info/2]).
+-export([sender/1, init/1, handle_call/3, handle_cast/2, handle_info/2]).
 -export_type([reason/0]).
 
 -compile({no_auto_import, [register/2]}).
@@ -274,7 +274,7 @@ end_call({Name, Pid, Registration}, State) ->
 meet(Node, State = #state{peers = Peers}) when is_map_key(Node, Peers); Node =:= node() ->
     State;
 meet(Node, State = #state{peers = Peers}) ->
-    Sender = spawn_link(fun() -> sender(Node) end),
+    Sender = spawn_link(?MODULE, sender, [Node]),
     Sender ! {send, {hello, self(), answer}},
     State#state{peers = Peers#{Node => {Sender, unknown}}}.
 
@@ -289,12 +289,14 @@ send_all(Message, State = #state{peers = Peers}) ->
     maps:foreach(fun(_, {Sender, _}) -> Sender ! {send, Message} end, Peers),
     State.
 
+%% @private A process that hibernates outlives the code that it began with.
 sender(Node) ->
     receive
-        {send, Message} -> send_to(Node, Message);
-        snapshot -> send_snapshot(Node)
-    end,
-    sender(Node).
+        {send, Message} -> send_to(Node, Message), sender(Node);
+        snapshot -> send_snapshot(Node), sender(Node)
+    after 0 ->
+        erlang:hibernate(?MODULE, sender, [Node])
+    end.
 
 send_to(Node, Message) ->
     erlang:send({?MODULE, Node}, {?MODULE, node(), Message}, [noconnect]).

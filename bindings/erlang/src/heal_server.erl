@@ -8,8 +8,8 @@
 
 -include("heal_replica.hrl").
 
--export([start_link/2]).
--export([init/1, handle_call/3, handle_cast/2, handle_info/2]).
+-export([start_link/2, observe/3, observing/4]).
+-export([init/1, handle_call/3, handle_cast/2, handle_info/2, code_change/3]).
 
 -define(REGISTRY, heal_registry).
 -define(NAMES, 4096).
@@ -36,8 +36,17 @@
     owners = #{} :: #{heal:owner() => {reference(), heal:name(), pid()}},
     %% For each connected node a process that reports the end of its registry.
     watches = #{} :: #{node() => pid()},
-    subscribers = #{} :: heal_events:subscribers()
+    subscribers = #{} :: heal_events:subscribers(),
+    %% Fields of later versions follow. The folder of the setting `dir', and the process that writes there.
+    dir = none :: none | file:name_all(),
+    log = none :: none | {pid(), Monitor :: reference()}
 }).
+
+%% Milliseconds until another attempt to start the process that writes.
+-define(AGAIN, 1000).
+%% How often to look for a registry that has failed, and the milliseconds in between.
+-define(ATTEMPTS, 100).
+-define(PAUSE, 100).
 
 %% Starts the process of heal_registry.
 -spec start_link(Parent :: pid(), heal_registry:options()) -> gen_server:start_ret().
@@ -50,7 +59,9 @@ init({Parent, Options = #{nodes := Nodes}}) ->
     ok = net_kernel:monitor_nodes(true, #{node_type => all}),
     Life = life(),
     Start = erlang:convert_time_unit(erlang:system_info(start_time), native, millisecond),
-    Settings = maps:merge(heal_table:restore(Life), (settings(Life, Options))#{
+    Dir = dir(Options),
+    Log = log(Dir),
+    Settings = maps:merge(restored(Dir, Log, heal_table:restore(Life)), (settings(Life, Options))#{
         now => erlang:monotonic_time(millisecond) - Start,
         connected => [{Node, visible} || Node <- nodes(visible)] ++ [{Node, hidden} || Node <- nodes(hidden)]
     }),
@@ -62,11 +73,13 @@ init({Parent, Options = #{nodes := Nodes}}) ->
         parent = Parent,
         nodes = Nodes,
         send = maps:get(send, Options, fun heal_wire:send/2),
-        reconnect = heal_reconnect:start(Nodes, Options)
+        reconnect = heal_reconnect:start(Nodes, Options),
+        dir = Dir,
+        log = Log
     },
     self() ! tick,
     Watching = lists:foldl(fun({Name, Row}, Sum) -> watch(Name, Row, Sum) end, perform(Actions, State), owned(Settings)),
-    {ok, connected(release_dead(Watching))}.
+    {ok, connected(release_dead(logged(maps:get(programs, Settings), Watching)))}.
 
 owned(Settings) ->
     maps:to_list(maps:get(own, Settings, #{})).
@@ -109,6 +122,16 @@ names(Options) ->
         Names -> error({bad_setting, names, Names})
     end.
 
+dir(Options) ->
+    case maps:get(dir, Options, application:get_env(heal, dir, none)) of
+        none -> none;
+        Dir ->
+            case is_binary(Dir) orelse io_lib:char_list(Dir) of
+                true when Dir =/= [], Dir =/= <<>> -> filename:absname(Dir);
+                _ -> error({bad_setting, dir, Dir})
+            end
+    end.
+
 setting(Key, Options, Usual) ->
     case maps:get(Key, Options, application:get_env(heal, Key, Usual)) of
         Number when is_integer(Number), Number > 0 -> Number;
@@ -120,6 +143,42 @@ connected(State = #server{reconnect = Reconnect}) ->
     All = lists:foldl(fun watched/2, State, nodes(connected)),
     {Attempts, Next} = heal_reconnect:attempt(Reconnect),
     lists:foldl(fun(Node, Sum) -> event({connecting, Node}, Sum) end, All#server{reconnect = Next}, Attempts).
+
+%% ---- The disk ----
+
+%% Starts the process that writes, unless that of an earlier registry still does.
+log(none) ->
+    none;
+log(Dir) ->
+    case heal_log:start(Dir, self()) of
+        {ok, Log} -> {Log, monitor(process, Log)};
+        busy -> erlang:send_after(?AGAIN, self(), {?REGISTRY, log}), none
+    end.
+
+%% What a registry starts with: what it had before it failed, and what the disk has, as far as it answers.
+restored(none, none, Kept) ->
+    Kept;
+restored(_Dir, none, Kept) ->
+    Kept#{disk => {[], none}};
+restored(Dir, {Log, _}, Kept = #{programs := Programs, greatest := Greatest}) ->
+    case heal_log:found(Log) of
+        #{programs := Found, greatest := Number, disk := Disk} ->
+            Kept#{programs := maps:merge(Found, Programs), greatest := max(Number, Greatest), disk => Disk};
+        none ->
+            restored(Dir, none, Kept)
+    end.
+
+%% Has programs written.
+logged(_Programs, State = #server{log = none}) ->
+    State;
+logged(Programs, State = #server{log = {Log, _}}) ->
+    ok = heal_log:programs(Log, Programs),
+    State.
+
+%% The process that writes has ended: uploads that wait for it are refused.
+unlogged(State = #server{dir = Dir}) ->
+    _ = erlang:send_after(?AGAIN, self(), {?REGISTRY, log}),
+    event({disk, [], maps:keys(heal_table:kept(programs, #{})), {heal_log:file(Dir), ended}}, State#server{log = none}).
 
 %% ---- Calls and messages ----
 
@@ -159,6 +218,12 @@ handle_info({?REGISTRY, ended, Node, Watch, Reason}, State = #server{watches = W
     end;
 handle_info({?REGISTRY, unreachable, Node}, State) ->
     {noreply, event({unreachable, Node}, State)};
+handle_info({?REGISTRY, disk, Log, Ids, Lacking, Problem}, State = #server{log = {Log, _}}) ->
+    {noreply, event({disk, Ids, Lacking, Problem}, State)};
+handle_info({?REGISTRY, log}, State = #server{dir = Dir, log = none}) ->
+    {noreply, logged(heal_table:kept(programs, #{}), State#server{log = log(Dir)})};
+handle_info({'DOWN', Monitor, process, _, _}, State = #server{log = {_, Monitor}}) ->
+    {noreply, unlogged(State)};
 handle_info({timeout, _Timer, reconnect}, State = #server{reconnect = Reconnect}) ->
     {_Attempts, Next} = heal_reconnect:attempt(heal_reconnect:expired(Reconnect)),
     {noreply, State#server{reconnect = Next}};
@@ -201,6 +266,24 @@ valid(Edit) ->
         false -> bad
     end.
 
+%% ---- Upgrades ----
+
+%% @private Takes the state of an earlier version over: the fields that it lacks are the last ones.
+code_change(_Version, State, _Extra) ->
+    Lacks = record_info(size, server) - tuple_size(State),
+    Later = lists:nthtail(2 - Lacks, [none, none]),
+    Server = #server{part = Part} = list_to_tuple(tuple_to_list(State) ++ Later),
+    {ok, relogged(Server#server{part = heal_part:upgrade(Part)})}.
+
+%% A version before knew no folder.
+relogged(State = #server{dir = none}) ->
+    case dir(#{}) of
+        none -> State;
+        Dir -> self() ! {?REGISTRY, log}, event({disk, [], [], none}, State#server{dir = Dir})
+    end;
+relogged(State) ->
+    State.
+
 %% ---- Nodes ----
 
 up(Node, Type, State = #server{reconnect = Reconnect}) ->
@@ -217,19 +300,32 @@ down(Node, State = #server{watches = Watches, reconnect = Reconnect}) ->
 watched(Node, State = #server{watches = Watches}) when is_map_key(Node, Watches) ->
     State;
 watched(Node, State = #server{watches = Watches}) ->
-    Registry = self(),
-    Watch = spawn_link(fun() ->
-        Monitor = monitor(process, {?REGISTRY, Node}),
-        receive {'DOWN', Monitor, process, _, Reason} -> Registry ! {?REGISTRY, ended, Node, self(), Reason} end
-    end),
-    State#server{watches = Watches#{Node => Watch}}.
+    State#server{watches = Watches#{Node => spawn_link(?MODULE, observe, [self(), Node, 0])}}.
+
+%% @private Watches a registry. One that isn't there is looked for again so many times: it may be starting.
+observe(Registry, Node, Attempts) ->
+    observing(Registry, Node, monitor(process, {?REGISTRY, Node}), Attempts).
+
+%% @private A process that hibernates outlives the code that it began with.
+observing(Registry, Node, Monitor, Attempts) ->
+    receive
+        {'DOWN', Monitor, process, _, noproc} when Attempts > 0 ->
+            _ = erlang:send_after(?PAUSE, self(), again),
+            observing(Registry, Node, Monitor, Attempts);
+        {'DOWN', Monitor, process, _, Reason} -> Registry ! {?REGISTRY, ended, Node, self(), Reason};
+        again -> observe(Registry, Node, Attempts - 1)
+    after 0 ->
+        erlang:hibernate(?MODULE, observing, [Registry, Node, Monitor, Attempts])
+    end.
 
 %% A registry has ended. Where it was stopped its names end too; where it failed it starts again soon.
 ended(Node, noproc, State) -> event({absent, Node}, State);
 ended(_Node, noconnection, State) -> State;
 ended(Node, Reason, State) when Reason =:= shutdown; Reason =:= normal; element(1, Reason) =:= shutdown ->
     event({stopped, Node}, State);
-ended(Node, _Failed, State) -> event({failed, Node}, State).
+ended(Node, _Failed, State = #server{watches = Watches}) ->
+    Watch = spawn_link(?MODULE, observe, [self(), Node, ?ATTEMPTS]),
+    event({failed, Node}, State#server{watches = Watches#{Node => Watch}}).
 
 %% ---- Events and actions ----
 
@@ -269,7 +365,7 @@ act({hide, Name}, State) ->
     State;
 act({keep, Key, Value}, State) ->
     ok = heal_table:keep(Key, Value),
-    State;
+    kept(Key, Value, State);
 act({reply, From, Answer}, State) ->
     reply(From, spelled(Answer)),
     State;
@@ -291,6 +387,14 @@ act({problems, Problems}, State) ->
     ok = heal_problems:report(Problems),
     State;
 act(_Reported, State) ->
+    State.
+
+kept(programs, Programs, State) ->
+    logged(Programs, State);
+kept(greatest, Number, State = #server{log = {Log, _}}) ->
+    ok = heal_log:number(Log, Number),
+    State;
+kept(_Key, _Value, State) ->
     State.
 
 %% A caller on another node may be hard to reach, so another process sends the answer.

@@ -8,7 +8,7 @@
 -include("heal_replica.hrl").
 
 -export([create/0, give/1, bequeath/1, rows/2, hide/1, disown/1, kept/2, keep/2, keep_position/3, keep_operation/1, restore/1]).
--export([is_running/0, find/2, names/0, count/0, info/2, row/1]).
+-export([is_running/0, find/2, names/0, names/1, count/0, info/2, row/1]).
 
 -define(ROWS, heal_registry).
 %% A counter: the operation of the replica's position, which each edit changes.
@@ -29,10 +29,18 @@
 
 %% ---- What outlives the registry ----
 
-%% Creates the ETS table, unless there is one. The calling process owns it.
+%% Creates the ETS table, unless a registry has inherited it. The calling process owns it. That of a process which is ending goes first.
 -spec create() -> ok.
 create() ->
-    _ = is_running() orelse ets:new(?ROWS, [named_table, public, {keypos, #entry.name}, {read_concurrency, true}]),
+    Registry = whereis(heal_registry),
+    case ets:info(?ROWS, owner) of
+        undefined -> created();
+        Registry -> ok;
+        _Ending -> timer:sleep(1), create()
+    end.
+
+created() ->
+    ?ROWS = ets:new(?ROWS, [named_table, public, {keypos, #entry.name}, {read_concurrency, true}]),
     case persistent_term:get(?OPERATION, none) of
         none -> persistent_term:put(?OPERATION, atomics:new(1, [{signed, false}]));
         _ -> ok
@@ -119,11 +127,11 @@ keep_position({View, Operation}, Led, Latest) ->
 keep_operation(Operation) ->
     atomics:put(persistent_term:get(?OPERATION), 1, Operation).
 
-%% The rows of this node's living processes, and what the table lacked.
+%% The rows of this node's living processes, and what the table lacks or may have lacked.
 own(Life, Names) ->
     Shown = maps:filter(fun(_, #entry{pid = Pid, row = #row{home = Home}}) -> Home =:= Life andalso Pid =/= none end, Names),
     Missing = ets:select(?ROWS, [{#kept{key = {own, '$1'}, value = '$2'}, [], [{{'$1', '$2'}}]}]),
-    maps:merge(maps:from_list(Missing), maps:map(fun(_, #entry{row = Row}) -> Row end, Shown)).
+    maps:merge(maps:map(fun(_, #entry{row = Row}) -> Row end, Shown), maps:from_list(Missing)).
 
 half(Names, Latest) ->
     #half{names = maps:map(fun(_, #entry{row = Row}) -> Row end, Names), programs = kept(programs, #{}), latest = Latest}.
@@ -160,6 +168,19 @@ is_running() ->
 -spec names() -> [term()].
 names() ->
     ets:select(?ROWS, [{#entry{term = '$1', pid = '$2', _ = '_'}, [{'=/=', '$2', none}], ['$1']}]).
+
+%% Returns the names of a process, unless it is of this node and has ended.
+-spec names(pid()) -> [term()].
+names(Pid) when node(Pid) =:= node() ->
+    case is_process_alive(Pid) of
+        true -> names_of(Pid);
+        false -> []
+    end;
+names(Pid) ->
+    names_of(Pid).
+
+names_of(Pid) ->
+    ets:select(?ROWS, [{#entry{term = '$1', pid = Pid, _ = '_'}, [], ['$1']}]).
 
 %% Returns how many names there are.
 -spec count() -> non_neg_integer().

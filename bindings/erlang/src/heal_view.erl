@@ -18,10 +18,11 @@ resume(Part = #part{replica = Replica, now = Now}) ->
     Half = heal_state:half(Part),
     Homes = homes(Half, Part),
     case {heal_replica:is_primary(Replica), heal_replica:position(Replica), heal_home:conflicts([], Half, Part)} of
-        {true, {{_, 1}, 0}, _} -> Part;
+        {true, {{_, 1}, 0}, _} -> heal_orders:make_each(heal_home:differences(Part), 0, Part);
         {true, _, []} -> lead(heal_home:restrict([heal_state:life(Part) | lives(Homes)], Part), Homes, Part);
-        {true, _, _Lost} -> lead_alone(Part);
-        {false, _, _} ->
+        %% The notice of an exchange that has given a name away is lost with the registry: another exchange decides.
+        {_, _, [_ | _]} -> lead_alone(Part);
+        {false, _, []} ->
             {Primary, _} = heal_state:primary(Part),
             case heal_peers:is_in_setting(Primary, Part) of
                 true -> Part#part{limbo = Now + heal_state:patience(Part)};
@@ -293,14 +294,16 @@ settled(Node, {View, Operation}, Part) ->
 restored({[], Part}) -> Part;
 restored({Edits, Part}) -> join_with(Edits, Part).
 
-%% A primary has sent a snapshot. A node that is a primary joins another one by an exchange alone.
+%% A primary has sent a snapshot. A node that is a primary joins another one by an exchange alone. One that has what the snapshot
+%% has joins again: its primary doesn't know so.
 -spec snapshot(node(), {heal_replica:snapshot(), [heal_home:loser()]}, #part{}) -> #part{}.
 snapshot(Node, {Snapshot = {{{Life, _}, _} = At, _}, Losers}, Part = #part{peers = Peers}) ->
     case Peers of
         #{Node := #peer{life = Life}} ->
-            case is_next(Node, At, Part) andalso not heal_state:is_primary(Part) of
-                true -> follow(Snapshot, Losers, Node, Part);
-                false -> Part
+            case {heal_state:is_primary(Part), is_next(Node, At, Part), heal_state:at(Part)} of
+                {false, true, _} -> follow(Snapshot, Losers, Node, Part);
+                {false, false, {View, _}} when View =:= element(1, At) -> join_with(heal_home:differences(Part), Part);
+                _ -> Part
             end;
         _ ->
             Part

@@ -107,6 +107,7 @@ is_row(_Other) -> false.
 
 is_made({register, Name, Row}) -> is_name(Name) andalso is_row(Row);
 is_made({unregister, Name}) -> is_name(Name);
+is_made({change, Name, Changes}) -> is_name(Name) andalso are_changes(Changes);
 is_made({upload, Id, Code}) -> is_binary(Id) andalso is_binary(Code);
 is_made(_Other) -> false.
 
@@ -120,6 +121,7 @@ is_edit({register, Name, Row}) -> is_name(Name) andalso is_row(Row);
 is_edit({adopt, Name, _Term, Options, Pid, On}) ->
     is_name(Name) andalso is_pid(Pid) andalso is_map(Options) andalso are_options(Options) andalso node(Pid) =:= On;
 is_edit({unregister, Name, Owner}) -> is_name(Name) andalso (Owner =:= any orelse is_owner(Owner));
+is_edit({change, Name, Owner, Changes}) -> is_name(Name) andalso (Owner =:= any orelse is_owner(Owner)) andalso are_changes(Changes);
 is_edit({upload, Id, Code}) -> is_binary(Id) andalso is_binary(Code);
 is_edit(_Other) -> false.
 
@@ -129,6 +131,8 @@ is_owner({Node, Serial}) -> is_word(Node) andalso is_word(Serial);
 is_owner(_Other) -> false.
 
 is_word(Word) -> is_integer(Word) andalso Word >= 0 andalso Word =< 16#ffffffff.
+
+are_changes(Changes) -> is_map(Changes) andalso heal_names:are_options(Changes).
 
 %% A complete registration but for its owner.
 are_options(Options) -> map_size(Options) =:= 4 andalso has_options(Options).

@@ -10,27 +10,17 @@
 -define(SPLITS, 12).
 
 churn_test_() ->
-    {inparallel, 2, [pair(Plan) || Plan <- [none, twice]]}.
+    {inparallel, 2, [{atom_to_list(Plan), heal_cluster:halves(#{exchange_timeout => 1000}, fun(A, B) -> churn(Plan, A, B) end)}
+     || Plan <- [none, twice]]}.
 
-%% Two nodes whose registries send each message as this plan prescribes.
-pair(Plan) ->
-    {setup,
-        fun() ->
-            Nodes = [heal_cluster:start(Letter) || Letter <- [a, b]],
-            [begin
-                 heal_cluster:start_registry(It, Nodes, #{exchange_timeout => 1000, send => fun heal_faults:send/2}),
-                 ok = heal_cluster:call(It, heal_faults, plan, [Plan])
-             end || It <- Nodes],
-            Nodes
-        end,
-        fun(Nodes) -> [heal_cluster:stop(It) || It <- Nodes] end,
-        fun([A, B]) -> {atom_to_list(Plan), {timeout, 360, fun() -> churn(A, B) end}} end}.
-
-%% After every healing both nodes answer alike for every name, whether the edits stopped before it or during it.
-churn(A, B) ->
+%% Registries send each message as this plan prescribes. After every healing all nodes answer alike for every name, whether the edits
+%% stopped before it or during it.
+churn(Plan, A, B) ->
+    Nodes = heal_cluster:all([A, B]),
+    [ok = heal_cluster:call(It, heal_faults, plan, [Plan]) || It <- Nodes],
     Seed = erlang:phash2(make_ref()),
     Lines = [begin
-                 Workers = [{It, heal_cluster:call(It, ?MODULE, start_workers, [?WORKERS, Seed + N])} || It <- [A, B]],
+                 Workers = [{It, heal_cluster:call(It, ?MODULE, start_workers, [?WORKERS, Seed + N])} || It <- Nodes],
                  timer:sleep(N * 7 rem 40),
                  heal_cluster:connect(A, B),
                  N rem 3 =:= 0 andalso timer:sleep(N * 11 rem 60),

@@ -2,12 +2,17 @@
 %%
 %% The nodes are controlled over standard streams, so a test can connect and disconnect them. They connect only when a test
 %% connects them.
+%%
+%% Most tests have two nodes, a and b. They run on two, three and five nodes: further nodes are on the side of a or of b, in a part with
+%% it, and whatever connects, splits or compares a and b does so with their sides. The environment's HEAL_NODES has other numbers.
 -module(heal_cluster).
 
+-include("../src/heal_part.hrl").
+
 -export([start/1, start/2, start_again/1, stop/1, node_of/1, call/4, connect/2, split/2, freeze/1, thaw/1, eventually/1]).
--export([cluster/3, cluster/4, mesh/1, split_into/1, one_part/1, kill_node/1, pair/2, pair/3, halves/2, start_registry/3, kill_registry/1, start_application/3]).
+-export([cluster/3, cluster/4, sided/5, sizes/0, all/1, mesh/1, split_into/1, one_part/1, kill_node/1, pair/2, pair/3, halves/2, start_registry/3, kill_registry/1, start_application/3]).
 -export([status/1, link_of/1, table/1, own/4, own_each/4, mail/2, kill/2, joined/2, alike/2, apart/2]).
--export([serve/1, owners/3, mail_here/1, table_here/0, registry/2, parent/0]).
+-export([serve/1, owners/3, mail_here/1, table_here/0, link_here/1, registry/2, parent/0]).
 
 -define(PATIENCE, 60000).
 -define(POLL, 5).
@@ -23,9 +28,12 @@ start(Letter, Args) ->
     run(lists:concat([Letter, "_heal_", os:getpid(), "_", erlang:unique_integer([positive])]), Args).
 
 %% Starts a node of the same name as one that ended.
-start_again({_, Node}) ->
+start_again(Of = {_, Node}) ->
     [Name, _] = string:split(atom_to_list(Node), "@"),
-    run(Name, []).
+    Side = side(Of),
+    Again = run(Name, separate()),
+    on_sides([[case It of {_, Node} -> Again; _ -> It end || It <- Side]]),
+    Again.
 
 run(Name, Args) ->
     Path = [filename:absname(Dir) || Dir <- ["ebin", "out"]],
@@ -52,10 +60,15 @@ node_of({_, Node}) ->
 call({Peer, _}, Module, Function, Args) ->
     peer:call(Peer, Module, Function, Args, 120000).
 
+%% Connects both sides.
 connect(One, Other) ->
-    true = call(One, net_kernel, connect_node, [node_of(Other)]).
+    mesh(lists:usort(side(One) ++ side(Other))).
 
+%% Cuts all connections between both sides.
 split(One, Other) ->
+    split_into([side(One), side(Other)]).
+
+cut(One, Other) ->
     call(One, erlang, disconnect_node, [node_of(Other)]),
     Sees = fun(It, Node) -> lists:member(Node, call(It, erlang, nodes, [])) end,
     eventually(fun() -> not Sees(One, node_of(Other)) andalso not Sees(Other, node_of(One)) end).
@@ -101,14 +114,60 @@ halves(Options, Test) ->
     two(Options#{send => fun heal_faults:send/2}, [], fun(_, _) -> apart end, Test).
 
 two(Options, Args, Before, Test) ->
+    [sided(Count, Args, fun(It, Nodes) -> start_registry(It, Nodes, Options) end, Before, Test) || Count <- sizes()].
+
+%% Runs a test on a and b, with these numbers of nodes.
+sided(Count, Args, Start, Before, Test) ->
+    Letters = lists:sublist([a, b, c, d, e], Count),
+    More = case Count of 2 -> []; _ -> separate() end,
     {setup,
         fun() ->
-            Nodes = [start(Letter, Args) || Letter <- [a, b]],
-            [start_registry(It, Nodes, Options) || It <- Nodes],
+            Nodes = [start(Letter, Args ++ More) || Letter <- Letters],
+            on_sides(sides(Nodes)),
+            [Start(It, Nodes) || It <- Nodes],
             Nodes
         end,
         fun(Nodes) -> [stop(It) || It <- Nodes] end,
-        fun([A, B]) -> {title(Test), {timeout, 240, fun() -> Before(A, B), Test(A, B) end}} end}.
+        fun([A, B | _]) ->
+            Run = fun() -> [gather(It) || It <- [A, B]], Before(A, B), Test(A, B) end,
+            {lists:concat([title(Test), " on ", Count, " nodes"]), {timeout, 300, Run}}
+        end}.
+
+sizes() ->
+    [list_to_integer(Count) || Count <- string:tokens(os:getenv("HEAL_NODES", "2 3 5"), " ")].
+
+sides([A, B]) -> [[A], [B]];
+sides([A, B, C]) -> [[A], [B, C]];
+sides([A, B, C, D, E]) -> [[A, C, E], [B, D]].
+
+on_sides(Sides) ->
+    [persistent_term:put({?MODULE, side, node_of(It)}, Side) || Side <- Sides, It <- Side].
+
+%% The nodes of the side of a node.
+side(It) ->
+    persistent_term:get({?MODULE, side, node_of(It)}, [It]).
+
+%% All nodes on the sides of these.
+all(Nodes) ->
+    lists:usort(lists:append([side(It) || It <- Nodes])).
+
+%% Connects a side, which then is in one part. Registries that connect by themselves may be in one with the other side too.
+gather(It) ->
+    mesh(side(It)),
+    eventually(fun() -> case views(side(It)) of [#{members := Members}] -> names(side(It)) -- Members =:= []; _ -> false end end).
+
+is_gathered(Side) ->
+    Names = names(Side),
+    case views(Side) of
+        [#{members := Names}] -> true;
+        Different -> Different
+    end.
+
+names(Nodes) ->
+    lists:sort([node_of(It) || It <- Nodes]).
+
+views(Nodes) ->
+    lists:usort([maps:with([primary, view, members], status(It)) || It <- Nodes]).
 
 %% Runs a test on this many connected nodes, whose registries are one part.
 cluster(Count, Options, Test) ->
@@ -130,23 +189,17 @@ separate() ->
 
 %% Connects each node with each other one.
 mesh(Nodes) ->
-    [connect(One, Other) || One <- Nodes, Other <- Nodes, node_of(One) < node_of(Other)],
+    [true = call(One, net_kernel, connect_node, [node_of(Other)]) || One <- Nodes, Other <- Nodes, node_of(One) < node_of(Other)],
     ok.
 
 %% Cuts all connections between these sides.
 split_into(Sides) ->
-    [split(One, Other) || Side <- Sides, Rest <- Sides, Side < Rest, One <- Side, Other <- Rest],
+    [cut(One, Other) || Side <- Sides, Rest <- Sides, Side < Rest, One <- Side, Other <- Rest],
     ok.
 
 %% Waits until these nodes are one part with one table of living processes. Returns the table.
 one_part(Nodes) ->
-    Names = lists:sort([node_of(It) || It <- Nodes]),
-    eventually(fun() ->
-        case lists:usort([maps:with([primary, view, members, link], status(It)) || It <- Nodes]) of
-            [#{members := Names}] -> true;
-            Different -> Different
-        end
-    end),
+    eventually(fun() -> is_gathered(Nodes) end),
     eventually(fun() ->
         case lists:usort([table(It) || It <- Nodes]) of
             [Table] -> [] =:= [Name || {Name, undefined} <- Table] andalso dead(Table, Nodes) =:= [];
@@ -169,7 +222,7 @@ title(Test) ->
 %% supervisor does, starts it.
 start_registry(Of, Nodes, Options) ->
     _ = call(Of, application, load, [heal]),
-    Names = case Nodes of any -> any; _ -> [node_of(It) || It <- Nodes] end,
+    Names = case Nodes of any -> any; _ -> [node_of(It) || It <- all(Nodes)] end,
     ok = call(Of, ?MODULE, registry, [Names, Options]).
 
 registry(Nodes, Options) ->
@@ -192,7 +245,7 @@ kill_registry(Of) ->
 %% Starts the application with these nodes, and with these settings.
 start_application(Of, Nodes, Settings) ->
     _ = call(Of, application, load, [heal]),
-    All = [{nodes, [node_of(It) || It <- Nodes]} | Settings],
+    All = [{nodes, [node_of(It) || It <- all(Nodes)]} | Settings],
     [ok = call(Of, application, set_env, [heal, Key, Value]) || {Key, Value} <- All],
     {ok, _} = call(Of, application, ensure_all_started, [heal]),
     ok.
@@ -200,8 +253,16 @@ start_application(Of, Nodes, Settings) ->
 status(Of) ->
     call(Of, heal_registry, status, []).
 
+%% How a node is linked with the other side: as of heal_registry:status/0, but for `apart' if it is in a part with its own side alone.
 link_of(Of) ->
-    maps:get(link, status(Of)).
+    call(Of, ?MODULE, link_here, [[node_of(It) || It <- side(Of)]]).
+
+link_here(Side) ->
+    case {element(2, sys:get_state(heal_registry)), heal_registry:status()} of
+        {#part{heal = #open{stage = {done, _, _}}}, _} -> joined;
+        {#part{heal = idle}, #{members := Side}} -> apart;
+        {_, #{link := Link}} -> Link
+    end.
 
 %% Every name with its process, as this node answers.
 table(Of) ->
@@ -210,25 +271,18 @@ table(Of) ->
 table_here() ->
     lists:sort([{Name, heal_registry:whereis_name(Name)} || Name <- heal_registry:names()]).
 
+%% Waits until both sides are one part.
 joined(One, Other) ->
-    eventually(fun() ->
-        case {status(One), status(Other)} of
-            {#{link := joined, number := Number}, #{link := joined, number := Number}} -> true;
-            Both -> Both
-        end
-    end).
+    eventually(fun() -> is_gathered(all([One, Other])) end).
 
+%% Waits until each side is a part of its own.
 apart(One, Other) ->
+    [eventually(fun() -> is_gathered(side(It)) end) || It <- [One, Other]],
     eventually(fun() -> [link_of(It) || It <- [One, Other]] =:= [apart, apart] end).
 
-%% Waits until both nodes are joined and answer alike for every name, all of which have a live process. Returns the table.
+%% Waits until both sides are joined and answer alike for every name, all of which have a live process. Returns the table.
 alike(One, Other) ->
-    joined(One, Other),
-    eventually(fun() ->
-        Table = table(One),
-        Table =:= table(Other) andalso [] =:= [Name || {Name, undefined} <- Table] andalso dead(Table, [One, Other]) =:= []
-    end),
-    table(One).
+    one_part(all([One, Other])).
 
 dead(Table, Nodes) ->
     [Pid || Of <- Nodes, {_, Pid} <- Table, node(Pid) =:= node_of(Of), not call(Of, erlang, is_process_alive, [Pid])].

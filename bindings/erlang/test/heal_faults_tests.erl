@@ -10,19 +10,12 @@
 
 -define(LONG, 20000).
 
-start_registry(It, Nodes, Timeout) ->
-    heal_cluster:start_registry(It, Nodes, #{send => fun heal_faults:send/2, exchange_timeout => Timeout}).
+options(Timeout) ->
+    #{send => fun heal_faults:send/2, exchange_timeout => Timeout}.
 
 %% Runs a test on two nodes that are apart, have registries, and one clashing name, `db', and a name each, `a' and `b'.
 halves(Timeout, Test) ->
-    {setup,
-        fun() ->
-            Nodes = [heal_cluster:start(Letter) || Letter <- [a, b]],
-            [start_registry(It, Nodes, Timeout) || It <- Nodes],
-            Nodes
-        end,
-        fun(Nodes) -> [heal_cluster:stop(It) || It <- Nodes] end,
-        fun([A, B]) -> {timeout, 240, fun() -> Test(A, B, owners(A, B)) end} end}.
+    heal_cluster:halves(options(Timeout), fun(A, B) -> Test(A, B, owners(A, B)) end).
 
 owners(A, B) ->
     Own = fun(It, Name) -> heal_cluster:own(It, ?REGISTER, Name, #{resolver => notify}) end,
@@ -149,32 +142,35 @@ during(A, B, Owners = #{a := OnA, b := OnB, db_of_a := DbA, db_of_b := DbB}) ->
 ends_test_() ->
     Steps = [{a, ask}, {b, hello}, {a, offer}, {b, offer}, {a, list}, {b, list}],
     Ends = [{Who, Kind, When} || {Who, Kind} <- Steps, When <- [before, later]] ++ [{a, finished, before}, {b, finished, before}],
-    {inparallel, 3, [{lists:concat([Who, " at ", Kind, " ", When]), {timeout, 120, fun() -> ends(Who, Kind, When) end}}
+    {inparallel, 3, [{lists:concat([Who, " at ", Kind, " ", When]),
+                      heal_cluster:halves(options(?LONG), fun(A, B) -> ends(Who, Kind, When, A, B) end)}
      || {Who, Kind, When} <- Ends]}.
 
 %% A node ends when it sends this message. The other has its own table, also after the merge, and heals with the node's next run.
-ends(Who, Kind, When) ->
-    Nodes = [A, B] = [heal_cluster:start(Letter) || Letter <- [a, b]],
-    [start_registry(It, Nodes, ?LONG) || It <- Nodes],
+ends(Who, Kind, When, A, B) ->
     #{a := OnA, b := OnB, db_of_a := DbA, db_of_b := DbB} = owners(A, B),
     {Ends, Stays, Own} = case Who of
         a -> {A, B, [{b, OnB}, {db, DbB}]};
         b -> {B, A, [{a, OnA}, {db, DbA}]}
     end,
     plan(Ends, {halt, Kind, When}),
-    _ = heal_cluster:call(Stays, net_kernel, connect_node, [heal_cluster:node_of(Ends)]),
+    %% A node may end while others of its side are being connected.
+    _ = catch heal_cluster:connect(Stays, Ends),
+    Rest = heal_cluster:all([A, B]) -- [Ends],
     heal_cluster:eventually(fun() ->
-        heal_cluster:call(Stays, erlang, nodes, []) =:= [] andalso maps:get(link, heal_cluster:status(Stays)) =:= apart
+        not lists:member(heal_cluster:node_of(Ends), heal_cluster:call(Stays, erlang, nodes, []))
     end),
     heal_cluster:stop(Ends),
+    heal_cluster:mesh(Rest),
+    heal_cluster:one_part(Rest),
     heal_cluster:eventually(fun() -> heal_cluster:table(Stays) =:= Own end),
     ?assertEqual([], heal_cluster:mail(Stays, proplists:get_value(db, Own))),
     Again = heal_cluster:start_again(Ends),
-    start_registry(Again, Nodes, ?LONG),
+    heal_cluster:start_registry(Again, [A, B], options(?LONG)),
     New = heal_cluster:own(Again, ?REGISTER, new, #{}),
     heal_cluster:connect(Again, Stays),
     ?assertEqual(lists:sort([{new, New} | Own]), heal_cluster:alike(Again, Stays)),
-    [heal_cluster:stop(It) || It <- [Again, Stays]].
+    heal_cluster:stop(Again).
 
 %% ---- Too many names ----
 

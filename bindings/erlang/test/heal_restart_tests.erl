@@ -28,17 +28,20 @@ alive(It, Pids) ->
 
 restarts_test_() ->
     {inparallel, 3, [
+        [heal_cluster:cluster(Count, #{exchange_timeout => 1000, edit_timeout => 2000}, fun nodes_restart/1)
+         || Count <- heal_cluster:sizes(), Count > 2],
         heal_cluster:pair(#{}, fun alone/2),
         heal_cluster:pair(#{}, fun readers/2),
         heal_cluster:pair(#{}, fun dead_owner/2),
         heal_cluster:pair(#{}, fun successors/2),
-        heal_cluster:pair(#{}, fun other_nodes/2),
+        {timeout, 120, fun other_nodes/0},
         heal_cluster:pair(#{}, fun half_written/2),
         heal_cluster:halves(#{exchange_timeout => 1000}, fun during_exchange/2),
         heal_cluster:halves(#{exchange_timeout => 20000}, fun losers/2),
         heal_cluster:halves(#{exchange_timeout => 20000}, fun failed_leader/2),
         heal_cluster:halves(#{exchange_timeout => 500}, fun failed_for_good/2),
         applications(fun under_load/2),
+        applications(fun stopped_after_failure/2),
         applications(fun keeper_ends/2)
     ]}.
 
@@ -107,13 +110,17 @@ successors(A, B) ->
      end || {N, It} <- [{1, A}, {2, B}, {3, A}, {4, B}]].
 
 %% A registry that starts with other nodes keeps the names of its own node.
-other_nodes(A, B) ->
+other_nodes() ->
+    Nodes = [A, B] = [heal_cluster:start(Letter) || Letter <- [a, b]],
+    [heal_cluster:start_registry(It, Nodes, #{}) || It <- Nodes],
+    heal_cluster:connect(A, B),
     [OnA, OnB] = [own(It, Name, #{}) || {It, Name} <- [{A, one}, {B, two}]],
     heal_cluster:alike(A, B),
     restart(B, [B]),
     ?assertEqual([{two, OnB}], heal_cluster:table(B)),
     restart(B, [A, B]),
-    ?assertEqual([{one, OnA}, {two, OnB}], heal_cluster:alike(A, B)).
+    ?assertEqual([{one, OnA}, {two, OnB}], heal_cluster:alike(A, B)),
+    [heal_cluster:stop(It) || It <- Nodes].
 
 %% The registry is killed between the two steps in which a merge removes a row: the row is gone.
 half_written(A, B) ->
@@ -201,16 +208,10 @@ failed_for_good(A, B) ->
 
 %% ---- Under load ----
 
-%% Runs a test on two nodes with the application.
+%% Runs a test on nodes with the application.
 applications(Test) ->
-    {setup,
-        fun() ->
-            Nodes = [heal_cluster:start(Letter) || Letter <- [a, b]],
-            [heal_cluster:start_application(It, Nodes, [{exchange_timeout, 1000}]) || It <- Nodes],
-            Nodes
-        end,
-        fun(Nodes) -> [heal_cluster:stop(It) || It <- Nodes] end,
-        fun([A, B]) -> {timeout, 240, fun() -> Test(A, B) end} end}.
+    Start = fun(It, Nodes) -> heal_cluster:start_application(It, Nodes, [{exchange_timeout, 1000}]) end,
+    [heal_cluster:sided(Count, [], Start, fun(_, _) -> apart end, Test) || Count <- heal_cluster:sizes()].
 
 %% The keeper of the table ends, and then the registry: no name is lost.
 keeper_ends(A, B) ->
@@ -225,6 +226,22 @@ keeper_ends(A, B) ->
          heal_cluster:eventually(fun() -> not lists:member(Now(), [Ended, undefined]) end),
          ?assertEqual([{one, OnA}, {two, OnB}], heal_cluster:alike(A, B))
      end || _ <- [1, 2], Module <- [heal_keeper, heal_registry]].
+
+%% A registry is stopped right after it has failed and started again: its names end on all nodes.
+stopped_after_failure(A, B) ->
+    heal_cluster:connect(A, B),
+    [begin
+         heal_cluster:joined(A, B),
+         _ = own(B, one, #{}),
+         heal_cluster:alike(A, B),
+         Failed = heal_cluster:call(B, erlang, whereis, [heal_registry]),
+         true = heal_cluster:call(B, erlang, exit, [Failed, kill]),
+         heal_cluster:eventually(fun() -> not lists:member(heal_cluster:call(B, erlang, whereis, [heal_registry]), [Failed, undefined]) end),
+         ok = heal_cluster:call(B, application, stop, [heal]),
+         heal_cluster:eventually(fun() -> heal_cluster:table(A) =:= [] end),
+         ok = heal_cluster:call(B, application, start, [heal])
+     end || _ <- lists:seq(1, 5)],
+    heal_cluster:joined(A, B).
 
 %% The registries are killed while processes register and unregister names. Whoever was answered `ok' has its name.
 under_load(A, B) ->
@@ -241,6 +258,27 @@ under_load(A, B) ->
     ?assert(length(Expected) > 10),
     Table = heal_cluster:alike(A, B),
     ?assertEqual([], Expected -- Table).
+
+%% Nodes are killed and start again while processes on the others register and unregister names. Those keep what was answered `ok'.
+nodes_restart(Nodes) ->
+    [First, Second | _] = Nodes,
+    Last = lists:last(Nodes),
+    Worker = heal_cluster:call(Second, erlang, spawn, [?MODULE, work, ["w", #{}]]),
+    Now = lists:foldl(fun(Ends, Running) ->
+        heal_cluster:kill_node(Ends),
+        timer:sleep(100),
+        Again = heal_cluster:start_again(Ends),
+        heal_cluster:start_registry(Again, any, #{exchange_timeout => 1000, edit_timeout => 2000}),
+        Next = [case heal_cluster:node_of(It) =:= heal_cluster:node_of(Ends) of true -> Again; false -> It end || It <- Running],
+        heal_cluster:mesh(Next),
+        _ = own(Again, {again, Ends}, #{}),
+        Next
+    end, Nodes, [Last, First]),
+    Kept = maps:to_list(heal_cluster:call(Second, ?MODULE, stop, [Worker])),
+    Table = heal_cluster:one_part(Now),
+    ?assert(length(Kept) > 10),
+    ?assertEqual([], Kept -- Table),
+    [heal_cluster:stop(It) || It <- Now].
 
 %% Registers and unregisters names of its own prefix until it is stopped. Keeps those of which it knows that they are registered.
 work(Prefix, Names) ->

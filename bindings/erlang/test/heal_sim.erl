@@ -2,8 +2,9 @@
 %%
 %% Each node runs heal_part, as the server of heal_registry does. Time is virtual. Messages are delayed, and in most schedules also
 %% lost, repeated and reordered, also across a reconnection. Links are cut and restored one by one; nodes are killed and started
-%% again, hang and go on; registries crash and go on with what they kept; clocks differ, and timers fire early and late. Callers on
-%% all nodes register, unregister and end processes of few names, so that most parts clash. A schedule follows from its seed alone.
+%% again, one by one or all at once, hang and go on; registries crash and go on with what they kept; clocks differ, and timers fire
+%% early and late. In half of the schedules nodes have disks, which are slow and sometimes full. Callers on all nodes register, change,
+%% unregister and end processes of few names, so that most parts clash. A schedule follows from its seed alone.
 -module(heal_sim).
 
 -include("heal_sim.hrl").
@@ -66,7 +67,7 @@ start(IsTraced) ->
         late => element(Kind, {0, 0, 20, 60}),
         delay => lists:nth(rand:uniform(3), [2, 20, 200])
     },
-    Sim = #sim{faults = Faults, is_traced = IsTraced, nodes = maps:from_list([{Name, #node{}} || Name <- Names])},
+    Sim = #sim{faults = Faults, has_disks = rand:uniform(2) =:= 1, is_traced = IsTraced, nodes = maps:from_list([{Name, #node{}} || Name <- Names])},
     Started = lists:foldl(fun start_node/2, Sim, Names),
     Connected = lists:foldl(fun({A, B}, Sum) -> heal_sim_trace:at(rand:uniform(2000), {restore, A, B}, Sum) end, Started, pairs(Names)),
     heal_sim_trace:at(1, fault, heal_sim_trace:at(5, client, heal_sim_trace:at(?FAULTY, quiet, Connected))).
@@ -76,29 +77,30 @@ pairs(Names) ->
 
 %% Starts a node: another run of it.
 start_node(Name, Sim = #sim{nodes = Nodes, now = Now}) ->
-    #{Name := #node{runs = Runs}} = Nodes,
+    #{Name := #node{runs = Runs, disk = Disk}} = Nodes,
     Offset = rand:uniform(1000000),
     Rate = 0.95 + rand:uniform() / 10,
     Life = {Name, Runs + 1},
-    New = #node{life = Life, runs = Runs + 1, offset = Offset, rate = Rate},
+    New = #node{life = Life, runs = Runs + 1, offset = Offset, rate = Rate, disk = Disk},
     start_registry(Name, Sim#sim{nodes = Nodes#{Name := New}, now = Now}).
 
 start_registry(Name, Sim = #sim{nodes = Nodes, count = Count, now = Now}) ->
     #{Name := Node = #node{life = Life, offset = Offset, rate = Rate, table = Table, own = Own, kept = Kept}} = Nodes,
-    Common = #{life => Life, number => erlang:phash2(Name, 1000), scope => sim, nodes => any, names => 4096,
+    Common = (heal_sim_disk:settings(Name, Sim))#{life => Life, number => erlang:phash2(Name, 1000), scope => sim, nodes => any, names => 4096,
                world => heal_sim_world, seq => Count * 1000, now => Offset + trunc(Now * Rate),
                connected => [{Other, visible} || Other <- connected(Name, Sim)], edit_timeout => ?EDIT, exchange_timeout => ?EXCHANGE},
     Settings = case Kept of
         #{position := {At, Led, Latest}} ->
-            Programs = maps:get(programs, Kept, #{}),
+            Programs = maps:merge(maps:get(programs, Common, #{}), maps:get(programs, Kept, #{})),
             Half = #half{names = maps:map(fun(_, {Row, _}) -> Row end, Table), programs = #{}, latest = Latest},
             Common#{replica => heal_replica:resume(Life, At, Led, Half), own => Own, programs => Programs,
-                    greatest => maps:get(greatest, Kept, 0)};
+                    greatest => max(maps:get(greatest, Common, 0), maps:get(greatest, Kept, 0))};
         _ ->
             Common
     end,
     {Actions, Part} = heal_part:new(Settings),
-    Begun = acted(Name, Actions, Sim#sim{nodes = Nodes#{Name := Node#node{part = Part, is_hung = false, backlog = []}}}),
+    Running = Sim#sim{nodes = Nodes#{Name := Node#node{part = Part, is_hung = false, backlog = []}}},
+    Begun = heal_sim_disk:started(Name, acted(Name, Actions, Running)),
     Ticking = heal_sim_trace:at(rand:uniform(100), {tick, Name, {Life, element(2, Life), Count}}, mark_run(Name, Count, Begun)),
     Dead = [{Term, Owner} || {Term, #row{pid = Pid, registration = #{owner := Owner}}} <- maps:to_list(Own),
                              not heal_sim_world:is_alive(Pid)],
@@ -137,8 +139,13 @@ step({deliver, Name, From, Epoch, Run, Body}, Sim = #sim{nodes = Nodes}) ->
         #{Name := #node{life = Run}} -> heal_sim_net:receive_message(Name, From, Epoch, Body, Sim);
         _ -> Sim
     end;
+step({written, Name, Run, Written}, Sim = #sim{nodes = Nodes}) ->
+    case Nodes of
+        #{Name := #node{life = Run}} -> heal_sim_disk:written(Name, Written, Sim);
+        _ -> Sim
+    end;
 step(calm, Sim) ->
-    heal_sim_calls:client(rand:uniform(10), Sim);
+    heal_sim_calls:client(rand:uniform(12), Sim);
 step({link, Name, Run, Event}, Sim = #sim{nodes = Nodes}) ->
     case Nodes of
         #{Name := #node{life = Run}} -> event(Name, Event, Sim);
@@ -159,11 +166,11 @@ step({up_again, Name}, Sim) ->
 step(fault, Sim = #sim{is_quiet = true}) ->
     Sim;
 step(fault, Sim) ->
-    heal_sim_trace:at(rand:uniform(1500), fault, heal_sim_net:fault(rand:uniform(12), Sim));
+    heal_sim_trace:at(rand:uniform(1500), fault, heal_sim_net:fault(rand:uniform(13), Sim));
 step(client, Sim = #sim{is_quiet = true}) ->
     Sim;
 step(client, Sim) ->
-    heal_sim_trace:at(rand:uniform(60), client, heal_sim_calls:client(rand:uniform(10), Sim));
+    heal_sim_trace:at(rand:uniform(60), client, heal_sim_calls:client(rand:uniform(12), Sim));
 step({restore, A, B}, Sim) ->
     heal_sim_net:restore(A, B, Sim);
 step(quiet, Sim = #sim{nodes = Nodes}) ->

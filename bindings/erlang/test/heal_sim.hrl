@@ -15,7 +15,7 @@
 -define(CALM, 20).
 -define(TRACE, 60).
 
-%% `table' and `own' are what the registry keeps; `backlog' are the events of a node that hangs.
+%% `table' and `own' are what the registry keeps; `backlog' are the events of a node that hangs; `disk' is what outlives it.
 -record(node, {
     part = none :: none | heal_part:part(),
     life = 0,
@@ -24,6 +24,7 @@
     table = #{},
     own = #{},
     kept = #{},
+    disk = #{} :: #{programs => #{binary() => binary()}, greatest => non_neg_integer()},
     offset = 0,
     rate = 1.0,
     runs = 0
@@ -40,17 +41,24 @@
     %% When the last event of each channel arrives.
     last = #{},
     faults = #{},
+    %% Whether the nodes have a disk for programs and numbers.
+    has_disks = false,
     is_quiet = false,
     is_calm = false,
     calls = #{},
+    %% When the call that is being answered was made.
+    since = 0,
+    %% Changes that may be made at any time: also of a process that is registered later.
+    perhaps = [],
     next = 1,
     processes = #{},
     positions = #{},
-    %% The programs that a caller has uploaded on a node that still runs.
+    %% The programs that a caller has uploaded on a node that still runs or has a disk.
     uploads = [],
     trace = [],
     is_traced = false
 }).
 
-%% What is known of a process: its name and node, when it was registered, with which answer, and its notices.
--record(process, {name, node, asked, state = asked, owner = none, notices = 0, until = none}).
+%% What is known of a process: its name and node, when it was registered, with which answer, and its notices. `weights' are the
+%% changes of its registration, each with the time of its call and of its answer.
+-record(process, {name, node, asked, state = asked, owner = none, notices = 0, until = none, weights = []}).

@@ -3,7 +3,7 @@
 
 -include("heal_sim.hrl").
 
--export([actions/3, positioned/2, process/3]).
+-export([actions/3, positioned/2, process/3, update/3]).
 
 actions(Name, Actions, Sim) ->
     lists:foldl(fun(Action, Sum) -> action(Action, Name, Sum) end, Sim, Actions).
@@ -50,8 +50,10 @@ action({notify, #row{pid = Pid, term = Term}, {{Kind, _}, _Rival}}, Name, Sim = 
         exit -> heal_sim_net:ended(Pid, Told);
         _ -> Told
     end;
+action({keep, {own, Term}, Row}, Name, Sim) ->
+    update(Name, fun(Node = #node{own = Own}) -> Node#node{own = Own#{Term := Row}} end, Sim);
 action({keep, Key, Value}, Name, Sim) ->
-    update(Name, fun(Node = #node{kept = Kept}) -> Node#node{kept = Kept#{Key => Value}} end, Sim);
+    heal_sim_disk:kept(Key, Value, Name, update(Name, fun(Node = #node{kept = Kept}) -> Node#node{kept = Kept#{Key => Value}} end, Sim));
 action({view, View, Members}, Name, Sim) ->
     heal_sim_trace:trace("~p is in view ~p of ~p", [Name, View, Members], Sim);
 action(_Reported, _Name, Sim) ->

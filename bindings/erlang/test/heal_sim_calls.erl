@@ -28,6 +28,12 @@ client(N, Name, Sim) when N =< 8 ->
 client(9, Name, Sim = #sim{next = Next}) ->
     Id = <<Next:256>>,
     call(Name, {upload, Id}, {upload, Id, <<Next:64>>}, Sim);
+client(N, Name, Sim = #sim{next = Next}) when N >= 11 ->
+    %% The weight shows which change it was.
+    Term = any_name(),
+    Resolver = case rand:uniform(10) of 1 -> {program, <<0:256>>}; _ -> heal_sim_net:any([exit, notify, notify_all]) end,
+    Changes = case rand:uniform(2) of 1 -> #{weight => Next, resolver => Resolver}; 2 -> #{weight => Next} end,
+    call(Name, {change, Term, Changes}, {change, Term, any, Changes}, Sim);
 client(_, Name, Sim = #sim{nodes = Nodes}) ->
     #{Name := #node{own = Own}} = Nodes,
     case lists:sort([Pid || #row{pid = Pid} <- maps:values(Own), heal_sim_world:is_alive(Pid)]) of
@@ -54,7 +60,7 @@ reply(From, Answer, Name, Sim = #sim{calls = Calls, now = Now}) ->
         {{Name, Since, Call}, Rest} ->
             Traced = heal_sim_trace:trace("~p answers ~p ~p: ~p", [Name, From, Call, Answer], Sim#sim{calls = Rest}),
             Now - Since =< ?SLOWEST orelse heal_sim_trace:broken(answer_in_time, {Call, Now - Since}, Traced),
-            answered(Call, Answer, Name, Traced);
+            answered(Call, Answer, Name, Traced#sim{since = Since});
         _ ->
             heal_sim_trace:broken(one_answer, {From, Answer}, Sim)
     end.
@@ -90,6 +96,20 @@ answered({unregister, Term}, {ok, Owner}, Name, Sim = #sim{nodes = Nodes}) ->
     each(fun(_, Process = #process{owner = Of}) when Of =:= Owner -> Process#process{until = unregistered}; (_, P) -> P end, Sim);
 answered({unregister, _Term}, {error, 31}, _Name, Sim) ->
     Sim;
+answered({change, Term, #{resolver := {program, _}}}, {ok, Owner}, _Name, Sim) ->
+    heal_sim_trace:broken(unknown_program, {Term, Owner}, Sim);
+answered({change, _Term, #{weight := Weight}}, {ok, Owner}, _Name, Sim = #sim{since = Since, now = Now, perhaps = Perhaps}) ->
+    %% A change that is repeated in another view may be made of an earlier process too.
+    each(fun(_, Process = #process{owner = Of, weights = Weights}) when Of =:= Owner ->
+            Process#process{weights = [{Weight, Since, Now} | Weights]};
+        (_, Process) -> Process
+    end, Sim#sim{perhaps = [{Weight, Owner} | Perhaps]});
+answered({change, _Term, Changes}, {error, Number}, _Name, Sim) when Number =:= 31; Number =:= 41, is_map_key(resolver, Changes) ->
+    Sim;
+answered({change, _Term, #{weight := Weight}}, {error, {_, unknown}}, _Name, Sim = #sim{perhaps = Perhaps}) ->
+    Sim#sim{perhaps = [{Weight, none} | Perhaps]};
+answered({change, Term, _Changes}, {error, {_, not_made}}, _Name, Sim) ->
+    heal_sim_trace:trace("~p not changed", [Term], Sim);
 answered({unregister, Term}, {error, {_, not_made}}, _Name, Sim) ->
     heal_sim_trace:trace("~p not unregistered", [Term], Sim);
 answered({unregister, Term}, {error, {_, unknown}}, _Name, Sim) ->
@@ -160,5 +180,12 @@ check(Pid, Process = #process{name = Term, state = State, until = Until, notices
         Has, Until =:= unregistered -> heal_sim_trace:broken(unregistered_for_good, {Pid, Process}, Sim);
         Has, State =:= not_made; Has, State =:= refused -> heal_sim_trace:broken(not_made, {Pid, Process}, Sim);
         not Has, IsAlive, State =:= acknowledged, Until =:= none, Notices =:= 0 -> heal_sim_trace:broken(acknowledged_is_kept, {Pid, Process}, Sim);
+        Has -> check_weight(Pid, Process, maps:get(Term, Table), Sim);
         true -> ok
     end.
+
+%% The registration has the last change, or one that was made at the same time, or one that may be made at any time.
+check_weight(Pid, #process{weights = Weights, owner = Owner}, {#row{registration = #{weight := Weight}}, _}, Sim) ->
+    Last = [0 || Weights =:= []] ++ [Of || {Of, _, Answered} <- Weights, [] =:= [later || {_, Called, _} <- Weights, Called > Answered]],
+    Perhaps = [Of || {Of, By} <- Sim#sim.perhaps, By =/= Owner],
+    lists:member(Weight, Last ++ Perhaps) orelse heal_sim_trace:broken(change_is_kept, {Pid, Weight, Weights}, Sim).

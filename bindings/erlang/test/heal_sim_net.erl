@@ -96,6 +96,12 @@ fault(10, Sim) ->
     heal_sim_trace:at(rand:uniform(8000), {up_again, Name}, hang(Name, Sim));
 fault(11, Sim) ->
     crash(any(names(Sim)), Sim);
+fault(13, Sim) ->
+    %% All nodes end at once, as when the power fails.
+    case rand:uniform(8) of
+        1 -> lists:foldl(fun(Name, Sum) -> heal_sim_trace:at(rand:uniform(3000), {up_again, Name}, kill(Name, Sum)) end, Sim, names(Sim));
+        _ -> Sim
+    end;
 fault(12, Sim) ->
     lists:foldl(fun({A, B}, Sum) -> restore(A, B, Sum) end, Sim, heal_sim:pairs(names(Sim))).
 
@@ -107,9 +113,10 @@ kill(Name, Sim = #sim{nodes = Nodes, processes = Processes}) ->
         #{Name := Node} ->
             [heal_sim_world:end_process(Pid) || {Pid, #process{node = On}} <- maps:to_list(Processes), On =:= Name],
             Others = [Other || Other <- names(Sim), Other =/= Name],
-            Killed = heal_sim_trace:trace("kill ~p", [Name], Sim#sim{nodes = Nodes#{Name := #node{runs = Node#node.runs, life = dead}}}),
+            Killed = heal_sim_trace:trace("kill ~p", [Name], Sim#sim{nodes = Nodes#{Name := Node#node{part = none, life = dead, is_hung = false,
+                                                                                                                backlog = [], table = #{}, own = #{}, kept = #{}}}}),
             Cut = lists:foldl(fun(Other, Sum) -> {A, B} = pair(Name, Other), cut(A, B, Sum) end, Killed, Others),
-            forget_calls(Name, Cut#sim{uploads = [Upload || Upload = {On, _} <- Cut#sim.uploads, On =/= Name]})
+            forget_calls(Name, Cut#sim{uploads = [Upload || Upload = {On, _} <- Cut#sim.uploads, Cut#sim.has_disks orelse On =/= Name]})
     end.
 
 hang(Name, Sim = #sim{nodes = Nodes}) ->

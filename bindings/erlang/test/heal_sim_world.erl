@@ -8,7 +8,7 @@
 -export([start/1, end_process/1]).
 -export([open/6, hear/2, withdraw/2, close/1, finish/3, registration/2, seed/0, serial/0, is_alive/1]).
 
--record(handle, {side, seed, names, other = none, withdrawn = [], is_closed = false}).
+-record(handle, {side, seed, names, other = none, withdrawn = [], is_closed = false, merged = #{}}).
 
 start(Fault) ->
     put({?MODULE, fault}, Fault),
@@ -46,8 +46,9 @@ finish(Heard, _Names, Handle = #handle{side = Side, names = Own, other = Other, 
     {A, B, GoneA, GoneB} = case Side of a -> {Own, Other, Ours, Theirs}; b -> {Other, Own, Theirs, Ours} end,
     Clashes = [clash(Name, One, maps:get(Name, B), {Seed, drawn(Side)}) || {Name, One} <- lists:sort(maps:to_list(A)), is_map_key(Name, B)],
     Alone = maps:merge(maps:without(maps:keys(B) ++ GoneA, A), maps:without(maps:keys(A) ++ GoneB, B)),
-    Won = [{Name, Owner} || Clash = #{name := Name} <- Clashes, Owner <- winner(Clash, GoneA, GoneB)],
-    {ok, [{Name, Owner} || {Name, #{owner := Owner}} <- maps:to_list(Alone)] ++ Won, Clashes, Handle}.
+    Won = maps:from_list([{Name, Winner} || Clash = #{name := Name} <- Clashes, Winner <- winner(Clash, GoneA, GoneB)]),
+    Merged = maps:merge(Alone, Won),
+    {ok, [{Name, Owner} || {Name, #{owner := Owner}} <- maps:to_list(Merged)], Clashes, Handle#handle{merged = Merged}}.
 
 drawn(Side) ->
     case get({?MODULE, fault}) of
@@ -69,7 +70,7 @@ clash(Name, OfA, OfB, Seed) ->
 winner(#{verdict := neither}, _, _) ->
     [];
 winner(#{name := Name, verdict := Verdict, first_half := Half, first := First, second := Second}, GoneA, GoneB) ->
-    {#{owner := Owner}, Of} = case {Verdict, Half} of
+    {Winner, Of} = case {Verdict, Half} of
         {first, _} -> {First, Half};
         {second, a} -> {Second, b};
         {second, b} -> {Second, a}
@@ -77,8 +78,8 @@ winner(#{name := Name, verdict := Verdict, first_half := Half, first := First, s
     Gone = case Of of a -> GoneA; b -> GoneB end,
     case lists:member(Name, Gone) of
         true -> [];
-        false -> [Owner]
+        false -> [Winner]
     end.
 
-registration(Name, #handle{other = Other}) ->
-    maps:get(Name, Other).
+registration(Name, #handle{merged = Merged}) ->
+    maps:get(Name, Merged).

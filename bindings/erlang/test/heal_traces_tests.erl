@@ -1,0 +1,98 @@
+%% Short traces of heal_part that the simulator has found to break a promise, without processes.
+-module(heal_traces_tests).
+
+-include_lib("eunit/include/eunit.hrl").
+-include("../src/heal_part.hrl").
+
+-define(NAME, <<"n1">>).
+
+settings(Node) ->
+    #{life => {Node, 1}, number => erlang:phash2(Node, 1000), scope => s, nodes => any, names => 10, world => heal_sim_world, now => 1,
+      connected => [], seq => 0, edit_timeout => 1000, exchange_timeout => 2000}.
+
+row(Node, Serial, Home, Weight) ->
+    Registration = #{owner => {erlang:phash2(Node, 1000), Serial}, stamp => 1, weight => Weight, extra => <<0:128>>, resolver => notify},
+    #row{registration = Registration, pid = {pid, Node, Serial}, term = ?NAME, home = {Home, 1}}.
+
+half(Row) ->
+    #half{names = #{?NAME => Row}}.
+
+%% A cluster: its parts, and what each of them did last. Messages arrive at once, but for those that `Lost' chooses.
+start(Nodes) ->
+    heal_sim_world:start(none),
+    put(done, []),
+    put(tables, #{}),
+    maps:from_list([{Node, element(2, heal_part:new(maps:merge(settings(Node), More)))} || {Node, More} <- Nodes]).
+
+connect(One, Other, Lost, Parts) ->
+    event(One, {up, Other, visible}, Lost, event(Other, {up, One, visible}, Lost, Parts)).
+
+event(Node, Event, Lost, Parts) ->
+    {Actions, Next} = heal_part:handle(Event, 2, maps:get(Node, Parts)),
+    put(done, [{Node, Action} || Action <- Actions] ++ get(done)),
+    one_table_at_a_position(element(1, heal_part:position(Next)), (heal_state:half(Next))#half.names),
+    lists:foldl(fun
+        ({send, To, Body}, Sum) when is_map_key(To, Sum) ->
+            case Lost(Node, To, Body) of
+                true -> Sum;
+                false -> event(To, {message, Node, Body}, Lost, Sum)
+            end;
+        (_, Sum) -> Sum
+    end, Parts#{Node := Next}, Actions).
+
+one_table_at_a_position(At, Names) ->
+    ?assertEqual(Names, maps:get(At, get(tables), Names)),
+    put(tables, (get(tables))#{At => Names}).
+
+none_lost(_From, _To, _Body) -> false.
+
+done(Node) ->
+    [Action || {Of, Action} <- get(done), Of =:= Node].
+
+position(Node, Parts) ->
+    element(1, heal_part:position(maps:get(Node, Parts))).
+
+%% A primary that has dropped a member, which doesn't know so, sends it what it has already: the member joins again.
+joins_again_test() ->
+    Joined = connect(a, b, fun none_lost/3, start([{a, #{}}, {b, #{}}])),
+    ?assertEqual(position(a, Joined), position(b, Joined)),
+    #{a := A} = Back = event(a, {up, b, visible}, fun none_lost/3, event(a, {down, b}, fun none_lost/3, Joined)),
+    ?assertMatch(#part{members = #{b := #member{is_joined = true}}, settle_by = none}, A),
+    _ = event(b, {call, 1, {unregister, ?NAME, any}}, fun none_lost/3, Back),
+    ?assertEqual([{reply, 1, {error, 31}}], [Reply || Reply = {reply, _, _} <- done(b)]).
+
+%% A registry fails before its loser has its notice. When it starts again, the name that it answers for is its own: another exchange
+%% decides.
+fails_before_its_notice_test() ->
+    heal_sim_world:start(none),
+    Replica = heal_replica:resume({b, 1}, {{{a, 1}, 2}, 5}, 1, half(row(a, 7, a, 0))),
+    {_, Part} = heal_part:new((settings(b))#{replica => Replica, own => #{?NAME => row(b, 3, b, 0)}}),
+    ?assertMatch({{{b, 1}, 2}, _}, element(1, heal_part:position(Part))),
+    ?assertMatch(#{?NAME := #row{pid = {pid, b, 3}}}, (heal_state:half(Part))#half.names).
+
+%% Two parts have one registration, one of them before a change. Both take the same row from the exchange.
+one_registration_in_two_parts_test() ->
+    Parts = connect(a, b, fun none_lost/3, start([{a, #{}}, {b, #{}}])),
+    [Of, Of] = [merged(Node, Side, Row, Other, maps:get(Node, Parts))
+                || {Node, Side, Row, Other} <- [{a, a, row(c, 1, c, 0), row(c, 1, c, 9)}, {b, b, row(c, 1, c, 9), row(c, 1, c, 0)}]].
+
+%% The row that a node takes from an exchange, which ends with the other's list.
+merged(Node, Side, Row = #row{registration = Own}, #row{registration = Of, pid = Pid, home = Home}, Part) ->
+    [Peer] = [a, b] -- [Side],
+    {ok, _, Begun} = heal_sim_world:open(Side, 1, 7, #{?NAME => Row}, #{}, 10),
+    {ok, Heard} = heal_sim_world:hear({Peer, 7, #{?NAME => Of}}, Begun),
+    Open = #open{node = Peer, number = 1, side = Side, from = position(Node, #{Node => Part}), handle = Heard, own = #{?NAME => Row},
+                 others = #{?NAME => {maps:get(owner, Own), Pid, ?NAME, Home}}, begun = 1, deadline = 9,
+                 stage = case Side of a -> listed; b -> offered end},
+    case heal_meeting:message(Peer, {list, 1, {[], []}}, Part#part{heal = Open}) of
+        #part{heal = #open{stage = {done, #half{names = #{?NAME := Merged}}, _}}} -> Merged;
+        Led -> maps:get(?NAME, (heal_state:half(Led))#half.names)
+    end.
+
+%% A change that was sent to a primary which is lost may have been made, so a refusal by the next one means nothing.
+repeated_change_test() ->
+    Joined = connect(a, b, fun none_lost/3, start([{a, #{}}, {b, #{}}])),
+    Lost = fun(b, a, {request, _, _, _}) -> true; (_, _, _) -> false end,
+    Called = event(b, {call, 7, {change, ?NAME, any, #{weight => 1}}}, Lost, Joined),
+    _ = event(b, {down, a}, fun none_lost/3, Called),
+    ?assertEqual([{reply, 7, {error, {timeout, unknown}}}], [Reply || Reply = {reply, 7, _} <- done(b)]).
