@@ -3,8 +3,8 @@
 
 mod comparing;
 mod fault;
-mod sweep;
+mod sweeping;
 
 pub use comparing::{is_same_option, is_same_program, is_same_table};
 pub use fault::Fault;
-pub use sweep::{Call, Starved, Subject, sweep};
+pub use sweeping::{Call, Starved, Subject, sweep};

@@ -43,7 +43,7 @@ enum Outcome {
     Answered,
     /// It ran out of memory, changed nothing, and succeeded when it was made again.
     Refused,
-    /// The call is wrong, as this line says.
+    /// The call is wrong, for this reason.
     Wrong(&'static str),
 }
 
