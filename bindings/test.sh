@@ -199,7 +199,8 @@ else
     skip "there is no cargo, so the bindings for Rust were not tested"
 fi
 if has_erlang; then
-    make -s -C erlang HEAL="$HEAL_OUT" test sanitize
+    # On three nodes, to save time: `make test` also runs the tests on two and on five.
+    HEAL_NODES=${HEAL_NODES:-3} make -s -C erlang HEAL="$HEAL_OUT" test sanitize
     if command -v python3 > /dev/null; then
         c/nodes.py 6 erl -noshell -pa "$PWD/erlang/ebin" "$PWD/erlang/out" -run heal_node main -extra
     fi

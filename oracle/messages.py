@@ -7,7 +7,6 @@ import collections
 import hashlib
 import struct
 
-import machine
 import registry
 import verifier
 from machine import Refused
@@ -99,7 +98,7 @@ class Reader:
         """A name is one field with its length. If it ends too early and is too long, the lesser number is its fault."""
         start = self.at
         name = self.take(self.number(1), start)
-        if not 1 <= len(name) <= 32 or not all(0x21 <= byte <= 0x7e for byte in name):
+        if not registry.is_name(name):
             raise self.fault(75, start)
         return name
 
@@ -179,9 +178,7 @@ def program_faults(kind, value, programs):
     digest = hashlib.sha256(value).digest()
     if digest in programs:
         return [80]
-    try:
-        verifier.verify(machine.decode(value))
-    except Refused:
+    if not verifier.is_accepted(value):
         return [81]
     programs[digest] = value
     return []

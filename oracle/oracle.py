@@ -6,13 +6,12 @@ aren't imitated but for their status, 1.
 
 import sys
 
+import files
 import machine
 import script
 import text
 import verifier
 from machine import Refused
-
-MAX_FILE = 1 << 20
 
 
 def refusal(refused):
@@ -20,46 +19,58 @@ def refusal(refused):
     return f"refused {refused.number}{place}\n"
 
 
+def refused_by(*faults):
+    """What a command prints for the least of these refusals. A file that can't be read is a device fault, which comes first."""
+    if any(refused.number == 58 for refused in faults):
+        return "device fault\n", 3, {58}
+    least = min(faults, key=lambda refused: refused.number)
+    return refusal(least), 2, {least.number}
+
+
 def guarded(call, *arguments):
     """Returns what a command prints, its status, and the numbers of the refusals."""
     try:
         return call(*arguments), 0, set()
     except Refused as refused:
-        return refusal(refused), 2, {refused.number}
+        return refused_by(refused)
 
 
-def loaded(digits, profile):
-    insns = machine.decode(script.hex_bytes(digits.encode()))
+def decoded(word):
+    """The instructions of a word: hex digits, or @ and a file."""
+    return machine.decode(files.code_of(word.encode()))
+
+
+def loaded(word, profile):
+    insns = decoded(word)
     verifier.verify(insns, profile)
     return insns
 
 
-def check(digits, profile=2):
-    return guarded(lambda: f"accepted {len(loaded(digits, profile))} instructions\n")
+def check(word, profile=2):
+    return guarded(lambda: f"accepted {len(loaded(word, profile))} instructions\n")
 
 
-def judge(digits, record_digits):
+def judge(word, record_digits):
     """Of the faults of the code and of the record the least is printed."""
     faults, found = [], []
-    for read in (lambda: loaded(digits, 2), lambda: machine.record_of(script.hex_bytes(record_digits.encode()))):
+    for read in (lambda: loaded(word, 2), lambda: machine.record_of(files.hex_bytes(record_digits.encode()))):
         try:
             found.append(read())
         except Refused as refused:
             faults.append(refused)
     if faults:
-        least = min(faults, key=lambda refused: refused.number)
-        return refusal(least), 2, {least.number}
+        return refused_by(*faults)
     r0, steps = machine.run(*found)
     return f"{machine.answer(r0)} in {steps} steps\n", 0, set()
 
 
-def dis(digits):
-    return guarded(lambda: text.disassemble(machine.decode(script.hex_bytes(digits.encode()))))
+def dis(word):
+    return guarded(lambda: text.disassemble(decoded(word)))
 
 
 def asm(data):
     def assembled():
-        if len(data) > MAX_FILE:
+        if len(data) > files.MAX_FILE:
             raise Refused(57)
         try:
             decoded = data.decode()
@@ -98,7 +109,7 @@ def main(words):
         except OSError:
             return "device fault\n", 3
         return (asm if command == "asm" else script.run)(data)[:2]
-    calls = {"check": lambda digits: check(digits, profile), "judge": judge, "dis": dis}
+    calls = {"check": lambda word: check(word, profile), "judge": judge, "dis": dis}
     return calls[command](*arguments)[:2]
 
 

@@ -19,8 +19,12 @@ Registration = collections.namedtuple("Registration", "node serial stamp weight 
 Clash = collections.namedtuple("Clash", "name first second of_first of_second")
 
 
+def is_name(name):
+    return 1 <= len(name) <= 32 and all(0x21 <= byte <= 0x7e for byte in name)
+
+
 def check_name(name):
-    if not 1 <= len(name) <= 32 or not all(0x21 <= byte <= 0x7e for byte in name):
+    if not is_name(name):
         raise Refused(44)
     return name
 
@@ -32,21 +36,14 @@ def order(registration):
     return registration[:5] + (resolver,)
 
 
-class Store:
-    """The uploaded programs by their ids."""
-
-    def __init__(self):
-        self.programs = {}
-
-    def upload(self, code):
-        """Verifies code and keeps it. Returns its id, the SHA-256 digest of its bytes."""
-        insns = machine.decode(code)
-        verifier.verify(insns)
-        digest = hashlib.sha256(code).digest()
-        if digest not in self.programs and len(self.programs) == MAX_PROGRAMS:
-            raise Refused(43)
-        self.programs[digest] = insns
-        return digest
+def upload(store, code):
+    """Verifies code and keeps it in a store, which has codes by their ids. Returns its id, the SHA-256 digest of its bytes."""
+    verifier.verify(machine.decode(code))
+    digest = hashlib.sha256(code).digest()
+    if digest not in store and len(store) == MAX_PROGRAMS:
+        raise Refused(43)
+    store[digest] = code
+    return digest
 
 
 class Table:
@@ -87,14 +84,14 @@ def word_of(seed, index):
     return seed + index & (1 << 64) - 1
 
 
-def verdict(clash, word, programs):
-    """What the resolver of the first registration answers: first, second or none."""
+def verdict(clash, word, codes):
+    """What the resolver of the first registration answers: first, second or none. `codes` has the code of each program by its id."""
     if clash.first.resolver == 2:
         return "none"
     if clash.first.resolver in (0, 1):
         return "second" if word & 1 else "first"
     data = machine.record(clash.name, clash.first, clash.second, word, clash.of_first, clash.of_second)
-    return machine.answer(machine.run(programs[clash.first.resolver], data)[0])
+    return machine.answer(machine.run(machine.decode(codes[clash.first.resolver]), data)[0])
 
 
 def notices(clash, answer):

@@ -7,12 +7,10 @@ import collections
 import hashlib
 import struct
 
-import machine
 import messages
 import registry
 import side
 import verifier
-from machine import Refused
 from side import refuse
 
 ENTRY, SNAPSHOT = 3, 4
@@ -130,7 +128,7 @@ def decode_entry(data):
         refuse((76, by == messages.BY_CODE))
         value = value[0], value[1]._replace(resolver=resolver)
     if kind == UPLOAD:
-        refuse((81, not is_program(value)))
+        refuse((81, not verifier.is_accepted(value)))
     return Entry(view, op, kind, value)
 
 
@@ -138,14 +136,6 @@ def decode_limit(reader):
     limit = reader.count(MOST_NAMES)
     refuse((73, limit == 0))
     return limit
-
-
-def is_program(code):
-    try:
-        verifier.verify(machine.decode(code))
-    except Refused:
-        return False
-    return True
 
 
 def encode_snapshot(snapshot):
@@ -165,7 +155,7 @@ def decode_snapshot(data):
     store = {}
     for code in codes:
         digest = hashlib.sha256(code).digest()
-        refuse((81, not is_program(code)))
+        refuse((81, not verifier.is_accepted(code)))
         refuse((78, digest <= max(store, default=b"")))
         store[digest] = code
     return Snapshot(view, op, limit, latest, store, *messages.decode_rows(reader))
@@ -201,9 +191,7 @@ class Replica:
         elif kind == UNREGISTER:
             self.table.unregister(value)
         elif kind == UPLOAD:
-            digest = hashlib.sha256(value).digest()
-            refuse((43, digest not in self.store and len(self.store) == registry.MAX_PROGRAMS))
-            self.store[digest] = value
+            registry.upload(self.store, value)
         elif kind == LIMIT:
             refuse((32, len(self.table.rows) > value))
             self.table.limit = value
@@ -241,8 +229,7 @@ class Replica:
 
     def snapshot(self):
         rows = self.table.sorted()
-        used = {r.resolver: self.codes[r.resolver] for _, r in rows if isinstance(r.resolver, bytes)}
-        return encode_snapshot(Snapshot(self.view, self.op, self.table.limit, self.latest, self.store, rows, used))
+        return encode_snapshot(Snapshot(self.view, self.op, self.table.limit, self.latest, self.store, rows, self.codes))
 
     def follow(self, data):
         taken = decode_snapshot(data)

@@ -6,6 +6,7 @@ Follows docs/SCRIPTS.md.
 import re
 
 import files
+import machine
 import registry
 from files import hex_bytes
 from machine import Refused
@@ -23,7 +24,7 @@ def number(word, most):
 
 class Script:
     def __init__(self):
-        self.store = registry.Store()
+        self.store = {}                        # the code of each program by its id
         self.labels = {}                       # the id of each label's program, in the order of uploads
         self.tables = {b"a": registry.Table(), b"b": registry.Table()}
         self.line_number = 0
@@ -54,9 +55,9 @@ class Script:
     def upload(self, label, code):
         if label in self.labels or label.decode() in registry.BUILTINS or len(label) > 32:
             raise Refused(53)
-        digest = self.store.upload(files.code_of(code))
-        self.labels[label] = digest
-        return [f"uploaded {label.decode()} {len(self.store.programs[digest])} instructions"]
+        code = files.code_of(code)
+        self.labels[label] = registry.upload(self.store, code)
+        return [f"uploaded {label.decode()} {len(machine.decode(code))} instructions"]
 
     def register(self, side, name, owner, stamp, weight, data, resolver):
         registry.check_name(name)
@@ -109,7 +110,7 @@ class Script:
         lines, answers = [], {}
         for index, clash in enumerate(registry.clashes(a, b, *uptimes)):
             word = registry.word_of(seed, index)
-            answer = registry.verdict(clash, word, self.store.programs)
+            answer = registry.verdict(clash, word, self.store)
             answers[clash.name] = clash, answer
             lines += [f"{clash.name.decode()} {answer} word {word}"] + registry.notices(clash, answer)
         merged = registry.merge(a, b, answers, withdrawn.values())

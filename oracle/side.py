@@ -3,12 +3,8 @@
 Follows docs/EMBEDDING.md, docs/MESSAGES.md and bindings/c/heal.h (events, and the order of refusals).
 """
 
-import hashlib
-
-import machine
 import messages
 import registry
-import verifier
 from machine import Refused
 
 EVENTS_OF_NAME = 16
@@ -44,11 +40,7 @@ class Side:
     # ---- Names and programs ----
 
     def upload(self, code):
-        verifier.verify(machine.decode(code))
-        digest = hashlib.sha256(code).digest()
-        refuse((43, digest not in self.uploads and len(self.uploads) == registry.MAX_PROGRAMS))
-        self.uploads[digest] = code
-        return digest
+        return registry.upload(self.uploads, code)
 
     def names_program(self, digest):
         return any(r.resolver == digest for r in self.table.rows.values())
@@ -87,9 +79,7 @@ class Side:
         refuse((33, self.exchange), (35, self.latest is not None and number <= self.latest), (40, self.full()))
         self.exchange, self.latest = Exchange(number, seed, uptime), number
         self.events += 1
-        rows = self.table.sorted()
-        used = {r.resolver: self.codes[r.resolver] for _, r in rows if isinstance(r.resolver, bytes)}
-        return messages.encode_offer(messages.Offer(self.side, number, seed, uptime, rows, used))
+        return messages.encode_offer(messages.Offer(self.side, number, seed, uptime, self.table.sorted(), self.codes))
 
     def head(self, data):
         """What a message is refused for by its head alone."""
@@ -125,9 +115,9 @@ class Side:
             return
         _, found = self.clashes()
         refuse((40, self.events + len(found) > self.most_events))
-        programs = {digest: machine.decode(code) for digest, code in {**self.codes, **self.exchange.offer.programs}.items()}
+        codes = {**self.codes, **self.exchange.offer.programs}
         words = [(clash, registry.word_of(self.exchange.seed, index)) for index, clash in enumerate(found)]
-        self.exchange.answers = [(clash, word, registry.verdict(clash, word, programs)) for clash, word in words]
+        self.exchange.answers = [(clash, word, registry.verdict(clash, word, codes)) for clash, word in words]
         self.events += len(found)
 
     def withdraw(self, name):

@@ -247,6 +247,15 @@ def verify(insns, profile=2):
             states[target] = states[target].join(carried) if target in states else carried
 
 
+def is_accepted(code):
+    """Whether the bytes are code that is accepted."""
+    try:
+        verify(machine.decode(code))
+    except Refused:
+        return False
+    return True
+
+
 def entry_state():
     start = State([None] * 11, 0)
     start.regs[1], start.regs[10] = Address("record", 0, 0), Address("stack", 0, 0)

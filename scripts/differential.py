@@ -4,9 +4,9 @@
     scripts/differential.py [--seconds N] [--seed S] [--case I] [--library FILE] [PROGRAM]
 
 Each case is made from the seed, which is printed, and its number, and is given to both: codes to check, judge and dis,
-texts to asm, and scripts to run. The first difference ends the comparison with its input and both answers. At the end
-the numbers of refusals that were never reached are printed; the status is 1 if one of REACHABLE is among them. Cases are
-tried for N seconds, 20 by default, and on until these numbers are reached, up to case 2,000.
+texts to asm, and scripts to run. The first difference ends the comparison with its input and both answers. Cases are tried
+for N seconds, 60 by default, and on until each refusal of docs/REFUSALS.md was reached, up to case 2,000. At the end the
+numbers are printed with how often each was reached; the status is 1 if one was never reached that isn't in UNREACHABLE.
 `--case I` carries out case I alone. With a built libheal.so, by default that of bindings/c/out, codes are loaded and judged
 through it as well, which is much faster and shows r0 whole, messages are encoded and decoded, and all calls of sides and replicas
 are made through its Python package.
@@ -16,6 +16,7 @@ import argparse
 import ctypes
 import hashlib
 import importlib
+import itertools
 import os
 import pathlib
 import random
@@ -40,10 +41,15 @@ import text
 import verifier
 from random_codes import EXIT, Codes, slot
 
-# The refusals that the commands can give.
-REACHABLE = {*range(1, 9), *range(10, 27), 30, 31, 32, 37, 41, 43, 44, 47, *range(50, 59), *range(60, 64)}
-# Those that sides and replicas give too. 42 is a collision of digests, and 99 comes after 2^64 entries.
-OF_CALLS = {33, 34, 35, 36, 39, 40, 45, 46, 48, 49, *range(70, 85), 92, *range(94, 99)}
+# Refusals that no input reaches, each with the reason.
+UNREACHABLE = {
+    38: "rulings are posted on a board, which neither the program nor the library has",
+    42: "it takes two codes of one SHA-256 digest",
+    90: "scripts/sweep_memory.sh and bindings/c/sweep.c make allocations fail",
+    99: "it takes 2^64 calls: a replica counts the views that it starts, and the entries that it makes there",
+}
+# Those of the library's calls alone.
+OF_CALLS = {33, 34, 35, 36, 39, 40, 45, 46, 48, 49, *range(70, 85), *range(91, 99)}
 
 
 # ---- Texts ----
@@ -129,6 +135,19 @@ class Files:
     def clear(self):
         for name in os.listdir(self.folder):
             os.remove(os.path.join(self.folder, name))
+
+    def special(self):
+        """A script that uploads files of each form and of each fault, a folder, and a file that isn't there."""
+        code = slot(0xb7, imm=1) + EXIT
+        made = code_files.object_file
+        contents = [b"", code, code.hex().encode(), code_files.spaced(code), made(code), made(code, machine=62), made(code, relocated=True),
+                    made(code, name=b".data"), made(b""), b"\x7fELF", b"0" * 7, b"00" * 8193, bytes(1 << 20), bytes((1 << 20) + 1)]
+        lines = [f"upload folder @{self.folder}", f"upload absent @{self.folder}/absent", "upload unnamed @"]
+        for index, content in enumerate(contents):
+            path = pathlib.Path(self.folder, f"s{index}")
+            path.write_bytes(content)
+            lines.append(f"upload l{index} @{path}")
+        return "\n".join(lines).encode()
 
 
 class Scripts:
@@ -347,7 +366,41 @@ def special_scripts():
            + EXIT.hex().encode() + b"\n" + b"y" * 30_000)
 
 
+def orders_of_registrations():
+    """Pairs of registrations in which one field is less and a later one is greater, in each half."""
+    less, more = ("1", "1", "1", "1", "0" * 31 + "1", "exit"), ("2", "2", "2", "2", "0" * 31 + "2", "notify")
+    lines = []
+    for first, later in itertools.combinations(range(6), 2):
+        for halves in ("ab", "ba"):
+            pair = list(less), list(less)
+            pair[0][later], pair[1][first] = more[later], more[first]
+            for half, (node, serial, *fields) in zip(halves, pair):
+                lines.append(f"register {half} n{first}{later}{halves} {node}.{serial} {' '.join(fields)}")
+    return "\n".join(lines + ["heal 0", "show a"]).encode()
+
+
+def bytes_of_records():
+    """A program for each byte of the record, which answers by two of its bits, and clashes that they judge."""
+    places = range(machine.RECORD_BYTES)
+    lines = [f"upload p{at} {(slot(0x71, 0, 1, at) + slot(0x77, imm=at % 3 * 2) + slot(0x57, imm=3) + EXIT).hex()}" for at in places]
+    for at, half in itertools.product(places, "ab"):
+        node, serial, stamp, weight = struct.unpack("<IIQQ8x", hashlib.sha256(f"{at}{half}".encode()).digest())
+        lines.append(f"register {half} name{at} {node}.{serial} {stamp} {weight} {stamp ^ weight << 64:032x} p{at}")
+    # The halves have unequal sizes and uptimes.
+    lines += ["register a other 1.1 0 0 - exit", "heal 72623859790382856 1234605616436508552 9833440827789222417", "show a"]
+    return "\n".join(lines).encode()
+
+
+def each_mnemonic():
+    """Two lines with each mnemonic: an operand that may be a register or a number is both."""
+    operands = {"dst": "r3", "src": "r4", "imm": "-9", "value": "5000000000", "near": "+7", "far": "-70000",
+                "from": "[r1+8]", "to": "[r10-8]"}
+    return [f"{mnemonic} {', '.join(operands.get(kind, source) for kind in kinds)}"
+            for mnemonic, (_, kinds, _, _) in text.MNEMONICS.items() for source in ("r5", "-6")]
+
+
 def special_texts():
+    yield "\n".join(each_mnemonic()).encode()
     yield b"exit ;" + b";" * ((1 << 20) - 6)
     yield b";" * ((1 << 20) + 1)
     yield b"\xff" * ((1 << 20) + 1)
@@ -379,8 +432,9 @@ def examples_of_documents():
 class Comparison:
     def __init__(self, program, library, seed, files):
         self.program, self.library, self.seed, self.files = program, library, seed, files
-        self.sides, self.replicas = (map(importlib.import_module, ["random_sides", "random_replicas"]) if library else (None, None))
-        self.examples = examples_of_documents()
+        self.sides, self.replicas, self.special_calls = (
+            map(importlib.import_module, ["random_sides", "random_replicas", "special_calls"]) if library else (None,) * 3)
+        self.examples, self.numbers = examples_of_documents(), numbers_of_document()
         self.reached, self.counts = {}, {}
 
     def compare(self, command, arguments, data, expected):
@@ -406,25 +460,36 @@ class Comparison:
     def asm(self, data):
         return self.compare("asm", ["-"], data, oracle.asm(data))
 
-    def code(self, code, data, profile):
-        digits = code.hex()
-        return (self.compare("check", ["--profile", str(profile), digits], None, oracle.check(digits, profile))
-                and self.compare("judge", [digits, data.hex()], None, oracle.judge(digits, data.hex()))
-                and self.compare("dis", [digits], None, oracle.dis(digits)))
+    def dis(self, word):
+        return self.compare("dis", [word], None, oracle.dis(word))
+
+    def code(self, word, data, profile):
+        """Compares the answers to code, as digits or in a file."""
+        return (self.compare("check", ["--profile", str(profile), word], None, oracle.check(word, profile))
+                and self.compare("judge", [word, data.hex()], None, oracle.judge(word, data.hex())) and self.dis(word))
 
     def special(self):
         """The cases before the random ones."""
         return (all(self.script(data) for data in special_scripts())
                 and all(self.script(path.read_bytes()) for path in sorted((ROOT / "examples").glob("*.heal")))
                 and all(self.asm(data) for data in special_texts())
-                and self.script("\n".join(f"upload l{i} {code.hex()}" for i, code in enumerate(self.examples)).encode())
+                and self.dis(oracle.asm("\n".join(each_mnemonic()).encode())[0].strip())
+                and self.script(self.files.special()) and self.script(orders_of_registrations()) and self.script(bytes_of_records())
+                and self.uploads(self.examples) and self.uploads(list(Codes(random.Random(self.seed), self.examples).each()))
                 and all(self.compare("judge", arguments, None, oracle.judge(*arguments)) for arguments in
                         [[EXIT.hex(), "00"], ["0", "0"], ["b7000000010000009500000000000000", "00" * 127], ["", "00" * 160],
-                         ["B700000001000000" + EXIT.hex(), "0A" * 128]]))
+                         ["B700000001000000" + EXIT.hex(), "0A" * 128]])
+                and (not self.library or all(self.alike(*call) for call in self.special_calls.calls())))
+
+    def uploads(self, codes):
+        """Scripts that upload these codes, each as many as a store has room for."""
+        lines = [f"upload l{index} {code.hex()}" for index, code in enumerate(codes)]
+        size = registry.MAX_PROGRAMS
+        return all(self.script("\n".join(lines[start:start + size]).encode()) for start in range(0, len(lines), size))
 
     def missed(self):
         """The numbers within reach that weren't reached yet."""
-        return sorted((REACHABLE | (OF_CALLS if self.library else set())) - self.reached.keys())
+        return sorted(self.numbers - UNREACHABLE.keys() - (set() if self.library else OF_CALLS) - self.reached.keys())
 
     def same(self, what, given, got, wanted):
         """Compares an answer of the library."""
@@ -461,8 +526,22 @@ class Comparison:
                 data = rng.choice([damaged(rng, data)] * 14 + [wrong] * 6 + [wanted[0], wanted[1]])
                 pair = self.sides.Pair(1 - offer.side, 40)
                 calls = ("begin", offer.number, offer.seed, 0), (name, data)
-                if not all(self.alike(call, pair.call(*call)) for call in calls):
+                if not all(self.alike(call, pair.call(*call)) for call in calls) or not self.faults(data):
                     return False
+        return True
+
+    def faults(self, data):
+        """Compares the first fault of a message, with its place, read as an offer and as a list."""
+        heal = self.sides.heal
+        for find, decode in ((heal.offer_fault, messages.decode_offer), (heal.list_fault, messages.decode_withdrawals)):
+            found, wanted = find(data), None
+            try:
+                decode(data)
+            except machine.Refused as refused:
+                kind, at = refused.place
+                wanted = refused.number, at if kind == "byte" else None, None if kind == "byte" else at
+            if not self.same("faults", (decode.__name__, data), found and (found.number, found.byte, found.item), wanted):
+                return False
         return True
 
     def walk(self, of, rng, codes):
@@ -493,8 +572,9 @@ class Comparison:
             return self.script(scripts.uploads() if kind == "uploads" else scripts.any())
         if kind == "asm":
             return all(self.asm(Texts(rng, codes).any()) for _ in range(10))
-        record = rng.randbytes(rng.choice([160, 160, 160, 128, 127]))
-        return self.code(codes.any(), record, rng.choice([1, 2]))
+        self.files.clear()
+        words = [self.files.word(rng, code) if rng.random() < 0.2 else code.hex() for code in [codes.any() for _ in range(4)]]
+        return all(self.code(word, rng.randbytes(rng.choice([160, 160, 160, 128, 127])), rng.choice([1, 2])) for word in words)
 
 
 def report(got, wanted):
@@ -508,14 +588,14 @@ def report(got, wanted):
 
 def main():
     parser = argparse.ArgumentParser(description=__doc__.split("\n")[0])
-    parser.add_argument("--seconds", type=float, default=20)
+    parser.add_argument("--seconds", type=float, default=60)
     parser.add_argument("--seed", type=int, default=random.randrange(1 << 32))
     parser.add_argument("--case", type=int)
     parser.add_argument("--library", default=str(ROOT / "bindings/c/out/libheal.so"))
     parser.add_argument("program", nargs="?", default=str(ROOT / "crates/heal_main/out/heal_main"))
     options = parser.parse_args()
     library = None
-    if pathlib.Path(options.library).exists():
+    if pathlib.Path(options.library).is_file():
         # The Python package loads the library that this names.
         os.environ["HEAL_LIBRARY"] = options.library
         sys.path.insert(0, str(ROOT / "bindings" / "python"))
@@ -542,17 +622,22 @@ def compare_all(comparison, options):
         return 1
     print(f"{index} random cases alike; commands: " + ", ".join(f"{n} {c}" for c, n in sorted(comparison.counts.items())))
     print("refusals: " + ", ".join(f"{number}: {n}" for number, n in sorted(comparison.reached.items())))
+    # One that is reached after all doesn't belong into UNREACHABLE.
+    wrong = sorted(UNREACHABLE.keys() & comparison.reached.keys())
     missed = comparison.missed()
-    never = sorted(set(numbers_of_document()) - comparison.reached.keys())
-    print("never reached: " + ", ".join(map(str, never)))
+    for number in sorted(comparison.numbers - comparison.reached.keys() - set(missed)):
+        print(f"not reached: {number}: {UNREACHABLE.get(number, 'of calls of the library')}")
     if missed:
         print("FAILED: within reach, but not reached: " + ", ".join(map(str, missed)))
-    return 1 if missed else 0
+    if wrong:
+        print("FAILED: reached, but in UNREACHABLE: " + ", ".join(map(str, wrong)))
+    return 1 if missed or wrong else 0
 
 
 def numbers_of_document():
+    """The numbers of all refusals."""
     rows = (ROOT / "docs" / "REFUSALS.md").read_text().splitlines()
-    return [int(found.group(1)) for row in rows for found in [re.match(r"\| (\d+) \|", row)] if found]
+    return {int(found.group(1)) for row in rows for found in [re.match(r"\| (\d+) \|", row)] if found}
 
 
 if __name__ == "__main__":

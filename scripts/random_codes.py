@@ -14,6 +14,9 @@ NUMBERS = [0, 1, 2, 3, 7, 8, 15, 16, 31, 32, 63, 64, 127, 128, 159, 160, 255, 25
            (1 << 31) - 1, 1 << 31, (1 << 32) - 1, 1 << 32, (1 << 63) - 1, 1 << 63, (1 << 64) - 1]
 ALU_CODES = [0, 1, 2, 3, 4, 5, 6, 7, 9, 10, 11, 12]
 TEST_CODES = list(machine.TEST_NAMES)
+# Pairs of ranges that differ in what the operations make of them; each twice, since two codes show what each end is.
+RANGES = [pair for pair in [((100, 200), (3, 7)), ((0, 9), (0, 3)), ((1 << 33, 1 << 34), (5, 5)), (((1 << 64) - 9, (1 << 64) - 1), (1, 20)),
+                            ((1 << 31, (1 << 31) + 6), (31, 34)), ((40, 60), (50, 1 << 63))] for _ in range(2)]
 
 
 def slot(opcode, dst=0, src=0, off=0, imm=0):
@@ -192,10 +195,8 @@ class Codes:
             code += wide(9, value) + slot(opcode, register, 9, 1) + slot(0xbf, 9, 8)
         return code + slot(0x57, 0, imm=3) + EXIT
 
-
     def exact(self):
-        """Two numbers of chosen ranges, one operation or test, and tests at all ends of the ranges that it gives. At the
-        end a read of an unset register is dead or live by the greatest value of register 5, which holds what they show."""
+        """Two numbers of chosen ranges, one operation or test, and tests at all ends of the ranges that it gives."""
         code = self.ranged(2)
         found = last_state(code).regs[2]
         code += wide(3, self.rng.choice(found.unsigned + found.signed)) if self.rng.random() < 0.2 else self.ranged(3)
@@ -203,6 +204,11 @@ class Codes:
             code += self.arithmetic(self.rng.choice([2, 2, 2, 3]), [2, 3, 3, 3])
         else:
             code += self.on_one_edge()
+        return self.with_ends(code, self.rng.randrange(2))
+
+    def with_ends(self, code, less):
+        """Code with tests at all ends of the ranges of registers 2 and 3. Behind them a read of an unset register is dead or live by the
+        greatest value of register 5, which holds what they show: dead if `less` is 0, live if it is 1."""
         state, most = last_state(code), 0
         if state:
             code += slot(0xb7, 5)
@@ -213,8 +219,21 @@ class Codes:
                 end = (*found.unsigned, *found.signed)[which] + ((1, -1, 1, -1)[which] if inside else 0)
                 code += wide(9, end) + slot(opcode, register, 9, 1) + slot(0x07, 5, imm=1 << bit)
                 most += inside << bit
-            code += slot(0xb5, 5, off=1, imm=most - self.rng.randrange(2)) + slot(0xbf, 9, 8)
+            code += slot(0xb5, 5, off=1, imm=most - less) + slot(0xbf, 9, 8)
         return code + slot(0xbf, 0, 2) + slot(0x57, 0, imm=self.rng.choice([1, 2, 3])) + EXIT
+
+    def each(self):
+        """Each operation on registers 2 and 3, and each edge of each test of them, where they have each pair of RANGES."""
+        families = [(family, code, sign) for family in (4, 7) for code in ALU_CODES for sign in ((0, 1) if code in (3, 9) else (0,))]
+        made = [slot(code << 4 | 8 | family, 2, 3, sign) for family, code, sign in families]
+        made += [slot(0x80 | family, 2) for family in (4, 7)]
+        made += [slot(0xb8 | family, 2, 3, low) for family, low in ((4, 8), (4, 16), (7, 8), (7, 16), (7, 32))]
+        made += [slot(opcode, 2, imm=bits) for opcode in (0xd4, 0xdc, 0xd7) for bits in (16, 32, 64)]
+        made += [edge(slot(code << 4 | 8 | family, 2, 3, 2 if taken else 1), taken)
+                 for family in (5, 6) for code in TEST_CODES for taken in (False, True)]
+        for operation in made:
+            for index, (first, second) in enumerate(RANGES):
+                yield self.with_ends(self.between(2, *first) + self.between(3, *second) + operation, index % 2)
 
     def ranged(self, register):
         """A number with a chosen range, unsigned or signed: a load that is replaced by an end if it is outside."""
@@ -228,6 +247,10 @@ class Codes:
         else:
             low, high = sorted(end & (1 << 64) - 1 for end in (low, high))
             tests = 0x3d, 0xbd
+        return self.between(register, low, high, tests)
+
+    def between(self, register, low, high, tests=(0x3d, 0xbd)):
+        """A load that is replaced by an end if it is outside."""
         return self.load(register) + b"".join(wide(9, end) + slot(opcode, register, 9, 1) + slot(0xbf, register, 9)
                                               for end, opcode in zip((low, high), tests))
 
@@ -272,14 +295,19 @@ class Codes:
     def on_one_edge(self):
         """A test of registers 2 and 3, or of one with a number, one of whose edges leads to EXIT."""
         opcode = self.rng.choice(TEST_CODES) << 4 | self.rng.choice([5, 5, 6])
-        answer = slot(0xb7, 0, imm=1) + EXIT
         taken = self.rng.random() < 0.5
         off = 2 if taken else 1
         if self.rng.random() < 0.6:
             test = slot(opcode | 8, *self.rng.choice([(2, 3), (2, 3), (3, 2), (2, 3), (2, 3), (2, 2)]), off)
         else:
             test = slot(opcode, 2, 0, off, self.small())
-        return test + (answer if taken else slot(0x05, off=2) + answer)
+        return edge(test, taken)
+
+
+def edge(test, taken):
+    """A test, which jumps by 2 or 1, with EXIT behind its other edge."""
+    answer = slot(0xb7, 0, imm=1) + EXIT
+    return test + (answer if taken else slot(0x05, off=2) + answer)
 
 
 def last_state(code):

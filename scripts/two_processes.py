@@ -182,4 +182,5 @@ def check(finished, names):
     assert owners == expected, (owners, expected)
 
 
-main()
+if __name__ == "__main__":
+    main()

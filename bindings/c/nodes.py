@@ -4,8 +4,8 @@
 PROGRAM is the built node.c, or a program with the same requests, and its first words. Each round starts three nodes from their
 folders, and registers and unregisters names: on the primary, then on both backups, and only then an edit counts as acknowledged. At
 a random moment all three are killed (SIGKILL), or the primary alone, or the primary can't write any more: a file may not grow beyond
-a size, as on a full disk, and the node must end. Then they start again, a node that was a backup leads, and every acknowledged edit
-must be there.
+a size, as on a full disk, and the node must end, also when it is started again before there is room. Then they start again, a node that
+was a backup leads, and every acknowledged edit must be there.
 """
 
 import os
@@ -27,13 +27,15 @@ class Ended(Exception):
 class Node:
     """A process with a replica."""
 
-    def __init__(self, program, top, number):
+    def __init__(self, program, top, number, most=resource.RLIM_INFINITY):
+        """Starts a node, none of whose files may grow beyond a size."""
         self.number = number
         folder = f"{top}/{number}"
         os.makedirs(folder, exist_ok=True)
         # Python ignores SIGXFSZ, and so does the node then: a write beyond the size of a file fails.
         self.process = subprocess.Popen([*program, folder, str(number)], stdin=subprocess.PIPE, stdout=subprocess.PIPE,
-                                        stderr=subprocess.PIPE, bufsize=0, restore_signals=False)
+                                        stderr=subprocess.PIPE, bufsize=0, restore_signals=False,
+                                        preexec_fn=lambda: resource.setrlimit(resource.RLIMIT_FSIZE, (most, most)))
 
     def read(self, size):
         got = b""
@@ -59,6 +61,15 @@ class Node:
     def fill(self, size):
         """No file of the node may grow beyond the size."""
         resource.prlimit(self.process.pid, resource.RLIMIT_FSIZE, (size, size))
+
+    def must_fail(self):
+        """Waits for a node that can't write: it must end with an error."""
+        try:
+            if self.process.wait(timeout=30) > 0:
+                return
+        except subprocess.TimeoutExpired:
+            self.end()
+        sys.exit("nodes.py: a node that can't write went on, or ended without an error")
 
     def end(self):
         """Kills the process, and returns what it wrote to standard error."""
@@ -145,8 +156,11 @@ def main():
                 edits = work(half, first, others, edits, lambda: [node.kill() for node in victims])
             else:
                 edits = work(half, first, others, edits, lambda: first.fill(half.chance.randrange(4000)))
-                if first.process.wait() <= 0:
-                    sys.exit("nodes.py: a node that can't write ended without an error")
+                first.must_fail()
+                # Too small for a snapshot.
+                full = Node(program, top, first.number, most=half.chance.randrange(60))
+                full.must_fail()
+                full.end()
             cut += sum("ends within" in node.end() for node in victims)
             # A node that was a backup leads next.
             again = [Node(program, top, node.number) for node in victims]

@@ -12,6 +12,13 @@ from heal import Owner, Refused, Registration
 from heal.replica import Kind, Replica, messages
 
 
+def write_all(file, data):
+    """Writes all bytes. A single write may write fewer, as on a full disk, where the next one fails."""
+    left = memoryview(data)
+    while left:
+        left = left[file.write(left):]
+
+
 class Disk:
     """The files of a node: its incarnation and its log."""
 
@@ -22,7 +29,7 @@ class Disk:
     def replace(self, name, data):
         """Replaces a file: after a crash it has its old bytes or these."""
         file = open("new", "wb", buffering=0)
-        file.write(data)
+        write_all(file, data)
         os.fsync(file.fileno())
         os.rename("new", name)
         folder = os.open(".", os.O_RDONLY)
@@ -52,7 +59,7 @@ class Disk:
         self.log = self.replace("log", replica.snapshot())
 
     def append(self, entry):
-        self.log.write(entry)
+        write_all(self.log, entry)
         os.fdatasync(self.log.fileno())
 
 
