@@ -87,10 +87,12 @@ is_right_script() {
 # Reads the output of such a program and of the library, and prints for each call how many requests it makes and how many refused
 # ones it does without. A call is wrong if it reports a fault, if it was refused though no request was, if it answers though a
 # request was refused, if its last window refused a request, if it allocates and shouldn't, and if it should and was never
-# refused. A merge, and so a finish, collects its rows into a map: if the room for all rows is refused, it allocates row by row.
-# On the sides of this sweep some calls need no memory: unregistering copies a shared table alone; hearing a list adds an owner.
+# refused. A merge, and so a finish, collects its rows into a map, and so does the decoder of a snapshot: if the room for all rows is
+# refused, it allocates row by row. On what this sweep makes some calls need no memory: unregistering copies a shared table alone;
+# hearing a list adds an owner; a program that a replica uploads or applies adds one to a store with room.
 read_sweep() {
-    awk -v asks_again='^(merge|Side::finish)$' -v needs_none='^Side::(unregister|hear_list)$' '
+    awk -v asks_again='^(merge|Side::finish|decode_snapshot)$' \
+        -v needs_none='^(Side::(unregister|hear_list)|Replica::(edit|apply) of a program)$' '
         function fault(what) { print call ": " what > "/dev/stderr"; faults++ }
         /^call / { call = substr($0, 6); if (!(call in runs)) order[++calls] = call; runs[call]++ }
         /^refuse / { every = $2 == "all"; number = $2; made = -1 }
