@@ -63,13 +63,17 @@ check_rust() {
     rm -rf "$work/rust"
 }
 
-# Checks the OTP application with the first example of ERLANG.md.
+# Checks the OTP application with the first example of ERLANG.md, and with its cluster of five nodes, which splits and heals.
 check_erlang() {
     [ -d "$prefix/lib/erlang" ] || { echo "installed.sh: the release has no OTP application"; return; }
     alone erl -noshell -pa "$prefix/lib/erlang/lib/heal-$version/ebin" -eval '
         {ok, Side} = heal:side(a),
         ok = heal:register(Side, <<"db">>, #{owner => {1, 10}, stamp => 5}),
         {error, {30, _}} = heal:register(Side, <<"db">>, #{owner => {1, 11}, stamp => 6}), halt().'
+    echo '[{heal, [{nodes, any}]}].' > "$work/cluster.config"
+    alone erlc -o "$work" "$root/scripts/installed_cluster.erl"
+    alone erl -noshell -pa "$work" -run installed_cluster main "$prefix/lib/erlang/lib/heal-$version/ebin" "$work/cluster" > "$work/healed"
+    grep -qx "five nodes healed" "$work/healed"
 }
 
 # The owner that each half has: word 7 is odd, so `exit` keeps the second.
