@@ -31,6 +31,7 @@ check_program() {
     [ "$(alone heal check "@$prefix/share/heal/resolvers/later_stamp.hex")" = "accepted 6 instructions" ]
     [ "$(alone heal judge "@$prefix/share/heal/resolvers/later_stamp.hex" --name db --first 1.10,stamp=5 --second 2.20,stamp=9)" \
         = "second in 5 steps" ]
+    "$root/scripts/documented.py" "$prefix"
     alone heal dis "$(cat "$prefix/share/heal/resolvers/later_stamp.hex")" > "$work/text"
     [ "$(alone heal asm "$work/text")" = "$(cat "$prefix/share/heal/resolvers/later_stamp.hex")" ]
 }
