@@ -1,9 +1,8 @@
 #!/usr/bin/env python3
 """refusals.py [--write | --check]: compares the words of docs/REFUSALS.md with those of numbered::REFUSALS.
 
-Without an option it prints the table of docs/REFUSALS.md with the words of crates/numbered, and of the one refusal that only
-crates/code_file has. --write puts it into the page; the other columns stay as they are. --check fails if the words differ. All fail
-if one of the two lacks a number.
+Without an option it prints the table of docs/REFUSALS.md with the words of crates/numbered. --write puts it into the page; the
+other columns stay as they are. --check fails if the words differ. All fail if one of the two lacks a number.
 """
 import os
 import re
@@ -12,7 +11,6 @@ import sys
 TOP = os.path.join(os.path.dirname(os.path.abspath(__file__)), "..")
 PAGE = os.path.join(TOP, "docs", "REFUSALS.md")
 SOURCE = os.path.join(TOP, "crates", "numbered", "src", "table.rt")
-FILES = os.path.join(TOP, "crates", "code_file", "src", "fault.rt")
 ROW = re.compile(r"\| (\d+) \|")
 WORDS = 3  # the place of the words in a row that is split at its bars
 
@@ -22,10 +20,9 @@ def refusals():
     text = open(SOURCE, encoding="utf-8").read()
     text = text.split("pub const REFUSALS", 1)[1].split("\n];", 1)[0]
     found = re.findall(r'\(\s*(\d+),\s*"([^"]*)",?\s*\)', text)
-    of_files = re.findall(r'UNREADABLE: [^=]*= \((\d+), "([^"]*)"\)', open(FILES, encoding="utf-8").read())
-    if not found or not of_files:
-        sys.exit("refusals.py: no refusal is found in the sources")
-    return sorted(found + of_files, key=lambda row: int(row[0]))
+    if not found:
+        sys.exit("refusals.py: no refusal is found in the source")
+    return found
 
 
 def with_words(line, words):

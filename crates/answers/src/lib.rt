@@ -14,7 +14,7 @@ mod ruling;
 pub use code_file::MAX_FILE_LEN;
 pub use code_files::digits_from;
 pub use failures::{Failure, InputFault};
-pub use listing::{VERSION_LINE, print_refusals, print_version, refusal_words};
+pub use listing::{VERSION_LINE, print_refusals, print_version};
 pub use printing::Answer;
 pub use replying::{Printed, asm_from, refuse_memory, reply_to, texts_of};
 pub use ruling::{Answered, judge_one};

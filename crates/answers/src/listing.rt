@@ -3,8 +3,7 @@ ghost use Rattle.std.specs.Prelude.{◌≡◌, IfOk, codes, string_bytes};
 ghost use Rattle.std.specs.List.{flat_map};
 ghost use Rattle.answers.specs.Lines.{IsListing, Prints, refusal_row};
 
-use code_file::UNREADABLE;
-use numbered::{REFUSALS, words_of};
+use numbered::REFUSALS;
 use output::deliver;
 use std::alloc::{AllocError, Global};
 use std::io::Write;
@@ -43,52 +42,16 @@ fn print_table<W: Write>(alloc: Global, refusals: &[(u32, &'static str)], writer
             Ok(()) => 0,
             Err(_) => 3,
         },
-        Err(AllocError) => refuse_listing(writer),
-    }
-}
-
-// Returns each refusal in the order of their numbers: those of `numbered`, and that of a file that can't be read.
-fn all_refusals(alloc: Global) -> Result<Vec<(u32, &'static str)>, AllocError> {
-    let mut rows = Vec::new(alloc);
-    for row in &REFUSALS {
-        if row.0 < UNREADABLE.0 {
-            rows.push(*row)?;
+        Err(AllocError) => {
+            let _ = deliver(writer, b"refused 90\n");
+            3
         }
     }
-    rows.push(UNREADABLE)?;
-    for row in &REFUSALS {
-        if row.0 > UNREADABLE.0 {
-            rows.push(*row)?;
-        }
-    }
-    Ok(rows)
 }
 
 /// Prints each refusal with its words, and returns the exit status: 0, or 3 if the writer fails or memory runs out.
 pub fn print_refusals<W: Write>(alloc: Global, writer: &mut W) -> u8
     ensures { IsListing (W.contents writer.old) (W.contents writer.new) result }
 {
-    match all_refusals(alloc) {
-        Ok(rows) => print_table(alloc, &rows, writer),
-        Err(AllocError) => refuse_listing(writer),
-    }
-}
-
-// Prints that memory ran out, and returns the exit status for that.
-fn refuse_listing<W: Write>(writer: &mut W) -> u8
-    ensures { IsListing (W.contents writer.old) (W.contents writer.new) result }
-{
-    let _ = deliver(writer, b"refused 90\n");
-    3
-}
-
-/// Returns the words of a refusal of the program, or "unknown refusal".
-pub fn refusal_words(number: u32) -> &'static str
-    ensures { number ≡ 58 → result.now ≡ codes "a file that can't be read" }
-{
-    if number == UNREADABLE.0 {
-        UNREADABLE.1
-    } else {
-        words_of(number)
-    }
+    print_table(alloc, &REFUSALS, writer)
 }

@@ -49,9 +49,6 @@ impl From<AllocError> for CodeFileFault {
     }
 }
 
-/// The refusal of a file that can't be read: its number, and its words.
-pub const UNREADABLE: (u32, &'static str) = (58, "a file that can't be read");
-
 /// The reason why a file that is to be read gives no code.
 #[derive(Clone, Copy, Debug, PartialEq, Eq, Error)]
 pub enum FileFault {
@@ -62,7 +59,7 @@ pub enum FileFault {
     #[error("{}", words_of(57))]
     TooLong,
     /// 58: a file that can't be opened or read.
-    #[error("{}", UNREADABLE.1)]
+    #[error("{}", words_of(58))]
     Unreadable,
 }
 
@@ -75,7 +72,7 @@ impl Numbered for FileFault {
         match self {
             FileFault::Code(fault) => fault.number(),
             FileFault::TooLong => 57,
-            FileFault::Unreadable => UNREADABLE.0,
+            FileFault::Unreadable => 58,
         }
     }
 

@@ -8,7 +8,7 @@ mod files;
 mod object;
 mod reading;
 
-pub use fault::{CodeFileFault, FileFault, UNREADABLE};
+pub use fault::{CodeFileFault, FileFault};
 pub use files::{MAX_FILE_LEN, digits_from, digits_in, read_whole};
 pub use object::{code_in_object, one_code_theorem};
 pub use reading::{one_reading_theorem, read_code_file};

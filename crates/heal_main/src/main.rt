@@ -8,9 +8,8 @@ mod obeying;
 mod person;
 
 use answering::answer;
-use answers::refusal_words;
 use cluster::Healing;
-use numbered::NumberedRefusal;
+use numbered::{NumberedRefusal, words_of};
 use person::print_refusal_words;
 use script_engine::Narrator;
 use script_machine::Machine;
@@ -50,7 +49,7 @@ impl Narrator for StandardError<'_> {
 
     fn hear_refusal(&self, line: u64, refusal: NumberedRefusal) {
         let mut errors = StandardError { rt: self.rt };
-        let words = refusal_words(refusal.number);
+        let words = words_of(refusal.number);
         let _ = print_refusal_words(Ok(()), &mut errors, line, refusal, words);
     }
 

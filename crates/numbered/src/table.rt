@@ -4,7 +4,7 @@ ghost use Rattle.std.specs.List.{find};
 ghost use Rattle.std.specs.Option.{option_map};
 
 /// Every refusal: its number, and its words.
-pub const REFUSALS: [(u32, &'static str); 82] = [
+pub const REFUSALS: [(u32, &'static str); 83] = [
     (1, "empty: no byte, or a text without an instruction"),
     (2, "more than 1,024 slots"),
     (3, "an incomplete last slot"),
@@ -85,6 +85,7 @@ pub const REFUSALS: [(u32, &'static str); 82] = [
     (55, "a record of neither 160 nor 128 bytes"),
     (56, "a file that isn't UTF-8"),
     (57, "a file of more than 1,048,576 bytes"),
+    (58, "a file that can't be read"),
     (60, "an unknown mnemonic"),
     (61, "an operand is missing or invalid"),
     (62, "a number out of range"),

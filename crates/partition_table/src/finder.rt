@@ -1,5 +1,5 @@
 //! Finds names in a table one after another.
-ghost use Rattle.std.specs.Prelude.{◌≡◌, IsTrue};
+ghost use Rattle.std.specs.Prelude.{◌≡◌, ◌↔◌, IsTrue};
 ghost use Rattle.std.specs.Option.{option_map};
 ghost use Rattle.std.specs.FinMap as map;
 ghost use Rattle.partition_table.specs.model.Walking.{IsPast};
@@ -64,7 +64,7 @@ impl<'a> Finder<'a> {
 
 // Checks whether the name is above the last one, if there is one.
 fn is_past(last: &Option<Name>, name: &Name) -> bool
-    ensures { IsTrue result → IsPast last.now name.now }
+    ensures { IsTrue result ↔ IsPast last.now name.now }
 {
     match last {
         Some(last) => last.cmp(name).is_lt(),
