@@ -77,16 +77,11 @@ static void read_all(int from, void *data, size_t len)
 /* Sends a message and frees it: its length as a number of this machine, then its bytes. */
 static void send_message(int to, heal_bytes *message)
 {
-    size_t len = 0;
-    uint8_t *copy;
+    heal_span sent = HEAL_NO_BYTES;
 
-    must("heal_bytes_len", heal_bytes_len(message, &len));
-    copy = malloc(len);
-    check("malloc", copy != NULL);
-    must("heal_bytes_copy", heal_bytes_copy(message, copy, len));
-    write_all(to, &len, sizeof len);
-    write_all(to, copy, len);
-    free(copy);
+    must("heal_bytes_lend", heal_bytes_lend(message, &sent));
+    write_all(to, &sent.len, sizeof sent.len);
+    write_all(to, sent.data, sent.len);
     heal_bytes_free(message);
 }
 

@@ -18,16 +18,10 @@ static void must(uint32_t refusal)
 /* Delivers a message to a half, as a transport would. */
 static void deliver(heal_bytes *message, heal_side *half, uint32_t (*hear)(heal_side *, const uint8_t *, size_t))
 {
-    size_t len;
-    uint8_t *bytes;
+    heal_span sent = HEAL_NO_BYTES;
 
-    must(heal_bytes_len(message, &len));
-    bytes = malloc(len);
-    if (bytes == NULL)
-        must(90);
-    must(heal_bytes_copy(message, bytes, len));
-    must(hear(half, bytes, len));
-    free(bytes);
+    must(heal_bytes_lend(message, &sent));
+    must(hear(half, sent.data, sent.len));
     heal_bytes_free(message);
 }
 

@@ -155,6 +155,14 @@ typedef struct { void *at; } heal_bytes;   /* a message */
 typedef struct { void *at; } heal_outcome; /* a finished exchange */
 typedef struct { void *at; } heal_replica; /* a node's copy of a half */
 
+/* Bytes that a call lends. Start it with HEAL_NO_BYTES. */
+typedef struct {
+    const uint8_t *data;
+    size_t len;
+} heal_span;
+
+#define HEAL_NO_BYTES { (const uint8_t *)"", 0 }
+
 typedef struct {
     uint32_t node;
     uint32_t serial;
@@ -413,6 +421,10 @@ uint32_t heal_side_give_up(heal_side *side);
 
 /* Returns the number of bytes. */
 uint32_t heal_bytes_len(const heal_bytes *bytes, size_t *len);
+
+/* Lends the message: `span` has its bytes. They stay where they are, and may be read, until the message is freed or a call fills the
+   handle. Copies nothing. */
+uint32_t heal_bytes_lend(const heal_bytes *bytes, heal_span *span);
 
 /* Copies the message to `to`. Returns 93 unless `len` is the number of its bytes. */
 uint32_t heal_bytes_copy(const heal_bytes *bytes, uint8_t *to, size_t len);

@@ -199,10 +199,12 @@ static void read_message(const heal_bytes *message)
 {
     static const uint8_t magic[] = {'H', 'E', 'A', 'L', 'X', 'C', 1, 1};
     uint8_t copy[1 << 16];
+    heal_span lent = HEAL_NO_BYTES;
     size_t len = 0;
 
     REQUIRE(heal_bytes_len(message, &len) == 0 && len < sizeof copy);
     REQUIRE(heal_bytes_copy(message, copy, len) == 0 && memcmp(copy, magic, sizeof magic) == 0);
+    REQUIRE(heal_bytes_lend(message, &lent) == 0 && lent.len == len && memcmp(copy, lent.data, len) == 0);
 }
 
 static void read_outcome(const heal_outcome *outcome)

@@ -44,6 +44,8 @@ SIZE(heal_program, sizeof(void *));
 SIZE(heal_side, sizeof(void *));
 SIZE(heal_bytes, sizeof(void *));
 SIZE(heal_outcome, sizeof(void *));
+SIZE(heal_span, 16);
+AT(heal_span, len, 8);
 SIZE(heal_owner, 8);
 AT(heal_owner, serial, 4);
 SIZE(heal_registration, 80);
@@ -138,6 +140,30 @@ static heal_side side_with_db(bool second)
     RETURNS(0, heal_side_new(second, &side));
     RETURNS(0, add(&side, "db", (heal_owner){second ? 2 : 1, 1}));
     return side;
+}
+
+/* A message is lent with the bytes that a copy has, as long as it isn't freed; an empty handle lends nothing. */
+static void check_lent(void)
+{
+    heal_side side = side_with_db(false);
+    heal_bytes offer = {0};
+    heal_span lent = HEAL_NO_BYTES, again = HEAL_NO_BYTES;
+    const uint8_t *none = lent.data;
+    uint8_t copy[512];
+    size_t len = 0;
+
+    RETURNS(91, heal_bytes_lend(&offer, &lent));
+    REQUIRE(lent.data == none && lent.len == 0);
+    RETURNS(0, heal_side_begin(&side, 1, 0, 0, &offer));
+    RETURNS(0, heal_bytes_lend(&offer, &lent));
+    RETURNS(0, heal_bytes_len(&offer, &len));
+    REQUIRE(len > 0 && len <= sizeof copy && lent.len == len);
+    RETURNS(0, heal_bytes_copy(&offer, copy, len));
+    heal_side_free(&side);
+    REQUIRE(memcmp(copy, lent.data, len) == 0);
+    RETURNS(0, heal_bytes_lend(&offer, &again));
+    REQUIRE(again.data == lent.data && again.len == lent.len);
+    heal_bytes_free(&offer);
 }
 
 /* Copies a message and frees it. */
@@ -830,6 +856,7 @@ int main(void)
     check_first_half();
     check_withdrawn_names();
     check_faults();
+    check_lent();
     check_forget();
     check_code();
     check_state();

@@ -254,6 +254,10 @@ class _Row(ctypes.Structure):
     _fields_ = [("name", _Name), ("registration", _Registration)]
 
 
+class _Span(ctypes.Structure):
+    _fields_ = [("data", POINTER(c_uint8)), ("len", c_size_t)]
+
+
 class _Facts(ctypes.Structure):
     _fields_ = [("size", c_uint64), ("uptime", c_uint64)]
 
@@ -344,6 +348,7 @@ _ARGUMENTS = {
     "heal_offer_fault": [_BYTES, c_size_t, POINTER(_Fault)],
     "heal_list_fault": [_BYTES, c_size_t, POINTER(_Fault)],
     "heal_bytes_len": [_HANDLE, POINTER(c_size_t)],
+    "heal_bytes_lend": [_HANDLE, POINTER(_Span)],
     "heal_bytes_copy": [_HANDLE, _BYTES, c_size_t],
     "heal_side_live": [_HANDLE, c_size_t, POINTER(_Row)],
     "heal_side_live_after": [*_NAMED, POINTER(_Row)],
@@ -586,9 +591,9 @@ class _Message(_Owned):
     def take(self) -> bytes:
         """Returns the bytes and frees the message."""
         with self:
-            copy = (c_uint8 * self._number("len"))()
-            self._call("copy", copy, len(copy))
-            return bytes(copy)
+            lent = _Span((c_uint8 * 1)(), 0)
+            self._call("lend", byref(lent))
+            return ctypes.string_at(lent.data, lent.len)
 
 
 class _Finished(_Owned):

@@ -30,6 +30,7 @@ pub use faults::HealFault;
 pub use half_handle::HealSide;
 pub use heads::HealHead;
 pub use message_handle::HealBytes;
+pub use messages::HealSpan;
 pub use outcome_handle::HealOutcome;
 pub use program_handle::HealProgram;
 pub use replica_handle::HealReplica;

@@ -24,6 +24,31 @@ pub extern "C" fn heal_bytes_len(bytes: &mut HealBytes, len: &mut usize) -> u32
     }
 }
 
+/// Where bytes are that a call lends, and how many.
+#[derive(Clone, Copy, Debug)]
+#[repr(C)]
+pub struct HealSpan<'a> {
+    /// The bytes.
+    pub bytes: &'a [u8],
+}
+
+/// Lends the message: its bytes stay where they are until the message is freed or the handle holds another.
+///
+/// Returns 91 for an empty handle.
+#[unsafe(no_mangle)]
+pub extern "C" fn heal_bytes_lend<'a>(bytes: &'a mut HealBytes, span: &mut HealSpan<'a>) -> u32
+    ensures { Reads bytes.old.message bytes.new.message (λ held n. (n ≡ 0) × (span.new.bytes.now ≡ held))
+        (span.new ≡ span.old) result }
+{
+    match bytes.held() {
+        Some(held) => {
+            span.bytes = held.bytes();
+            0
+        }
+        None => EMPTY_HANDLE,
+    }
+}
+
 /// Copies the message.
 ///
 /// Returns 91 for an empty handle, and 93 unless `to` has as many bytes as the message.

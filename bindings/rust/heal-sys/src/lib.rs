@@ -13,6 +13,21 @@ impl Handle {
     };
 }
 
+/// Bytes that a call lends. `EMPTY` has none.
+#[repr(C)]
+#[derive(Clone, Copy)]
+pub struct Span {
+    pub data: *const u8,
+    pub len: usize,
+}
+
+impl Span {
+    pub const EMPTY: Span = Span {
+        data: std::ptr::NonNull::dangling().as_ptr(),
+        len: 0,
+    };
+}
+
 #[repr(C)]
 #[derive(Clone, Copy, Default)]
 pub struct Owner {
@@ -194,6 +209,7 @@ extern "C" {
     pub fn heal_side_renew(side: *mut Handle) -> u32;
     pub fn heal_side_give_up(side: *mut Handle) -> u32;
     pub fn heal_bytes_len(bytes: *const Handle, len: *mut usize) -> u32;
+    pub fn heal_bytes_lend(bytes: *const Handle, span: *mut Span) -> u32;
     pub fn heal_bytes_copy(bytes: *const Handle, to: *mut u8, len: usize) -> u32;
     pub fn heal_bytes_free(bytes: *mut Handle);
     pub fn heal_message_peek(message: *const u8, len: usize, head: *mut Head) -> u32;

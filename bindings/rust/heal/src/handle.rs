@@ -50,12 +50,10 @@ impl Held {
 
     /// Returns the bytes of a message.
     pub(crate) fn bytes(&self) -> Result<Vec<u8>, Refused> {
-        let mut len = 0;
-        // SAFETY: the handle is owned, and the copy has `len` writable bytes.
-        answer(unsafe { ffi::heal_bytes_len(self.at(), &mut len) })?;
-        let mut copy = vec![0; len];
-        answer(unsafe { ffi::heal_bytes_copy(self.at(), copy.as_mut_ptr(), len) })?;
-        Ok(copy)
+        let mut span = ffi::Span::EMPTY;
+        // SAFETY: the handle is owned, so the message stays while its bytes are read.
+        answer(unsafe { ffi::heal_bytes_lend(self.at(), &mut span) })?;
+        Ok(unsafe { std::slice::from_raw_parts(span.data, span.len) }.to_vec())
     }
 
     /// Returns the outcome of an exchange.
