@@ -51,7 +51,7 @@ PROMISES = [
     ("workers draw each clash of their round", ["judge_pool::work", "judge_pool::heal_round"]),
     ("two sides that meet have one table", ["registry_lock::meet", "registry_lock::tell_round"]),
     ("a cluster heals", ["cluster::Cluster::heal"]),
-    ("a cluster is renewed", ["cluster::Cluster::" + name for name in ("renew", "renew_long")]),
+    ("a cluster is renewed, and gives up", ["cluster::Cluster::" + name for name in ("renew", "renew_long", "give_up")]),
     ("notices of a verdict", ["builtin_resolvers::notices"]),
     ("each function of the C library makes the call that it wraps", ["heal_c"]),
     ("two processes that use the C library have one outcome", ["heal_c::two_processes_theorem"]),

@@ -8,8 +8,9 @@ use Rattle.exchange_core.specs.declared.fault.SideFault.{SideFault}
 use Rattle.exchange_core.specs.declared.side.Side as code
 use Rattle.clash_record.specs.declared.side_id.SideId.{SideId}
 use Rattle.exchange_core.specs.Calls.{Call, carried_out}
+use Rattle.exchange_core.specs.Sides.{rested}
 use Rattle.exchange_core.specs.Shown.{shown, calls, limit_of, IsDone}
-use Rattle.cluster.specs.Clusters.{Standing, Cluster, standing_of, at, with_standing, IsCalled, IsRenewed, IsRenewedAt}
+use Rattle.cluster.specs.Clusters.{Standing, Cluster, standing_of, at, with_standing, HasChanged, IsCalled, IsGivenUp, IsRenewed}
 
 -- a successful call of a half is one of the cluster
 pub called : {X : Type 0} (r : Result X SideFault) (old new : Cluster) (id : SideId) (was now : code.Side)
@@ -29,18 +30,40 @@ called (Ok x) old new id was now call is_old is_new done =
     }
 called (Err fault) old new id was now call is_old is_new done = tt
 
--- a half that is renewed is one of the cluster
-pub renewed_at : {X : Type 0} (r : Result X SideFault) (old new : Cluster) (id : SideId) (was now : code.Side) →
-    at old id ≡ standing_of was → new ≡ with_standing old id (standing_of now) → OnOk r (shown now ≡ shown was) →
-    OnOk r (limit_of now ≡ limit_of was) →
-    OnOk r (length (calls now) ≤ len (shown was).table + 2) → OnOk r (IsRenewedAt old id new)
-renewed_at (Ok x) old new id was now is_old is_new same same_limit short = record {
+-- a half that has changed so is one of the cluster
+changed_at : {X : Type 0} (so : Standing → Standing → Type 0) (r : Result X SideFault) (old new : Cluster) (id : SideId)
+    (was now : code.Side) → at old id ≡ standing_of was → new ≡ with_standing old id (standing_of now) →
+    OnOk r (so (standing_of was) (standing_of now)) → OnOk r (HasChanged so old id new)
+changed_at so (Ok x) old new id was now is_old is_new change = record {
   standing = standing_of now;
-  renewed = subst (λ (s : Standing). IsRenewed s (standing_of now)) (sym is_old) (record {
-    side = same;
-    short = short;
-    same_limit = same_limit;
-  });
+  changed = subst (λ (s : Standing). so s (standing_of now)) (sym is_old) change;
   rest = is_new;
 }
-renewed_at (Err fault) old new id was now is_old is_new same same_limit short = tt
+changed_at so (Err fault) old new id was now is_old is_new change = tt
+
+-- what a half's contract states of a success is what the cluster's states
+is_renewed : {X : Type 0} (r : Result X SideFault) (was now : code.Side) → OnOk r (shown now ≡ shown was) →
+    OnOk r (limit_of now ≡ limit_of was) → OnOk r (length (calls now) ≤ len (shown was).table + 2) →
+    OnOk r (IsRenewed (standing_of was) (standing_of now))
+is_renewed (Ok x) was now same same_limit short = record { side = same; short = short; same_limit = same_limit }
+is_renewed (Err fault) was now same same_limit short = tt
+
+is_given_up : {X : Type 0} (r : Result X SideFault) (was now : code.Side) → OnOk r (shown now ≡ rested (shown was)) →
+    OnOk r (limit_of now ≡ limit_of was) → OnOk r (length (calls now) ≤ len (shown now).table + 2) →
+    OnOk r (IsGivenUp (standing_of was) (standing_of now))
+is_given_up (Ok x) was now rests same_limit short = record { side = rests; short = short; same_limit = same_limit }
+is_given_up (Err fault) was now rests same_limit short = tt
+
+pub renewed_at : {X : Type 0} (r : Result X SideFault) (old new : Cluster) (id : SideId) (was now : code.Side) →
+    at old id ≡ standing_of was → new ≡ with_standing old id (standing_of now) → OnOk r (shown now ≡ shown was) →
+    OnOk r (limit_of now ≡ limit_of was) → OnOk r (length (calls now) ≤ len (shown was).table + 2) →
+    OnOk r (HasChanged IsRenewed old id new)
+renewed_at r old new id was now is_old is_new same same_limit short =
+    changed_at IsRenewed r old new id was now is_old is_new (is_renewed r was now same same_limit short)
+
+pub given_up_at : {X : Type 0} (r : Result X SideFault) (old new : Cluster) (id : SideId) (was now : code.Side) →
+    at old id ≡ standing_of was → new ≡ with_standing old id (standing_of now) → OnOk r (shown now ≡ rested (shown was)) →
+    OnOk r (limit_of now ≡ limit_of was) → OnOk r (length (calls now) ≤ len (shown now).table + 2) →
+    OnOk r (HasChanged IsGivenUp old id new)
+given_up_at r old new id was now is_old is_new rests same_limit short =
+    changed_at IsGivenUp r old new id was now is_old is_new (is_given_up r was now rests same_limit short)

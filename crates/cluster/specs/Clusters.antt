@@ -7,7 +7,7 @@ use Rattle.clash_record.specs.declared.side_id.SideId.{SideId}
 use Rattle.clash_record.specs.declared.side_id.SideId.TheVariants.{A, B}
 use Rattle.exchange_core.specs.Journal.{max_events}
 use Rattle.exchange_core.specs.Calls.{Call, carried_out}
-use Rattle.exchange_core.specs.Sides.{Side, new_side}
+use Rattle.exchange_core.specs.Sides.{Side, new_side, rested}
 use Rattle.exchange_core.specs.Shown.{shown, calls, limit_of}
 use Rattle.cluster.specs.declared.cluster.Cluster as halves
 
@@ -68,10 +68,16 @@ pub record AreFresh (old new : Cluster) : Type 0 where
   pub a : IsFresh old.a new.a
   pub b : IsFresh old.b new.b
 
--- one half was renewed, and the other is unchanged
-pub record IsRenewedAt (old : Cluster) (id : SideId) (new : Cluster) : Type 0 where
+-- a half that gave up is idle, without the names that it withdrew, and its journal has at most two events more than names
+pub record IsGivenUp (old new : Standing) : Type 0 where
+  pub side : new.side ≡ rested old.side
+  pub short : length new.calls ≤ len new.side.table + 2
+  pub same_limit : new.limit ≡ old.limit
+
+-- one half has changed so, and the other is unchanged
+pub record HasChanged (so : Standing → Standing → Type 0) (old : Cluster) (id : SideId) (new : Cluster) : Type 0 where
   pub standing : Standing
-  pub renewed : IsRenewed (at old id) standing
+  pub changed : so (at old id) standing
   pub rest : new ≡ with_standing old id standing
 
 -- a call of one half was carried out: it is the journal's latest, and the other half is unchanged

@@ -1,8 +1,11 @@
 //! Renewing the journals of the halves.
-ghost use Rattle.std.specs.Prelude.{◌≡◌, OnOk, OnErr};
+ghost use Rattle.std.specs.Prelude.{◌≡◌, ◌≢◌, [], IfErr, OnOk, OnErr};
 ghost use Rattle.exchange_core.specs.Refusals as due;
 ghost use Rattle.exchange_core.specs.Refusals.{IsDecidedBy};
-ghost use Rattle.cluster.specs.Clusters.{standing_of, cluster_of, at, IsFresh, AreFresh, IsRenewedAt};
+ghost use Rattle.exchange_core.specs.Faults.{side_fault_number};
+ghost use Rattle.exchange_core.specs.Sides.{withdrawn_by};
+ghost use Rattle.numbered.specs.Answers.{out_of_memory};
+ghost use Rattle.cluster.specs.Clusters.{standing_of, cluster_of, at, AreFresh, HasChanged, IsFresh, IsGivenUp, IsRenewed};
 ghost use Rattle.cluster.specs.model.Stages.{halves_of};
 
 use crate::cluster::Cluster;
@@ -17,12 +20,28 @@ impl Cluster {
     /// exchange of the half open. Allocates nothing.
     pub fn renew(&mut self, id: SideId) -> Result<(), SideFault>
         ensures answer { IsDecidedBy (due.renew_fault (at (cluster_of self.old) id).side) result }
-        ensures renewed { OnOk result (IsRenewedAt (cluster_of self.old) id (cluster_of self.new)) }
+        ensures renewed { OnOk result (HasChanged IsRenewed (cluster_of self.old) id (cluster_of self.new)) }
         ensures untouched { OnErr result (cluster_of self.new ≡ cluster_of self.old) }
     {
         match id {
             SideId::A => self.halves.a.renew(),
             SideId::B => self.halves.b.renew(),
+        }
+    }
+
+    /// Gives the open exchange of a half up, if there is one, and renews its journal, also a full one. Afterwards the half is idle,
+    /// without the names that it withdrew, and its journal has at most two events more than the table has names.
+    ///
+    /// Returns 90 when out of memory: it copies the table if the half withdrew a name and others still share the table.
+    pub fn give_up(&mut self, id: SideId) -> Result<(), SideFault>
+        ensures answer { IfErr result (λ fault. side_fault_number fault ≡ out_of_memory) }
+        ensures withdrew { OnErr result (withdrawn_by (at (cluster_of self.old) id).side ≢ []) }
+        ensures given_up { OnOk result (HasChanged IsGivenUp (cluster_of self.old) id (cluster_of self.new)) }
+        ensures untouched { OnErr result (cluster_of self.new ≡ cluster_of self.old) }
+    {
+        match id {
+            SideId::A => self.halves.a.give_up(),
+            SideId::B => self.halves.b.give_up(),
         }
     }
 
