@@ -1,8 +1,8 @@
 /*
  * Times the calls of two halves in one exchange of NAMES names, all of which clash and are withdrawn on half A: exchange NAMES.
  * Prints a line for each call, `CALL MICROSECONDS`, of one half, and `exchange`, the nanoseconds for each name of an exchange of
- * both halves without withdrawals, from the first begin to the last finish, with the copies of messages. With -DBEFORE it is
- * compiled against the header of version 97b80b0.
+ * both halves without withdrawals, from the first begin to the last finish. With -DBEFORE it is compiled against the header of version
+ * 97b80b0, which copies messages; later versions lend them.
  */
 #include "heal.h"
 
@@ -49,17 +49,33 @@ static void fill(heal_side *side, uint32_t names, uint32_t node)
     }
 }
 
-/* Copies a message and frees it. */
-static uint8_t *taken(heal_bytes *message, size_t *len)
-{
-    uint8_t *bytes;
+/* A message, with its bytes. */
+struct sent {
+    heal_bytes message;
+    const uint8_t *bytes;
+    size_t len;
+};
 
-    must(heal_bytes_len(message, len), "len");
-    bytes = malloc(*len);
-    must(heal_bytes_copy(message, bytes, *len), "copy");
-    heal_bytes_free(message);
-    return bytes;
+#ifdef BEFORE
+static void read_bytes(struct sent *sent)
+{
+    uint8_t *copy;
+
+    must(heal_bytes_len(&sent->message, &sent->len), "len");
+    copy = malloc(sent->len);
+    must(heal_bytes_copy(&sent->message, copy, sent->len), "copy");
+    sent->bytes = copy;
 }
+#else
+static void read_bytes(struct sent *sent)
+{
+    heal_span lent = HEAL_NO_BYTES;
+
+    must(heal_bytes_lend(&sent->message, &lent), "lend");
+    sent->bytes = lent.data;
+    sent->len = lent.len;
+}
+#endif
 
 static void list_rows(heal_side *side, uint32_t names)
 {
@@ -79,10 +95,8 @@ static void list_rows(heal_side *side, uint32_t names)
 static void heal(uint32_t names, int withdraws)
 {
     heal_side side[2] = {{0}, {0}};
-    heal_bytes message = {0};
     heal_outcome outcome = {0};
-    uint8_t *offer[2], *list[2];
-    size_t offer_len[2], list_len[2];
+    struct sent offer[2] = {0}, list[2] = {0};
     double start, time[6] = {0};
     char name[16];
 
@@ -93,13 +107,13 @@ static void heal(uint32_t names, int withdraws)
     start = now_us();
     for (int i = 1; i >= 0; i--) {
         double before = now_us();
-        must(heal_side_begin(&side[i], 1, 7, 0, &message), "begin");
+        must(heal_side_begin(&side[i], 1, 7, 0, &offer[i].message), "begin");
         time[0] = now_us() - before;
-        offer[i] = taken(&message, &offer_len[i]);
+        read_bytes(&offer[i]);
     }
     for (int i = 1; i >= 0; i--) {
         double before = now_us();
-        must(heal_side_hear(&side[i], offer[1 - i], offer_len[1 - i]), "hear");
+        must(heal_side_hear(&side[i], offer[1 - i].bytes, offer[1 - i].len), "hear");
         time[1] = now_us() - before;
         before = now_us();
         must(SETTLE(&side[i]), "settle");
@@ -108,12 +122,12 @@ static void heal(uint32_t names, int withdraws)
     for (uint32_t i = 0; withdraws && i < names; i++)
         must(heal_side_withdraw(&side[1], (const uint8_t *)name, (size_t)name_of(i, name)), "withdraw");
     for (int i = 0; i < 2; i++) {
-        must(heal_side_close_list(&side[i], &message), "close_list");
-        list[i] = taken(&message, &list_len[i]);
+        must(heal_side_close_list(&side[i], &list[i].message), "close_list");
+        read_bytes(&list[i]);
     }
     for (int i = 1; i >= 0; i--) {
         double before = now_us();
-        must(heal_side_hear_list(&side[i], list[1 - i], list_len[1 - i]), "hear_list");
+        must(heal_side_hear_list(&side[i], list[1 - i].bytes, list[1 - i].len), "hear_list");
         time[3] = now_us() - before;
         before = now_us();
         must(heal_side_finish(&side[i], &outcome), "finish");
@@ -129,8 +143,8 @@ static void heal(uint32_t names, int withdraws)
     }
     for (int i = 0; i < 2; i++) {
         heal_side_free(&side[i]);
-        free(offer[i]);
-        free(list[i]);
+        heal_bytes_free(&offer[i].message);
+        heal_bytes_free(&list[i].message);
     }
     heal_outcome_free(&outcome);
 }

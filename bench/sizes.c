@@ -1,7 +1,8 @@
 /*
- * Times an exchange of two sides with many names: sizes NAMES. All names clash, and the built-in `notify` judges. Prints
- * a line for each call, `CALL NANOSECONDS-A-NAME`, for one side, and `rest` and `exchange`, the bytes that a side holds for each
- * name at rest and in an open exchange that heard the other's offer, without the messages.
+ * Times an exchange of two sides with many names: sizes NAMES [equal]. All names clash, and the built-in `notify` judges; with
+ * `equal` both sides register them alike, and none clashes. Prints a line for each call, `CALL NANOSECONDS-A-NAME`, for one side,
+ * and `rest` and `exchange`, the bytes that a side holds for each name at rest and in an open exchange that heard the other's
+ * offer, without the messages.
  */
 #include "heal.h"
 
@@ -93,10 +94,10 @@ int main(int argc, char **argv)
     size_t len_a, len_b, listed_a, listed_b, merged = 0;
     double before, rest;
 
-    count = argc == 2 ? (uint32_t)strtoul(argv[1], NULL, 10) : 4096;
+    count = argc >= 2 ? (uint32_t)strtoul(argv[1], NULL, 10) : 4096;
     must(heal_side_new_within(HEAL_A, 2 * count < 1048576 ? 2 * count : 1048576, &a), "new");
     must(heal_side_new_within(HEAL_B, 2 * count < 1048576 ? 2 * count : 1048576, &b), "new");
-    fill(&b, count, 2);
+    fill(&b, count, argc == 3 ? 1 : 2);
     before = held();
     start = now_ns();
     fill(&a, count, 1);
