@@ -8,11 +8,12 @@
 -export([main/1]).
 -export([rates/4, lookups/3, fill/3, clear/2, memory/1, answers/2, longest/1, stop_longest/1]).
 
-%% How long one measurement of a rate takes, the clashes that are healed, how often, and how long `global' may take.
+%% How long one measurement of a rate takes, the clashes that are healed, how often (more than 4,096 less often), and how long
+%% `global' may take.
 -record(plan, {nodes, milliseconds, clashes, rounds, names, alone, limit}).
 
 plan(full) ->
-    #plan{nodes = [2, 4, 8], milliseconds = 3000, clashes = [4096, 16384], rounds = 5, names = 16384,
+    #plan{nodes = [2, 4, 8], milliseconds = 3000, clashes = [4096, 16384], rounds = 3, names = 16384,
           alone = [1024, 4096, 16384, 65536], limit = 600};
 plan(short) ->
     #plan{nodes = [2, 4], milliseconds = 200, clashes = [512], rounds = 1, names = 1024, alone = [256, 1024], limit = 30}.
@@ -131,7 +132,8 @@ clear(Registry, Names) ->
 
 %% ---- Healing ----
 
-heal(Count, Clashes, Registry, #plan{rounds = Rounds}) ->
+heal(Count, Clashes, Registry, #plan{rounds = Most}) ->
+    Rounds = max(1, min(Most, Most * 4096 div Clashes)),
     Times = [healing(Count, Clashes, Registry) || _ <- lists:seq(1, Rounds)],
     {Heals, Longest} = lists:unzip(Times),
     {lists:nth(Rounds div 2 + 1, lists:sort(Heals)) / 1000, lists:min(Heals) / 1000, lists:max(Longest) / 1000}.

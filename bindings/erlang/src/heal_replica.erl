@@ -120,8 +120,8 @@ snapshot(#replica{at = At, half = Half}) -> {At, Half}.
 -spec follow(snapshot(), replica()) -> {ok, replica()} | {error, 98}.
 follow({{{Life, Led}, _}, _}, #replica{life = Life, led = Led}) ->
     {error, 98};
-follow({At, Half}, Replica) ->
-    {ok, Replica#replica{at = At, half = Half}}.
+follow({At, Half = #half{names = Names}}, Replica) ->
+    {ok, Replica#replica{at = At, half = Half#half{names = maps:map(fun compact/2, Names)}}}.
 
 %% Applies an entry: 96 if it is of another view, 97 if an earlier one is missing. A repeated one changes nothing.
 -spec apply(entry(), replica()) -> {ok, now | already, replica()} | {error, refusal()}.
@@ -171,4 +171,14 @@ with_program(_Name, #row{registration = #{resolver := {program, Id}}}, #half{pro
         when not is_map_key(Id, Programs) ->
     {error, 41};
 with_program(Name, Row, Half = #half{names = Names}) ->
-    {ok, Half#half{names = Names#{Name => Row}}}.
+    {ok, Half#half{names = Names#{Name => compact(Name, Row)}}}.
+
+%% Returns the same row with less memory: a row that another node sent has copies of what all rows share.
+compact(Name, Row = #row{registration = #{owner := Owner, stamp := Stamp, weight := Weight, extra := Extra, resolver := Resolver}}) ->
+    %% The keys of a map that is written like this are a literal of the module.
+    Registration = #{owner => Owner, stamp => Stamp, weight => Weight, extra => shared(Extra, <<0:128>>), resolver => Resolver},
+    Row#row{registration = Registration, term = shared(Row#row.term, Name)}.
+
+%% Returns the other term if both are equal, so that only one is kept.
+shared(Term, Other) when Term =:= Other -> Other;
+shared(Term, _Other) -> Term.

@@ -14,13 +14,21 @@
 %% A counter: the operation of the replica's position, which each edit changes.
 -define(OPERATION, {?MODULE, operation}).
 
-%% A name. `pid' is `none' if its process has ended and its row is about to go.
+%% A name. `ended' if its process has ended and its row is about to go. The other fields are those of the row, without what ETS would
+%% copy for each: the keys of the registration, extra bytes that are zero, and a term that is the name.
 -record(entry, {
     name :: heal:name() | atom(),
-    pid :: pid() | atom(),
-    term :: term(),
-    row :: #row{} | atom()
+    pid :: pid() | {ended, pid()} | atom(),
+    term :: same | {term, term()} | atom(),
+    owner :: heal:owner() | atom(),
+    stamp :: non_neg_integer() | atom(),
+    weight :: non_neg_integer() | atom(),
+    extra :: none | binary() | atom(),
+    resolver :: heal:resolver() | atom(),
+    home :: heal_replica:life() | atom()
 }).
+
+-define(NOTHING, <<0:128>>).
 
 %% What else outlives the registry: its position, its programs, a registration that its node answers for and the table lacks.
 -record(kept, {key :: key() | {own, atom()}, value :: term()}).
@@ -67,17 +75,33 @@ rows([], [Name]) ->
     true = ets:delete(?ROWS, Name),
     ok;
 rows(Put, Drop) ->
-    Gone = [#entry{name = Name, pid = none, term = none, row = none} || Name <- Drop],
+    Gone = [#entry{name = Name, pid = none} || Name <- Drop],
     true = ets:insert(?ROWS, Gone ++ [entry(Name, Row) || {Name, Row} <- Put]),
     [ets:delete(?ROWS, Name) || Name <- Drop],
     ok.
 
-entry(Name, Row = #row{pid = Pid, term = Term}) -> #entry{name = Name, pid = Pid, term = Term, row = Row}.
+entry(Name, #row{registration = Registration, pid = Pid, term = Term, home = Home}) ->
+    #{owner := Owner, stamp := Stamp, weight := Weight, extra := Extra, resolver := Resolver} = Registration,
+    #entry{name = Name, pid = Pid, term = if Term =:= Name -> same; true -> {term, Term} end, owner = Owner, stamp = Stamp,
+           weight = Weight, extra = if Extra =:= ?NOTHING -> none; true -> Extra end, resolver = Resolver, home = Home}.
+
+%% Returns the row of an entry.
+row_of(Entry = #entry{owner = Owner, stamp = Stamp, weight = Weight, resolver = Resolver, home = Home}) ->
+    Extra = case Entry#entry.extra of none -> ?NOTHING; Bytes -> Bytes end,
+    Pid = case Entry#entry.pid of {ended, Ended} -> Ended; Living -> Living end,
+    Registration = #{owner => Owner, stamp => Stamp, weight => Weight, extra => Extra, resolver => Resolver},
+    #row{registration = Registration, pid = Pid, term = term_of(Entry), home = Home}.
+
+term_of(#entry{name = Name, term = same}) -> Name;
+term_of(#entry{term = {term, Term}}) -> Term.
 
 %% The process of a name has ended.
 -spec hide(heal:name()) -> ok.
 hide(Name) ->
-    _ = ets:update_element(?ROWS, Name, {#entry.pid, none}),
+    case ets:lookup(?ROWS, Name) of
+        [#entry{pid = Pid}] when is_pid(Pid) -> ets:update_element(?ROWS, Name, {#entry.pid, {ended, Pid}});
+        _ -> false
+    end,
     ok.
 
 %% This node answers for a name no more.
@@ -103,7 +127,7 @@ kept(Key, Usual) ->
 %% Returns the settings with which a registry of this life goes on: its replica, the registrations that it answers for, and so on.
 -spec restore(heal_replica:life()) -> map().
 restore(Life) ->
-    true = ets:match_delete(?ROWS, #entry{row = none, _ = '_'}),
+    true = ets:match_delete(?ROWS, #entry{pid = none, _ = '_'}),
     Names = maps:from_list([{Name, Entry} || Entry = #entry{name = Name} <- ets:match_object(?ROWS, #entry{_ = '_'})]),
     Found = #{own => own(Life, Names), programs => kept(programs, #{}), greatest => kept(greatest, 0),
               problems => kept(reported, #{})},
@@ -129,12 +153,15 @@ keep_operation(Operation) ->
 
 %% The rows of this node's living processes, and what the table lacks or may have lacked.
 own(Life, Names) ->
-    Shown = maps:filter(fun(_, #entry{pid = Pid, row = #row{home = Home}}) -> Home =:= Life andalso Pid =/= none end, Names),
+    Shown = maps:filter(fun(_, #entry{pid = Pid, home = Home}) -> Home =:= Life andalso is_pid(Pid) end, Names),
     Missing = ets:select(?ROWS, [{#kept{key = {own, '$1'}, value = '$2'}, [], [{{'$1', '$2'}}]}]),
-    maps:merge(maps:map(fun(_, #entry{row = Row}) -> Row end, Shown), maps:from_list(Missing)).
+    maps:merge(rows_of(Shown), maps:from_list(Missing)).
 
 half(Names, Latest) ->
-    #half{names = maps:map(fun(_, #entry{row = Row}) -> Row end, Names), programs = kept(programs, #{}), latest = Latest}.
+    #half{names = rows_of(Names), programs = kept(programs, #{}), latest = Latest}.
+
+rows_of(Entries) ->
+    maps:map(fun(_, Entry) -> row_of(Entry) end, Entries).
 
 %% ---- Readers ----
 
@@ -142,9 +169,9 @@ half(Names, Latest) ->
 -spec find(heal:name(), Term :: term()) -> {ok, pid()} | none | not_running.
 find(Name, Term) ->
     try ets:lookup_element(?ROWS, Name, #entry.pid) of
-        none -> none;
-        Pid when node(Pid) =/= node() -> found(Name, Term, Pid);
-        Pid -> case is_process_alive(Pid) of true -> found(Name, Term, Pid); false -> none end
+        Pid when node(Pid) =:= node() -> case is_process_alive(Pid) of true -> found(Name, Term, Pid); false -> none end;
+        Pid when is_pid(Pid) -> found(Name, Term, Pid);
+        _Ended -> none
     catch
         error:badarg -> case is_running() of true -> none; false -> not_running end
     end.
@@ -152,8 +179,8 @@ find(Name, Term) ->
 %% A digest may be the name of another term.
 found(<<"$", _:22/binary>> = Name, Term, Pid) ->
     case ets:lookup(?ROWS, Name) of
-        [#entry{term = Of}] when Of =:= Term -> {ok, Pid};
-        [#entry{term = Of}] -> case heal_names:is_same(Of, Term) of true -> {ok, Pid}; false -> none end;
+        [#entry{term = {term, Of}}] when Of =:= Term -> {ok, Pid};
+        [Entry] -> case heal_names:is_same(term_of(Entry), Term) of true -> {ok, Pid}; false -> none end;
         [] -> none
     end;
 found(_Name, _Term, Pid) ->
@@ -167,7 +194,12 @@ is_running() ->
 %% Returns all names, as they were registered.
 -spec names() -> [term()].
 names() ->
-    ets:select(?ROWS, [{#entry{term = '$1', pid = '$2', _ = '_'}, [{'=/=', '$2', none}], ['$1']}]).
+    ets:select(?ROWS, terms('$2', [{is_pid, '$2'}])).
+
+%% What selects the terms of the entries with such a process.
+terms(Pid, Guards) ->
+    [{#entry{name = '$1', term = same, pid = Pid, _ = '_'}, Guards, ['$1']},
+     {#entry{term = {term, '$1'}, pid = Pid, _ = '_'}, Guards, ['$1']}].
 
 %% Returns the names of a process, unless it is of this node and has ended.
 -spec names(pid()) -> [term()].
@@ -180,12 +212,12 @@ names(Pid) ->
     names_of(Pid).
 
 names_of(Pid) ->
-    ets:select(?ROWS, [{#entry{term = '$1', pid = Pid, _ = '_'}, [], ['$1']}]).
+    ets:select(?ROWS, terms(Pid, [])).
 
 %% Returns how many names there are.
 -spec count() -> non_neg_integer().
 count() ->
-    ets:select_count(?ROWS, [{#entry{pid = '$1', _ = '_'}, [{'=/=', '$1', none}], [true]}]).
+    ets:select_count(?ROWS, [{#entry{pid = '$1', _ = '_'}, [{is_pid, '$1'}], [true]}]).
 
 %% Returns what is registered under a name.
 -spec info(heal:name(), Term :: term()) -> {ok, #row{}} | none | not_running.
@@ -193,7 +225,7 @@ info(Name, Term) ->
     case find(Name, Term) of
         {ok, Pid} ->
             case ets:lookup(?ROWS, Name) of
-                [#entry{row = Row, pid = Pid}] -> {ok, Row};
+                [Entry = #entry{pid = Pid}] -> {ok, row_of(Entry)};
                 _ -> none
             end;
         Other ->
@@ -204,6 +236,6 @@ info(Name, Term) ->
 -spec row(heal:name()) -> {ok, #row{}} | none.
 row(Name) ->
     case ets:lookup(?ROWS, Name) of
-        [#entry{row = Row, pid = Pid}] when Pid =/= none -> {ok, Row};
+        [Entry = #entry{pid = Pid}] when is_pid(Pid) -> {ok, row_of(Entry)};
         _ -> none
     end.
