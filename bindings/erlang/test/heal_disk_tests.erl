@@ -55,7 +55,7 @@ problem(It) ->
 disks_test_() ->
     {inparallel, 3, [{atom_to_list(Name), {timeout, 240, Test}} || {Name, Test} <- [
         {cluster, fun cluster/0}, {torn, fun torn/0}, {damaged, fun damaged/0}, {not_a_folder, fun not_a_folder/0},
-        {full, fun full/0}, {one_folder, fun one_folder/0}, {replaced, fun replaced/0}, {writer_ends, fun writer_ends/0},
+        {full, fun full/0}, {hanging, fun hanging/0}, {one_folder, fun one_folder/0}, {replaced, fun replaced/0}, {writer_ends, fun writer_ends/0},
         {bad_setting, fun bad_setting/0}, {numbers, fun numbers/0}]]}.
 
 %% All nodes of a cluster are killed at once, again and again, while callers upload on each of them.
@@ -262,6 +262,26 @@ bad_setting() ->
 start_here(Options) ->
     process_flag(trap_exit, true),
     heal_registry:start_link(Options).
+
+%% A disk that hangs delays an upload until its time is over, and nothing else; parts heal meanwhile.
+hanging() ->
+    Folder = folder(),
+    Options = #{dir => Folder, exchange_timeout => 1000, edit_timeout => 1000},
+    [A, B] = Nodes = [heal_cluster:start(Letter) || Letter <- [a, b]],
+    [heal_cluster:start_registry(It, any, Options) || It <- Nodes],
+    ok = heal_cluster:call(A, sys, suspend, [heal_log]),
+    ?assertMatch({error, {timeout, unknown}}, upload(A, 1)),
+    {Time, Owner} = timer:tc(fun() -> heal_cluster:own(A, ?REGISTER, name, #{}) end),
+    ?assert(Time < 1000000),
+    heal_cluster:connect(A, B),
+    heal_cluster:one_part(Nodes),
+    ?assertEqual(Owner, call(B, whereis_name, [name])),
+    ok = heal_cluster:call(A, sys, resume, [heal_log]),
+    {ok, Id} = upload(A, 1),
+    heal_cluster:kill_node(A),
+    Again = again(A, Folder),
+    ?assert(knows(Again, Id)),
+    [heal_cluster:stop(It) || It <- [Again, B]].
 
 %% The greatest number of an exchange is on the disk before the other node hears it.
 numbers() ->
