@@ -8,14 +8,14 @@ use Rattle.partition_table.proofs.finder.Finder.find.Goals as goal
 
 pub invariant_of-self : goal.invariant_of-self
 invariant_of-self c =
-    let past = c.is_past.ensures c.if-not-is_past.false in
+    let past = c.is_past.ensures.0 c.if-not-is_past.false in
     subst (IsAhead c.self.inside.table.now (Some c.args.name.now)) (sym c.find-found.ensures.left)
     (still_ahead c.self.inside.table.now c.self.inside.last c.args.name.now (rows_ahead c.self.inside.ahead)
     c.self.invariant past)
 
 pub returns-clause-found : goal.returns-clause-found
 returns-clause-found c =
-    let past = c.is_past.ensures c.if-not-is_past.false in
+    let past = c.is_past.ensures.0 c.if-not-is_past.false in
     c.find-found.ensures.found ∙ ap (first_at c.args.name.now) c.find-found.ensures.left
     ∙ found_ahead c.self.inside.table.now c.self.inside.last c.args.name.now (rows_ahead c.self.inside.ahead)
     c.self.invariant past
