@@ -106,8 +106,8 @@ made(Edit, Replica = #replica{limit = Limit}) ->
         Refused -> Refused
     end.
 
-step(Edit, Limit, Replica = #replica{at = {View, Operation}, half = Half}) ->
-    case edited(Edit, Limit, Half) of
+step(Edit, Limit, Replica = #replica{life = Life, at = {View = {Primary, _}, Operation}, half = Half}) ->
+    case edited(compact(Edit, [Primary, Life]), Limit, Half) of
         {ok, Edited} -> {ok, Replica#replica{at = {View, Operation + 1}, half = Edited}};
         Refused -> Refused
     end.
@@ -121,7 +121,9 @@ snapshot(#replica{at = At, half = Half}) -> {At, Half}.
 follow({{{Life, Led}, _}, _}, #replica{life = Life, led = Led}) ->
     {error, 98};
 follow({At, Half = #half{names = Names}}, Replica) ->
-    {ok, Replica#replica{at = At, half = Half#half{names = maps:map(fun compact/2, Names)}}}.
+    Homes = lists:usort([Home || #row{home = Home} <- maps:values(Names)]),
+    Compact = maps:map(fun(Name, Row) -> compact(Name, Row, Homes) end, Names),
+    {ok, Replica#replica{at = At, half = Half#half{names = Compact}}}.
 
 %% Applies an entry: 96 if it is of another view, 97 if an earlier one is missing. A repeated one changes nothing.
 -spec apply(entry(), replica()) -> {ok, now | already, replica()} | {error, refusal()}.
@@ -171,14 +173,19 @@ with_program(_Name, #row{registration = #{resolver := {program, Id}}}, #half{pro
         when not is_map_key(Id, Programs) ->
     {error, 41};
 with_program(Name, Row, Half = #half{names = Names}) ->
-    {ok, Half#half{names = Names#{Name => compact(Name, Row)}}}.
+    {ok, Half#half{names = Names#{Name => Row}}}.
 
-%% Returns the same row with less memory: a row that another node sent has copies of what all rows share.
-compact(Name, Row = #row{registration = #{owner := Owner, stamp := Stamp, weight := Weight, extra := Extra, resolver := Resolver}}) ->
+%% Returns the same edit or row with less memory: one that another node sent has copies of what all rows share.
+compact({register, Name, Row}, Homes) -> {register, Name, compact(Name, Row, Homes)};
+compact(Edit, _Homes) -> Edit.
+
+compact(Name, Row = #row{registration = Sent, term = Term, home = Home}, Homes) ->
+    #{owner := Owner, stamp := Stamp, weight := Weight, extra := Extra, resolver := Resolver} = Sent,
     %% The keys of a map that is written like this are a literal of the module.
-    Registration = #{owner => Owner, stamp => Stamp, weight => Weight, extra => shared(Extra, <<0:128>>), resolver => Resolver},
-    Row#row{registration = Registration, term = shared(Row#row.term, Name)}.
+    Registration = #{owner => Owner, stamp => Stamp, weight => Weight, extra => shared(Extra, [<<0:128>>]), resolver => Resolver},
+    Row#row{registration = Registration, term = shared(Term, [Name]), home = shared(Home, Homes)}.
 
-%% Returns the other term if both are equal, so that only one is kept.
-shared(Term, Other) when Term =:= Other -> Other;
-shared(Term, _Other) -> Term.
+%% Returns the term of the list that equals this one, so that only one is kept.
+shared(Term, [Other | _]) when Term =:= Other -> Other;
+shared(Term, [_ | Others]) -> shared(Term, Others);
+shared(Term, []) -> Term.

@@ -15,17 +15,19 @@
 -define(OPERATION, {?MODULE, operation}).
 
 %% A name. `ended' if its process has ended and its row is about to go. The other fields are those of the row, without what ETS would
-%% copy for each: the keys of the registration, extra bytes that are zero, and a term that is the name.
+%% copy for each: the keys of the registration, extra bytes that are zero, a term that is the name, and a home that is the node of
+%% the process, of which it has the incarnation.
 -record(entry, {
     name :: heal:name() | atom(),
     pid :: pid() | {ended, pid()} | atom(),
     term :: same | {term, term()} | atom(),
-    owner :: heal:owner() | atom(),
+    node :: 0..16#ffffffff | atom(),
+    serial :: 0..16#ffffffff | atom(),
     stamp :: non_neg_integer() | atom(),
     weight :: non_neg_integer() | atom(),
     extra :: none | binary() | atom(),
     resolver :: heal:resolver() | atom(),
-    home :: heal_replica:life() | atom()
+    home :: non_neg_integer() | heal_replica:life() | atom()
 }).
 
 -define(NOTHING, <<0:128>>).
@@ -81,19 +83,32 @@ rows(Put, Drop) ->
     ok.
 
 entry(Name, #row{registration = Registration, pid = Pid, term = Term, home = Home}) ->
-    #{owner := Owner, stamp := Stamp, weight := Weight, extra := Extra, resolver := Resolver} = Registration,
-    #entry{name = Name, pid = Pid, term = if Term =:= Name -> same; true -> {term, Term} end, owner = Owner, stamp = Stamp,
-           weight = Weight, extra = if Extra =:= ?NOTHING -> none; true -> Extra end, resolver = Resolver, home = Home}.
+    #{owner := {Node, Serial}, stamp := Stamp, weight := Weight, extra := Extra, resolver := Resolver} = Registration,
+    #entry{
+        name = Name,
+        pid = Pid,
+        term = if Term =:= Name -> same; true -> {term, Term} end,
+        node = Node,
+        serial = Serial,
+        stamp = Stamp,
+        weight = Weight,
+        extra = if Extra =:= ?NOTHING -> none; true -> Extra end,
+        resolver = Resolver,
+        home = if element(1, Home) =:= node(Pid) -> element(2, Home); true -> Home end
+    }.
 
 %% Returns the row of an entry.
-row_of(Entry = #entry{owner = Owner, stamp = Stamp, weight = Weight, resolver = Resolver, home = Home}) ->
+row_of(Entry = #entry{node = Node, serial = Serial, stamp = Stamp, weight = Weight, resolver = Resolver}) ->
     Extra = case Entry#entry.extra of none -> ?NOTHING; Bytes -> Bytes end,
     Pid = case Entry#entry.pid of {ended, Ended} -> Ended; Living -> Living end,
-    Registration = #{owner => Owner, stamp => Stamp, weight => Weight, extra => Extra, resolver => Resolver},
-    #row{registration = Registration, pid = Pid, term = term_of(Entry), home = Home}.
+    Registration = #{owner => {Node, Serial}, stamp => Stamp, weight => Weight, extra => Extra, resolver => Resolver},
+    #row{registration = Registration, pid = Pid, term = term_of(Entry), home = home_of(Entry, Pid)}.
 
 term_of(#entry{name = Name, term = same}) -> Name;
 term_of(#entry{term = {term, Term}}) -> Term.
+
+home_of(#entry{home = Incarnation}, Pid) when is_integer(Incarnation) -> {node(Pid), Incarnation};
+home_of(#entry{home = Home}, _Pid) -> Home.
 
 %% The process of a name has ended.
 -spec hide(heal:name()) -> ok.
@@ -153,7 +168,7 @@ keep_operation(Operation) ->
 
 %% The rows of this node's living processes, and what the table lacks or may have lacked.
 own(Life, Names) ->
-    Shown = maps:filter(fun(_, #entry{pid = Pid, home = Home}) -> Home =:= Life andalso is_pid(Pid) end, Names),
+    Shown = maps:filter(fun(_, Entry = #entry{pid = Pid}) -> is_pid(Pid) andalso home_of(Entry, Pid) =:= Life end, Names),
     Missing = ets:select(?ROWS, [{#kept{key = {own, '$1'}, value = '$2'}, [], [{{'$1', '$2'}}]}]),
     maps:merge(rows_of(Shown), maps:from_list(Missing)).
 
