@@ -1,9 +1,10 @@
-"""heal's command line: check, judge, dis, asm and run, with what heal prints on standard output and its status.
+"""heal's commands check, judge, dis, asm and run: what heal prints on standard output, and its status.
 
-Follows README.md, docs/WRITING_RESOLVERS.md, docs/TEXT.md, docs/SCRIPTS.md and docs/REFUSALS.md. Help and usage errors
-aren't imitated but for their status, 1.
+Follows README.md, docs/WRITING_RESOLVERS.md, docs/TEXT.md, docs/SCRIPTS.md and docs/REFUSALS.md. `oracle.py COMMAND WORD..`
+carries out a command; asm and run take a file.
 """
 
+import pathlib
 import sys
 
 import files
@@ -14,25 +15,22 @@ import verifier
 from machine import Refused
 
 
-def refusal(refused):
-    place = f" at {refused.place[0]} {refused.place[1]}" if refused.place else ""
-    return f"refused {refused.number}{place}\n"
-
-
-def refused_by(*faults):
-    """What a command prints for the least of these refusals. A file that can't be read is a device fault, which comes first."""
-    if any(refused.number == 58 for refused in faults):
+def answered(show, *calls):
+    """Shows what these calls return, or else the least of their refusals; a file that can't be read is a device fault, which
+    comes first. Returns what is printed, the status and the numbers of the refusals."""
+    found, faults = [], []
+    for call in calls:
+        try:
+            found.append(call())
+        except Refused as refused:
+            faults.append(refused)
+    if not faults:
+        return show(*found), 0, set()
+    least = min(faults, key=lambda refused: (refused.number != 58, refused.number))
+    if least.number == 58:
         return "device fault\n", 3, {58}
-    least = min(faults, key=lambda refused: refused.number)
-    return refusal(least), 2, {least.number}
-
-
-def guarded(call, *arguments):
-    """Returns what a command prints, its status, and the numbers of the refusals."""
-    try:
-        return call(*arguments), 0, set()
-    except Refused as refused:
-        return refused_by(refused)
+    place = f" at {least.place[0]} {least.place[1]}" if least.place else ""
+    return f"refused {least.number}{place}\n", 2, {least.number}
 
 
 def decoded(word):
@@ -40,81 +38,33 @@ def decoded(word):
     return machine.decode(files.code_of(word.encode()))
 
 
-def loaded(word, profile):
+def loaded(word, profile=2):
     insns = decoded(word)
     verifier.verify(insns, profile)
     return insns
 
 
 def check(word, profile=2):
-    return guarded(lambda: f"accepted {len(loaded(word, profile))} instructions\n")
+    return answered(lambda insns: f"accepted {len(insns)} instructions\n", lambda: loaded(word, profile))
 
 
 def judge(word, record_digits):
-    """Of the faults of the code and of the record the least is printed."""
-    faults, found = [], []
-    for read in (lambda: loaded(word, 2), lambda: machine.record_of(files.hex_bytes(record_digits.encode()))):
-        try:
-            found.append(read())
-        except Refused as refused:
-            faults.append(refused)
-    if faults:
-        return refused_by(*faults)
-    r0, steps = machine.run(*found)
-    return f"{machine.answer(r0)} in {steps} steps\n", 0, set()
+    return answered(lambda insns, data: "{} in {} steps\n".format(*machine.judge(insns, data)), lambda: loaded(word),
+                    lambda: machine.record_of(files.hex_bytes(record_digits.encode())))
 
 
 def dis(word):
-    return guarded(lambda: text.disassemble(decoded(word)))
+    return answered(text.disassemble, lambda: decoded(word))
 
 
 def asm(data):
-    def assembled():
-        if len(data) > files.MAX_FILE:
-            raise Refused(57)
-        try:
-            decoded = data.decode()
-        except UnicodeDecodeError:
-            raise Refused(56) from None
-        return text.assemble(decoded).hex() + "\n"
-    return guarded(assembled)
+    return answered(lambda code: code.hex() + "\n", lambda: text.assemble(data))
 
 
-def read_file(name):
-    if name == "-":
-        return sys.stdin.buffer.read()
-    with open(name, "rb") as file:
-        return file.read()
-
-
-def main(words):
-    """Carries out a command. Returns its output and its status."""
-    command, arguments = (words + [""])[0], words[1:]
-    profile = 2
-    if command == "check" and "--profile" in arguments[:-1]:
-        at = arguments.index("--profile")
-        profile = {"1": 1, "2": 2}.get(arguments[at + 1])
-        del arguments[at:at + 2]
-    if command == "run" and "--workers" in arguments[:-1]:
-        at = arguments.index("--workers")
-        if not (arguments[at + 1].isdecimal() and 1 <= int(arguments[at + 1]) <= 16):
-            return "", 1
-        del arguments[at:at + 2]
-    counts = {"check": 1, "judge": 2, "dis": 1, "asm": 1, "run": 1}
-    if counts.get(command) != len(arguments) or profile is None:
-        return "", 1
-    if command in ("asm", "run"):
-        try:
-            data = read_file(arguments[0])
-        except OSError:
-            return "device fault\n", 3
-        return (asm if command == "asm" else script.run)(data)[:2]
-    calls = {"check": lambda word: check(word, profile), "judge": judge, "dis": dis}
-    return calls[command](*arguments)[:2]
-
+COMMANDS = {"check": check, "judge": judge, "dis": dis, "asm": lambda name: asm(pathlib.Path(name).read_bytes()),
+            "run": lambda name: script.run(pathlib.Path(name).read_bytes())}
 
 if __name__ == "__main__":
-    printed, status = main(sys.argv[1:])
+    printed, status, _ = COMMANDS[sys.argv[1]](*sys.argv[2:])
     sys.stdout.write(printed)
-    sys.stdout.flush()
     sys.exit(status)

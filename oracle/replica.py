@@ -4,60 +4,49 @@ Follows docs/EMBEDDING.md, docs/MESSAGES.md (entries, logs, snapshots) and bindi
 """
 
 import collections
-import hashlib
 import struct
 
 import messages
 import registry
 import side
 import verifier
-from side import refuse
+from machine import U64, refuse
+from messages import ENTRY, SNAPSHOT
+from registry import id_of
 
-ENTRY, SNAPSHOT = 3, 4
-MOST_NAMES = 1048576
-REGISTER, UNREGISTER, UPLOAD, LIMIT, BEGIN = range(5)
-
-# A view is its primary's node and incarnation, and a number. `op` is the number of an entry.
-Entry = collections.namedtuple("Entry", "view op kind value")
-Snapshot = collections.namedtuple("Snapshot", "view op limit latest store rows programs")
+# A view is its primary's node and incarnation, and a number. `op` is the number of an entry, `edit` one of EDITS: a call of a half.
+Entry = collections.namedtuple("Entry", "view op edit arguments")
+Snapshot = collections.namedtuple("Snapshot", "view op half")
 
 
-# ---- Bytes ----
+# ---- Checksums: docs/MESSAGES.md, "Entries and logs" ----
 
-WORD = (1 << 64) - 1
+# SipRound in four steps (x, y, a, b): v[x] += v[y]; v[y] is rotated by a bits to the left, then v[y] ^= v[x]; v[x] is rotated by b.
+SIP_STEPS = (0, 1, 13, 32), (2, 3, 16, 0), (0, 3, 21, 0), (2, 1, 17, 32)
 
 
 def rotated(word, by):
-    return (word << by | word >> (64 - by)) & WORD
+    return (word << by | word >> 64 - by) & U64
 
 
-def rounds(state, count):
-    """SipRound, as often as this."""
-    v0, v1, v2, v3 = state
-    for _ in range(count):
-        v0 = v0 + v1 & WORD
-        v1 = rotated(v1, 13) ^ v0
-        v0 = rotated(v0, 32)
-        v2 = v2 + v3 & WORD
-        v3 = rotated(v3, 16) ^ v2
-        v0 = v0 + v3 & WORD
-        v3 = rotated(v3, 21) ^ v0
-        v2 = v2 + v1 & WORD
-        v1 = rotated(v1, 17) ^ v2
-        v2 = rotated(v2, 32)
-    return v0, v1, v2, v3
+def sip_rounds(v, count):
+    for x, y, a, b in SIP_STEPS * count:
+        v[x] = v[x] + v[y] & U64
+        v[y] = rotated(v[y], a) ^ v[x]
+        v[x] = rotated(v[x], b)
 
 
 def siphash(data, key=(0, 0), compressing=1, finishing=3):
     """SipHash of Aumasson and Bernstein: "SipHash: a fast short-input PRF", 2012."""
-    texts = struct.unpack("<4Q", b"uespemosmodnarodarenegylsetybdet")
-    v0, v1, v2, v3 = (text ^ key[at % 2] for at, text in enumerate(texts))
+    v = [text ^ key[at % 2] for at, text in enumerate(struct.unpack("<4Q", b"uespemosmodnarodarenegylsetybdet"))]
     last = data[len(data) // 8 * 8:].ljust(7, b"\0") + bytes([len(data) % 256])
     for (word,) in struct.iter_unpack("<Q", data[:len(data) // 8 * 8] + last):
-        v0, v1, v2, v3 = rounds((v0, v1, v2, v3 ^ word), compressing)
-        v0 ^= word
-    v0, v1, v2, v3 = rounds((v0, v1, v2 ^ 0xff, v3), finishing)
-    return v0 ^ v1 ^ v2 ^ v3
+        v[3] ^= word
+        sip_rounds(v, compressing)
+        v[0] ^= word
+    v[2] ^= 0xff
+    sip_rounds(v, finishing)
+    return v[0] ^ v[1] ^ v[2] ^ v[3]
 
 
 # The paper's test vector of SipHash-2-4.
@@ -69,8 +58,10 @@ def summed(data):
     return data + struct.pack("<Q", siphash(data))
 
 
+# ---- Entries and snapshots as bytes: docs/MESSAGES.md ----
+
 def frame(kind, body):
-    return summed(summed(messages.MAGIC + bytes([messages.VERSION, kind]) + struct.pack("<Q", len(body))) + body)
+    return summed(summed(messages.header(kind) + struct.pack("<Q", len(body))) + body)
 
 
 def unframed(kind, data):
@@ -84,166 +75,112 @@ def unframed(kind, data):
     reader.take(8)
     reader.end()
     refuse((84, summed(data[:-8]) != data))
-    reader = messages.Reader(data[:-8])
-    reader.take(24)
+    reader.data, reader.at = data[:-8], 24
     return reader
 
 
-def encode_position(view, op):
-    return struct.pack("<IQQQ", *view, op)
-
-
-def decode_position(reader):
-    return (reader.number(4), reader.number(8), reader.number(8)), reader.number(8)
-
-
-def encode_code(code):
-    return struct.pack("<I", len(code)) + code
+# The edits in the order of their numbers: how the arguments of each are written, and how they are read.
+EDITS = {"register": (messages.encode_row, messages.Reader.row),
+         "unregister": (messages.encode_name, messages.Reader.name),
+         "upload": (messages.encode_code, messages.Reader.code),
+         "set_limit": (lambda names: struct.pack("<I", names), messages.Reader.limit),
+         "begin": (lambda number: struct.pack("<Q", number), lambda reader: reader.number(8))}
 
 
 def encode_entry(entry):
-    value = entry.value
-    if entry.kind == REGISTER:
-        resolver = value[1].resolver
-        by_id = bytes([messages.BY_ID]) + resolver if isinstance(resolver, bytes) else bytes([resolver])
-        edit = messages.encode_fields(*value) + by_id
-    else:
-        write = {UNREGISTER: messages.encode_name, UPLOAD: encode_code, LIMIT: lambda limit: struct.pack("<I", limit),
-                 BEGIN: lambda number: struct.pack("<Q", number)}
-        edit = write[entry.kind](value)
-    return frame(ENTRY, encode_position(entry.view, entry.op) + bytes([entry.kind]) + edit)
+    write, _ = EDITS[entry.edit]
+    head = struct.pack("<IQQQB", *entry.view, entry.op, list(EDITS).index(entry.edit))
+    return frame(ENTRY, head + write(*entry.arguments))
 
 
 def decode_entry(data):
     reader = unframed(ENTRY, data)
-    view, op = decode_position(reader)
-    kind = reader.number(1)
-    refuse((71, kind > BEGIN))
-    read = {REGISTER: reader.row, UNREGISTER: reader.name, UPLOAD: lambda: reader.take(reader.count(messages.MAX_CODE)),
-            LIMIT: lambda: decode_limit(reader), BEGIN: lambda: reader.number(8)}
-    value = read[kind]()
+    view, op = reader.position()
+    edit, start = list(EDITS)[reader.number(1, 71, len(EDITS) - 1)], reader.at
+    _, read = EDITS[edit]
+    found = read(reader)
     reader.end()
-    if kind == REGISTER and isinstance(value[1].resolver, tuple):
-        by, resolver = value[1].resolver
-        refuse((76, by == messages.BY_CODE))
-        value = value[0], value[1]._replace(resolver=resolver)
-    if kind == UPLOAD:
-        refuse((81, not verifier.is_accepted(value)))
-    return Entry(view, op, kind, value)
-
-
-def decode_limit(reader):
-    limit = reader.count(MOST_NAMES)
-    refuse((73, limit == 0))
-    return limit
+    if edit == "register":
+        *arguments, code = found
+        refuse((76, code is not None), place=("byte", start))
+        return Entry(view, op, edit, arguments)
+    refuse((81, edit == "upload" and not verifier.is_accepted(found)), place=("item", 0))
+    return Entry(view, op, edit, [found])
 
 
 def encode_snapshot(snapshot):
-    latest = b"\0" if snapshot.latest is None else b"\1" + struct.pack("<Q", snapshot.latest)
-    store = b"".join(encode_code(code) for _, code in sorted(snapshot.store.items()))
-    return frame(SNAPSHOT, encode_position(snapshot.view, snapshot.op) + struct.pack("<I", snapshot.limit) + latest
-                 + struct.pack("<I", len(snapshot.store)) + store + messages.encode_rows(snapshot.rows, snapshot.programs))
+    half = snapshot.half
+    latest = b"\0" if half.latest is None else b"\1" + struct.pack("<Q", half.latest)
+    store = b"".join(messages.encode_code(code) for _, code in sorted(half.store.items()))
+    return frame(SNAPSHOT, struct.pack("<IQQQI", *snapshot.view, snapshot.op, half.limit) + latest
+                 + struct.pack("<I", len(half.store)) + store + messages.encode_rows(half.sorted(), half.codes))
 
 
 def decode_snapshot(data):
     reader = unframed(SNAPSHOT, data)
-    view, op = decode_position(reader)
-    limit, begun = decode_limit(reader), reader.number(1)
-    refuse((73, begun > 1))
+    view, op = reader.position()
+    limit, begun = reader.limit(), reader.number(1, 73, 1)
     latest = reader.number(8) if begun else None
-    codes = [reader.take(reader.count(messages.MAX_CODE)) for _ in range(reader.count(registry.MAX_PROGRAMS))]
+    codes = [reader.code() for _ in range(reader.count(registry.MAX_PROGRAMS))]
     store = {}
-    for code in codes:
-        digest = hashlib.sha256(code).digest()
-        refuse((81, not verifier.is_accepted(code)))
-        refuse((78, digest <= max(store, default=b"")))
-        store[digest] = code
-    return Snapshot(view, op, limit, latest, store, *messages.decode_rows(reader))
+    for index, code in enumerate(codes):
+        place = "program", index
+        refuse((81, not verifier.is_accepted(code)), place=place)
+        refuse((78, id_of(code) <= max(store, default=b"")), place=place)
+        store[id_of(code)] = code
+    rows, programs = messages.decode_rows(reader, len(codes))
+    return Snapshot(view, op, registry.Half(limit, store, dict(rows), programs, latest))
 
 
-# ---- Replicas ----
+# ---- Replicas: docs/EMBEDDING.md, bindings/c/heal.h ----
 
 class Replica:
     def __init__(self, node, incarnation):
         self.life, self.started = (node, incarnation), 1
-        self.view, self.op = (node, incarnation, 1), 0
-        self.store, self.codes, self.latest = {}, {}, None
-        self.table = registry.Table()
+        self.view, self.op = self.own_view(), 0
+        self.half = registry.Half()
+
+    def own_view(self):
+        """The latest view that the replica started."""
+        return (*self.life, self.started)
 
     def is_primary(self):
-        return self.view == (*self.life, self.started)
+        return self.view == self.own_view()
 
-    def edit(self, kind, value):
+    def edit(self, edit, *arguments):
         """Carries an edit out, and returns its entry."""
-        refuse((95, not self.is_primary()))
-        self.carry_out(kind, value)
-        return encode_entry(Entry(self.view, self.op, kind, value))
-
-    def carry_out(self, kind, value):
-        if kind == REGISTER:
-            name, registration = value
-            resolver = registration.resolver
-            refuse((30, name in self.table.rows), (32, len(self.table.rows) >= self.table.limit),
-                   (41, isinstance(resolver, bytes) and resolver not in self.store))
-            self.table.rows[name] = registration
-            if isinstance(resolver, bytes):
-                self.codes[resolver] = self.store[resolver]
-        elif kind == UNREGISTER:
-            self.table.unregister(value)
-        elif kind == UPLOAD:
-            registry.upload(self.store, value)
-        elif kind == LIMIT:
-            refuse((32, len(self.table.rows) > value))
-            self.table.limit = value
-        else:
-            refuse((35, self.latest is not None and value <= self.latest))
-            self.latest = value
+        refuse((92, edit == "set_limit" and not 1 <= arguments[0] <= messages.MAX_ROWS))
+        refuse((95, not self.is_primary()), (99, self.op == U64))
+        getattr(self.half, edit)(*arguments)
         self.op += 1
-
-    def register(self, name, registration):
-        return self.edit(REGISTER, (name, registration))
-
-    def unregister(self, name):
-        return self.edit(UNREGISTER, name)
-
-    def upload(self, code):
-        return self.edit(UPLOAD, code)
-
-    def set_limit(self, names):
-        refuse((92, not 1 <= names <= MOST_NAMES))
-        return self.edit(LIMIT, names)
-
-    def begin(self, number):
-        return self.edit(BEGIN, number)
+        return encode_entry(Entry(self.view, self.op, edit, arguments))
 
     def apply(self, data):
         entry = decode_entry(data)
         refuse((96, entry.view != self.view))
         refuse((97, entry.op > self.op + 1))
         if entry.op == self.op + 1:
-            self.carry_out(entry.kind, entry.value)
+            getattr(self.half, entry.edit)(*entry.arguments)
+            self.op = entry.op
 
     def lead(self):
+        refuse((99, self.started == U64))
         self.started += 1
-        self.view, self.op = (*self.life, self.started), 0
+        self.view, self.op = self.own_view(), 0
 
     def snapshot(self):
-        rows = self.table.sorted()
-        return encode_snapshot(Snapshot(self.view, self.op, self.table.limit, self.latest, self.store, rows, self.codes))
+        return encode_snapshot(Snapshot(self.view, self.op, self.half))
 
     def follow(self, data):
         taken = decode_snapshot(data)
-        refuse((98, taken.view == (*self.life, self.started)))
-        self.view, self.op, self.latest, self.store = taken.view, taken.op, taken.latest, dict(taken.store)
-        self.table = registry.Table(taken.limit)
-        self.table.rows, self.codes = dict(taken.rows), dict(taken.programs)
+        refuse((98, taken.view == self.own_view()))
+        self.view, self.op, self.half = taken
 
     def side(self, which):
         """An idle side with what the replica has."""
-        refuse((32, len(self.table.rows) > self.table.limit))
-        made = side.Side(which, self.table.limit)
-        made.table.rows = dict(self.table.rows)
-        made.uploads, made.codes, made.latest = dict(self.store), dict(self.codes), self.latest
+        half = self.half
+        refuse((32, len(half.rows) > half.limit))
+        made = side.Side(which, half.limit, dict(half.store), dict(half.rows), dict(half.codes), half.latest)
         made.events = None                     # as many as names, and at most two more
         return made
 
@@ -252,4 +189,4 @@ class Replica:
         refuse((33, ended.exchange))
         refuse((49, position != (self.view, self.op)))
         self.lead()
-        self.table.rows, self.codes, self.latest = dict(ended.table.rows), dict(ended.codes), ended.latest
+        self.half = registry.Half(self.half.limit, self.half.store, dict(ended.rows), dict(ended.codes), ended.latest)

@@ -1,34 +1,29 @@
-"""Scripts: each line of an input with its answer or its refusal, and the status.
-
-Follows docs/SCRIPTS.md.
-"""
+"""Scripts: each line of an input with its answer or its refusal, and the status. Follows docs/SCRIPTS.md."""
 
 import re
 
 import files
 import machine
 import registry
-from files import hex_bytes
-from machine import Refused
+from machine import U64, Refused, refuse
 
 MAX_LINE = 20_000
-U32, U64 = (1 << 32) - 1, (1 << 64) - 1
-COUNTS = {b"upload": 3, b"register": 8, b"unregister": 3, b"whereis": 3, b"show": 2}
+# What follows each first word.
+LINES = {b"upload": rb"(\S+) (\S+)", b"register": rb"([ab]) (\S+) (\S+) (\S+) (\S+) (\S+) (\S+)",
+         b"unregister": rb"([ab]) (\S+)", b"whereis": rb"([ab]) (\S+)", b"show": rb"([ab])",
+         b"heal": rb"(\S+)(?: (?!gone )(\S+) (\S+))?((?: gone [ab] \S+)*)"}
 
 
-def number(word, most):
-    if not re.fullmatch(rb"0|[1-9][0-9]*", word) or int(word) > most:
-        raise Refused(52)
+def number(word, most=U64):
+    refuse((52, not re.fullmatch(rb"0|[1-9][0-9]*", word) or int(word) > most))
     return int(word)
 
 
 class Script:
     def __init__(self):
-        self.store = {}                        # the code of each program by its id
-        self.labels = {}                       # the id of each label's program, in the order of uploads
-        self.tables = {b"a": registry.Table(), b"b": registry.Table()}
-        self.line_number = 0
-        self.status = 0
+        self.store, self.labels = {}, {}       # the code of each program by its id; the id of each label, in order
+        self.halves = {side: registry.Half(store=self.store) for side in (b"a", b"b")}
+        self.line_number, self.status = 0, 0
         self.refused = set()                   # the numbers of the refusals so far
 
     def line(self, line):
@@ -43,116 +38,79 @@ class Script:
             return f"line {self.line_number}: refused {refused.number}{place}\n"
 
     def answers(self, line):
-        if len(line) > MAX_LINE:
-            raise Refused(54)
+        refuse((54, len(line) > MAX_LINE))
         words = [word for word in line.split(b" ") if word]
         if not words or words[0].startswith(b"#"):
             return []
-        if not all(0x20 <= byte <= 0x7e for byte in line) or not right_words(words):
-            raise Refused(51)
-        return getattr(self, words[0].decode())(*words[1:])
+        found = words[0] in LINES and re.fullmatch(LINES[words[0]], b" ".join(words[1:]))
+        refuse((51, not all(0x20 <= byte <= 0x7e for byte in line) or not found))
+        return getattr(self, words[0].decode())(*found.groups())
+
+    # Each of the following carries out the lines of one first word, and reads their words from left to right.
 
     def upload(self, label, code):
-        if label in self.labels or label.decode() in registry.BUILTINS or len(label) > 32:
-            raise Refused(53)
+        refuse((53, label in self.labels or label.decode() in registry.BUILTINS or len(label) > 32))
         code = files.code_of(code)
-        self.labels[label] = registry.upload(self.store, code)
+        self.labels[label] = self.halves[b"a"].upload(code)
         return [f"uploaded {label.decode()} {len(machine.decode(code))} instructions"]
 
     def register(self, side, name, owner, stamp, weight, data, resolver):
         registry.check_name(name)
-        parts = owner.split(b".")
-        if len(parts) != 2:
-            raise Refused(52)
-        node, serial = (number(part, U32) for part in parts)
-        stamp, weight = number(stamp, U64), number(weight, U64)
-        extra = bytes(16) if data == b"-" else hex_bytes(data)
-        if len(extra) != 16:
-            raise Refused(50)
+        refuse((52, owner.count(b".") != 1))
+        node, serial = (number(part, (1 << 32) - 1) for part in owner.split(b"."))
+        stamp, weight = number(stamp), number(weight)
+        extra = bytes(16) if data == b"-" else files.hex_bytes(data)
+        refuse((50, len(extra) != 16))
         registration = registry.Registration(node, serial, stamp, weight, extra, self.resolver(resolver))
-        self.tables[side].register(name, registration)
+        self.halves[side].register(name, registration)
         return ["yes"]
 
     def resolver(self, word):
         if word.decode() in registry.BUILTINS:
             return registry.BUILTINS.index(word.decode())
-        if word not in self.labels:
-            raise Refused(41)
+        refuse((41, word not in self.labels))
         return self.labels[word]
 
     def unregister(self, side, name):
-        self.tables[side].unregister(registry.check_name(name))
+        self.halves[side].unregister(registry.check_name(name))
         return ["gone"]
 
     def whereis(self, side, name):
-        found = self.tables[side].rows.get(registry.check_name(name))
+        found = self.halves[side].rows.get(registry.check_name(name))
         return [f"{found.node}.{found.serial}" if found else "undefined"]
 
     def show(self, side):
-        lines = [f"{name.decode()} {r.node}.{r.serial} {r.stamp} {r.weight} {self.resolver_word(r.resolver)}"
-                 for name, r in self.tables[side].sorted()]
-        return lines + ["end"]
+        words = {digest: label.decode() for label, digest in reversed(self.labels.items())}  # of several labels the first
+        words.update(enumerate(registry.BUILTINS))
+        return [f"{name.decode()} {r.node}.{r.serial} {r.stamp} {r.weight} {words[r.resolver]}"
+                for name, r in self.halves[side].sorted()] + ["end"]
 
-    def resolver_word(self, resolver):
-        """A built-in resolver's word, or the first label of a program."""
-        if isinstance(resolver, int):
-            return registry.BUILTINS[resolver]
-        return next(label.decode() for label, digest in self.labels.items() if digest == resolver)
-
-    def heal(self, seed, *rest):
-        seed, rest = number(seed, U64), list(rest)
-        uptimes = [number(rest.pop(0), U64) for _ in range(2)] if rest and rest[0] != b"gone" else [0, 0]
-        gone = [(side, registry.check_name(name)) for side, name in zip(rest[1::3], rest[2::3])]
-        a, b = self.tables[b"a"], self.tables[b"b"]
-        if registry.too_many(a, b):
-            raise Refused(37)
-        withdrawn = self.withdraw(gone)
-        lines, answers = [], {}
-        for index, clash in enumerate(registry.clashes(a, b, *uptimes)):
-            word = registry.word_of(seed, index)
-            answer = registry.verdict(clash, word, self.store)
-            answers[clash.name] = clash, answer
+    def heal(self, seed, uptime_a, uptime_b, gone):
+        seed, *uptimes = (number(word or b"0") for word in (seed, uptime_a, uptime_b))
+        gone = [(side, registry.check_name(name)) for side, name in re.findall(rb" gone ([ab]) (\S+)", gone)]
+        a, b = (half.rows for half in self.halves.values())
+        refuse((37, len(a.keys() | b.keys()) > registry.MAX_NAMES))
+        self.check_gone(gone)
+        answers, lines = registry.judged(registry.clashes(a, b, *uptimes), seed, self.store), []
+        for clash, word, answer in answers:
             lines += [f"{clash.name.decode()} {answer} word {word}"] + registry.notices(clash, answer)
-        merged = registry.merge(a, b, answers, withdrawn.values())
-        for side in self.tables:
-            self.tables[side] = registry.Table()
-            self.tables[side].rows = dict(merged.rows)
-        lines += [f"withdrew {side.decode()} {name.decode()}" for side, name in gone]
-        return lines + [f"healed {len(merged.rows)} names"]
+        merged = registry.merge(a, b, answers, [[name for half, name in gone if half == side] for side in self.halves])
+        for half in self.halves.values():
+            half.rows = dict(merged)
+        return lines + [f"withdrew {side.decode()} {name.decode()}" for side, name in gone] + [f"healed {len(merged)} names"]
 
-    def withdraw(self, gone):
-        """The withdrawn names of each half. A refusal leaves the tables without the names that were withdrawn before."""
-        withdrawn = {b"a": set(), b"b": set()}
-        for side, name in gone:
-            fault = 31 if name not in self.tables[side].rows else 47 if name in withdrawn[side] else None
-            if fault:
-                for each, names in withdrawn.items():
-                    for left in names:
-                        self.tables[each].unregister(left)
-                raise Refused(fault)
-            withdrawn[side].add(name)
-        return withdrawn
-
-
-def right_words(words):
-    """Whether a line has a known first word, a right number of words, and right sides."""
-    if words[0] != b"heal":
-        sides = words[1:2] if words[0] in COUNTS and words[0] != b"upload" else []
-        return len(words) == COUNTS.get(words[0]) and all(side in (b"a", b"b") for side in sides)
-    rest = words[2:]
-    if rest and rest[0] != b"gone":
-        if len(rest) < 2:
-            return False
-        rest = rest[2:]
-    return (len(words) > 1 and len(rest) % 3 == 0 and all(word == b"gone" for word in rest[0::3])
-            and all(side in (b"a", b"b") for side in rest[1::3]))
+    def check_gone(self, gone):
+        """Refuses names that can't be withdrawn. The tables are left without those before the first of them."""
+        for at, (side, name) in enumerate(gone):
+            is_again = (side, name) in gone[:at]
+            if is_again or name not in self.halves[side].rows:
+                for other_side, other in gone[:at]:
+                    self.halves[other_side].unregister(other)
+                raise Refused(47 if is_again else 31)
 
 
 def run(data):
     """Carries out a whole script. Returns the output, the status and the numbers of the refusals."""
     script = Script()
-    lines = data.split(b"\n")
-    if not lines[-1]:
-        lines.pop()
-    output = "".join(script.line(line) for line in lines)
+    output = "".join(map(script.line, data.removesuffix(b"\n").split(b"\n")))
     return output, script.status, script.refused

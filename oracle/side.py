@@ -5,16 +5,7 @@ Follows docs/EMBEDDING.md, docs/MESSAGES.md and bindings/c/heal.h (events, and t
 
 import messages
 import registry
-from machine import Refused
-
-EVENTS_OF_NAME = 16
-
-
-def refuse(*faults):
-    """Raises the refusal with the least number whose cause is true."""
-    numbers = [number for number, cause in faults if cause]
-    if numbers:
-        raise Refused(min(numbers))
+from machine import refuse
 
 
 class Exchange:
@@ -28,74 +19,64 @@ class Exchange:
         self.listed = None                     # the other side's withdrawn names, once they are heard
 
 
-class Side:
-    def __init__(self, side, limit):
-        self.side, self.limit, self.most_events = side, limit, EVENTS_OF_NAME * limit
-        self.table, self.uploads, self.codes = registry.Table(limit), {}, {}
-        self.latest, self.events, self.exchange = None, 0, None
+class Side(registry.Half):
+    def __init__(self, side, *half):
+        super().__init__(*half)
+        self.side, self.most_events = side, 16 * self.limit
+        self.events, self.exchange = 0, None
 
-    def full(self):
-        return self.events == self.most_events
-
-    # ---- Names and programs ----
-
-    def upload(self, code):
-        return registry.upload(self.uploads, code)
+    def faults(self, *numbers):
+        """These refusals for what the side is: each number with whether its cause holds."""
+        exchange = self.exchange
+        causes = {33: exchange, 34: not exchange, 39: exchange and not exchange.offer,
+                  40: self.events == self.most_events, 48: exchange and exchange.closed}
+        return [(number, causes[number]) for number in numbers]
 
     def names_program(self, digest):
-        return any(r.resolver == digest for r in self.table.rows.values())
+        return any(r.resolver == digest for r in self.rows.values())
 
     def forget(self, digest):
         refuse((94, self.names_program(digest)))
-        refuse((41, digest not in self.uploads))
-        del self.uploads[digest]
+        refuse((41, digest not in self.store))
+        del self.store[digest]
 
     def code(self, digest):
-        refuse((41, digest not in self.uploads and not self.names_program(digest)))
-        return {**self.codes, **self.uploads}[digest]
+        refuse((41, digest not in self.store and not self.names_program(digest)))
+        return {**self.codes, **self.store}[digest]
 
     def register(self, name, registration):
-        resolver = registration.resolver
-        refuse((30, name in self.table.rows), (32, len(self.table.rows) == self.limit), (33, self.exchange), (40, self.full()),
-               (41, isinstance(resolver, bytes) and resolver not in self.uploads))
-        self.table.register(name, registration)
-        if isinstance(resolver, bytes):
-            self.codes[resolver] = self.uploads[resolver]
+        super().register(name, registration, *self.faults(33, 40))
         self.events += 1
 
     def unregister(self, name):
-        refuse((31, name not in self.table.rows), (33, self.exchange), (40, self.full()))
-        self.table.unregister(name)
+        super().unregister(name, *self.faults(33, 40))
         self.events += 1
 
     def live(self):
         """The rows without the withdrawn ones."""
         withdrawn = self.exchange.withdrawn if self.exchange else []
-        return [row for row in self.table.sorted() if row[0] not in withdrawn]
-
-    # ---- An exchange ----
+        return [row for row in self.sorted() if row[0] not in withdrawn]
 
     def begin(self, number, seed, uptime):
-        refuse((33, self.exchange), (35, self.latest is not None and number <= self.latest), (40, self.full()))
-        self.exchange, self.latest = Exchange(number, seed, uptime), number
+        super().begin(number, *self.faults(33, 40))
+        self.exchange = Exchange(number, seed, uptime)
         self.events += 1
-        return messages.encode_offer(messages.Offer(self.side, number, seed, uptime, self.table.sorted(), self.codes))
+        return messages.encode_offer(messages.Offer(self.side, number, seed, uptime, self.sorted(), self.codes))
 
     def head(self, data):
-        """What a message is refused for by its head alone."""
+        """Refuses a message by its head alone."""
         side, number = messages.decode_head(data)
-        refuse((34, not self.exchange))
-        other, own = number != self.exchange.number, side == self.side
-        refuse((40, (other or own) and self.full()), (45, other), (46, own))
+        refuse(*self.faults(34))
+        is_other, is_own = number != self.exchange.number, side == self.side
+        if is_other or is_own:
+            refuse((45, is_other), (46, is_own), *self.faults(40))
 
     def hear(self, data):
         self.head(data)
         offer, exchange = messages.decode_offer(data), self.exchange
-        if exchange.offer:
-            refuse((83, offer != exchange.offer))
-        names = self.table.rows.keys() | dict(offer.rows).keys()
-        first = not exchange.offer
-        refuse((36, first and offer.seed != exchange.seed), (37, first and len(names) > self.limit), (40, self.full()))
+        is_first, names = not exchange.offer, self.rows.keys() | dict(offer.rows).keys()
+        refuse((83, not is_first and offer != exchange.offer))
+        refuse((36, is_first and offer.seed != exchange.seed), (37, is_first and len(names) > self.limit), *self.faults(40))
         exchange.offer = offer
         self.events += 1
 
@@ -103,32 +84,30 @@ class Side:
         """What is mine and what is the other's, A's first."""
         return (mine, other) if self.side == 0 else (other, mine)
 
+    def tables(self):
+        return self.both(self.rows, dict(self.exchange.offer.rows))
+
     def clashes(self):
-        other = registry.Table(self.limit)
-        other.rows = dict(self.exchange.offer.rows)
-        tables = self.both(self.table, other)
-        return tables, registry.clashes(*tables, *self.both(self.exchange.uptime, self.exchange.offer.uptime))
+        return registry.clashes(*self.tables(), *self.both(self.exchange.uptime, self.exchange.offer.uptime))
 
     def settle(self):
-        refuse((34, not self.exchange), (39, self.exchange and not self.exchange.offer))
-        if self.exchange.answers is not None:
+        refuse(*self.faults(34, 39))
+        exchange = self.exchange
+        if exchange.answers is not None:
             return
-        _, found = self.clashes()
+        found = self.clashes()
         refuse((40, self.events + len(found) > self.most_events))
-        codes = {**self.codes, **self.exchange.offer.programs}
-        words = [(clash, registry.word_of(self.exchange.seed, index)) for index, clash in enumerate(found)]
-        self.exchange.answers = [(clash, word, registry.verdict(clash, word, codes)) for clash, word in words]
+        exchange.answers = registry.judged(found, exchange.seed, {**self.codes, **exchange.offer.programs})
         self.events += len(found)
 
     def withdraw(self, name):
         exchange = self.exchange
-        refuse((34, not exchange), (31, name not in self.table.rows), (40, self.full()),
-               (47, exchange and name in exchange.withdrawn), (48, exchange and exchange.closed))
+        refuse((31, name not in self.rows), (47, exchange and name in exchange.withdrawn), *self.faults(34, 40, 48))
         exchange.withdrawn.append(name)
         self.events += 1
 
     def close_list(self):
-        refuse((34, not self.exchange), (40, self.full()), (48, self.exchange and self.exchange.closed))
+        refuse(*self.faults(34, 40, 48))
         self.exchange.closed = True
         self.events += 1
         return messages.encode_withdrawals(messages.Withdrawals(self.side, self.exchange.number, self.exchange.withdrawn))
@@ -137,7 +116,7 @@ class Side:
         self.head(data)
         names = messages.decode_withdrawals(data).names
         refuse((83, self.exchange.listed not in (None, names)))
-        refuse((40, self.full()))
+        refuse(*self.faults(40))
         self.exchange.listed = names
         self.events += 1
 
@@ -146,39 +125,36 @@ class Side:
         exchange = self.exchange
         if not exchange:
             return 0
-        if not exchange.offer:
-            return 1
-        unjudged = exchange.answers is None and bool(self.clashes()[1])
-        lacks = [(2, unjudged), (3, not exchange.closed), (4, exchange.listed is None)]
+        is_unjudged = exchange.offer and exchange.answers is None and self.clashes()
+        lacks = [(1, not exchange.offer), (2, is_unjudged), (3, not exchange.closed), (4, exchange.listed is None)]
         return next((kind for kind, is_missing in lacks if is_missing), 0)
 
     def finish(self):
         """Merges. Returns each clash with its word and its answer."""
-        refuse((34, not self.exchange), (39, self.missing()), (40, self.full()))
+        refuse((39, self.missing()), *self.faults(34, 40))
         exchange, answers = self.exchange, self.exchange.answers or []
-        verdicts = {clash.name: (clash, answer) for clash, _, answer in answers}
-        self.table = registry.merge(*self.clashes()[0], verdicts, self.both(exchange.withdrawn, exchange.listed))
+        self.rows = registry.merge(*self.tables(), answers, self.both(exchange.withdrawn, exchange.listed))
         self.codes.update(exchange.offer.programs)
         self.exchange = None
         self.events += 1
         return answers
 
-    def closed(self):
+    def close(self):
         """Closes the exchange and keeps the table, without the withdrawn names."""
         for name in self.exchange.withdrawn:
-            self.table.unregister(name)
+            del self.rows[name]
         self.exchange = None
 
     def abandon(self):
-        refuse((34, not self.exchange), (40, self.full()))
-        self.closed()
+        refuse(*self.faults(34, 40))
+        self.close()
         self.events += 1
 
     def renew(self):
-        refuse((33, self.exchange))
+        refuse(*self.faults(33))
         self.events = None                     # as many as names, and at most two more
 
     def give_up(self):
         if self.exchange:
-            self.closed()
+            self.close()
         self.events = None

@@ -4,6 +4,7 @@
 The cases are restated from RFC 9669 and from what the tests of Linux's lib/test_bpf, uBPF and rbpf are known to cover: each operation at
 each width, with operands at its edges. The results are written here as numbers, and come from no implementation. `heal asm` assembles
 programs of a few cases each, and `heal judge` runs them on a record that holds the operands. A program returns 2 at a wrong result, else 1.
+Each mnemonic of docs/TEXT.md must have a case.
 """
 
 import itertools
@@ -12,6 +13,11 @@ import subprocess
 import sys
 
 ROOT = pathlib.Path(__file__).resolve().parent.parent
+sys.dont_write_bytecode = True
+sys.path.insert(0, str(ROOT / "oracle"))
+
+from machine import MNEMONICS
+
 PROGRAM = sys.argv[1] if len(sys.argv) > 1 else str(ROOT / "crates/heal_main/out/heal_main")
 MASK = (1 << 64) - 1
 
@@ -105,6 +111,8 @@ smod64  -13 -3                                      -1
 smod64  0x8000000000000000 -1                       0
 smod64  0x8000000000000000 10                       -8
 smod64  -13 0                                       -13
+smod64  13 -1                                       0
+smod64  0 -13                                       0
 smod32  13 3                                        1
 smod32  0xfffffff3 3                                0xffffffff
 smod32  13 0xfffffffd                               1
@@ -124,11 +132,13 @@ and64   0x0123456789abcdef 0                        0
 and32   -1 -1                                       0xffffffff
 and32   0x1ffffffff 0x100000000                     0
 and32   0x1234567890abcdef 0xff                     0xef
+and32   -1 -0x80000000                              0x80000000
 xor64   -1 -1                                       0
 xor64   5 -1                                        -6
 xor64   0x0123456789abcdef 0x0000ffff0000ffff       0x0123ba9889ab3210
 xor32   0xffffffff00000005 0xffffffff               0xfffffffa
 xor32   -1 -1                                       0
+xor32   5 -0x80000000                               0x80000005
 lsh64   1 0                                         1
 lsh64   1 31                                        0x80000000
 lsh64   1 32                                        0x100000000
@@ -147,6 +157,7 @@ lsh32   1 63                                        0x80000000
 lsh32   -1 4                                        0xfffffff0
 lsh32   0x100000001 0                               1
 lsh32   3 31                                        0x80000000
+lsh32   1 -1                                        0x80000000
 rsh64   0x8000000000000000 0                        0x8000000000000000
 rsh64   0x8000000000000000 31                       0x100000000
 rsh64   0x8000000000000000 32                       0x80000000
@@ -161,6 +172,7 @@ rsh32   0x80000000 32                               0x80000000
 rsh32   0x80000000 63                               1
 rsh32   -1 4                                        0x0fffffff
 rsh32   0xffffffff80000000 0                        0x80000000
+rsh32   0x80000000 -1                               1
 arsh64  0x8000000000000000 0                        0x8000000000000000
 arsh64  0x8000000000000000 31                       0xffffffff00000000
 arsh64  0x8000000000000000 32                       0xffffffff80000000
@@ -170,6 +182,8 @@ arsh64  0x8000000000000000 65                       0xc000000000000000
 arsh64  -16 2                                       -4
 arsh64  0x4000000000000000 62                       1
 arsh64  0x7fffffffffffffff 63                       0
+arsh64  0x8000000000000000 -1                       -1
+arsh64  0x8000000000000000 0x100000001              0xc000000000000000
 arsh32  0x80000000 0                                0x80000000
 arsh32  0x80000000 31                               0xffffffff
 arsh32  0x80000000 32                               0x80000000
@@ -179,6 +193,7 @@ arsh32  0xfffffff0 2                                0xfffffffc
 arsh32  0x7fffffff 31                               0
 arsh32  0xffffffff00000010 4                        1
 arsh32  0x180000000 4                               0xf8000000
+arsh32  0x80000000 -1                               0xffffffff
 mov64   1 -1                                        -1
 mov64   1 0x123456789abcdef0                        0x123456789abcdef0
 mov64   1 -0x80000000                               0xffffffff80000000
@@ -328,6 +343,35 @@ lddw r2, 0x0123456789abcdef; stdw [r10-8], -1; stxw [r10-8], r2; ldxdw r0, [r10-
 lddw r2, 0x0123456789abcdef; stdw [r10-8], -1; stxh [r10-8], r2; ldxdw r0, [r10-8]  | 0xffffffffffffcdef
 lddw r2, 0x0123456789abcdef; stdw [r10-8], -1; stxb [r10-8], r2; ldxdw r0, [r10-8]  | 0xffffffffffffffef
 lddw r2, 0x0123456789abcdef; stdw [r10-8], 0; stxw [r10-4], r2; ldxdw r0, [r10-8]   | 0x89abcdef00000000
+ldxdw r1, [r1+0]; mov64 r0, r1                                              | 0xefcdab8967452301
+ldxsb r1, [r1+4]; mov64 r0, r1                                              | 0xffffffffffffff89
+stdw [r10-8], 128; ldxsb r0, [r10-8]                                        | 0xffffffffffffff80
+stdw [r10-8], 32768; ldxsh r0, [r10-8]                                      | 0xffffffffffff8000
+stdw [r10-8], -2147483648; ldxsw r0, [r10-8]                                | 0xffffffff80000000
+stdw [r10-8], 127; ldxsb r0, [r10-8]                                        | 0x7f
+stdw [r10-8], 0; stdw [r10-16], 0; lddw r2, 0x0123456789abcdef; stxdw [r10-13], r2; ldxdw r0, [r10-16] | 0x6789abcdef000000
+stdw [r10-8], 0; stdw [r10-16], 0; lddw r2, 0x0123456789abcdef; stxdw [r10-13], r2; ldxdw r0, [r10-8]  | 0x012345
+lddw r0, 0x0123456789abcdef; add64 r0, r0                                   | 0x02468acf13579bde
+lddw r0, 0x8000000000000001; add32 r0, r0                                   | 2
+lddw r0, 0x0123456789abcdef; sub64 r0, r0                                   | 0
+lddw r0, 0x0123456789abcdef; xor32 r0, r0                                   | 0
+lddw r0, 0x0123456789abcdef; and64 r0, r0                                   | 0x0123456789abcdef
+lddw r0, 0x0123456789abcdef; or32 r0, r0                                    | 0x89abcdef
+lddw r0, 0x123456789; mul64 r0, r0                                          | 0x4b66dc326fb98751
+lddw r0, 0x0123456789abcdef; div64 r0, r0                                   | 1
+mov64 r0, 0; div64 r0, r0                                                   | 0
+lddw r0, 0x0123456789abcdef; mod32 r0, r0                                   | 0
+mov64 r0, 0; mod64 r0, r0                                                   | 0
+lddw r0, 0x8000000000000000; sdiv64 r0, r0                                  | 1
+lddw r0, 0x8000000000000000; smod64 r0, r0                                  | 0
+mov64 r0, 5; lsh64 r0, r0                                                   | 160
+mov64 r0, -1; rsh64 r0, r0                                                  | 1
+mov64 r0, -1; arsh32 r0, r0                                                 | 0xffffffff
+lddw r0, 0x0123456789abcdef; mov32 r0, r0                                   | 0x89abcdef
+lddw r0, 0x0123456789abcdef; mov64s8 r0, r0                                 | 0xffffffffffffffef
+lddw r0, 0x0123456789abcdef; mov32s16 r0, r0                                | 0xffffcdef
+mov64 r0, 7; ldxb r2, [r1+0]; jne r2, r2, +1; ja +1; mov64 r0, 8            | 7
+mov64 r0, 7; ldxb r2, [r1+0]; jsge32 r2, r2, +1; mov64 r0, 8                | 7
 mov64 r0, 7; ldxb r2, [r1+0]; jeq r2, 0, +1; ja +1; mov64 r0, 8             | 7
 mov64 r0, 7; ldxb r2, [r1+0]; jeq r2, 0, +1; ja +0; mov64 r0, 8             | 8
 mov64 r0, 7; ldxb r2, [r1+0]; jeq r2, 0, +1; jal +1; mov64 r0, 8            | 7
@@ -336,6 +380,8 @@ mov64 r0, 7; ldxb r2, [r1+0]; jeq r2, 0, +1; jal +2; lddw r0, 8             | 7
 
 # What a program answers by r0, all 64 bits of it.
 ANSWERS = [("1", "first"), ("2", "second"), ("0", "none"), ("3", "none"), ("0x100000001", "none"), ("0xffffffffffffffff", "none")]
+
+tried = {"exit"}  # the mnemonics of the cases so far; `exit` ends each, with one of ANSWERS
 
 HELD = 10  # cases whose operands one record holds
 SLOTS = 250  # of a program, since it is verified in quadratic time
@@ -409,6 +455,7 @@ def program_of(checks):
     """The text of a program that returns 2 at the first check with another value in r0, else 1."""
     lines = []
     for body, wanted in checks:
+        tried.update(line.split()[0] for line in body)
         lines += [*body, f"lddw r9, {wanted}", "jeq r0, r9, +2", "mov64 r0, 2", "exit"]
     return [*lines, "mov64 r0, 1", "exit"]
 
@@ -460,4 +507,7 @@ def check_sequences():
     return len(checks) + len(ANSWERS)
 
 
-print(f"{check_cases() + check_sequences()} conformance cases passed")
+passed = check_cases() + check_sequences()
+if MNEMONICS.keys() - tried:
+    sys.exit(f"conformance.py: no case of {' '.join(sorted(MNEMONICS.keys() - tried))}")
+print(f"{passed} conformance cases of {len(tried)} mnemonics passed")

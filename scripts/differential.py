@@ -21,6 +21,7 @@ import os
 import pathlib
 import random
 import re
+import shutil
 import struct
 import subprocess
 import sys
@@ -43,13 +44,11 @@ from random_codes import EXIT, Codes, slot
 
 # Refusals that no input reaches, each with the reason.
 UNREACHABLE = {
-    38: "rulings are posted on a board, which neither the program nor the library has",
+    38: "it takes a ruling of somebody else: the program posts its own alone, and the library takes none",
     42: "it takes two codes of one SHA-256 digest",
-    90: "scripts/sweep_memory.sh and bindings/c/sweep.c make allocations fail",
-    99: "it takes 2^64 calls: a replica counts the views that it starts, and the entries that it makes there",
 }
 # Those of the library's calls alone.
-OF_CALLS = {33, 34, 35, 36, 39, 40, 45, 46, 48, 49, *range(70, 85), *range(91, 99)}
+OF_CALLS = {33, 34, 35, 36, 39, 40, 45, 46, 48, 49, *range(70, 85), *range(91, 100)}
 
 
 # ---- Texts ----
@@ -95,7 +94,7 @@ class Texts:
             near = {"[": ADDRESSES, "r": REGISTERS + NUMERALS, "+": DISTANCES, "-": DISTANCES + NUMERALS}
             parts[at] = pick(near.get(parts[at][:1], NUMERALS) if kind and at else words)
         elif kind == 4:
-            parts[0] = pick(sorted(text.MNEMONICS))
+            parts[0] = pick(sorted(machine.MNEMONICS))
         elif kind == 5:
             parts.insert(self.rng.randrange(len(parts) + 1), pick([" ", "\t", ",", ", ", ";", "\r", "\v", "; c", " 1", "\0"]))
         elif kind == 6:
@@ -395,8 +394,8 @@ def each_mnemonic():
     """Two lines with each mnemonic: an operand that may be a register or a number is both."""
     operands = {"dst": "r3", "src": "r4", "imm": "-9", "value": "5000000000", "near": "+7", "far": "-70000",
                 "from": "[r1+8]", "to": "[r10-8]"}
-    return [f"{mnemonic} {', '.join(operands.get(kind, source) for kind in kinds)}"
-            for mnemonic, (_, kinds, _, _) in text.MNEMONICS.items() for source in ("r5", "-6")]
+    return [f"{mnemonic} {', '.join(operands.get(kind, source) for kind in i.operands)}"
+            for mnemonic, i in machine.MNEMONICS.items() for source in ("r5", "-6")]
 
 
 def special_texts():
@@ -435,7 +434,7 @@ class Comparison:
         self.sides, self.replicas, self.special_calls = (
             map(importlib.import_module, ["random_sides", "random_replicas", "special_calls"]) if library else (None,) * 3)
         self.examples, self.numbers = examples_of_documents(), numbers_of_document()
-        self.reached, self.counts = {}, {}
+        self.reached, self.counts, self.unreachable = {}, {}, dict(UNREACHABLE)
 
     def compare(self, command, arguments, data, expected):
         """Runs the program and compares it with the oracle's output, status and refusals."""
@@ -475,11 +474,40 @@ class Comparison:
                 and all(self.asm(data) for data in special_texts())
                 and self.dis(oracle.asm("\n".join(each_mnemonic()).encode())[0].strip())
                 and self.script(self.files.special()) and self.script(orders_of_registrations()) and self.script(bytes_of_records())
+                and self.without_memory()
                 and self.uploads(self.examples) and self.uploads(list(Codes(random.Random(self.seed), self.examples).each()))
                 and all(self.compare("judge", arguments, None, oracle.judge(*arguments)) for arguments in
                         [[EXIT.hex(), "00"], ["0", "0"], ["b7000000010000009500000000000000", "00" * 127], ["", "00" * 160],
                          ["B700000001000000" + EXIT.hex(), "0A" * 128]])
                 and (not self.library or all(self.alike(*call) for call in self.special_calls.calls())))
+
+    def without_memory(self):
+        """Compares `judge` while every request for memory from the Nth on fails, for each N. Where it can't read its words it prints
+        nothing, and later it is refused 90; its status is 3."""
+        if not shutil.which("cc"):
+            self.unreachable[90] = "there is no C compiler, so no request for memory fails"
+            return True
+        with tempfile.TemporaryDirectory() as folder:
+            library, count = f"{folder}/refuse.so", pathlib.Path(folder, "count")
+            subprocess.run(["cc", "-shared", "-fPIC", "-o", library, ROOT / "scripts/refuse_memory.c", "-ldl"], check=True)
+            self.judged(library, REFUSE_COUNT=str(count))
+            requests = int.from_bytes(count.read_bytes(), sys.byteorder)
+            answers = [self.judged(library, REFUSE_FROM=str(number)) for number in range(1, requests + 1)]
+        silent, refused = (b"", 3), (b"refused 90\n", 3)
+        if not requests:
+            self.unreachable[90] = "the program takes its memory from elsewhere than the C library, so no request fails"
+        if refused in answers:
+            self.reached[90] = answers.count(refused)
+        wrong = [number for number, answer in enumerate(answers, 1) if answer not in (silent, refused)]
+        if wrong:
+            print(f"DIFFERENCE: heal judge without memory from request {wrong[0]} on: {answers[wrong[0] - 1]}")
+        return not wrong
+
+    def judged(self, library, **settings):
+        """The output and the status of `judge` with refuse_memory.c and its settings."""
+        done = subprocess.run([self.program, "judge", self.examples[0].hex(), "00" * machine.RECORD_BYTES],
+                              env={"LD_PRELOAD": library, **settings}, capture_output=True, check=False)
+        return done.stdout, done.returncode
 
     def uploads(self, codes):
         """Scripts that upload these codes, each as many as a store has room for."""
@@ -489,7 +517,7 @@ class Comparison:
 
     def missed(self):
         """The numbers within reach that weren't reached yet."""
-        return sorted(self.numbers - UNREACHABLE.keys() - (set() if self.library else OF_CALLS) - self.reached.keys())
+        return sorted(self.numbers - self.unreachable.keys() - (set() if self.library else OF_CALLS) - self.reached.keys())
 
     def same(self, what, given, got, wanted):
         """Compares an answer of the library."""
@@ -623,10 +651,10 @@ def compare_all(comparison, options):
     print(f"{index} random cases alike; commands: " + ", ".join(f"{n} {c}" for c, n in sorted(comparison.counts.items())))
     print("refusals: " + ", ".join(f"{number}: {n}" for number, n in sorted(comparison.reached.items())))
     # One that is reached after all doesn't belong into UNREACHABLE.
-    wrong = sorted(UNREACHABLE.keys() & comparison.reached.keys())
+    wrong = sorted(comparison.unreachable.keys() & comparison.reached.keys())
     missed = comparison.missed()
     for number in sorted(comparison.numbers - comparison.reached.keys() - set(missed)):
-        print(f"not reached: {number}: {UNREACHABLE.get(number, 'of calls of the library')}")
+        print(f"not reached: {number}: {comparison.unreachable.get(number, 'of calls of the library')}")
     if missed:
         print("FAILED: within reach, but not reached: " + ", ".join(map(str, missed)))
     if wrong:

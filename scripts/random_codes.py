@@ -13,7 +13,7 @@ EXIT = bytes.fromhex("9500000000000000")
 NUMBERS = [0, 1, 2, 3, 7, 8, 15, 16, 31, 32, 63, 64, 127, 128, 159, 160, 255, 256, 512, 32767, 32768, 65535, 65536,
            (1 << 31) - 1, 1 << 31, (1 << 32) - 1, 1 << 32, (1 << 63) - 1, 1 << 63, (1 << 64) - 1]
 ALU_CODES = [0, 1, 2, 3, 4, 5, 6, 7, 9, 10, 11, 12]
-TEST_CODES = list(machine.TEST_NAMES)
+TEST_CODES = list(machine.TEST_CODES.values())
 # Pairs of ranges that differ in what the operations make of them; each twice, since two codes show what each end is.
 RANGES = [pair for pair in [((100, 200), (3, 7)), ((0, 9), (0, 3)), ((1 << 33, 1 << 34), (5, 5)), (((1 << 64) - 9, (1 << 64) - 1), (1, 20)),
                             ((1 << 31, (1 << 31) + 6), (31, 34)), ((40, 60), (50, 1 << 63))] for _ in range(2)]
@@ -314,16 +314,6 @@ def last_state(code):
     """The state in which the verifier leaves code that has no EXIT, or None where it refuses."""
     try:
         insns = machine.decode(code + EXIT)
-        verifier.check_structure(insns)
+        return next((state for i, state in verifier.Verifier().walk(insns) if i is insns[-1]), None)
     except machine.Refused:
         return None
-    domain, states = verifier.Domain(2), {0: verifier.entry_state()}
-    for i in insns[:-1]:
-        state = states.pop(i.slot, None)
-        if state is None:
-            continue
-        if verifier.faults_of(i, state, domain):
-            return None
-        for target, carried in verifier.edges_of(i, state, domain):
-            states[target] = states[target].join(carried) if target in states else carried
-    return states.get(insns[-1].slot)

@@ -36,7 +36,8 @@ class Pair:
         given = [to_library(it) if isinstance(it, registry.Registration) else it for it in arguments]
         if name == "upload":
             given = [heal.Program(*arguments)]
-        return self.shown(guarded(getattr(self.library, name), *given), guarded(getattr(self.oracle, name), *arguments))
+        wanted = guarded(self.oracle.edit, name, *arguments) if name in replica.EDITS else guarded(getattr(self.oracle, name), *arguments)
+        return self.shown(guarded(getattr(self.library, name), *given), wanted)
 
     def shown(self, got, wanted):
         return (got, *self.of_library()), (wanted, *self.of_oracle())
@@ -47,9 +48,9 @@ class Pair:
         return (at, state.names, state.limit, state.latest, state.is_primary, self.library.rows())
 
     def of_oracle(self):
-        model = self.oracle
-        rows = [(name, to_library(r)) for name, r in model.table.sorted()]
-        return ((model.view, model.op), len(rows), model.table.limit, model.latest, model.is_primary(), rows)
+        model, half = self.oracle, self.oracle.half
+        rows = [(name, to_library(r)) for name, r in half.sorted()]
+        return ((model.view, model.op), len(rows), half.limit, half.latest, model.is_primary(), rows)
 
     def exchange(self, rng, position, number):
         """Makes a side of the replica, exchanges with a side of one other name, and brings the outcome into the view."""

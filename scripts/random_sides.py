@@ -69,7 +69,7 @@ class Pair:
         heard = (bool(open_.offer), open_.closed, open_.listed is not None) if open_ else (False,) * 3
         rows = [(name, to_library(r)) for name, r in model.live()]
         return (model.events, open_.number if open_ else None, model.latest, *heard, model.missing(), open_.withdrawn if open_ else [],
-                rows, len(model.table.rows), sorted(model.uploads))
+                rows, len(model.rows), sorted(model.store))
 
 
 class Walk:
@@ -152,7 +152,7 @@ class Walk:
                     yield self.any()
 
     def own_name(self, which):
-        return self.rng.choice(sorted(self.pairs[which].oracle.table.rows) or NAMES)
+        return self.rng.choice(sorted(self.pairs[which].oracle.rows) or NAMES)
 
     def latest(self, which, kind):
         return self.made(which, kind, (self.sent[1 - which][kind] or [b""])[-1])

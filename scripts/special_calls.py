@@ -21,6 +21,7 @@ def calls():
     yield from other_lengths()
     yield from greatest_number_of_a_side()
     yield from greatest_numbers_of_replicas()
+    yield from exhausted_replicas()
 
 
 def empty_handles():
@@ -67,8 +68,37 @@ def greatest_numbers_of_replicas():
     """Snapshots and entries of the last positions, of another node and of a view that the replica hasn't started."""
     pair = random_replicas.Pair(0)
     for view in ((9, MOST, MOST), (0, 1, 2), (0, 1, MOST)):
-        messages = [("follow", replica.encode_snapshot(replica.Snapshot(view, MOST - 1, 2, MOST - 1, {}, [], {})))]
-        messages += [("apply", replica.encode_entry(replica.Entry(view, op, kind, value))) for op, kind, value in
-                     [(MOST, replica.BEGIN, MOST), (MOST, replica.UNREGISTER, b"a"), (0, replica.LIMIT, 1), (MOST - 1, replica.LIMIT, 1)]]
+        messages = [("follow", replica.encode_snapshot(replica.Snapshot(view, MOST - 1, registry.Half(2, latest=MOST - 1))))]
+        messages += [("apply", replica.encode_entry(replica.Entry(view, op, edit, [argument]))) for op, edit, argument in
+                     [(MOST, "begin", MOST), (MOST, "unregister", b"a"), (0, "set_limit", 1), (MOST - 1, "set_limit", 1)]]
         for call in [*messages, ("register", b"a", FOUND), ("lead",), messages[0], messages[1], ("begin", MOST), ("set_limit", 3)]:
             yield call, pair.call(*call)
+
+
+def exhausted_replicas():
+    """Replicas that have no number left for a view, or for an entry. It takes 2^64 calls to get there, so their counters are set."""
+    pair = random_replicas.Pair(0)
+    exhaust(pair.library, "lead")
+    pair.oracle.started, pair.oracle.view = MOST, (0, 1, MOST)
+    for call in [("begin", 1), ("lead",), ("register", b"a", FOUND)]:
+        yield call, pair.call(*call)
+    yield ("change",), pair.shown(guarded(pair.library.change, pair.library.state.at, pair.library.side("a")),
+                                  guarded(pair.oracle.change, (pair.oracle.view, pair.oracle.op), pair.oracle.side(0)))
+    pair = random_replicas.Pair(0)
+    exhaust(pair.library, "begin", 1)
+    pair.oracle.edit("begin", 1)
+    pair.oracle.op = MOST
+    for call in [("register", b"a", FOUND), ("unregister", b"a"), ("set_limit", 0), ("lead",), ("register", b"a", FOUND)]:
+        yield call, pair.call(*call)
+
+
+def exhaust(made, call, *arguments):
+    """Makes a call, and sets each word in the block of the library's replica to which it added 1 to the greatest number."""
+    allocated = ctypes.CDLL(None).malloc_usable_size
+    allocated.argtypes, allocated.restype = [ctypes.c_void_p], ctypes.c_size_t
+    words = (ctypes.c_uint64 * (allocated(made._handle.at) // 8)).from_address(made._handle.at)
+    before = list(words)
+    getattr(made, call)(*arguments)
+    for at, word in enumerate(before):
+        if words[at] == word + 1:
+            words[at] = MOST
