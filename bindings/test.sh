@@ -23,12 +23,7 @@ states() {
 if command -v python3 > /dev/null; then
     ./refusals.py --check
 fi
-# heal_version returns HEAL_VERSION, which c/stated.c checks.
-states c/heal.h "#define HEAL_VERSION 0x$(echo "$version" | awk -F. '{ printf "%02x%02x%02x", $1, $2, $3 }')"
-states rust/Cargo.toml "version = \"$version\""
-states erlang/src/heal.app.src "  {vsn, \"$version\"},"
-states rust/heal/Cargo.toml "heal-sys = { path = \"../heal-sys\", version = \"$version\" }"
-states python/pyproject.toml "version = \"$version\""
+../scripts/versions.sh
 if ! command -v cc > /dev/null; then
     skip "there is no C compiler, so the bindings were not tested"
     exit 0
@@ -133,6 +128,11 @@ fi
 compile example example.c
 checked "$work/example" > "$work/printed"
 cmp "$work/printed" c/example.out
+# The owner that each node of docs/EMBEDDING.md has after a split of four nodes.
+printf 'node %s: db 4.10\n' 1 2 4 5 > "$work/cluster.out"
+compile cluster cluster.c
+checked "$work/cluster" > "$work/printed"
+cmp "$work/printed" "$work/cluster.out"
 compile sweep sweep.c -Wl,--wrap=malloc,--wrap=realloc
 checked "$work/sweep"
 compile stated stated.c
@@ -157,7 +157,7 @@ fi
 compile inputs fuzz.c -DFUZZ_FILES
 checked "$work/inputs" c/corpus/*
 if echo 'int main(void){return 0;}' | cc -fsanitize=address,undefined -x c - -o "$work/sane" 2> /dev/null; then
-    for name in example stated sweep replicas; do
+    for name in example cluster stated sweep replicas; do
         [ $name = sweep ] && wrap=-Wl,--wrap=malloc,--wrap=realloc
         compile sane_$name $name.c -fsanitize=address,undefined -fno-sanitize-recover=all ${wrap-}
         "$work/sane_$name" > /dev/null
@@ -182,6 +182,8 @@ if command -v python3 > /dev/null; then
     c/nodes.py 10 python3 python/node.py
     python3 python/first.py > "$work/printed"
     cmp "$work/printed" "$work/first.out"
+    python3 python/cluster.py > "$work/printed"
+    cmp "$work/printed" "$work/cluster.out"
     check_wheel
 else
     skip "there is no Python, so its bindings were not tested"
@@ -191,6 +193,8 @@ if command -v cargo > /dev/null; then
     (cd rust && cargo test -q --offline)
     (cd rust && cargo run -q --offline -p heal --example first) > "$work/printed"
     cmp "$work/printed" "$work/first.out"
+    (cd rust && cargo run -q --offline -p heal --example cluster) > "$work/printed"
+    cmp "$work/printed" "$work/cluster.out"
     if command -v python3 > /dev/null; then
         (cd rust && cargo build -q --offline -p heal --example node)
         c/nodes.py 10 "$CARGO_TARGET_DIR/debug/examples/node"
@@ -201,6 +205,8 @@ fi
 if has_erlang; then
     # On three nodes, to save time: `make test` also runs the tests on two and on five.
     HEAL_NODES=${HEAL_NODES:-3} make -s -C erlang HEAL="$HEAL_OUT" test sanitize
+    ERL_FLAGS="-pa $PWD/erlang/ebin" escript erlang/examples/cluster.escript > "$work/printed"
+    cmp "$work/printed" "$work/cluster.out"
     if command -v python3 > /dev/null; then
         c/nodes.py 6 erl -noshell -pa "$PWD/erlang/ebin" "$PWD/erlang/out" -run heal_node main -extra
     fi

@@ -5,6 +5,7 @@
 #   heal_VERSION_amd64.deb               the same for Debian, below /usr
 #   heal-VERSION-py3-none-linux_x86_64.whl   heal for Python, with the library in it
 #   SHA256SUMS                           their checksums
+#   INSTALL.md                           how to install them (docs/INSTALL.md)
 #
 # Requires a clean checkout whose gate passed (.ci/run writes out/passed), with the proved program and library that it built, cc,
 # python3 and dpkg-deb. The OTP application is built if erlc is there. The same checkout gives the same bytes: all times are that of
@@ -45,10 +46,9 @@ tracked() {
 }
 
 mkdir -p "$tree/bin" "$tree/lib/pkgconfig" "$tree/include" "$doc" "$tree/share/man/man1" "$tree/share/heal"
-cp "$heal" "$tree/bin/heal"
+install -m 755 "$heal" "$tree/bin/heal"
 strip "$tree/bin/heal"
-cp "$built/libheal.a" "$tree/lib/libheal.a"
-cp "$built/libheal.so.$version" "$tree/lib/libheal.so.$version"
+install -m 644 "$built/libheal.a" "$built/libheal.so.$version" "$tree/lib/"
 ln -s "libheal.so.$version" "$tree/lib/libheal.so.${version%%.*}"
 ln -s "libheal.so.${version%%.*}" "$tree/lib/libheal.so"
 cp bindings/c/heal.h "$tree/include/heal.h"
@@ -70,8 +70,9 @@ tracked docs "$doc/docs"
 tracked examples "$tree/share/heal/examples"
 tracked resolvers "$tree/share/heal/resolvers"
 tracked bindings/rust "$tree/share/heal/rust"
-cp bindings/c/first.c bindings/c/example.c bindings/c/node.c "$tree/share/heal/examples/"
-cp bindings/python/first.py bindings/python/node.py "$tree/share/heal/examples/"
+cp bindings/c/first.c bindings/c/example.c bindings/c/cluster.c bindings/c/node.c bindings/c/nodes.py "$tree/share/heal/examples/"
+cp bindings/python/first.py bindings/python/cluster.py bindings/python/node.py "$tree/share/heal/examples/"
+tracked bindings/erlang/examples "$tree/share/heal/examples"
 cat > "$doc/PROVED" <<END
 heal $version, commit $commit
 kit: $(rt version 2> /dev/null | head -n 1 || cat out/kit)
@@ -123,4 +124,5 @@ chmod 755 "$work/deb/DEBIAN/postinst"
 find "$work/deb" -exec touch -hd "@$SOURCE_DATE_EPOCH" {} +
 dpkg-deb --root-owner-group -Zgzip -b "$work/deb" "$out/heal_${version}_amd64.deb" > /dev/null
 (cd "$out" && sha256sum "$name.tar.gz" "heal_${version}_amd64.deb" "${wheel##*/}" > SHA256SUMS)
+cp docs/INSTALL.md "$out/"
 ls -l "$out"

@@ -261,7 +261,7 @@ sync(Part = #part{syncing = Syncing, links = Links, peers = Peers}) ->
     Refused = [refused || #link{state = {refused, _, _}} <- maps:values(Links)],
     Answer = case {heal_meeting:is_idle(Part), [open || #peer{failed = none} <- Apart]} of
         {false, _} -> later;
-        {true, [_ | _]} -> case lists:any(fun(Peer) -> is_primary(Peer) end, Apart) of true -> later; false -> {error, apart} end;
+        {true, [_ | _]} -> case lists:any(fun(Peer) -> is_coming(Peer, Part) end, Apart) of true -> later; false -> {error, apart} end;
         {true, []} when Apart =/= []; Refused =/= [] -> {error, apart};
         {true, []} -> ok
     end,
@@ -269,6 +269,10 @@ sync(Part = #part{syncing = Syncing, links = Links, peers = Peers}) ->
         later -> Part;
         _ -> lists:foldl(fun(From, Sum) -> heal_state:add({reply, From, Answer}, Sum) end, Part#part{syncing = []}, Syncing)
     end.
+
+%% Returns whether a node is a primary, or its primary is connected: then it follows, or heals with, another view soon.
+is_coming(#peer{at = {{Primary, _}, _}}, Part = #part{peers = Peers}) ->
+    lists:member(Primary, [heal_state:life(Part) | [Of || #peer{life = Of} <- maps:values(Peers)]]).
 
 %% Reports what keeps this node apart from others, if that has changed.
 -spec report(#part{}) -> #part{}.
