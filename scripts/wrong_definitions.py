@@ -89,11 +89,11 @@ def copied(folder, edits):
         path.write_text(text.replace(old, new))
 
 
-def build(name, program):
-    """Builds the program with a wrong definition."""
+def build(name, edits, program):
+    """Builds the program with these edits, unproved."""
     with tempfile.TemporaryDirectory() as folder:
         folder = pathlib.Path(folder)
-        copied(folder, EDITS[name])
+        copied(folder, edits)
         built = subprocess.run([folder / "heal", "check", "95"], capture_output=True, text=True, check=False)
         try:
             shutil.copy2(folder / "crates/heal_main/out/heal_main_unproved", program)
@@ -104,7 +104,7 @@ def build(name, program):
 def is_noticed(name, program, options):
     """Compares the program with the oracle. Prints what ended the comparison, and after how long."""
     if not program.exists():
-        build(name, program)
+        build(name, EDITS[name], program)
     start = time.monotonic()
     compared = subprocess.run(
         [ROOT / "scripts/differential.py", f"--seconds={options.seconds}", f"--seed={options.seed}", "--library=", program],
