@@ -10,7 +10,7 @@ mod person;
 use answering::answer;
 use cluster::Healing;
 use numbered::{NumberedRefusal, words_of};
-use person::print_refusal_words;
+use person::{code_details, print_refusal_words};
 use script_engine::Narrator;
 use script_machine::Machine;
 use std::io;
@@ -51,6 +51,12 @@ impl Narrator for StandardError<'_> {
         let mut errors = StandardError { rt: self.rt };
         let words = words_of(refusal.number);
         let _ = print_refusal_words(Ok(()), &mut errors, line, refusal, words);
+    }
+
+    fn hear_code(&self, word: &[u8], refusal: NumberedRefusal) {
+        if let Some(details) = code_details(self.rt, word, refusal) {
+            let _ = eprint!(self.rt; "{details}");
+        }
     }
 
     fn hear_healing(&self, machine: &Machine, healing: &Healing) {

@@ -4,12 +4,17 @@ ghost use Rattle.output.specs.Sending.{SendsOn};
 ghost use Rattle.heal_main.specs.Words.{refusal_words};
 
 use cluster::Healing;
-use numbered::NumberedRefusal;
+use code_file::digits_in;
+use explanation::explain_at;
+use insn_codec::decode;
+use numbered::{NumberedRefusal, Place};
 use output::{DeviceFault, send_after};
+use program::Profile;
 use script_engine::Narrator;
 use script_machine::Machine;
 use script_text::{print_at_place, print_number};
 use std::io::Write;
+use std::rt::Files;
 
 /// Prints the refusal of a line with its words.
 pub(crate) fn print_refusal_words<W: Write>(
@@ -32,6 +37,26 @@ pub(crate) fn print_refusal_words<W: Write>(
     send_after(sent, writer, b"\n")
 }
 
+/// Returns what the verifier knows before the instruction that an upload's refusal names, in words; the upload's word has the code.
+pub(crate) fn code_details<R: Files + AllocGlobal>(
+    rt: &R,
+    word: &[u8],
+    refusal: NumberedRefusal,
+) -> Option<String> {
+    let Some(Place::Slot(slot)) = refusal.place else {
+        return None;
+    };
+    let bytes = match word {
+        [b'@', file @ ..] => {
+            let digits = digits_in(rt, str::from_utf8(file).ok()?).ok()?;
+            hex::decode(rt.alloc(), digits.as_bytes()).ok()?
+        }
+        _ => hex::decode(rt.alloc(), word).ok()?,
+    };
+    let code = decode(rt.alloc(), &bytes).ok()?;
+    explain_at::<Profile>(rt.alloc(), &code, slot as usize).ok()
+}
+
 /// A narrator that hears of healings only on request.
 #[derive(Clone, Copy, Debug)]
 pub(crate) struct Listener<'a, N> {
@@ -46,6 +71,10 @@ impl<'a, N: Narrator> Narrator for Listener<'a, N> {
 
     fn hear_refusal(&self, line: u64, refusal: NumberedRefusal) {
         self.narrator.hear_refusal(line, refusal);
+    }
+
+    fn hear_code(&self, word: &[u8], refusal: NumberedRefusal) {
+        self.narrator.hear_code(word, refusal);
     }
 
     fn hear_healing(&self, machine: &Machine, healing: &Healing) {

@@ -11,6 +11,9 @@ pub trait Narrator {
     /// Hears that the line of this number is refused.
     fn hear_refusal(&self, line: u64, refusal: NumberedRefusal);
 
+    /// Hears that an upload is refused, of code that this word has: hex digits, or `@` and a file. Follows `hear_refusal`.
+    fn hear_code(&self, word: &[u8], refusal: NumberedRefusal);
+
     /// Hears of a healing, after its lines are written.
     fn hear_healing(&self, machine: &Machine, healing: &Healing);
 }
@@ -25,6 +28,8 @@ impl Narrator for Silence {
     }
 
     fn hear_refusal(&self, _line: u64, _refusal: NumberedRefusal) {}
+
+    fn hear_code(&self, _word: &[u8], _refusal: NumberedRefusal) {}
 
     fn hear_healing(&self, _machine: &Machine, _healing: &Healing) {}
 }

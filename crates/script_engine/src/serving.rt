@@ -81,12 +81,10 @@ fn obey<T: Files + Threads + Wait + Sync + AllocGlobal, G: Gate + Sync, N: Narra
 {
     match command {
         Command::Upload { label, code } => {
-            say(
-                crew.narrator,
-                writer,
-                number,
-                &machine.upload_word(crew.rt, label, code),
-            )
+            let reply = machine.upload_word(crew.rt, label, code);
+            let said = say(crew.narrator, writer, number, &reply);
+            tell_code(crew.narrator, code, &reply);
+            said
         }
         Command::Register {
             side,
@@ -189,6 +187,14 @@ fn tell_reply<N: Narrator, W: Write>(
             sent
         }
         _ => sent,
+    }
+}
+
+// Tells the narrator of refused code.
+fn tell_code<N: Narrator>(narrator: &N, word: &[u8], reply: &Reply) {
+    match reply {
+        Reply::Refused(refusal) if narrator.listens() => narrator.hear_code(word, *refusal),
+        _ => {}
     }
 }
 
