@@ -6,7 +6,7 @@ ghost use Rattle.clash_record.specs.declared.side_id.SideId.TheVariants.{A, B};
 use crate::halves::Halves;
 use clash_record::{Name, Registration, SideId};
 use exchange_core::{Side, SideFault};
-use partition_table::NameLimit;
+use partition_table::{Agreement, NameLimit};
 use std::alloc::Global;
 use upload_store::UploadStore;
 
@@ -79,6 +79,37 @@ impl Cluster {
         match id {
             SideId::A => self.halves.a.register(name, registration, store),
             SideId::B => self.halves.b.register(name, registration, store),
+        }
+    }
+
+    /// Registers the name like `register`, on a half whose table has this agreement with the store: compares no code of a
+    /// program that the agreement knows.
+    pub fn register_agreed(
+        &mut self,
+        id: SideId,
+        name: Name,
+        registration: Registration,
+        store: &UploadStore,
+        agreement: &mut Agreement,
+    ) -> Result<(), SideFault>
+        requires { agreement.old ≡ record { table = (at (cluster_of self.old) id).side.table; store = store.now } }
+        ensures answer { let standing = at (cluster_of self.old) id in
+            IsAnswered side_fault_number (due.register_fault standing.limit (is_full_at standing) standing.side name registration store.now) result }
+        ensures done { OnOk result (IsCalled (cluster_of self.old) id
+            (call.Register name (row_for store.now registration))
+            (cluster_of self.new)) }
+        ensures untouched { OnErr result (cluster_of self.new ≡ cluster_of self.old) }
+        ensures agreed { agreement.new ≡ record { table = (at (cluster_of self.new) id).side.table; store = store.now } }
+    {
+        match id {
+            SideId::A => self
+                .halves
+                .a
+                .register_agreed(name, registration, store, agreement),
+            SideId::B => self
+                .halves
+                .b
+                .register_agreed(name, registration, store, agreement),
         }
     }
 

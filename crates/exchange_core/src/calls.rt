@@ -4,7 +4,7 @@ ghost use Rattle.std.specs.Bool.{Decides};
 ghost use Rattle.std.specs.Option.{option_map};
 ghost use Rattle.std.specs.Arc.{arc_value};
 ghost use Rattle.std.specs.FinMap.{get, len};
-ghost use Rattle.partition_table.specs.Tables.{max_names, row_for, rows_of};
+ghost use Rattle.partition_table.specs.Tables.{agrees_with, max_names, row_for, rows_of};
 ghost use Rattle.exchange_core.specs.Lists.{AreNamesOf};
 ghost use Rattle.exchange_core.specs.Rows.{rows_left};
 ghost use Rattle.partition_table.specs.Judged.{clash_of_verdict, word_of_verdict, answer_of_verdict};
@@ -28,7 +28,7 @@ use crate::messages::{Offer, Withdrawals};
 use crate::shown_rows::ShownRows;
 use crate::side::Side;
 use clash_record::{Name, Registration, SideId};
-use partition_table::{ClashList, Judged, NameLimit, Ruling, Table, merge_theorem};
+use partition_table::{Agreement, ClashList, Judged, NameLimit, Ruling, Table, merge_theorem};
 use std::alloc::Global;
 use std::snapshot::Snapshot;
 use std::sync::Arc;
@@ -143,10 +143,51 @@ impl Side {
         ensures done { OnOk result (IsDone self.old (call.Register name (row_for store.now registration)) self.new) }
         ensures untouched { OnErr result (IsUntouched self.old self.new) }
     {
+        self.register_known(false, name, registration, store)
+    }
+
+    /// Registers the name like `register`, on a side whose table has this agreement with the store: compares no code of a
+    /// program that the agreement knows. Afterwards it knows the program that the registration names, unless its id can't
+    /// be noted for lack of memory.
+    pub fn register_agreed(
+        &mut self,
+        name: Name,
+        registration: Registration,
+        store: &UploadStore,
+        agreement: &mut Agreement,
+    ) -> Result<(), SideFault>
+        requires { agreement.old ≡ record { table = (shown self.old).table; store = store.now } }
+        ensures answer { IsAnswered side_fault_number (due.register_fault (limit_of self.old) (is_full self.old) (shown self.old) name registration store.now)
+            result }
+        ensures done { OnOk result (IsDone self.old (call.Register name (row_for store.now registration)) self.new) }
+        ensures untouched { OnErr result (IsUntouched self.old self.new) }
+        ensures agreed { agreement.new ≡ record { table = (shown self.new).table; store = store.now } }
+    {
+        let is_known = agreement.knows(&registration);
+        self.register_known(is_known, name, registration, store)?;
+        agreement.follow_registration(&name, &registration, self.table());
+        Ok(())
+    }
+
+    // Registers the name on an idle side. Compares no code if the table is known to keep no other code under the program's id.
+    fn register_known(
+        &mut self,
+        is_known: bool,
+        name: Name,
+        registration: Registration,
+        store: &UploadStore,
+    ) -> Result<(), SideFault>
+        requires { IsTrue is_known → IsTrue (agrees_with (shown self.old).table (row_for store.now registration)) }
+        ensures answer { IsAnswered side_fault_number (due.register_fault (limit_of self.old) (is_full self.old) (shown self.old) name registration store.now)
+            result }
+        ensures done { OnOk result (IsDone self.old (call.Register name (row_for store.now registration)) self.new) }
+        ensures untouched { OnErr result (IsUntouched self.old self.new) }
+    {
         if self.is_full() || self.state.is_open() {
             return Err(self.state.closed_register_fault(self.limit, &name));
         }
-        self.state.register(self.limit, name, registration, store)?;
+        self.state
+            .register(is_known, self.limit, name, registration, store)?;
         let table = Snapshot::of(self.state.table());
         self.journal
             .push(Event::Register(name, registration, table));

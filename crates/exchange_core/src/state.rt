@@ -2,7 +2,7 @@
 ghost use Rattle.std.specs.Prelude.{◌≡◌, ◌≢◌, [], false, Some, None, IsTrue, IfOk, OnOk, OnErr, is_some};
 ghost use Rattle.std.specs.Bool.{Decides};
 ghost use Rattle.std.specs.FinMap.{get};
-ghost use Rattle.partition_table.specs.Tables.{row_for, rows_of};
+ghost use Rattle.partition_table.specs.Tables.{agrees_with, row_for, rows_of};
 ghost use Rattle.numbered.specs.Answers.{IsAnswered};
 ghost use Rattle.partition_table.specs.Faults as table;
 ghost use Rattle.exchange_core.specs.Sides.{new_side, rested, withdrawn_by, without, shown_table, heard_clashes};
@@ -176,21 +176,23 @@ impl State {
         }
     }
 
-    // Registers the name on an idle side.
+    // Registers the name on an idle side. Compares no code if the table is known to keep no other code under the program's id.
     pub(crate) fn register(
         &mut self,
+        is_known: bool,
         limit: NameLimit,
         name: Name,
         registration: Registration,
         store: &UploadStore,
     ) -> Result<(), TableFault>
-        requires { self.old.exchange ≡ None }
+        requires idle { self.old.exchange ≡ None }
+        requires known { IsTrue is_known → IsTrue (agrees_with self.old.table (row_for store.now registration)) }
         ensures answer { IsAnswered table.table_fault_number (table.register_fault limit.names self.old.table name registration store.now) result }
         ensures done { OnOk result (sides.register self.old name (row_for store.now registration) ≡ Some self.new) }
         ensures unchanged { OnErr result (self.new ≡ self.old) }
     {
         let mut table = self.table.take()?;
-        let result = table.register_within(limit, name, registration, store);
+        let result = table.register_known(is_known, limit, name, registration, store);
         self.table.put(table);
         result
     }

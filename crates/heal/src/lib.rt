@@ -9,7 +9,7 @@
 //! | run one half | `Side`, `Offer`, `Withdrawals`, `ListFault`, `Finished`, `Judged`, `SideFault`, `history_theorem`, `two_halves_theorem` | `exchange_core` |
 //! | send messages | `encode_offer`, `decode_offer`, `encode_withdrawals`, `decode_withdrawals`, `peek`, `MessageFault` | `exchange_codec` |
 //! | judge clashes | `clashes`, `Clash`, `ClashList`, `word`, `Verdict`, `Ruling` | `partition_table` |
-//! | build and merge tables | `Table`, `TableBuilder`, `NameLimit`, `Rows`, `RowsAfter`, `fit`, `fit_within`, `merge`, `TableFault` | `partition_table` |
+//! | build and merge tables | `Table`, `TableBuilder`, `NameLimit`, `Agreement`, `Rows`, `RowsAfter`, `fit`, `fit_within`, `merge`, `TableFault` | `partition_table` |
 //! | keep uploaded programs | `UploadStore`, `Uploaded`, `UploadFault` | `upload_store` |
 //! | name and register | `name`, `Name`, `Owner`, `Registration`, `ResolverId`, `SideId`, `Withdrawal` | `clash_record` |
 //! | notify owners | `notices`, `Notice`, `Notices`, `Verdict3`, `decide` | `builtin_resolvers` |
@@ -48,7 +48,7 @@ pub use numbered::{
     Numbered, NumberedRefusal, OUT_OF_MEMORY, Place, REFUSALS, refusal_of, words_of,
 };
 pub use partition_table::{
-    Clash, ClashList, MAX_NAMES, NameLimit, Rows, RowsAfter, Ruling, Table, TableBuilder,
+    Agreement, Clash, ClashList, MAX_NAMES, NameLimit, Rows, RowsAfter, Ruling, Table, TableBuilder,
     TableFault, Verdict, clashes, clashes_within, fit, fit_within, merge, word,
 };
 pub use registry_lock::MeetFault;

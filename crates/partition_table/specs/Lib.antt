@@ -1,3 +1,4 @@
+pub mod Agreements
 pub mod Faults
 pub mod Judged
 pub mod Rulings

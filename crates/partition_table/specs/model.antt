@@ -1,3 +1,4 @@
+pub mod Agreeing
 pub mod Coding
 pub mod Judging
 pub mod Keeping

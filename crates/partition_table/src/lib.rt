@@ -1,6 +1,7 @@
 //! Tables of names, their clashes, and their merge.
 #![tactic(auto)]
 
+mod agreement;
 mod both;
 mod builder;
 mod clash;
@@ -20,6 +21,7 @@ mod programs;
 mod table;
 mod verdict;
 
+pub use agreement::Agreement;
 pub use builder::TableBuilder;
 pub use clash::{Clash, ClashList};
 pub use clashing::{clashes, clashes_within};

@@ -85,16 +85,22 @@ pub(crate) fn release_program(programs: &mut BTreeMap<ProgramId, Kept>, resolver
     programs.remove(&id);
 }
 
-// Checks whether no other code is kept under the id that the resolver names.
+// Checks whether no other code is kept under the id that the resolver names. Compares no code if that is known.
 pub(crate) fn has_room(
+    is_known: bool,
     programs: &BTreeMap<ProgramId, Kept>,
     resolver: ResolverId,
     program: Option<&Arc<Verified>>,
 ) -> bool
-    requires { IsCodeOf resolver (option_map (λ p. arc_value p.now) program) }
+    requires known { IsTrue is_known → has_room_for (programs_by kept_code programs.now.entries) resolver
+        (option_map (λ p. arc_value p.now) program) }
+    requires coded { IsCodeOf resolver (option_map (λ p. arc_value p.now) program) }
     ensures { IsTrue result ↔ has_room_for (programs_by kept_code programs.now.entries) resolver
         (option_map (λ p. arc_value p.now) program.entry) }
 {
+    if is_known {
+        return true;
+    }
     match (resolver, program) {
         (ResolverId::Program(id), Some(program)) => has_room_at(programs, &id, program),
         _ => true,

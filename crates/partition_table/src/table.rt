@@ -152,6 +152,24 @@ impl Table {
         ensures registered { OnOk result (self.new ≡ map.insert self.old name (row_for store.now registration)) }
         ensures unchanged { OnErr result (self.new ≡ self.old) }
     {
+        self.register_known(false, limit, name, registration, store)
+    }
+
+    /// Registers the name like `register_within`, but compares no code if `is_known`: requires then that the table keeps no
+    /// other code under the id of the program that the registration names.
+    pub fn register_known(
+        &mut self,
+        is_known: bool,
+        limit: NameLimit,
+        name: Name,
+        registration: Registration,
+        store: &UploadStore,
+    ) -> Result<(), TableFault>
+        requires { IsTrue is_known → IsTrue (agrees_with self.old (row_for store.now registration)) }
+        ensures answer { IsAnswered table_fault_number (register_fault limit.names self.old name registration store.now) result }
+        ensures registered { OnOk result (self.new ≡ map.insert self.old name (row_for store.now registration)) }
+        ensures unchanged { OnErr result (self.new ≡ self.old) }
+    {
         // Looks the name up only where something else refuses it: `keep` finds a registered name by itself.
         if self.rows.len() >= limit.names() {
             return Err(self.refusal(&name, TableFault::Full));
@@ -160,7 +178,7 @@ impl Table {
             Ok(program) => program,
             Err(fault) => return Err(self.refusal(&name, fault)),
         };
-        if !has_room(&self.programs, registration.resolver, program) {
+        if !has_room(is_known, &self.programs, registration.resolver, program) {
             return Err(self.refusal(&name, TableFault::OtherCode));
         }
         self.keep(name, registration, program)

@@ -3,6 +3,8 @@
 #![tactic(auto)]
 
 #[cfg(test)]
+mod agreements;
+#[cfg(test)]
 mod exchange_rows;
 #[cfg(test)]
 mod exchanges;

@@ -1,9 +1,11 @@
 -- What a side had where a call was carried out, and what the call left.
-use Rattle.std.proofs.Common.{◌≡◌, Bool, true, false, if◌then◌else◌, List, Option, Some, None, is_some, refl, option_map, option_and_then}
+use Rattle.std.proofs.Common.{◌≡◌, Bool, true, false, if◌then◌else◌, List, Option, Some, None, is_some, refl, ap, sym, option_map, option_and_then}
 use Rattle.std.proofs.lemmas.Bool.{and_parts}
+use Rattle.std.specs.FinMap.{insert, remove}
 use Rattle.std.specs.List.{list_all}
 use Rattle.clash_record.specs.Name.{Name}
-use Rattle.exchange_core.specs.Sides.{Heard, Exchange, Side, in_exchange, merged_table, finish_in, finish}
+use Rattle.partition_table.specs.Tables.{Row}
+use Rattle.exchange_core.specs.Sides.{Heard, Exchange, Side, register, unregister, in_exchange, merged_table, finish_in, finish}
 
 pub some_inj : {X : Type 0} {x y : X} → Some x ≡ Some y → x ≡ y
 some_inj {X} {x} {y} e = cc
@@ -24,6 +26,15 @@ when_some true o y e = (refl, e)
 when_some false o y e = cc
 
 -- ---- calls that were carried out
+
+-- a name that was registered, or taken out
+pub registered_table : (side : Side) (name : Name) (row : Row) (new : Side) → register side name row ≡ Some new →
+    new.table ≡ insert side.table name row
+registered_table side name row new e = ap (λ (s : Side). s.table) (sym (when _ _ _ e).1)
+
+pub unregistered_table : (side : Side) (name : Name) (new : Side) → unregister side name ≡ Some new →
+    new.table ≡ remove side.table name
+unregistered_table side name new e = ap (λ (s : Side). s.table) (sym (when _ _ _ e).1)
 
 -- a call of an open side
 pub record Goes (side new : Side) (call : Exchange → Option Exchange) : Type 0 where

@@ -6,9 +6,23 @@ use Rattle.partition_table.specs.declared.fault.TableFault.TheVariants.{Full, Ot
 use Rattle.partition_table.specs.Tables.{agrees_with}
 use Rattle.partition_table.specs.model.Keeping.{kept_code}
 use Rattle.upload_store.specs.Programs.{programs_by}
-use Rattle.partition_table.proofs.Held.{held_now, count_of}
+use Rattle.partition_table.proofs.Held.{held_now, count_of, room_from_agrees}
 use Rattle.partition_table.proofs.Registering.{refused_first, answered, full_due, unknown_due, other_due, agrees_when, differs_when}
-use Rattle.partition_table.proofs.table.Table.register_within.Goals as goal
+use Rattle.partition_table.proofs.table.Table.register_known.Goals as goal
+
+pub has_room-requires-clause-known : goal.has_room-requires-clause-known
+has_room-requires-clause-known c = λ known.
+    let programs = programs_by kept_code c.self.inside.programs.entries in
+    let held = held_now programs c.self.inside.rows.entries c.args.self.now c.self.view_is c.self.invariant.held in
+    room_from_agrees programs c.args.self.now held.0 held.1 record {
+      registration = c.args.registration;
+      code = option_map (λ p. arc_value p.now) c.in-Ok.program;
+    }
+    (ap (λ code. agrees_with c.args.self.now record {
+      registration = c.args.registration;
+      code = code;
+    }) c.in-Ok.ensures.found
+    ∙ c.requires known)
 
 pub returns-then-len-names-clause-answer : goal.returns-then-len-names-clause-answer
 returns-then-len-names-clause-answer c =

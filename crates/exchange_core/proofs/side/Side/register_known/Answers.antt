@@ -7,8 +7,8 @@ use Rattle.exchange_core.specs.Journal.{calls_of}
 use Rattle.exchange_core.specs.Shown.{calls}
 use Rattle.exchange_core.proofs.Journaled.{has_room, has_place, kept_by}
 use Rattle.exchange_core.proofs.Registered.{registered_row, registered_room}
-use Rattle.exchange_core.proofs.side.Side.register.Goals.{After-push}
-use Rattle.exchange_core.proofs.side.Side.register.Goals as goal
+use Rattle.exchange_core.proofs.side.Side.register_known.Goals.{After-push}
+use Rattle.exchange_core.proofs.side.Side.register_known.Goals as goal
 
 -- the table has the row that the store gives
 written : (c : After-push) →

@@ -1,0 +1,21 @@
+use Rattle.std.proofs.Common.{sym, ap}
+use Rattle.partition_table.specs.Tables.{row_for}
+use Rattle.exchange_core.specs.Calls.{Register}
+use Rattle.cluster.specs.Clusters.{standing_of, cluster_of, at, with_standing}
+use Rattle.cluster.proofs.Called.{called}
+use Rattle.cluster.proofs.cluster.Cluster.register_agreed.Goals as goal
+
+pub returns-in-A-clause-done : goal.returns-in-A-clause-done
+returns-in-A-clause-done c =
+    let old = cluster_of c.args.self.now in
+    called c.register_agreed.result old _ c.args.id c.args.self.now.halves.a c.register_agreed.new.self
+    (Register c.args.name (row_for c.args.store.now c.args.registration)) (ap (at old) c.in-A.is)
+    (ap (λ id. with_standing old id (standing_of c.register_agreed.new.self)) (sym c.in-A.is)) c.register_agreed.ensures.done
+
+pub returns-in-B-clause-done : goal.returns-in-B-clause-done
+returns-in-B-clause-done c =
+    let old = cluster_of c.args.self.now in
+    called c.register_agreed-in-B.result old _ c.args.id c.args.self.now.halves.b c.register_agreed-in-B.new.self
+    (Register c.args.name (row_for c.args.store.now c.args.registration)) (ap (at old) c.in-B.is)
+    (ap (λ id. with_standing old id (standing_of c.register_agreed-in-B.new.self)) (sym c.in-B.is))
+    c.register_agreed-in-B.ensures.done
