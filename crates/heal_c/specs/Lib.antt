@@ -1,6 +1,7 @@
 pub mod Faults
 pub mod Heads
 pub mod Held
+pub mod Lending
 pub mod Lent
 pub mod Processes
 pub mod Records

@@ -11,6 +11,7 @@ ghost use Rattle.c_calls.specs.contracts.outcome.Outcome as outcome_row;
 ghost use Rattle.heal_c.specs.contracts.outcome_handle.HealOutcome as outcome_handle;
 ghost use Rattle.replica.specs.contracts.replica.Replica as replica_row;
 ghost use Rattle.heal_c.specs.contracts.replica_handle.HealReplica as replica_handle;
+ghost use Rattle.heal_c.specs.Lending.{StaysLent};
 ghost use Rattle.heal_c.specs.Lent.{with_half, with_program, with_message, with_outcome, with_replica};
 
 use crate::half_handle::HealSide;
@@ -63,6 +64,19 @@ impl HealBytes {
             None
         } else {
             Some(unsafe { &mut *(at as *mut Message) })
+        }
+    }
+}
+
+impl HealBytes {
+    // Lends the bytes of the message.
+    pub(crate) fn lent(&mut self) -> Option<&[u8]>
+        ensures* stays { sem 𝓛 (StaysLent self.entry) }
+        ensures value { MatchOption result (self.old.message ≡ None) (λ lent. self.old.message ≡ Some lent.now) }
+    {
+        match self.held() {
+            Some(held) => Some(held.bytes()),
+            None => None,
         }
     }
 }

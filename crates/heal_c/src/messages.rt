@@ -1,5 +1,5 @@
 //! Messages.
-ghost use Rattle.std.specs.Prelude.{◌≡◌, None, length};
+ghost use Rattle.std.specs.Prelude.{◌≡◌, MatchOption, None, length};
 ghost use Rattle.c_calls.specs.Answers.{Gives, Reads};
 ghost use Rattle.c_calls.specs.Messages.{copy_of};
 
@@ -37,12 +37,12 @@ pub struct HealSpan<'a> {
 /// Returns 91 for an empty handle.
 #[unsafe(no_mangle)]
 pub extern "C" fn heal_bytes_lend<'a>(bytes: &'a mut HealBytes, span: &mut HealSpan<'a>) -> u32
-    ensures { Reads bytes.old.message bytes.new.message (λ held n. (n ≡ 0) × (span.new.bytes.now ≡ held))
-        (span.new ≡ span.old) result }
+    ensures lent { MatchOption bytes.old.message ((result ≡ 91) × (span.new ≡ span.old))
+        (λ held. (result ≡ 0) × (span.new.bytes.now ≡ held)) }
 {
-    match bytes.held() {
-        Some(held) => {
-            span.bytes = held.bytes();
+    match bytes.lent() {
+        Some(lent) => {
+            span.bytes = lent;
             0
         }
         None => EMPTY_HANDLE,
