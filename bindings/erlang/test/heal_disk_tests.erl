@@ -266,7 +266,8 @@ start_here(Options) ->
 %% A disk that hangs delays an upload until its time is over, and nothing else; parts heal meanwhile.
 hanging() ->
     Folder = folder(),
-    Options = #{dir => Folder, exchange_timeout => 1000, edit_timeout => 1000},
+    %% An exchange waits for a second for the disk.
+    Options = #{dir => Folder, exchange_timeout => 5000, edit_timeout => 1000},
     [A, B] = Nodes = [heal_cluster:start(Letter) || Letter <- [a, b]],
     [heal_cluster:start_registry(It, any, Options) || It <- Nodes],
     ok = heal_cluster:call(A, sys, suspend, [heal_log]),
