@@ -66,9 +66,7 @@ impl HealBytes {
             Some(unsafe { &mut *(at as *mut Message) })
         }
     }
-}
 
-impl HealBytes {
     // Lends the bytes of the message.
     pub(crate) fn lent(&mut self) -> Option<&[u8]>
         ensures* stays { sem 𝓛 (StaysLent self.entry) }

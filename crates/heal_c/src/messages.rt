@@ -1,5 +1,7 @@
 //! Messages.
 ghost use Rattle.std.specs.Prelude.{◌≡◌, MatchOption, None, length};
+ghost use Rattle.std.specs.Borrow.{sem};
+ghost use Rattle.heal_c.specs.Lending.{StaysLent};
 ghost use Rattle.c_calls.specs.Answers.{Gives, Reads};
 ghost use Rattle.c_calls.specs.Messages.{copy_of};
 
@@ -37,10 +39,19 @@ pub struct HealSpan<'a> {
 /// Returns 91 for an empty handle.
 #[unsafe(no_mangle)]
 pub extern "C" fn heal_bytes_lend<'a>(bytes: &'a mut HealBytes, span: &mut HealSpan<'a>) -> u32
+    ensures* stays { sem 𝓛 (StaysLent bytes.entry) }
     ensures lent { MatchOption bytes.old.message ((result ≡ 91) × (span.new ≡ span.old))
         (λ held. (result ≡ 0) × (span.new.bytes.now ≡ held)) }
 {
-    match bytes.lent() {
+    point(bytes.lent(), span)
+}
+
+// Writes where these bytes are and returns 0, or returns 91.
+fn point<'a>(bytes: Option<&'a [u8]>, span: &mut HealSpan<'a>) -> u32
+    ensures { MatchOption bytes.entry ((result ≡ 91) × (span.new ≡ span.old))
+        (λ lent. (result ≡ 0) × (span.new.bytes.now ≡ lent.now)) }
+{
+    match bytes {
         Some(lent) => {
             span.bytes = lent;
             0
