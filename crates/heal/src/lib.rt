@@ -48,8 +48,8 @@ pub use numbered::{
     Numbered, NumberedRefusal, OUT_OF_MEMORY, Place, REFUSALS, refusal_of, words_of,
 };
 pub use partition_table::{
-    Agreement, Clash, ClashList, MAX_NAMES, NameLimit, Rows, RowsAfter, Ruling, Table, TableBuilder,
-    TableFault, Verdict, clashes, clashes_within, fit, fit_within, merge, word,
+    Agreement, Clash, ClashList, MAX_NAMES, NameLimit, Rows, RowsAfter, Ruling, Table,
+    TableBuilder, TableFault, Verdict, clashes, clashes_within, fit, fit_within, merge, word,
 };
 pub use registry_lock::MeetFault;
 pub use upload_store::{MAX_PROGRAMS, UploadFault, UploadStore, Uploaded};
