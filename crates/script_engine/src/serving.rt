@@ -3,7 +3,7 @@ ghost use Rattle.std.specs.Prelude.{◌≡◌, ◌<◌, ◌-◌, ◌^◌, ℕ, L
 ghost use Rattle.output.specs.Sending.{FlushesOn, Sends};
 ghost use Rattle.script_text.specs.Reading.{seen_line};
 ghost use Rattle.script_text.specs.Commands.{asked};
-ghost use Rattle.script_text.specs.Asking.{Heal};
+ghost use Rattle.script_text.specs.Asking.{Heal, Upload};
 ghost use Rattle.script_machine.specs.Machines.{machine_of};
 ghost use Rattle.script_machine.specs.Replies.{reply_text, reply_status};
 ghost use Rattle.script_engine.specs.model.Progress.{SendsNext, Serves, ServesLine, ServesAsked};
@@ -80,12 +80,7 @@ fn obey<T: Files + Threads + Wait + Sync + AllocGlobal, G: Gate + Sync, N: Narra
         (W.contents writer.old) (W.contents writer.new) result }
 {
     match command {
-        Command::Upload { label, code } => {
-            let reply = machine.upload_word(crew.rt, label, code);
-            let said = say(crew.narrator, writer, number, &reply);
-            tell_code(crew.narrator, code, &reply);
-            said
-        }
+        Command::Upload { label, code } => upload(crew, machine, writer, number, label, code),
         Command::Register {
             side,
             name,
@@ -116,6 +111,24 @@ fn obey<T: Files + Threads + Wait + Sync + AllocGlobal, G: Gate + Sync, N: Narra
             gone,
         } => heal(crew, machine, writer, number, *seed, *uptimes, gone),
     }
+}
+
+// Stores a program and writes the answer. Tells the narrator of refused code.
+fn upload<T: Files + Threads + Wait + Sync + AllocGlobal, G: Gate + Sync, N: Narrator, W: Write>(
+    crew: &Crew<'_, T, G, N>,
+    machine: &mut Machine,
+    writer: &mut W,
+    number: u64,
+    label: &[u8],
+    code: &[u8],
+) -> Result<u8, DeviceFault>
+    ensures { ServesAsked (machine_of machine.old) (machine_of machine.new) (Upload label.now code.now) number
+        (W.contents writer.old) (W.contents writer.new) result }
+{
+    let reply = machine.upload_word(crew.rt, label, code);
+    let said = say(crew.narrator, writer, number, &reply);
+    tell_code(crew.narrator, code, &reply);
+    said
 }
 
 // Heals the split and writes the outcome.

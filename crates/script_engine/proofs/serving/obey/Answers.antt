@@ -10,18 +10,12 @@ use Rattle.cluster.specs.Clusters.{at}
 use Rattle.script_engine.proofs.Saying.{said}
 use Rattle.script_engine.proofs.serving.obey.Goals as goal
 
-pub returns-in-Upload : goal.returns-in-Upload
-returns-in-Upload g c =
-    said _ _ _ _ c.upload_word.result c.say.result
-    (subst (λ (command : Command). Answers (machine_of c.args.machine.now) (asked command) (Says c.upload_word.result)
-    (machine_of c.upload_word.new.self)) (sym c.in-Upload.is) c.upload_word.ensures) c.say.ensures.sends c.say.ensures.status
-
 pub returns-in-Register : goal.returns-in-Register
 returns-in-Register g c =
-    said _ _ _ _ c.register.result c.say-in-Register.result
+    said _ _ _ _ c.register.result c.say.result
     (subst (λ (command : Command). Answers (machine_of c.args.machine.now) (asked command) (Says c.register.result)
     (machine_of c.register.new.self)) (sym c.in-Register.is) c.register.ensures)
-    c.say-in-Register.ensures.sends c.say-in-Register.ensures.status
+    c.say.ensures.sends c.say.ensures.status
 
 pub returns-in-Unregister : goal.returns-in-Unregister
 returns-in-Unregister g c =
