@@ -166,6 +166,13 @@ SCRIPTS = [
         "db: notice exit 2.20\n"
         "heal: line 4: refused 3: an incomplete last slot\n",
     ),
+    (
+        "upload x 79a0f8ff000000009500000000000000\n",
+        [],
+        "heal: line 1: refused 24 at slot 0: a load of stack bytes that may be unwritten\n"
+        "      r1=record[0] r10=stack[0]\n"
+        "0: ldxdw r0, [r10-8]\n",
+    ),
 ]
 
 # Code that always answers 1, and files: their names and contents. The folder `folder` is there too.
@@ -228,9 +235,12 @@ FILE_LINES = [
 
 # Lines with a file, and the words for them.
 FILE_WORDS = (
-    "upload x @missing\nupload x @object\nupload y @odd\n",
+    "upload x @missing\nupload x @object\nupload y @odd\nupload y @rejected\n",
     "heal: line 1: refused 58: a file that can't be read\n"
-    "heal: line 3: refused 50: invalid hex digits, or the wrong number of them\n",
+    "heal: line 3: refused 50: invalid hex digits, or the wrong number of them\n"
+    "heal: line 4: refused 15 at slot 0: a read of a register that may be unset, or may be an address or a number\n"
+    "      r1=record[0] r10=stack[0]\n"
+    "0: exit\n",
 )
 
 
