@@ -27,7 +27,7 @@
  *           resolver of each clash once; row, live, program and withdrawn count to their index; heal_program_load and upload
  *           take at most quadratic time in the slots of the code, and judge one step for each instruction. A message that is
  *           refused by its head (heal_side_hear) takes constant time, and so do the other calls. begin and finish copy no
- *           table; a side holds about 250 bytes for each name, and 500 while an exchange is open.
+ *           table; a side holds about 250 bytes for each name, and 360 to 640 while an exchange is open: the more, the more clash.
  * YOU OWE   Valid pointers: each argument points to as many readable bytes (results: writable) as its comment states, and
  *           results don't overlap other arguments. A pointer with length 0 may be NULL. Every other pointer isn't NULL.
  *           A handle holds only what a call here has put there.
@@ -371,7 +371,9 @@ uint32_t heal_side_withdrawn(const heal_side *side, size_t i, heal_name *name);
 
 /* Opens an exchange and puts the offer to be sent into `offer`. Until finish or abandon the table doesn't change.
    Both halves use the same number and seed; each gives its own uptime. Returns 33 if an exchange is open, 35 for a number
-   that isn't above every number this side began, 40. Call heal_side_renew before it: see EVENTS. */
+   that isn't above every number this side began, 40. Call heal_side_renew before it: see EVENTS. A side that is created after a
+   restart knows no earlier number: store the greatest number before you begin it, and go on above it. If a number is begun again, a
+   late message of the earlier exchange is taken for one of the new exchange, and the halves may finish with different tables. */
 uint32_t heal_side_begin(heal_side *side, uint64_t number, uint64_t seed, uint64_t uptime, heal_bytes *offer);
 
 /* Hears the other side's offer: the bytes that its heal_side_begin returned. The same offer again changes nothing but the count of
