@@ -3,10 +3,10 @@
 
 For each promise of docs/PROOFS.md it follows the words of the contracts that carry it, and of the views of the types in
 their signatures, to the definitions in crates/*/specs, and counts these with their lines (comments included, imports
-and blank lines not). Definitions of the toolchain's crates are counted apart.
+and blank lines not). Definitions of the toolchain's crates are counted apart. It also copies the definitions that the page shows.
 
-Without an option it prints the table. --write puts it into docs/PROOFS.md, --check fails if the table there differs,
-and --list NAME prints the definitions of the promises whose text contains NAME, by module.
+Without an option it prints the table. --write puts the table and the definitions into docs/PROOFS.md, --check fails if they
+differ there, and --list NAME prints the definitions of the promises whose text contains NAME, by module.
 """
 import collections
 import glob
@@ -16,7 +16,8 @@ import sys
 
 TOP = os.path.join(os.path.dirname(os.path.abspath(__file__)), "..")
 PAGE = os.path.join(TOP, "docs", "PROOFS.md")
-BEGIN, END = "<!-- definitions: begin -->", "<!-- definitions: end -->"
+# The definitions that the page shows, by name, with their modules.
+SHOWN = {"IsLawfulMerge": "Rattle.exchange_core.specs.History"}
 
 # Each promise with the public functions whose contracts carry it.
 PROMISES = [
@@ -35,7 +36,7 @@ PROMISES = [
         "exchange_core::Side::" + name for name in
         ("register", "unregister", "begin", "hear", "take", "withdraw", "close_list", "hear_list", "finish", "abandon",
          "whereis", "rows", "events")]),
-    ("a side settles, is renewed, and gives up", ["exchange_core::Side::" + name for name in ("settle", "renew", "give_up")]),
+    ("`settle`, `renew` and `give_up` of a side", ["exchange_core::Side::" + name for name in ("settle", "renew", "give_up")]),
     ("two processes whose halves settle have one outcome", ["exchange_core::two_halves_theorem"]),
     ("two sides that settled alike hold one table", ["exchange_core::one_round_theorem"]),
     ("messages have one spelling, and are decoded exactly", [
@@ -51,7 +52,7 @@ PROMISES = [
     ("workers draw each clash of their round", ["judge_pool::work", "judge_pool::heal_round"]),
     ("two sides that meet have one table", ["registry_lock::meet", "registry_lock::tell_round"]),
     ("a cluster heals", ["cluster::Cluster::heal"]),
-    ("a cluster is renewed, and gives up", ["cluster::Cluster::" + name for name in ("renew", "renew_long", "give_up")]),
+    ("`renew` and `give_up` of a cluster", ["cluster::Cluster::" + name for name in ("renew", "renew_long", "give_up")]),
     ("notices of a verdict", ["builtin_resolvers::notices"]),
     ("each function of the C library makes the call that it wraps", ["heal_c"]),
     ("two processes that use the C library have one outcome", ["heal_c::two_processes_theorem"]),
@@ -267,6 +268,13 @@ def list_promise(word):
             print(f"  {module[7:]} {lines_of((module, n) for n in names)}: {' '.join(names)}")
 
 
+def with_part(page, name, part):
+    """The page with this part between the markers of that name."""
+    begin, end = f"<!-- {name}: begin -->\n", f"<!-- {name}: end -->"
+    before, rest = page.split(begin)
+    return before + begin + part + "\n" + end + rest.split(end)[1]
+
+
 def main():
     load()
     if sys.argv[1:2] == ["--list"]:
@@ -274,13 +282,13 @@ def main():
     made = table()
     if not sys.argv[1:]:
         return print(made)
-    page = open(PAGE, encoding="utf-8").read()
-    before, rest = page.split(BEGIN)
-    old, after = rest.split(END)
-    new = f"\n{made}\n"
+    old = open(PAGE, encoding="utf-8").read()
+    new = with_part(old, "definitions", made)
+    for name, module in SHOWN.items():
+        new = with_part(new, name, "\n".join(["```", *MODULES[module].definitions[name], "```"]))
     if sys.argv[1] == "--check":
-        sys.exit(0 if old == new else "definitions.py: the table in docs/PROOFS.md is stale; run scripts/definitions.py --write")
-    open(PAGE, "w", encoding="utf-8").write(before + BEGIN + new + END + after)
+        sys.exit(0 if old == new else "definitions.py: parts of docs/PROOFS.md are stale; run scripts/definitions.py --write")
+    open(PAGE, "w", encoding="utf-8").write(new)
 
 
 main()

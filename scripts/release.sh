@@ -76,7 +76,7 @@ tracked bindings/erlang/examples "$tree/share/heal/examples"
 cat > "$doc/PROVED" <<END
 heal $version, commit $commit
 kit: $(rt version 2> /dev/null | head -n 1 || cat out/kit)
-Proved: the program bin/heal and each function of lib/libheal.a. docs/PROOFS.md lists the promises.
+Proved: the program bin/heal and each function of lib/libheal.a. docs/PROOFS.md and docs/proofs list the promises.
 Tested, not proved: the bindings for Python, Rust and Erlang, and what README.md lists.
 END
 

@@ -397,8 +397,8 @@ uint32_t heal_side_withdraw(heal_side *side, const uint8_t *name, size_t len);
 uint32_t heal_side_close_list(heal_side *side, heal_bytes *list);
 
 /* Hears the other side's list: the bytes that its heal_side_close_list returned. The same list again changes nothing but the count
-   of events. Refuses the head as heal_side_hear does; then rejects bytes that aren't a list (70 to 82), and returns 83 for a list
-   that differs from the one that was heard, and 40. */
+   of events. Refuses the head as heal_side_hear does, also with 34 or the least of 40, 45 and 46; then rejects bytes that aren't a
+   list (70 to 82), and returns 83 for a list that differs from the one that was heard, and 40. */
 uint32_t heal_side_hear_list(heal_side *side, const uint8_t *list, size_t len);
 
 /* Replaces the table by the merge, closes the exchange, and puts its outcome into `outcome`. Returns 34, 39 if a part is
