@@ -75,7 +75,9 @@ pub(crate) fn table_of(alloc: Global, rows: &[RowText<'_>]) -> Result<Table, Mes
     ensures refused { IfErr result (HasCause message_fault_number (IsRowsFault (rows_view rows.now))) }
 {
     let mut programs = BTreeMap::new(alloc);
-    let mut builder = TableBuilder::new(alloc);
+    let Ok(mut builder) = TableBuilder::with_capacity(alloc, rows.len()) else {
+        return Err(MessageFault::OutOfMemory);
+    };
     add_rows(alloc, &mut builder, &mut programs, rows)?;
     match builder.finish(alloc) {
         Ok(table) => {

@@ -1,5 +1,6 @@
 //! The rows of offers as bytes.
-ghost use Rattle.std.specs.Prelude.{◌≡◌, ◌++◌, List, OnOk};
+ghost use Rattle.std.specs.Prelude.{◌≡◌, ◌++◌, [], List, IfOk, IfErr, OnOk};
+ghost use Rattle.exchange_codec.specs.declared.fault.ReadError.TheVariants.{Memory};
 ghost use Rattle.std.specs.Option.{option_map};
 ghost use Rattle.std.specs.Arc.{arc_value};
 ghost use Rattle.std.specs.Int.{w64, to_le_bytes};
@@ -22,6 +23,9 @@ use verifier::Verified;
 
 /// The most bytes that the code of a program has.
 pub const MAX_CODE: u32 = 8192;
+
+// The bytes of a row whose name has one byte and whose resolver is built in.
+const LEAST_ROW: usize = 43;
 
 /// The field of a row that names the resolver.
 #[derive(Clone, Copy, Debug)]
@@ -52,7 +56,7 @@ pub(crate) fn all_rows(
 ) -> Result<(Vec<RowText<'_>>, &[u8]), ReadError>
     ensures { Gives (λ x. (rows_view x.0.items, x.1.now)) result (many_at row_at count bytes.entry.now) }
 {
-    let mut rows = Vec::new(alloc);
+    let mut rows = room_for(alloc, count, bytes)?;
     let mut rest = bytes;
     for _ in 0..count {
         match row_at(rest) {
@@ -66,6 +70,17 @@ pub(crate) fn all_rows(
         }
     }
     Ok((rows, rest))
+}
+
+// Returns room for this many rows, but for no more than there are bytes for: the count isn't trusted.
+fn room_for<'a>(alloc: Global, count: u32, bytes: &[u8]) -> Result<Vec<RowText<'a>>, ReadError>
+    ensures empty { IfOk result (λ rows. rows.items ≡ []) }
+    ensures refused { IfErr result (λ error. error ≡ Memory) }
+{
+    match Vec::with_capacity(alloc, (count as usize).min(bytes.len() / LEAST_ROW)) {
+        Ok(rows) => Ok(rows),
+        Err(_) => Err(ReadError::Memory),
+    }
 }
 
 /// The row at the front, and what follows it.

@@ -1,5 +1,5 @@
 -- A merge has no more names than the two tables have together.
-use Rattle.std.proofs.Common.{◌≡◌, ◌≤◌, ◌+◌, suc, Bool, true, false, cond, Option, Some, None, is_some, List, [], ◌∷◌, length, map, refl, ap, sym, subst, ◌∙◌, arith}
+use Rattle.std.proofs.Common.{◌≡◌, ◌≤◌, ◌+◌, suc, Bool, true, false, cond, Option, Some, None, List, [], ◌∷◌, length, refl, ap, subst, arith}
 use Rattle.std.specs.FinMap.{get, empty, insert, keys, len, len-empty, len-insert, contains_key}
 use Rattle.builtin_resolvers.specs.declared.verdicts.Verdict3.{Verdict3}
 use Rattle.clash_record.specs.Name.{Name}

@@ -1,5 +1,5 @@
 //! The merge of two tables.
-ghost use Rattle.std.specs.Prelude.{◌≡◌, ◌<◌, ◌||◌, ◌&&◌, ◌↔◌, IsTrue, Option, Some, None, IfOk, OnOk, IfSome, length, []};
+ghost use Rattle.std.specs.Prelude.{◌≡◌, ◌<◌, ◌≤◌, ◌+◌, if◌then◌else◌, is_some, ◌||◌, ◌&&◌, ◌↔◌, IsTrue, Option, Some, None, IfOk, OnOk, IfSome, length, []};
 ghost use Rattle.std.specs.Option.{option_map};
 ghost use Rattle.std.specs.Arc.{arc_value};
 ghost use Rattle.std.specs.FinMap as map;
@@ -55,7 +55,8 @@ pub fn merge(
     Ok(merge_fitting(alloc, a, b, answers, gone_a, gone_b)?)
 }
 
-/// Merges two tables as `merge` does. Requires that they fit together, and compares no code.
+/// Merges two tables as `merge` does. Requires that they fit together, and compares no code. Walks the tables once if `b` has
+/// no name alone.
 ///
 /// Returns an error only when out of memory.
 pub fn merge_fitting(
@@ -78,8 +79,8 @@ pub fn merge_fitting(
         gone_b: set_of(alloc, gone_b)?,
     };
     let mut merged = TableBuilder::with_capacity(alloc, a.len().max(b.len()))?;
-    parents.put_names_of_a(&mut merged, answers)?;
-    parents.put_names_of_b_alone(&mut merged)?;
+    let alone = parents.put_names_of_a(&mut merged, answers)?;
+    parents.put_names_of_b_alone(&mut merged, alone)?;
     let table = merged.finish(alloc)?;
     Ok(table)
 }
@@ -94,29 +95,38 @@ struct Parents<'a> {
 }
 
 impl<'a> Parents<'a> {
-    // Puts what is kept under the names of `a`.
+    // Puts what is kept under the names of `a`, and returns how many names `a` has alone.
     fn put_names_of_a(
         &self,
         merged: &mut TableBuilder,
         answers: &[Verdict3],
-    ) -> Result<(), AllocError>
+    ) -> Result<usize, AllocError>
         requires agree { IsTrue (tables_agree self.now.a.now self.now.b.now) }
         requires new { merged.old ≡ map.empty }
         ensures put { OnOk result (merged.new ≡ put_all (settled self.now.a.now self.now.b.now
             (contains name_cmp self.now.gone_a) (contains name_cmp self.now.gone_b)
             (map.keys self.now.a.now) answers.now) map.empty) }
         ensures few { OnOk result (IsReady self.now.a.now self.now.b.now [] (map.len self.now.a.now) merged.new) }
+        ensures alone { IfOk result (λ alone. alone ≡ length (names_without self.now.b.now (map.keys self.now.a.now))) }
     {
         let mut answers = answers.iter();
+        let mut alone = 0;
         for (name, mine, other) in Paired::new(self.a, self.b) {
+            alone = count_alone(alone, other);
             let kept = settle(mine, other, &mut answers);
             self.put(merged, name, kept)?;
         }
-        Ok(())
+        Ok(alone)
     }
 
-    // Puts what is kept under the names that `b` has alone.
-    fn put_names_of_b_alone(&self, merged: &mut TableBuilder) -> Result<(), AllocError>
+    // Puts what is kept under the names that `b` has alone. `alone` is how many `a` has alone: where `a` has each name of `b`, this
+    // walks over nothing.
+    fn put_names_of_b_alone(
+        &self,
+        merged: &mut TableBuilder,
+        alone: usize,
+    ) -> Result<(), AllocError>
+        requires counted { alone ≡ length (names_without self.now.b.now (map.keys self.now.a.now)) }
         requires agree { IsTrue (tables_agree self.now.a.now self.now.b.now) }
         requires ready { IsReady self.now.a.now self.now.b.now
             (names_without self.now.a.now (map.keys self.now.b.now)) most_names merged.old }
@@ -125,6 +135,10 @@ impl<'a> Parents<'a> {
             (map.get self.now.b.now name))
             (names_without self.now.a.now (map.keys self.now.b.now))) merged.old) }
     {
+        let names = self.a.len();
+        if self.b.len() + alone <= names {
+            return Ok(());
+        }
         for (name, theirs, mine) in Paired::new(self.b, self.a) {
             if mine.is_some() {
                 continue;
@@ -186,6 +200,17 @@ impl<'a> Parents<'a> {
             Some(program) => Some(program),
             None => self.b.program_for(resolver),
         }
+    }
+}
+
+// Counts one more name that the first table has alone, if the other lacks it.
+fn count_alone(alone: usize, other: Option<&Registration>) -> usize
+    requires { alone ≤ most_names }
+    ensures { result ≡ alone + (if is_some other.entry then 0 else 1) }
+{
+    match other {
+        Some(_) => alone,
+        None => alone + 1,
     }
 }
 

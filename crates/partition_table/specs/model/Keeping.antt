@@ -1,5 +1,5 @@
 -- How a table keeps its rows: registrations by name, and the programs that they name by id.
-use Rattle.std.specs.Prelude.{◌≡◌, ℕ, Bool, nat_le, if◌then◌else◌, ◌⊎◌, ◌≤◌, ◌<◌, IsTrue, Option, Some, None, List, length, filter}
+use Rattle.std.specs.Prelude.{◌≡◌, ℕ, Bool, nat_le, if◌then◌else◌, ◌⊎◌, ◌≤◌, Option, Some, None, List, length, filter}
 use Rattle.std.specs.Option.{option_map_or}
 use Rattle.std.specs.Arc.{arc_value}
 use Rattle.std.specs.Map.{lookup}
@@ -13,7 +13,7 @@ use Rattle.clash_record.specs.Orders.{id_cmp}
 use Rattle.upload_store.specs.Programs.{Programs, programs_by}
 use Rattle.clash_record.specs.Name.{Name}
 use Rattle.partition_table.specs.declared.programs.Kept.{Kept}
-use Rattle.partition_table.specs.Tables.{Row, Table, IsCodeOf, most_names, program_of, same_id, agrees_with}
+use Rattle.partition_table.specs.Tables.{Row, Table, IsCodeOf, most_names, program_of, same_id}
 
 -- some row names the program
 abbrev pub IsNamed : Table → ProgramId → Type 0

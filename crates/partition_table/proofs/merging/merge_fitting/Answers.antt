@@ -13,10 +13,10 @@ put_names_of_b_alone-requires-clause-ready c =
     let b = c.args.b.now in
     let gone_a = contains name_cmp c.in_ok-set_of.field-0 in
     let gone_b = contains name_cmp c.in_ok-set_of-2.field-0 in
-    let put = c.in_ok-put_names_of_a.ensures.put in
+    let put = c.in_ok-alone.ensures.put in
     subst (IsReady a b (names_without a (keys b)) most_names) (sym put)
     (ready_others a b gone_a gone_b c.args.answers.now (len a)
-    (subst (IsReady a b [] (len a)) put c.in_ok-put_names_of_a.ensures.few) refl
+    (subst (IsReady a b [] (len a)) put c.in_ok-alone.ensures.few) refl
     (fit_few a b c.requires.fit))
 
 pub returns : goal.returns
@@ -28,6 +28,6 @@ returns c =
     let answers = c.args.answers.now in
     c.in_ok-table.ensures ∙ c.in_ok-put_names_of_b_alone.ensures
     ∙ ap (put_all (each_kept (alone_in_b a b gone_a gone_b answers) (names_without a (keys b))))
-    c.in_ok-put_names_of_a.ensures.put
+    c.in_ok-alone.ensures.put
     ∙ passes_merge a b gone_a gone_b answers record { of_a = c.args.gone_a.now; of_b = c.args.gone_b.now }
     c.in_ok-set_of.ensures c.in_ok-set_of-2.ensures

@@ -1,4 +1,4 @@
-use Rattle.std.proofs.Common.{◌≡◌, ◌∷◌, map, ap, sym, subst, ◌∙◌}
+use Rattle.std.proofs.Common.{◌≡◌, ◌+◌, ◌∷◌, map, length, ap, sym, subst, ◌∙◌, arith}
 use Rattle.std.specs.List.{AllByRecursion}
 use Rattle.std.specs.Option.{option_map}
 use Rattle.std.specs.BTreeSet.{contains}
@@ -8,8 +8,10 @@ use Rattle.clash_record.specs.Orders.{name_cmp}
 use Rattle.partition_table.specs.Tables.{merged_at, unless_gone}
 use Rattle.partition_table.specs.declared.paired.Paired.{Paired}
 use Rattle.partition_table.specs.model.Walking.{pairs_left, IsPaired}
-use Rattle.partition_table.specs.model.Merging.{IsReady, settled, put_all, first_answer, answers_left, IsRowOf}
+use Rattle.partition_table.specs.model.Merging.{IsReady, settled, put_all, first_answer, answers_left, names_without, IsRowOf}
 use Rattle.partition_table.proofs.Settling.{merged_of, settled_kept, settled_left, kept_held, ready_next, ready_empty, unless_gone_of}
+use Rattle.partition_table.proofs.EitherWay.{counted_next}
+use Rattle.partition_table.proofs.OneClash.{alone_few}
 use Rattle.partition_table.proofs.merging.Parents.put_names_of_a.Goals as goal
 
 pub loop-name-init : goal.loop-name-init
@@ -30,7 +32,13 @@ loop-name-init c =
           (subst (IsReady a b (keys a) (len a)) (sym c.requires.new) (ready_empty a b));
       met = subst (λ (pairs : Paired). AllByRecursion (IsPaired a b) (pairs_left pairs))
           (sym c.into_iter-name-iterator.ensures.into_iter_gives) c.new-name-items.ensures.met;
+      counted = omega (arith, ap (λ names. length (names_without b names)) names);
     }
+
+pub count_alone-alone-requires : goal.count_alone-alone-requires
+count_alone-alone-requires c =
+    let p = c.args.self.now in
+    omega (arith, c.loop-name.invariant.counted, alone_few p.b.now p.a.now c.new-name-items.ensures.tables.0)
 
 pub put-requires-clause-held : goal.put-requires-clause-held
 put-requires-clause-held c =
@@ -75,4 +83,7 @@ loop-name-preserved c =
           (unless_gone (get a n) (get b n) (gone_a n) (gone_b n) row)
           (unless_gone_of (IsRowOf a b n) (get a n) (get b n) (gone_a n) (gone_b n) row (merged_of a b n x)));
       met = met.1;
+      counted = ap (λ n. n + length (names_without b left)) c.count_alone-alone.ensures
+          ∙ counted_next (λ s. s.now) b n c.in-Some.other left c.loop-name.alone (length (names_without b (keys a))) met.0.1
+          (ap (λ ns. c.loop-name.alone + length (names_without b ns)) (sym names) ∙ c.loop-name.invariant.counted);
     }

@@ -2,7 +2,7 @@ use Rattle.std.proofs.Common.{filter, ap, ◌∙◌}
 use Rattle.std.proofs.Math.Bool.{and-true}
 use Rattle.std.specs.Ordering.{is_lt}
 use Rattle.clash_record.specs.Orders.{name_cmp}
-use Rattle.partition_table.specs.Tables.{rows_of, rows_above}
+use Rattle.partition_table.specs.Tables.{rows_above}
 use Rattle.partition_table.specs.model.Keeping.{kept_code}
 use Rattle.upload_store.specs.Programs.{programs_by}
 use Rattle.partition_table.proofs.Held.{rows_made}
