@@ -9,7 +9,7 @@ use Rattle.exchange_codec.specs.Faults.{message_fault_number}
 use Rattle.exchange_codec.specs.Offers.{SpellsOffer}
 use Rattle.exchange_codec.specs.Withdrawals.{SpellsWithdrawals, list_due}
 use Rattle.exchange_codec.specs.Withdrawals as lists
-use Rattle.c_calls.specs.declared.half.Half.{Half}
+use Rattle.c_calls.specs.Halves.{Half}
 use Rattle.c_calls.specs.Sides.{Stays}
 use Rattle.c_calls.specs.Exchanges.{HearsWhole, HearsOffer, HearsNames, HearsDue, HearsWholeList}
 use Rattle.c_calls.specs.laws.Reading.{boxed_spelled, spent, spent_answer}

@@ -10,7 +10,7 @@ use Rattle.clash_record.specs.declared.registrations.ResolverId.TheVariants.{Pro
 use Rattle.partition_table.specs.Tables.{Row}
 use Rattle.partition_table.specs.model.Keeping.{IsKeptFor}
 use Rattle.exchange_core.specs.Shown.{shown}
-use Rattle.c_calls.specs.declared.half.Half.{Half}
+use Rattle.c_calls.specs.Halves.{Half}
 use Rattle.c_calls.specs.Kept.{HasCode}
 use Rattle.upload_store.specs.Programs.{mapped}
 

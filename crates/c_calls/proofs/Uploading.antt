@@ -1,15 +1,14 @@
 -- Uploads, by the results of the calls that they wrap.
-use Rattle.std.proofs.Common.{◌≡◌, ◌⊎◌, inl, inr, refl, ap, sym, subst, true≢false}
-use Rattle.std.specs.Prelude.{ℕ, List, Option, Result, Ok, Err, IsOk, IfOk, IfErr, OnErr}
-use Rattle.numbered.specs.Answers.{HasCause, ReturnsOrRunsOut, RanOut, out_of_memory}
-use Rattle.numbered.specs.declared.place.Place.{Place}
+use Rattle.std.proofs.Common.{◌≡◌, ◌⊎◌, inl, inr, refl, ap, sym, subst}
+use Rattle.std.specs.Prelude.{ℕ, List, Result, Ok, Err, IfOk, IfErr, OnErr}
+use Rattle.numbered.specs.Answers.{HasCause, ReturnsOrRunsOut, out_of_memory}
 use Rattle.clash_record.specs.declared.registrations.ProgramId.{ProgramId}
 use Rattle.upload_store.specs.declared.fault.UploadFault.{UploadFault}
 use Rattle.upload_store.specs.Faults.{upload_fault_number, upload_fault_place}
 use Rattle.upload_store.specs.Programs.{Programs, id_of}
 use Rattle.upload_store.specs.Uploads.{Fits, IsKept, IsUploadFault}
 use Rattle.c_calls.specs.Answers.{number_in, slot_in, slot_of}
-use Rattle.c_calls.specs.declared.half.Half.{Half}
+use Rattle.c_calls.specs.Halves.{Half}
 use Rattle.exchange_core.specs.declared.side.Side.{Side}
 use Rattle.c_calls.specs.laws.Loads.{no_slot}
 use Rattle.c_calls.specs.Sides as side

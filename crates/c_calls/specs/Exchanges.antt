@@ -10,7 +10,8 @@ use Rattle.exchange_core.specs.Faults.{side_fault_number}
 use Rattle.exchange_core.specs.Finished.{Finished, finished_from}
 use Rattle.exchange_core.specs.Refusals as due
 use Rattle.exchange_core.specs.Settling.{IsSettled, the_round}
-use Rattle.exchange_core.specs.Shown.{shown, calls, limit_of, is_full}
+use Rattle.exchange_core.specs.Shown.{shown, calls, limit_of, is_full, IsDone, IsUntouched}
+use Rattle.exchange_core.specs.declared.side.Side.{Side}
 use Rattle.exchange_core.specs.Worlds.{offer_of, list_of}
 use Rattle.exchange_codec.specs.declared.fault.MessageFault.{MessageFault}
 use Rattle.exchange_codec.specs.declared.head.MessageHead.{MessageHead}
@@ -20,7 +21,7 @@ use Rattle.exchange_codec.specs.Reading as reading
 use Rattle.exchange_codec.specs.Offers.{SpellsOffer, IsOfferFault}
 use Rattle.exchange_codec.specs.Withdrawals.{SpellsWithdrawals, list_due}
 use Rattle.exchange_codec.specs.Withdrawals as lists
-use Rattle.c_calls.specs.declared.half.Half.{Half}
+use Rattle.c_calls.specs.Halves.{Half}
 use Rattle.c_calls.specs.declared.outcome.Outcome.{Outcome}
 use Rattle.c_calls.specs.Answers.{unless, and_then, IsAnswer, Gives, Rejects, Takes}
 use Rattle.c_calls.specs.Codes.{name_of}
@@ -123,6 +124,12 @@ Withdraws bytes old new = IsAnswer (withdrawing bytes old) (λ name. CarriesOut 
 -- what a finish leaves in the handle of the outcome
 abbrev pub IsFinishedFrom : sides.Side → Outcome → Type 0
 IsFinishedFrom side outcome = (f : Finished) × (finished_from side ≡ Some f) × IsOutcome f outcome
+
+-- what a finish of a side returns and leaves
+abbrev pub FinishesSide : Side → Side → Option Outcome → Option Outcome → ℕ → Type 0
+FinishesSide old new outcome outcome' = IsAnswer (allowed (due.finish_fault (is_full old) (shown old)))
+    (λ _. IsDone old Finish new × IsSomeAnd outcome' (IsFinishedFrom (shown old)))
+    (IsUntouched old new × (outcome' ≡ outcome))
 
 abbrev pub Finishes : Half → Half → Option Outcome → Option Outcome → ℕ → Type 0
 Finishes old new outcome outcome' = IsAnswer (allowed (due.finish_fault (is_full old.side) (shown old.side)))

@@ -1,5 +1,5 @@
 -- The programs that a half keeps.
-use Rattle.std.specs.Prelude.{◌≡◌, ◌⊎◌, ℕ, Bool, true, false, if◌then◌else◌, List, Option, Some, None, is_some, Result, Ok, Err, slice_get}
+use Rattle.std.specs.Prelude.{◌≡◌, ◌⊎◌, ℕ, Bool, false, if◌then◌else◌, List, Option, Some, is_some, Result, Ok, Err, slice_get}
 use Rattle.std.specs.Ordering.{eq_by_cmp}
 use Rattle.std.specs.List.{flat_map, list_any}
 use Rattle.std.specs.Option.{option_map, ok_or}
@@ -14,7 +14,7 @@ use Rattle.clash_record.specs.declared.registrations.ResolverId.{ResolverId}
 use Rattle.clash_record.specs.declared.registrations.ResolverId.TheVariants.{Builtin, Program}
 use Rattle.partition_table.specs.Tables.{Row, Table, rows_of}
 use Rattle.exchange_core.specs.Shown.{shown}
-use Rattle.c_calls.specs.declared.half.Half.{Half}
+use Rattle.c_calls.specs.Halves.{Half}
 use Rattle.c_calls.specs.Answers.{Gives}
 
 -- the resolver is this program

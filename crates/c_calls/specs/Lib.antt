@@ -2,6 +2,7 @@
 pub mod Answers
 pub mod Codes
 pub mod Exchanges
+pub mod Halves
 pub mod Kept
 pub mod Messages
 pub mod Outcomes

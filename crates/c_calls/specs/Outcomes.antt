@@ -1,7 +1,8 @@
 -- The outcome of a finished exchange.
-use Rattle.std.specs.Prelude.{◌≡◌, ℕ, Bool, true, false, List, [], length, map, Option, Some, None, is_some, Result, slice_get, if◌then◌else◌}
+use Rattle.std.specs.Prelude.{◌≡◌, ℕ, Bool, true, false, List, [], length, map, Option, is_some, Result, slice_get, if◌then◌else◌}
 use Rattle.std.specs.Option.{option_map, option_map_or, option_and_then, ok_or}
 use Rattle.std.specs.FinMap.{get, len}
+use Rattle.std.specs.Arc.{arc_value}
 use Rattle.clash_record.specs.declared.side_id.SideId.{SideId}
 use Rattle.clash_record.specs.declared.side_id.SideId.TheVariants.{A, B}
 use Rattle.clash_record.specs.declared.registrations.ResolverId.{ResolverId}
@@ -20,30 +21,36 @@ use Rattle.c_calls.specs.declared.codes.HealName.{HealName}
 use Rattle.c_calls.specs.declared.codes.HealNotice.{HealNotice}
 use Rattle.c_calls.specs.declared.outcome.Mark.{Mark}
 use Rattle.c_calls.specs.declared.outcome.Outcome.{Outcome}
-use Rattle.c_calls.specs.declared.outcome.Pair.{Pair}
 use Rattle.c_calls.specs.Answers.{and_then}
 use Rattle.c_calls.specs.Sides.{side_id}
 use Rattle.c_calls.specs.Codes.{name_code, registration_code, side_code, verdict_code, notice_code}
 
--- what an outcome keeps of a clash
-abbrev pub pair_of : Clash → Pair
-pair_of clash = record { name = clash.name; first = clash.first; second = clash.second }
-
 -- the table has the name of a clash with its first registration
-abbrev pub has_first : Table → Pair → Bool
-has_first table pair = option_map_or (λ row. same_registration row.registration pair.first) (get table pair.name) false
+abbrev pub has_first : Table → Clash → Bool
+has_first table clash = option_map_or (λ row. same_registration row.registration clash.first) (get table clash.name) false
 
--- whether the merged table has the name, and whether half A registered the first of the two
-abbrev pub mark_of : Finished → Pair → Mark
-mark_of f pair = record { kept = is_some (get f.table pair.name); of_a = has_first f.a pair }
+-- the merged table has the name of a clash
+abbrev pub is_kept : Finished → Clash → Bool
+is_kept f clash = is_some (get f.table clash.name)
 
--- the exchange's number, the number of names of the merged table, and each clash with its ruling
+-- the verdict has a winner
+abbrev pub has_winner : Verdict3 → Bool
+has_winner First = true
+has_winner Second = true
+has_winner Neither = false
+
+abbrev pub clashes_in : Outcome → List Clash
+clashes_in outcome = arc_value outcome.clashes
+
+-- the exchange's number, the number of names of the merged table, and each clash with its ruling, whether the merged table
+-- has its name, and whether half A registered the first of the two
 pub record IsOutcome (f : Finished) (outcome : Outcome) : Type 0 where
   pub number : outcome.number ≡ f.number
   pub merged : outcome.merged ≡ len f.table
-  pub clashes : outcome.pairs.items ≡ map pair_of (clashes_merged f)
+  pub clashes : clashes_in outcome ≡ clashes_merged f
   pub rulings : outcome.rulings.items ≡ f.rulings
-  pub marks : outcome.marks.items ≡ map (mark_of f) outcome.pairs.items
+  pub kept : outcome.kept.items ≡ map (is_kept f) (clashes_merged f)
+  pub of_a : outcome.of_a.items ≡ map (has_first f.a) (clashes_merged f)
   pub gone_a : outcome.gone_a.items ≡ f.gone.of_a
   pub gone_b : outcome.gone_b.items ≡ f.gone.of_b
 
@@ -58,18 +65,19 @@ theirs_of side = option_map_or (λ names. names) (option_and_then (λ exchange. 
 abbrev pub gone_of : Side → Gone
 gone_of side = gone_for side.id (withdrawn_by side) (theirs_of side)
 
--- these clashes and withdrawn names, and a place for the ruling of each clash
-pub record IsRoomFor (clashes : List Clash) (gone : Gone) (outcome : Outcome) : Type 0 where
+-- these clashes and withdrawn names, and a place for what is known of each clash
+pub record IsRoomFor (list : List Clash) (gone : Gone) (outcome : Outcome) : Type 0 where
   pub gone_a : outcome.gone_a.items ≡ gone.of_a
   pub gone_b : outcome.gone_b.items ≡ gone.of_b
-  pub pairs : outcome.pairs.items ≡ map pair_of clashes
-  pub places : length outcome.rulings.items ≡ length clashes
-  pub marks : length outcome.marks.items ≡ length outcome.pairs.items
+  pub clashes : clashes_in outcome ≡ list
+  pub rulings : length outcome.rulings.items ≡ length list
+  pub kept : length outcome.kept.items ≡ length list
+  pub of_a : length outcome.of_a.items ≡ length list
 
 -- the notices of a verdict; a program's verdict brings none
-abbrev pub notices_by : ResolverId → Pair → Verdict3 → List Notice
-notices_by (Builtin builtin) pair verdict = notices_of builtin pair.name pair.first.owner pair.second.owner verdict
-notices_by (Program id) pair verdict = []
+abbrev pub notices_by : ResolverId → Clash → Verdict3 → List Notice
+notices_by (Builtin builtin) clash verdict = notices_of builtin clash.name clash.first.owner clash.second.owner verdict
+notices_by (Program id) clash verdict = []
 
 -- who keeps the name: the winner, unless it was withdrawn
 abbrev pub keeper : Bool → Verdict3 → Verdict3
@@ -82,19 +90,27 @@ wins Second kept = kept
 wins Neither kept = true
 
 -- the notices to deliver: none if the winner was withdrawn
-abbrev pub notices_to : Pair → Verdict3 → Bool → List Notice
-notices_to pair verdict kept = if wins verdict kept then notices_by pair.first.resolver pair verdict else []
+abbrev pub notices_to : Clash → Verdict3 → Bool → List Notice
+notices_to clash verdict kept = if wins verdict kept then notices_by clash.first.resolver clash verdict else []
+
+abbrev pub mark_from : Bool → Bool → Mark
+mark_from kept of_a = record { kept = kept; of_a = of_a }
+
+-- the ruling and the mark of clash i
+abbrev pub ruling_at : Outcome → ℕ → Option (Judged × Mark)
+ruling_at outcome i = option_and_then (λ judged. option_and_then (λ kept. option_map (λ of_a. (judged, mark_from kept of_a))
+    (slice_get outcome.of_a.items i)) (slice_get outcome.kept.items i)) (slice_get outcome.rulings.items i)
 
 -- clash i with its ruling and its mark
-abbrev pub judged_at : Outcome → ℕ → Option (Pair × (Judged × Mark))
-judged_at outcome i = option_and_then (λ pair. option_and_then (λ judged. option_map (λ mark. (pair, (judged, mark)))
-    (slice_get outcome.marks.items i)) (slice_get outcome.rulings.items i)) (slice_get outcome.pairs.items i)
+abbrev pub judged_at : Outcome → ℕ → Option (Clash × (Judged × Mark))
+judged_at outcome i =
+    option_and_then (λ clash. option_map (λ ruling. (clash, ruling)) (ruling_at outcome i)) (slice_get (clashes_in outcome) i)
 
 -- the half that registered the first of the two
 abbrev pub first_half : Mark → SideId
 first_half mark = if mark.of_a then A else B
 
-abbrev pub clash_code : Pair × (Judged × Mark) → HealClash
+abbrev pub clash_code : Clash × (Judged × Mark) → HealClash
 clash_code x = record {
   name = name_code x.0.name;
   first = registration_code x.0.first;
@@ -112,7 +128,7 @@ clash_at outcome i = ok_or (option_map clash_code (judged_at outcome i)) 92
 
 -- notice n of clash i, or 92
 abbrev pub notice_at : Outcome → ℕ → ℕ → Result HealNotice ℕ
-notice_at outcome i n = ok_or (option_and_then (λ (x : Pair × (Judged × Mark)).
+notice_at outcome i n = ok_or (option_and_then (λ (x : Clash × (Judged × Mark)).
     option_map notice_code (slice_get (notices_to x.0 x.1.0.answer x.1.1.kept) n)) (judged_at outcome i)) 92
 
 -- ---- withdrawn names

@@ -11,7 +11,7 @@ use Rattle.exchange_core.specs.Refusals.{missing_of}
 use Rattle.exchange_core.specs.declared.fault.MissingPart.{MissingPart}
 use Rattle.exchange_core.specs.declared.fault.MissingPart.TheVariants.{TheirOffer, Ruling, OwnList, OtherList}
 use Rattle.exchange_core.specs.Sides as sides
-use Rattle.c_calls.specs.declared.half.Half.{Half}
+use Rattle.c_calls.specs.Halves.{Half}
 use Rattle.c_calls.specs.declared.codes.HealName.{HealName}
 use Rattle.c_calls.specs.declared.codes.HealRow.{HealRow}
 use Rattle.c_calls.specs.Answers.{and_then}

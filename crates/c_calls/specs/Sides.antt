@@ -1,5 +1,5 @@
 -- The calls of a half on its table and its programs: what is due to each, and what it leaves.
-use Rattle.std.specs.Prelude.{◌≡◌, ◌≢◌, ◌≤◌, ◌+◌, ◌⊎◌, ◌&&◌, ℕ, nat_lt, nat_le, ◌==◌, if◌then◌else◌, List, [], length, Result, Ok, Err, slice_get}
+use Rattle.std.specs.Prelude.{◌≡◌, ◌≢◌, ◌≤◌, ◌+◌, ◌⊎◌, ◌&&◌, ℕ, nat_lt, nat_le, ◌==◌, if◌then◌else◌, List, [], length, Result, Ok, Err}
 use Rattle.std.specs.Option.{option_map, ok_or}
 use Rattle.std.specs.FinMap as map
 use Rattle.numbered.specs.Answers.{out_of_memory}
@@ -11,13 +11,13 @@ use Rattle.clash_record.specs.declared.registrations.Registration.{Registration}
 use Rattle.upload_store.specs.declared.fault.UploadFault.{UploadFault}
 use Rattle.upload_store.specs.Faults.{upload_fault_number, upload_fault_place}
 use Rattle.upload_store.specs.Uploads.{Fits, IsKept, IsUploadFault}
-use Rattle.partition_table.specs.Tables.{most_names, row_for, rows_of, rows_above}
+use Rattle.partition_table.specs.Tables.{most_names, row_for}
 use Rattle.exchange_core.specs.Calls.{Call, Register, Unregister}
 use Rattle.exchange_core.specs.Faults.{side_fault_number}
 use Rattle.exchange_core.specs.Refusals.{register_fault, unregister_fault, renew_fault}
 use Rattle.exchange_core.specs.Shown.{shown, calls, limit_of, is_full, IsDone, IsUntouched}
 use Rattle.exchange_core.specs.Sides.{new_side, rested, shown_table, withdrawn_by}
-use Rattle.c_calls.specs.declared.half.Half.{Half}
+use Rattle.c_calls.specs.Halves.{Half}
 use Rattle.c_calls.specs.declared.codes.HealRegistration.{HealRegistration}
 use Rattle.c_calls.specs.declared.codes.HealRow.{HealRow}
 use Rattle.c_calls.specs.Answers.{unless, and_then, slot_of, IsAnswer, Gives}
@@ -55,18 +55,33 @@ pub record CarriesOut (call : Call) (old new : Half) : Type 0 where
 
 -- ---- registering
 
+-- a valid name and its registration, or the refusal that is due
+abbrev pub registering_entry : Name × Registration → Half → Result (Name × Registration) ℕ
+registering_entry e half = unless side_fault_number
+    (register_fault (limit_of half.side) (is_full half.side) (shown half.side) e.0 e.1 half.store) e
+
 -- the name and its registration, or the refusal that is due
 abbrev pub registering : List ℕ → HealRegistration → Half → Result (Name × Registration) ℕ
-registering bytes r half = and_then (entry_of bytes r) (λ e. unless side_fault_number
-    (register_fault (limit_of half.side) (is_full half.side) (shown half.side) e.0 e.1 half.store) e)
+registering bytes r half = and_then (entry_of bytes r) (λ e. registering_entry e half)
+
+abbrev pub RegistersEntry : Name × Registration → Half → Half → ℕ → Type 0
+RegistersEntry e old new = IsAnswer (registering_entry e old)
+    (λ e. CarriesOut (Register e.0 (row_for old.store e.1)) old new) (Stays old new)
 
 abbrev pub Registers : List ℕ → HealRegistration → Half → Half → ℕ → Type 0
 Registers bytes r old new = IsAnswer (registering bytes r old)
     (λ e. CarriesOut (Register e.0 (row_for old.store e.1)) old new) (Stays old new)
 
+abbrev pub unregistering_name : Name → Half → Result Name ℕ
+unregistering_name name half =
+    unless side_fault_number (unregister_fault (is_full half.side) (shown half.side) name) name
+
 abbrev pub unregistering : List ℕ → Half → Result Name ℕ
-unregistering bytes half = and_then (name_of bytes) (λ name. unless side_fault_number
-    (unregister_fault (is_full half.side) (shown half.side) name) name)
+unregistering bytes half = and_then (name_of bytes) (λ name. unregistering_name name half)
+
+abbrev pub UnregistersName : Name → Half → Half → ℕ → Type 0
+UnregistersName name old new = IsAnswer (unregistering_name name old)
+    (λ name. CarriesOut (Unregister name) old new) (Stays old new)
 
 abbrev pub Unregisters : List ℕ → Half → Half → ℕ → Type 0
 Unregisters bytes old new = IsAnswer (unregistering bytes old)

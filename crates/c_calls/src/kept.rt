@@ -10,7 +10,7 @@ ghost use Rattle.c_calls.specs.Answers.{filled, number_in};
 ghost use Rattle.c_calls.specs.Kept.{Forgets, GivesCode, HasCode, id_from, is_by, program_at};
 
 use crate::answer::{INDEX_OUT_OF_RANGE, STILL_NAMED, UNKNOWN_PROGRAM};
-use crate::half::Half;
+use crate::half::{Half, forget};
 use crate::message::{Message, boxed};
 use clash_record::{ProgramId, ResolverId};
 use insn_codec::encode;
@@ -27,6 +27,7 @@ impl Half {
     pub fn forget(&mut self, id: &[u8; 32]) -> u32
         ensures { Forgets id.now self.old self.new result }
     {
+        forget(&mut self.agreement);
         let id = ProgramId(*id);
         if has_user(self.side.table().rows(), &id) {
             return STILL_NAMED;

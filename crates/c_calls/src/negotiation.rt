@@ -6,14 +6,14 @@ ghost use Rattle.exchange_core.specs.Shown.{shown};
 ghost use Rattle.exchange_core.specs.Sides.{clashes_of};
 ghost use Rattle.c_calls.specs.declared.outcome.Outcome.{Outcome};
 ghost use Rattle.c_calls.specs.Answers.{filled, number_in};
-ghost use Rattle.c_calls.specs.Exchanges.{Begins, Hears, HearsFirst, HearsFirstNames, HearsNames, HearsOffer, HearsWhole, HearsWholeList, Withdraws, Closes, HearsList, Finishes, head_refusal, refusal_of};
+ghost use Rattle.c_calls.specs.Exchanges.{Begins, Hears, HearsFirst, HearsFirstNames, HearsNames, HearsOffer, HearsWhole, HearsWholeList, Settles, Withdraws, Closes, HearsList, Finishes, FinishesSide, Abandons, head_refusal, refusal_of};
 ghost use Rattle.c_calls.specs.Outcomes.{IsRoomFor, gone_of, theirs_of};
 
 use crate::answer::{OTHER_MESSAGE, number_of};
 use crate::codes::name_of;
-use crate::half::Half;
+use crate::half::{Half, forget};
 use crate::message::{Message, boxed};
-use crate::outcome::{Outcome, pairs_of};
+use crate::outcome::Outcome;
 use clash_record::{Name, SideId};
 use exchange_codec::{
     MessageHead, decode_offer, decode_withdrawals, peek, spell_offer, spell_withdrawals,
@@ -35,6 +35,7 @@ impl Half {
         ensures { (before : Option (List ℕ)) → Begins number seed uptime self.old self.new before
             (filled (λ made. made.value) before result) (number_in (λ n. n) result) }
     {
+        forget(&mut self.agreement);
         let side = &self.side;
         if let Some(fault) = side.begin_refusal(number) {
             return Err(fault.number());
@@ -107,13 +108,23 @@ impl Half {
     fn hear_first(&mut self, alloc: Global, offer: &Offer) -> u32
         ensures { HearsFirst offer.now self.old self.new result }
     {
+        forget(&mut self.agreement);
         number_of(&self.side.hear(alloc, offer))
+    }
+
+    /// Judges each clash that has no ruling.
+    pub fn settle(&mut self) -> u32
+        ensures { Settles self.old self.new result }
+    {
+        forget(&mut self.agreement);
+        number_of(&self.side.settle())
     }
 
     /// Withdraws a name in the open exchange.
     pub fn withdraw(&mut self, bytes: &[u8]) -> u32
         ensures { Withdraws bytes.now self.old self.new result }
     {
+        forget(&mut self.agreement);
         match name_of(bytes) {
             Ok(name) => number_of(&self.side.withdraw(&name)),
             Err(number) => number,
@@ -126,6 +137,7 @@ impl Half {
         ensures { (before : Option (List ℕ)) → Closes self.old self.new before (filled (λ made. made.value) before result)
             (number_in (λ n. n) result) }
     {
+        forget(&mut self.agreement);
         let side = &self.side;
         if let Some(fault) = side.close_list_refusal() {
             return Err(fault.number());
@@ -182,43 +194,66 @@ impl Half {
     fn hear_first_names(&mut self, sent: &Withdrawals) -> u32
         ensures { HearsFirstNames sent.now self.old self.new result }
     {
+        forget(&mut self.agreement);
         number_of(&self.side.hear_list(sent))
     }
 
     /// Replaces the table by the merge, and returns the outcome.
-    #[tactic(auto, using(crate::proofs::Finishing::room_fits, crate::proofs::Finishing::finishes))]
+    #[tactic(auto, using(crate::proofs::Finishing::by_its_side))]
     pub fn finish(&mut self, alloc: Global) -> Result<Box<Outcome>, u32>
         ensures { (before : Option Outcome) → Finishes self.old self.new before (filled (λ made. made.value) before result)
             (number_in (λ n. n) result) }
     {
-        if let Some(fault) = self.side.finish_refusal() {
-            return Err(fault.number());
-        }
-        let Ok(mut room) = room_for(alloc, self) else {
-            return Err(OUT_OF_MEMORY);
-        };
-        match self.side.finish(alloc) {
-            Ok(finished) => {
-                room.fill(&finished);
-                Ok(room)
-            }
-            Err(fault) => Err(fault.number()),
-        }
+        forget(&mut self.agreement);
+        finish(&mut self.side, alloc)
+    }
+
+    /// Closes the exchange, and keeps the table without the withdrawn names.
+    pub fn abandon(&mut self) -> u32
+        ensures { Abandons self.old self.new result }
+    {
+        forget(&mut self.agreement);
+        number_of(&self.side.abandon())
     }
 }
 
-// Allocates an outcome with the clashes and the withdrawn names of the open exchange, and a place for each ruling.
-fn room_for(alloc: Global, half: &Half) -> Result<Box<Outcome>, AllocError>
-    ensures { IfOk result (λ room. IsRoomFor (clashes_of (shown half.now.side)) (gone_of (shown half.now.side)) room.value) }
+// Replaces the side's table by the merge, and returns the outcome.
+#[tactic(auto, using(crate::proofs::Finishing::room_fits, crate::proofs::Finishing::finishes))]
+fn finish(side: &mut Side, alloc: Global) -> Result<Box<Outcome>, u32>
+    ensures { (before : Option Outcome) → FinishesSide side.old side.new before (filled (λ made. made.value) before result)
+        (number_in (λ n. n) result) }
 {
-    let pairs = pairs_of(alloc, half.side.clashes())?;
-    let own = copied(alloc, half.side.withdrawn())?;
-    let theirs = copied(alloc, theirs_of(&half.side))?;
-    let (gone_a, gone_b) = match half.side.id() {
+    if let Some(fault) = side.finish_refusal() {
+        return Err(fault.number());
+    }
+    let Ok(mut room) = room_for(alloc, side) else {
+        return Err(OUT_OF_MEMORY);
+    };
+    match side.finish(alloc) {
+        Ok(finished) => {
+            room.fill(&finished);
+            Ok(room)
+        }
+        Err(fault) => Err(fault.number()),
+    }
+}
+
+// Allocates an outcome with the clashes and the withdrawn names of the open exchange, and a place for each ruling. Adds an
+// owner to the list of clashes, which is there once the other's offer was heard.
+#[tactic(auto, using(crate::proofs::Finishing::shared))]
+fn room_for(alloc: Global, side: &Side) -> Result<Box<Outcome>, AllocError>
+    ensures { IfOk result (λ room. IsRoomFor (clashes_of (shown side.now)) (gone_of (shown side.now)) room.value) }
+{
+    let Ok(clashes) = side.share_clashes() else {
+        return Err(AllocError);
+    };
+    let own = copied(alloc, side.withdrawn())?;
+    let theirs = copied(alloc, theirs_of(side))?;
+    let (gone_a, gone_b) = match side.id() {
         SideId::A => (own, theirs),
         SideId::B => (theirs, own),
     };
-    let room = Outcome::new(alloc, pairs, gone_a, gone_b)?;
+    let room = Outcome::new(alloc, clashes, gone_a, gone_b)?;
     match Box::new(alloc, room) {
         Ok(room) => Ok(room),
         Err(_) => Err(AllocError),

@@ -1,28 +1,22 @@
 //! The outcome of an exchange.
-ghost use Rattle.std.specs.Prelude.{◌≡◌, [], length, map, IfOk, is_some, if◌then◌else◌};
-ghost use Rattle.std.specs.FinMap.{get};
-ghost use Rattle.std.specs.Option.{option_map, option_map_or};
+ghost use Rattle.std.specs.Prelude.{◌≡◌, [], length, map, IfOk};
+ghost use Rattle.std.specs.Arc.{arc_value};
+ghost use Rattle.std.specs.Option.{option_map_or};
 ghost use Rattle.exchange_core.specs.Finished.{clashes_merged};
-ghost use Rattle.c_calls.specs.Outcomes.{IsOutcome, IsRoomFor, clash_at, first_half, has_first, judged_at, keeper, mark_of, names_of, notice_at, notices_by, notices_to, pair_of, wins, withdrawn_of};
+ghost use Rattle.c_calls.specs.Outcomes.{IsOutcome, IsRoomFor, clash_at, clashes_in, first_half, keeper, names_of, notice_at, notices_by, notices_to, ruling_at, wins, withdrawn_of};
 
 use crate::answer::INDEX_OUT_OF_RANGE;
 use crate::codes::{
     HealClash, HealName, HealNotice, name_code, notice_code, registration_code, side_code, side_id,
     verdict_code,
 };
+use crate::marking::{mark_first, mark_kept};
 use builtin_resolvers::{Notices, Verdict3, notices};
-use clash_record::{Name, Registration, ResolverId, SideId};
+use clash_record::{Name, ResolverId, SideId};
 use exchange_core::{Finished, Judged};
-use partition_table::{Clash, ClashList, Finder};
+use partition_table::{Clash, ClashList};
 use std::alloc::{AllocError, Global};
-
-/// A clash without its ruling.
-#[derive(Clone, Copy, Debug)]
-pub struct Pair {
-    name: Name,
-    first: Registration,
-    second: Registration,
-}
+use std::sync::Arc;
 
 /// Whether the merged table has the name of a clash, and whether half A registered the first of the two.
 #[derive(Clone, Copy, Debug)]
@@ -32,13 +26,16 @@ pub struct Mark {
 }
 
 /// The exchange's number, the number of names in the merged table, each clash with its ruling, and the names that each half withdrew.
+///
+/// `kept` has for each clash whether the merged table has its name, and `of_a` whether half A registered the first of the two.
 #[derive(Debug, Drop)]
 pub struct Outcome {
     pub number: u64,
     pub merged: usize,
-    pub pairs: Vec<Pair>,
+    pub clashes: Arc<ClashList>,
     pub rulings: Vec<Judged>,
-    pub marks: Vec<Mark>,
+    pub kept: Vec<bool>,
+    pub of_a: Vec<bool>,
     pub gone_a: Vec<Name>,
     pub gone_b: Vec<Name>,
 }
@@ -48,39 +45,38 @@ const UNJUDGED: Judged = Judged {
     answer: Verdict3::Neither,
 };
 
-const UNMARKED: Mark = Mark {
-    kept: false,
-    of_a: false,
-};
-
 impl Outcome {
-    /// Returns an outcome of these clashes and withdrawn names, with a place for each ruling.
+    /// Returns an outcome of these clashes and withdrawn names, with a place for what is known of each clash.
     pub fn new(
         alloc: Global,
-        pairs: Vec<Pair>,
+        clashes: Arc<ClashList>,
         gone_a: Vec<Name>,
         gone_b: Vec<Name>,
     ) -> Result<Outcome, AllocError>
         ensures gone_a { IfOk result (λ room. room.gone_a.items ≡ gone_a.items) }
         ensures gone_b { IfOk result (λ room. room.gone_b.items ≡ gone_b.items) }
-        ensures pairs { IfOk result (λ room. room.pairs.items ≡ pairs.items) }
-        ensures places { IfOk result (λ room. length room.rulings.items ≡ length pairs.items) }
-        ensures marks { IfOk result (λ room. length room.marks.items ≡ length pairs.items) }
+        ensures clashes { IfOk result (λ room. clashes_in room ≡ arc_value clashes) }
+        ensures rulings { IfOk result (λ room. length room.rulings.items ≡ length (arc_value clashes)) }
+        ensures kept { IfOk result (λ room. length room.kept.items ≡ length (arc_value clashes)) }
+        ensures of_a { IfOk result (λ room. length room.of_a.items ≡ length (arc_value clashes)) }
     {
-        let rulings = vec![in alloc; UNJUDGED; pairs.len()]?;
-        let marks = vec![in alloc; UNMARKED; pairs.len()]?;
+        let count = clashes.len();
+        let rulings = vec![in alloc; UNJUDGED; count]?;
+        let kept = vec![in alloc; false; count]?;
+        let of_a = vec![in alloc; false; count]?;
         Ok(Outcome {
             number: 0,
             merged: 0,
-            pairs,
+            clashes,
             rulings,
-            marks,
+            kept,
+            of_a,
             gone_a,
             gone_b,
         })
     }
 
-    /// Fills in the rulings, the marks and the numbers. Allocates nothing.
+    /// Fills in the numbers, the rulings, and what is known of each clash. Allocates nothing.
     pub fn fill(&mut self, finished: &Finished)
         requires { IsRoomFor (clashes_merged finished.now) finished.now.gone self.old }
         ensures { IsOutcome finished.now self.new }
@@ -88,41 +84,54 @@ impl Outcome {
         self.number = finished.number();
         self.merged = finished.table().len();
         self.rulings.copy_from_slice(finished.rulings());
-        mark_all(finished, &self.pairs, &mut self.marks);
+        let clashes = self.clashes.iter().as_slice();
+        mark_kept(finished, clashes, &mut self.kept);
+        mark_first(finished, clashes, &mut self.of_a);
     }
 
     /// Returns the number of clashes.
     pub fn len(&self) -> usize
-        ensures { result ≡ length self.now.pairs.items }
+        ensures { result ≡ length (clashes_in self.now) }
     {
-        self.pairs.len()
+        self.clashes.len()
     }
 
-    // Returns clash `i` with its ruling and its mark.
-    fn get(&self, i: usize) -> Option<(Pair, (Judged, Mark))>
-        ensures { result ≡ judged_at self.now i }
+    // Returns the clashes.
+    fn clashes(&self) -> &[Clash]
+        ensures { result.now ≡ clashes_in self.now }
     {
-        let (pair, judged) = (self.pairs.get(i)?, self.rulings.get(i)?);
-        let mark = self.marks.get(i)?;
-        Some((*pair, (*judged, *mark)))
+        self.clashes.iter().as_slice()
+    }
+
+    // Returns the ruling and the mark of clash `i`.
+    fn ruling(&self, i: usize) -> Option<(Judged, Mark)>
+        ensures { result ≡ ruling_at self.now i }
+    {
+        let judged = *self.rulings.get(i)?;
+        let kept = *self.kept.get(i)?;
+        let of_a = *self.of_a.get(i)?;
+        Some((judged, Mark { kept, of_a }))
     }
 
     /// Writes clash `i`, or returns 92.
     pub fn clash(&self, i: usize) -> Result<HealClash, u32>
         ensures { result ≡ clash_at self.now i }
     {
-        let Some((pair, (judged, mark))) = self.get(i) else {
+        let Some(clash) = self.clashes().get(i) else {
+            return Err(INDEX_OUT_OF_RANGE);
+        };
+        let Some((judged, mark)) = self.ruling(i) else {
             return Err(INDEX_OUT_OF_RANGE);
         };
         Ok(HealClash {
-            name: name_code(&pair.name),
-            first: registration_code(&pair.first),
-            second: registration_code(&pair.second),
+            name: name_code(clash.name()),
+            first: registration_code(clash.first()),
+            second: registration_code(clash.second()),
             word: judged.word,
             verdict: verdict_code(judged.answer),
             keeps: verdict_code(keeper(mark.kept, judged.answer)),
             first_half: side_code(first_half(mark)),
-            notices: count_notices(&pair, judged.answer, mark.kept),
+            notices: count_notices(clash, judged.answer, mark.kept),
         })
     }
 
@@ -151,10 +160,13 @@ impl Outcome {
     pub fn notice(&self, i: usize, n: usize) -> Result<HealNotice, u32>
         ensures { result ≡ notice_at self.now i n }
     {
-        let Some((pair, (judged, mark))) = self.get(i) else {
+        let Some(clash) = self.clashes().get(i) else {
             return Err(INDEX_OUT_OF_RANGE);
         };
-        let Some(notices) = notices_to(&pair, judged.answer, mark.kept) else {
+        let Some((judged, mark)) = self.ruling(i) else {
+            return Err(INDEX_OUT_OF_RANGE);
+        };
+        let Some(notices) = notices_to(clash, judged.answer, mark.kept) else {
             return Err(INDEX_OUT_OF_RANGE);
         };
         match notices.as_slice().get(n) {
@@ -189,26 +201,26 @@ fn wins(verdict: Verdict3, kept: bool) -> bool
 }
 
 // Returns the notices to deliver, if the verdict is a built-in resolver's and its winner keeps the name.
-fn notices_to(pair: &Pair, verdict: Verdict3, kept: bool) -> Option<Notices>
-    ensures { option_map_or (λ notices. notices) result [] ≡ notices_to pair.now verdict kept }
+fn notices_to(clash: &Clash, verdict: Verdict3, kept: bool) -> Option<Notices>
+    ensures { option_map_or (λ notices. notices) result [] ≡ notices_to clash.now verdict kept }
 {
     if wins(verdict, kept) {
-        notices_of(pair, verdict)
+        notices_of(clash, verdict)
     } else {
         None
     }
 }
 
 // Returns the notices of a verdict of a built-in resolver.
-fn notices_of(pair: &Pair, verdict: Verdict3) -> Option<Notices>
-    ensures { option_map_or (λ notices. notices) result [] ≡ notices_by pair.now.first.resolver pair.now verdict }
+fn notices_of(clash: &Clash, verdict: Verdict3) -> Option<Notices>
+    ensures { option_map_or (λ notices. notices) result [] ≡ notices_by clash.now.first.resolver clash.now verdict }
 {
-    match pair.first.resolver {
+    match clash.resolver() {
         ResolverId::Builtin(builtin) => Some(notices(
             builtin,
-            &pair.name,
-            pair.first.owner,
-            pair.second.owner,
+            clash.name(),
+            clash.first().owner,
+            clash.second().owner,
             verdict,
         )),
         ResolverId::Program(_) => None,
@@ -216,79 +228,11 @@ fn notices_of(pair: &Pair, verdict: Verdict3) -> Option<Notices>
 }
 
 // Counts the notices to deliver.
-fn count_notices(pair: &Pair, verdict: Verdict3, kept: bool) -> u32
-    ensures { result ≡ length (notices_to pair.now verdict kept) }
+fn count_notices(clash: &Clash, verdict: Verdict3, kept: bool) -> u32
+    ensures { result ≡ length (notices_to clash.now verdict kept) }
 {
-    match notices_to(pair, verdict, kept) {
+    match notices_to(clash, verdict, kept) {
         Some(notices) => notices.len() as u32,
         None => 0,
-    }
-}
-
-// Marks each clash. The clashes are in the order of names, so that each table is walked once.
-fn mark_all(finished: &Finished, pairs: &[Pair], marks: &mut [Mark])
-    requires { length marks.old ≡ length pairs.now }
-    ensures { marks.new ≡ map (mark_of finished.now) pairs.now }
-{
-    let mut merged = Finder::new(finished.table());
-    let mut of_a = Finder::new(finished.a());
-    let mut i = 0;
-    while i < pairs.len() {
-        marks[i] = Mark {
-            kept: has_name(&mut merged, &pairs[i].name),
-            of_a: has_first(&mut of_a, &pairs[i]),
-        };
-        i += 1;
-    }
-}
-
-// Checks whether the table has the name.
-fn has_name(table: &mut Finder<'_>, name: &Name) -> bool
-    ensures answer { result ≡ is_some (get table.old name.now) }
-    ensures same { table.new ≡ table.old }
-{
-    table.find(name).is_some()
-}
-
-// Checks whether the table has the name of a clash with its first registration.
-fn has_first(table: &mut Finder<'_>, pair: &Pair) -> bool
-    ensures answer { result ≡ has_first table.old pair.now }
-    ensures same { table.new ≡ table.old }
-{
-    match table.find(&pair.name) {
-        Some(registration) => registration.cmp(&pair.first).is_eq(),
-        None => false,
-    }
-}
-
-/// Copies what an outcome keeps of these clashes.
-pub fn pairs_of(alloc: Global, clashes: Option<&ClashList>) -> Result<Vec<Pair>, AllocError>
-    ensures { IfOk result (λ pairs. pairs.items ≡ map pair_of (option_map_or (λ list. list.now) clashes.entry [])) }
-{
-    match clashes {
-        Some(clashes) => copy_pairs(alloc, clashes),
-        None => Ok(Vec::new(alloc)),
-    }
-}
-
-// Copies what an outcome keeps of each clash.
-fn copy_pairs(alloc: Global, clashes: &ClashList) -> Result<Vec<Pair>, AllocError>
-    ensures { IfOk result (λ pairs. pairs.items ≡ map pair_of clashes.now) }
-{
-    let mut pairs = Vec::with_capacity(alloc, clashes.len())?;
-    for clash in clashes.iter() {
-        pairs.push(pair_of(clash))?;
-    }
-    Ok(pairs)
-}
-
-// Copies what an outcome keeps of a clash.
-fn pair_of(clash: &Clash) -> Pair
-    ensures { result ≡ pair_of clash.now }
-{
-    Pair {
-        name: *clash.name(),
-        first: *clash.first(),
-        second: *clash.second(),
     }
 }

@@ -1,14 +1,15 @@
 //! The calls of a half on its table and its programs.
 ghost use Rattle.std.specs.Prelude.{◌≡◌};
-ghost use Rattle.c_calls.specs.Sides.{IsUpload, id_in, Registers, Unregisters, IsNew, found_at, row_after, row_at};
+ghost use Rattle.c_calls.specs.Sides.{IsUpload, id_in, Registers, RegistersEntry, Unregisters, UnregistersName, Renews, GivesUp, IsNew, found_at, row_after, row_at};
 
 use crate::answer::{NOT_REGISTERED, number_of, slot_in};
 use crate::codes::{HealRegistration, HealRow, name_of, registration_code, registration_of};
-use crate::half::Half;
+use crate::half::{Half, forget};
 use crate::rows::{row_in, row_in_after};
-use clash_record::{ProgramId, SideId};
+use clash_record::{Name, ProgramId, Registration, SideId};
 use exchange_core::Side;
-use partition_table::NameLimit;
+use numbered::Numbered;
+use partition_table::{Agreement, NameLimit};
 use std::alloc::Global;
 use upload_store::{UploadFault, UploadStore};
 
@@ -17,10 +18,7 @@ impl Half {
     pub fn new(alloc: Global, id: SideId, limit: NameLimit) -> Half
         ensures { IsNew limit.names id result }
     {
-        Half {
-            side: Side::with_limit(alloc, id, limit),
-            store: UploadStore::new(alloc),
-        }
+        Half::of(Side::with_limit(alloc, id, limit), UploadStore::new(alloc))
     }
 
     /// Keeps a program for registrations, and writes its id and the slot of the refusal.
@@ -28,6 +26,7 @@ impl Half {
     pub fn upload(&mut self, alloc: Global, code: &[u8], id: &mut [u8; 32], slot: &mut u32) -> u32
         ensures { IsUpload code.now self.old self.new id.old id.new result slot.new }
     {
+        forget(&mut self.agreement);
         let uploaded = self.store.upload(alloc, code);
         *slot = slot_in(&uploaded);
         let bytes = id_in(&uploaded, *id);
@@ -35,8 +34,9 @@ impl Half {
         number_of(&uploaded)
     }
 
-    /// Registers a name on an idle side.
-    pub fn register(&mut self, bytes: &[u8], registration: &HealRegistration) -> u32
+    /// Registers a name on an idle side. Compares the code of the program that it names with the table's code under its id only
+    /// if it isn't known to agree.
+    pub fn register(&mut self, alloc: Global, bytes: &[u8], registration: &HealRegistration) -> u32
         ensures { Registers bytes.now registration.now self.old self.new result }
     {
         let name = match name_of(bytes) {
@@ -47,7 +47,24 @@ impl Half {
             Ok(registration) => registration,
             Err(number) => return number,
         };
-        number_of(&self.side.register(name, registration, &self.store))
+        self.register_entry(alloc, name, registration)
+    }
+
+    // Registers a valid name with this registration.
+    fn register_entry(&mut self, alloc: Global, name: Name, registration: Registration) -> u32
+        ensures { RegistersEntry (name, registration) self.old self.new result }
+    {
+        if self.agreement.is_none() {
+            self.agreement = Some(Agreement::new(alloc, self.side.table(), &self.store));
+        }
+        let Some(agreement) = &mut self.agreement else {
+            unreachable!()
+        };
+        number_of(
+            &self
+                .side
+                .register_agreed(name, registration, &self.store, agreement),
+        )
     }
 
     /// Unregisters a name on an idle side.
@@ -55,9 +72,40 @@ impl Half {
         ensures { Unregisters bytes.now self.old self.new result }
     {
         match name_of(bytes) {
-            Ok(name) => number_of(&self.side.unregister(&name)),
+            Ok(name) => self.unregister_name(&name),
             Err(number) => number,
         }
+    }
+
+    // Unregisters a valid name. The agreement follows.
+    fn unregister_name(&mut self, name: &Name) -> u32
+        ensures { UnregistersName name.now self.old self.new result }
+    {
+        match self.side.unregister(name) {
+            Ok(_) => {
+                if let Some(agreement) = &mut self.agreement {
+                    agreement.follow_removal(name, self.side.table());
+                }
+                0
+            }
+            Err(fault) => fault.number(),
+        }
+    }
+
+    /// Starts a fresh journal on an idle side.
+    pub fn renew(&mut self) -> u32
+        ensures { Renews self.old self.new result }
+    {
+        forget(&mut self.agreement);
+        number_of(&self.side.renew())
+    }
+
+    /// Gives the open exchange up, if there is one, and starts a fresh journal.
+    pub fn give_up(&mut self) -> u32
+        ensures { GivesUp self.old self.new result }
+    {
+        forget(&mut self.agreement);
+        number_of(&self.side.give_up())
     }
 
     /// Looks a name up.

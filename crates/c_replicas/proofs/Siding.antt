@@ -1,6 +1,6 @@
 -- The side of a replica.
 use Rattle.std.proofs.Common.{◌≡◌, Bool, true, false, inl, refl, subst}
-use Rattle.std.specs.Prelude.{ℕ, if◌then◌else◌, Option, Some, None, Result, Ok, Err}
+use Rattle.std.specs.Prelude.{ℕ, if◌then◌else◌, Some, None, Result, Ok, Err}
 use Rattle.clash_record.specs.declared.side_id.SideId.{SideId}
 use Rattle.replica.specs.declared.fault.ReplicaFault.{ReplicaFault}
 use Rattle.c_calls.specs.Answers.{IsAnswer, and_then}

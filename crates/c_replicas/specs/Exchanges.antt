@@ -5,7 +5,7 @@ use Rattle.clash_record.specs.declared.side_id.SideId.{SideId}
 use Rattle.exchange_core.specs.Sides as sides
 use Rattle.exchange_core.specs.Shown.{shown, limit_of}
 use Rattle.replica.specs.Replicas.{Replica, Change, left_by, change_fault}
-use Rattle.c_calls.specs.declared.half.Half.{Half}
+use Rattle.c_calls.specs.Halves.{Half}
 use Rattle.c_calls.specs.Answers.{and_then, IsAnswer}
 use Rattle.c_calls.specs.Sides.{side_id}
 use Rattle.c_replicas.specs.declared.positions.HealPosition.{HealPosition}

@@ -1,6 +1,6 @@
 //! The exchange of a primary: its side, and what the exchange leaves.
 ghost use Rattle.std.specs.Prelude.{◌≡◌, Option};
-ghost use Rattle.c_calls.specs.declared.half.Half as half;
+ghost use Rattle.c_calls.specs.Halves as half;
 ghost use Rattle.c_calls.specs.Answers.{filled, number_in};
 ghost use Rattle.c_replicas.specs.Exchanges.{Changes, Gets};
 
@@ -25,7 +25,7 @@ pub fn side(replica: &Replica, alloc: Global, id: u32) -> Result<Box<Half>, u32>
     let Ok(store) = replica.half().store().try_clone() else {
         return Err(OUT_OF_MEMORY);
     };
-    match Box::new(alloc, Half { side, store }) {
+    match Box::new(alloc, Half::of(side, store)) {
         Ok(half) => Ok(half),
         Err(_) => Err(OUT_OF_MEMORY),
     }
@@ -35,9 +35,10 @@ pub fn side(replica: &Replica, alloc: Global, id: u32) -> Result<Box<Half>, u32>
 pub fn change(replica: &mut Replica, alloc: Global, from: &HealPosition, half: &Half) -> u32
     ensures { Changes from.now half.now replica.old replica.new result }
 {
-    if half.side.open_number().is_some() {
+    let side = half.side();
+    if side.open_number().is_some() {
         return HEALING;
     }
-    let (table, latest) = (half.side.table(), half.side.latest());
+    let (table, latest) = (side.table(), side.latest());
     number_of(&replica.change(alloc, position_of(from), table, latest))
 }

@@ -29,7 +29,7 @@ use Rattle.exchange_codec.specs.Offers.{SpellsOffer}
 use Rattle.exchange_codec.specs.Peeking.{peeked}
 use Rattle.exchange_codec.specs.Reading as reading
 use Rattle.exchange_codec.specs.Withdrawals.{SpellsWithdrawals}
-use Rattle.c_calls.specs.declared.half.Half.{Half}
+use Rattle.c_calls.specs.Halves.{Half}
 use Rattle.c_calls.specs.Answers.{unless, IsAnswer, Gives}
 use Rattle.c_calls.specs.Exchanges.{HearsWhole, HearsWholeList, UnlessOther, UnlessRefused, allowed, refusal_of, withdrawing}
 use Rattle.c_calls.specs.Sides.{CarriesOut, IsRenewed, Stays, registering, unregistering}

@@ -3,7 +3,7 @@ use Rattle.std.specs.Prelude.{Option}
 use Rattle.std.specs.Coded.{Coded, coded_option}
 use Rattle.upload_store.specs.Programs.{Upload}
 use Rattle.upload_store.specs.contracts.accepted.Upload as program
-use Rattle.c_calls.specs.declared.half.Half.{Half}
+use Rattle.c_calls.specs.Halves.{Half}
 use Rattle.c_calls.specs.contracts.half.Half as half
 use Rattle.c_calls.specs.declared.outcome.Outcome.{Outcome}
 use Rattle.c_calls.specs.contracts.outcome.Outcome as outcome

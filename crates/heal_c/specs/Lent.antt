@@ -1,7 +1,7 @@
 -- Handles with another value in them.
 use Rattle.std.specs.Prelude.{ℕ, List, Some}
 use Rattle.upload_store.specs.Programs.{Upload}
-use Rattle.c_calls.specs.declared.half.Half.{Half}
+use Rattle.c_calls.specs.Halves.{Half}
 use Rattle.c_calls.specs.declared.outcome.Outcome.{Outcome}
 use Rattle.heal_c.specs.declared.program_handle.HealProgram.{HealProgram}
 use Rattle.heal_c.specs.declared.half_handle.HealSide.{HealSide}

@@ -5,7 +5,7 @@ use Rattle.clash_record.specs.declared.side_id.SideId.TheVariants.{A, B}
 use Rattle.exchange_core.specs.Finished.{Finished, finished_from}
 use Rattle.exchange_core.specs.Shown.{shown}
 use Rattle.c_calls.specs.declared.codes.HealRegistration.{HealRegistration}
-use Rattle.c_calls.specs.declared.half.Half.{Half}
+use Rattle.c_calls.specs.Halves.{Half}
 use Rattle.c_calls.specs.declared.outcome.Outcome.{Outcome}
 use Rattle.c_calls.specs.Exchanges.{Begins, Hears, Settles, Withdraws, Closes, HearsList, Finishes, Abandons}
 use Rattle.c_calls.specs.Kept.{Forgets}

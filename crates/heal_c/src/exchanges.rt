@@ -6,7 +6,7 @@ ghost use Rattle.c_calls.specs.Exchanges.{Begins, Hears, Settles, Withdraws, Clo
 use crate::half_handle::HealSide;
 use crate::message_handle::HealBytes;
 use crate::outcome_handle::HealOutcome;
-use c_calls::{EMPTY_HANDLE, number_of};
+use c_calls::EMPTY_HANDLE;
 use std::alloc::Global;
 
 /// Opens an exchange, and puts the offer to be sent into `offer`.
@@ -57,7 +57,7 @@ pub extern "C" fn heal_side_settle(side: &mut HealSide) -> u32
     ensures { OnHandle side.old.half side.new.half Settles (Unit {0}) result }
 {
     match side.held() {
-        Some(half) => number_of(&half.side.settle()),
+        Some(half) => half.settle(),
         None => EMPTY_HANDLE,
     }
 }
@@ -139,7 +139,7 @@ pub extern "C" fn heal_side_abandon(side: &mut HealSide) -> u32
     ensures { OnHandle side.old.half side.new.half Abandons (Unit {0}) result }
 {
     match side.held() {
-        Some(half) => number_of(&half.side.abandon()),
+        Some(half) => half.abandon(),
         None => EMPTY_HANDLE,
     }
 }

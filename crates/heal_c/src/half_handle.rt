@@ -1,7 +1,7 @@
 //! The handle of a side.
 ghost use Rattle.std.specs.Prelude.{◌≡◌, Option, Some, None, MatchOption};
 ghost use Rattle.c_calls.specs.Answers.{filled, number_in};
-ghost use Rattle.c_calls.specs.declared.half.Half.{Half};
+ghost use Rattle.c_calls.specs.Halves.{Half};
 ghost use Rattle.heal_c.specs.Held.{coded_half};
 
 use c_calls::Half;
@@ -21,7 +21,7 @@ pub struct HealSide {
 
 impl Model for HealSide {
     ghost use Rattle.std.specs.Prelude.{Option};
-    ghost use Rattle.c_calls.specs.declared.half.Half.{Half};
+    ghost use Rattle.c_calls.specs.Halves.{Half};
     ghost use Rattle.c_calls.specs.contracts.half.Half.{the_row};
     ghost use Rattle.handles.specs.Handles.{handle_owns};
 

@@ -1,7 +1,7 @@
 //! Outcomes.
 ghost use Rattle.std.specs.Prelude.{◌≡◌, None, length};
 ghost use Rattle.c_calls.specs.Answers.{Gives, Reads};
-ghost use Rattle.c_calls.specs.Outcomes.{clash_at, notice_at, withdrawn_of};
+ghost use Rattle.c_calls.specs.Outcomes.{clash_at, clashes_in, notice_at, withdrawn_of};
 
 use crate::outcome_handle::HealOutcome;
 use c_calls::{EMPTY_HANDLE, HealClash, HealName, HealNotice, give};
@@ -67,7 +67,7 @@ pub extern "C" fn heal_outcome_withdrawn(
 #[unsafe(no_mangle)]
 pub extern "C" fn heal_outcome_clashes(outcome: &mut HealOutcome, clashes: &mut usize) -> u32
     ensures { Reads outcome.old.outcome outcome.new.outcome
-        (λ held n. (n ≡ 0) × (clashes.new ≡ length held.pairs.items)) (clashes.new ≡ clashes.old) result }
+        (λ held n. (n ≡ 0) × (clashes.new ≡ length (clashes_in held))) (clashes.new ≡ clashes.old) result }
 {
     match outcome.held() {
         Some(held) => {

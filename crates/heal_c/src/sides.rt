@@ -10,9 +10,7 @@ ghost use Rattle.c_calls.specs.Sides.{side_id, side_within, Registers, Unregiste
 
 use crate::half_handle::HealSide;
 use crate::message_handle::HealBytes;
-use c_calls::{
-    EMPTY_HANDLE, Half, HealRegistration, HealRow, INDEX_OUT_OF_RANGE, give, number_of, side_id,
-};
+use c_calls::{EMPTY_HANDLE, Half, HealRegistration, HealRow, INDEX_OUT_OF_RANGE, give, side_id};
 use clash_record::SideId;
 use numbered::OUT_OF_MEMORY;
 use partition_table::NameLimit;
@@ -142,6 +140,7 @@ pub extern "C" fn heal_side_code(
 /// isn't uploaded, and 42 if the table has other code under its id. Returns 90 when out of memory.
 #[unsafe(no_mangle)]
 pub extern "C" fn heal_side_register(
+    alloc: Global,
     side: &mut HealSide,
     name: &[u8],
     registration: &HealRegistration,
@@ -149,7 +148,7 @@ pub extern "C" fn heal_side_register(
     ensures { OnHandle side.old.half side.new.half (Registers name.now registration.now) (Unit {0}) result }
 {
     match side.held() {
-        Some(half) => half.register(name, registration),
+        Some(half) => half.register(alloc, name, registration),
         None => EMPTY_HANDLE,
     }
 }
@@ -197,7 +196,7 @@ pub extern "C" fn heal_side_count(side: &mut HealSide, count: &mut usize) -> u32
 {
     match side.held() {
         Some(half) => {
-            *count = half.side.table().len();
+            *count = half.side().table().len();
             0
         }
         None => EMPTY_HANDLE,
@@ -243,7 +242,7 @@ pub extern "C" fn heal_side_events(side: &mut HealSide, events: &mut usize) -> u
 {
     match side.held() {
         Some(half) => {
-            *events = half.side.events();
+            *events = half.side().events();
             0
         }
         None => EMPTY_HANDLE,
@@ -258,7 +257,7 @@ pub extern "C" fn heal_side_renew(side: &mut HealSide) -> u32
     ensures { OnHandle side.old.half side.new.half Renews (Unit {0}) result }
 {
     match side.held() {
-        Some(half) => number_of(&half.side.renew()),
+        Some(half) => half.renew(),
         None => EMPTY_HANDLE,
     }
 }
@@ -272,7 +271,7 @@ pub extern "C" fn heal_side_give_up(side: &mut HealSide) -> u32
     ensures { OnHandle side.old.half side.new.half GivesUp (Unit {0}) result }
 {
     match side.held() {
-        Some(half) => number_of(&half.side.give_up()),
+        Some(half) => half.give_up(),
         None => EMPTY_HANDLE,
     }
 }

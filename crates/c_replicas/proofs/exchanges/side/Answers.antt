@@ -1,6 +1,6 @@
 use Rattle.std.proofs.Common.{◌≡◌, refl, sym, ap, subst, ◌∙◌}
 use Rattle.std.specs.Prelude.{Some}
-use Rattle.c_calls.specs.declared.half.Half.{Half}
+use Rattle.c_calls.specs.Halves.{Half}
 use Rattle.replica.specs.Halves as halves
 use Rattle.c_replicas.specs.Exchanges.{IsSideOf}
 use Rattle.c_replicas.proofs.Siding.{got}
@@ -13,5 +13,5 @@ returns-in-Ok-new c before =
     let store = c.in-Ok-try_clone.ensures ∙ c.store.ensures ∙ ap (λ (h : halves.Half). h.store) c.half.ensures in
     got _ _ c.in_ok-id.id _ (λ id. (h : Half) × (Some c.in-Ok-new.half.value ≡ Some h) × IsSideOf id c.args.replica.now h) _
     (sym c.in_ok-id.was ∙ c.side_id.ensures) e.answer
-    (subst (λ (x : Half). (h : Half) × (Some x ≡ Some h) × IsSideOf c.in_ok-id.id c.args.replica.now h) (sym c.in-Ok-new.ensures.ok)
+    (subst (λ (x : Half). (h : Half) × (Some x ≡ Some h) × IsSideOf c.in_ok-id.id c.args.replica.now h) (sym (c.in-Ok-new.ensures.ok ∙ c.of.ensures))
     (made, refl, record { state = e.state; limit = e.limit; store = store }))

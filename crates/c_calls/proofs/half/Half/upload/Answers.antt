@@ -1,9 +1,10 @@
+use Rattle.c_calls.specs.Halves.{half_of}
 use Rattle.c_calls.proofs.Uploading.{upload_done}
 use Rattle.c_calls.proofs.half.Half.upload.Goals as goal
 
 pub returns : goal.returns
 returns c =
     let u = c.upload-uploaded in
-    rw c.id_in-bytes.ensures (rw c.number_of.ensures (rw c.slot_in.ensures
-    (upload_done c.args.code.now c.args.self.now u.new.self c.args.id.now u.result u.ensures.kept u.ensures.taken
-    u.ensures.refused u.ensures.unchanged u.ensures.told)))
+    rw (← c.self.view_is) (rw c.id_in-bytes.ensures (rw c.number_of.ensures (rw c.slot_in.ensures
+    (upload_done c.args.code.now (half_of c.self.inside.side c.self.inside.store) u.new.self c.args.id.now u.result u.ensures.kept
+    u.ensures.taken u.ensures.refused u.ensures.unchanged u.ensures.told))))
