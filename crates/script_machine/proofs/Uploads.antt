@@ -1,6 +1,6 @@
 -- The reply to an upload, and its effect.
 use Rattle.std.specs.Prelude.{MatchOption, is_some, not, if◌then◌else◌}
-use Rattle.std.proofs.Common.{◌≡◌, ◌⊎◌, inl, inr, ℕ, Bool, true, false, true≢false, List, Option, Some, None, refl, sym, ap, subst, ◌∙◌}
+use Rattle.std.proofs.Common.{◌≡◌, inl, inr, ℕ, Bool, true, false, true≢false, List, Option, Some, None, refl, sym, ap, subst, ◌∙◌}
 use Rattle.numbered.specs.Answers.{HasCause}
 use Rattle.code_file.specs.Files.{IsFileCode, IsNoFileCode, OfBytes, file_named, faulty, unread, starved, file_fault_number, file_fault_place}
 use Rattle.code_file.specs.declared.fault.FileFault.{FileFault}

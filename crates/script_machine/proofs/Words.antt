@@ -1,7 +1,7 @@
 -- Words and labels.
-use Rattle.std.proofs.Common.{◌≡◌, ℕ, Bool, true, false, if◌then◌else◌, ◌&&◌, not, List, [], Option, Some, None, is_none, refl, ap, sym, ◌∙◌}
+use Rattle.std.proofs.Common.{◌≡◌, ℕ, List, Option, None, ap, sym, ◌∙◌}
 use Rattle.std.specs.Option.{option_map}
-use Rattle.std.specs.List.{find, list_any}
+use Rattle.std.specs.List.{find}
 use Rattle.clash_record.specs.declared.registrations.ProgramId.{ProgramId}
 use Rattle.clash_record.specs.declared.registrations.ResolverId.TheVariants.{Program}
 use Rattle.script_machine.specs.declared.labels.Label.{Label}

@@ -1,11 +1,10 @@
 -- The effect of a line, and its answer.
-use Rattle.std.specs.Prelude.{◌≡◌, ◌⊎◌, ℕ, ◌+◌, Bool, true, false, not, ◌&&◌, ◌||◌, if◌then◌else◌, List, [], ◌∷◌, ◌++◌, length, Option, Some, None, MatchOption, is_some, is_none, Result, Ok, Err, nat_le}
+use Rattle.std.specs.Prelude.{◌≡◌, ◌⊎◌, ℕ, ◌+◌, Bool, true, false, not, ◌&&◌, List, [], ◌∷◌, ◌++◌, length, Option, Some, None, MatchOption, is_none, Result, Ok, Err}
 use Rattle.std.specs.Bool.{MatchBool}
 use Rattle.std.specs.Option.{option_map}
 use Rattle.std.specs.List.{list_any}
 use Rattle.std.specs.FinMap.{get}
 use Rattle.numbered.specs.declared.place.Place.{Place}
-use Rattle.numbered.specs.declared.refusal.NumberedRefusal.{NumberedRefusal}
 use Rattle.hex.specs.Hex.{decode_of}
 use Rattle.code_file.specs.Files.{IsFileCode, IsFileFault, file_named, file_fault_number, file_fault_place}
 use Rattle.code_file.specs.declared.fault.FileFault.{FileFault}
@@ -14,7 +13,6 @@ use Rattle.clash_record.specs.Name.{is_name}
 use Rattle.clash_record.specs.declared.registrations.ProgramId.{ProgramId}
 use Rattle.clash_record.specs.declared.registrations.Registration.{Registration}
 use Rattle.clash_record.specs.declared.registrations.ResolverId.{ResolverId}
-use Rattle.upload_store.specs.Programs.{Programs}
 use Rattle.upload_store.specs.Uploads.{IsKept, IsUploadFault}
 use Rattle.upload_store.specs.Faults.{upload_fault_number, upload_fault_place}
 use Rattle.upload_store.specs.declared.fault.UploadFault.{UploadFault}
@@ -34,7 +32,7 @@ use Rattle.script_text.specs.Faults.{line_fault_number}
 use Rattle.script_text.specs.Asking.{Asked, Upload, Register, Unregister, Whereis, Show, Heal, asked_of}
 use Rattle.script_text.specs.Lines.{Line, Short, Long}
 use Rattle.cluster.specs.Causes.{IsCause}
-use Rattle.cluster.specs.Clusters.{Cluster, AreFresh, at, with_standing, is_full_at}
+use Rattle.cluster.specs.Clusters.{AreFresh, at, with_standing, is_full_at}
 use Rattle.cluster.specs.Healing.{Plan, IsHealed, IsFailed}
 use Rattle.cluster.specs.Healings.{Healing}
 use Rattle.cluster.specs.Faults.{heal_fault_number}

@@ -26,7 +26,10 @@ impl Machine {
             return Reply::refused(&WordFault::NoResolver);
         };
         let registration = registration_of(terms, resolver);
-        match self.cluster.register(side, name, registration, &self.store) {
+        let answer = self
+            .agreements
+            .register(&mut self.cluster, side, name, registration, &self.store);
+        match answer {
             Ok(()) => Reply::Registered,
             Err(fault) => Reply::refused(&fault),
         }
@@ -39,7 +42,10 @@ impl Machine {
         ensures { UnlessMemory (UnregisterStep (machine_of self.old) side name.now) (machine_of self.old) result
             (machine_of self.new) }
     {
-        match self.cluster.unregister(side, name) {
+        let answer = self
+            .agreements
+            .unregister(&mut self.cluster, side, name, &self.store);
+        match answer {
             Ok(_) => Reply::Unregistered,
             Err(refusal) => Reply::refused(&refusal),
         }

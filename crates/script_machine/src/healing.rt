@@ -43,7 +43,9 @@ impl Machine {
             uptimes,
             gone,
         };
-        match self.cluster.heal(rt, alloc, &plan, workers, gate) {
+        let healed = self.cluster.heal(rt, alloc, &plan, workers, gate);
+        self.agreements.restart(&self.cluster, &self.store);
+        match healed {
             Ok(healing) => Ok(healing),
             Err(fault) => Err(refusal_of(&fault)),
         }

@@ -1,6 +1,7 @@
 //! The state of a script from line to line, and the effect of each command.
 #![tactic(auto)]
 
+mod agreements;
 mod editing;
 mod fault;
 mod files;

@@ -1,8 +1,8 @@
 //! The state of a script between its lines.
-ghost use Rattle.std.specs.Prelude.{◌≡◌};
-ghost use Rattle.script_machine.specs.Machines.{machine_of, new_machine};
-ghost use Rattle.script_machine.specs.Steps.{IsRenewed, whereis_reply};
+ghost use Rattle.cluster.specs.Clusters.{cluster_of};
+ghost use Rattle.script_machine.specs.model.Agreeing.{AreAgreed, AreAgreed-prop};
 
+use crate::agreements::Agreements;
 use crate::labels::Label;
 use crate::reply::Reply;
 use clash_record::{Name, SideId};
@@ -11,14 +11,16 @@ use partition_table::NameLimit;
 use std::alloc::Global;
 use upload_store::UploadStore;
 
-/// What a script keeps from line to line: the labels, the uploaded programs, the two halves of a cluster, and the
-/// number of the latest exchange.
+/// What a script keeps from line to line: the labels, the uploaded programs, the two halves of a cluster, the programs
+/// with which they are known to agree, and the number of the latest exchange.
 #[derive(Debug)]
 pub struct Machine {
     pub(crate) labels: Vec<Label>,
     pub(crate) store: UploadStore,
     pub(crate) cluster: Cluster,
+    pub(crate) agreements: Agreements,
     pub(crate) latest: u64,
+    pub ghost agreed: { AreAgreed (cluster_of cluster) store agreements } by { AreAgreed-prop (cluster_of cluster) store agreements },
 }
 
 // Written out, so that a drop is one call in the proofs of callers.
@@ -28,20 +30,29 @@ impl Drop for Machine {
             labels: _,
             store: _,
             cluster: _,
+            agreements: _,
             latest: _,
         } = self;
     }
 }
 
 impl Machine {
+    ghost use Rattle.std.specs.Prelude.{◌≡◌};
+    ghost use Rattle.script_machine.specs.Machines.{machine_of, new_machine};
+    ghost use Rattle.script_machine.specs.Steps.{IsRenewed, whereis_reply};
+
     /// Without labels, programs, names and exchanges. Each half may have as many names as `limit`. Allocates nothing.
     pub fn new(alloc: Global, limit: NameLimit) -> Machine
         ensures { machine_of result ≡ new_machine limit.names }
     {
+        let store = UploadStore::new(alloc);
+        let cluster = Cluster::with_limit(alloc, limit);
+        let agreements = Agreements::new(alloc, &cluster, &store);
         Machine {
             labels: Vec::new(alloc),
-            store: UploadStore::new(alloc),
-            cluster: Cluster::with_limit(alloc, limit),
+            store,
+            cluster,
+            agreements,
             latest: 0,
         }
     }

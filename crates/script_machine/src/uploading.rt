@@ -40,7 +40,9 @@ impl Machine {
         ensures { UnlessMemory (UploadsBytes (machine_of self.old) label bytes.now) (machine_of self.old) result
             (machine_of self.new) }
     {
-        match self.store.upload_program(alloc, bytes) {
+        let uploaded = self.store.upload_program(alloc, bytes);
+        self.agreements.restart(&self.cluster, &self.store);
+        match uploaded {
             Ok(uploaded) => {
                 self.labels.push_reserved(Label {
                     text: label,

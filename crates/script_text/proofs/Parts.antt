@@ -1,6 +1,7 @@
 -- Words and the parts between spaces.
-use Rattle.std.proofs.Common.{◌≡◌, ℕ, suc, ◌+◌, ◌-◌, ◌<◌, List, [], ◌∷◌, ◌++◌, length, take, drop, refl, sym, ap, ◌∙◌, append_assoc, append-nil, get_or, drop-cons, add-one, cond, eqb, Bool, true, false, Option, Some, None}
-use Rattle.std.proofs.lemmas.List.{take_more, take_rest}
+use Rattle.std.proofs.Common.{◌≡◌, ℕ, suc, ◌+◌, ◌-◌, ◌<◌, List, [], ◌∷◌, ◌++◌, length, take, drop, refl, sym, ap, ◌∙◌, take-append-drop, append_assoc, append-nil, get_or, drop-cons, add-one, ◌==◌, ◌||◌, cond, eqb, Bool, true, false, Option, Some, None}
+use Rattle.std.proofs.lemmas.List.{drop-drop, take_more, take_rest}
+use Rattle.std.proofs.Math.Seq.{take-add}
 use Rattle.std.proofs.lemmas.Bool.{cond-false, cond-true}
 use Rattle.std.specs.Option.{option_map}
 use Rattle.script_text.specs.Words.{onto_first, parts_of}
@@ -34,6 +35,41 @@ parts_more i text lt h e =
     ∙ ap (joined (take i text)) (parts-cons (get_or text i 0) (drop (suc i) text) h)
     ∙ joined-more (take i text) (get_or text i 0) (parts_of (drop (suc i) text))
     ∙ rw (take_more text i 0 lt, add-one) refl
+
+-- ---- blocks without a space
+
+joined-joined : (front text : List ℕ) (parts : List (List ℕ)) → joined front (joined text parts) ≡ joined (front ++ text) parts
+joined-joined front text [] = refl
+joined-joined front text (p ∷ ps) = ap (λ t. t ∷ ps) (sym (append_assoc front text p))
+
+-- one more byte, which is no space
+pub no_space_more : (i : ℕ) (bytes : List ℕ) (found : Bool) → i < length bytes
+    → (found ≡ false → (rest : List ℕ) → parts_of (take i bytes ++ rest) ≡ joined (take i bytes) (parts_of rest))
+    → found || (get_or bytes i 0 == 32) ≡ false
+    → (rest : List ℕ) → parts_of (take (i + 1) bytes ++ rest) ≡ joined (take (i + 1) bytes) (parts_of rest)
+no_space_more i bytes true lt h e rest = absurd (cc)
+no_space_more i bytes false lt h e rest =
+    let b = get_or bytes i 0 in
+    let front = take i bytes in
+    rw (take_more bytes i 0 lt) (ap parts_of (append_assoc front (b ∷ []) rest) ∙ h refl (b ∷ rest)
+    ∙ ap (joined front) (parts-cons b rest e) ∙ joined-more front b (parts_of rest))
+
+-- a text up to a place, and then up to a later one
+pub joined_later : (at n : ℕ) (text : List ℕ) → parts_of text ≡ joined (take at text) (parts_of (drop at text))
+    → parts_of (drop at text) ≡ joined (take n (drop at text)) (parts_of (drop n (drop at text)))
+    → parts_of text ≡ joined (take (at + n) text) (parts_of (drop (at + n) text))
+joined_later at n text e later =
+    e ∙ ap (joined (take at text)) later
+    ∙ joined-joined (take at text) (take n (drop at text)) (parts_of (drop n (drop at text)))
+    ∙ (λ i. joined (sym (take-add at n text) i) (parts_of (drop-drop n at text i)))
+
+-- a block without a space goes on a text
+pub block_joined : (at n : ℕ) (text : List ℕ) → parts_of text ≡ joined (take at text) (parts_of (drop at text))
+    → ((rest : List ℕ) → parts_of (take n (drop at text) ++ rest) ≡ joined (take n (drop at text)) (parts_of rest))
+    → parts_of text ≡ joined (take (at + n) text) (parts_of (drop (at + n) text))
+block_joined at n text e block =
+    let more = drop n (drop at text) in
+    joined_later at n text e (ap parts_of (sym (take-append-drop n (drop at text))) ∙ block more)
 
 -- ---- around the first dot
 

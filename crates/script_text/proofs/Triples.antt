@@ -48,27 +48,6 @@ register_by_seven (a ∷ b ∷ c ∷ d ∷ e ∷ f ∷ []) h few = absurd (omega
 register_by_seven (a ∷ b ∷ c ∷ d ∷ e ∷ f ∷ g ∷ []) h few = refl
 register_by_seven (a ∷ b ∷ c ∷ d ∷ e ∷ f ∷ g ∷ x ∷ words) h few = absurd (omega arith)
 
-pub register_short : (words : Words) → length words < 7 → register_of (texts words) ≡ Err Word
-register_short [] h = refl
-register_short (a ∷ []) h = refl
-register_short (a ∷ b ∷ []) h = refl
-register_short (a ∷ b ∷ c ∷ []) h = refl
-register_short (a ∷ b ∷ c ∷ d ∷ []) h = refl
-register_short (a ∷ b ∷ c ∷ d ∷ e ∷ []) h = refl
-register_short (a ∷ b ∷ c ∷ d ∷ e ∷ f ∷ []) h = refl
-register_short (a ∷ b ∷ c ∷ d ∷ e ∷ f ∷ g ∷ words) h = absurd (omega arith)
-
-pub register_long : (words : Words) → 8 ≤ length words → register_of (texts words) ≡ Err Word
-register_long [] h = absurd (omega arith)
-register_long (a ∷ []) h = absurd (omega arith)
-register_long (a ∷ b ∷ []) h = absurd (omega arith)
-register_long (a ∷ b ∷ c ∷ []) h = absurd (omega arith)
-register_long (a ∷ b ∷ c ∷ d ∷ []) h = absurd (omega arith)
-register_long (a ∷ b ∷ c ∷ d ∷ e ∷ []) h = absurd (omega arith)
-register_long (a ∷ b ∷ c ∷ d ∷ e ∷ f ∷ []) h = absurd (omega arith)
-register_long (a ∷ b ∷ c ∷ d ∷ e ∷ f ∷ g ∷ []) h = absurd (omega arith)
-register_long (a ∷ b ∷ c ∷ d ∷ e ∷ f ∷ g ∷ x ∷ words) h = refl
-
 after_triples-twice : (a b : List Triple) (rest : Result (List Triple) LineFault)
     → after_triples a (after_triples b rest) ≡ after_triples (a ++ b) rest
 after_triples-twice a b (Ok triples) = ap Ok (sym (append_assoc a b triples))

@@ -1,5 +1,5 @@
 -- The lines that scripts print.
-use Rattle.std.specs.Prelude.{ℕ, List, [], ◌++◌, codes, Option, Some, None}
+use Rattle.std.specs.Prelude.{ℕ, List, ◌++◌, codes, Option}
 use Rattle.std.specs.Fmt.{decimal}
 use Rattle.numbered.specs.declared.place.Place.{Place}
 use Rattle.numbered.specs.Texts.{at_place}

@@ -152,23 +152,22 @@ fn has_byte<R: Read>(buffer: &mut ReadBuffer, reader: &mut R) -> io::Result<bool
 #[derive(Debug)]
 pub struct LineBuffer {
     bytes: Vec<u8>,
-    len: usize,
 }
 
 // Written out, so that a drop is one call in the proofs of callers.
 impl Drop for LineBuffer {
     fn drop(self) {
-        let LineBuffer { bytes: _, len: _ } = self;
+        let LineBuffer { bytes: _ } = self;
     }
 }
 
 impl Model for LineBuffer {
-    ghost use Rattle.std.specs.Prelude.{ℕ, List, take};
+    ghost use Rattle.std.specs.Prelude.{ℕ, List};
     ghost use Rattle.script_text.specs.model.Buffers.{HasRoom};
 
     ghost Value = { List ℕ };
 
-    ghost view = { λ b. take b.len b.bytes.items };
+    ghost view = { λ b. b.bytes.items };
 
     ghost invariant = { HasRoom };
 }
@@ -179,8 +178,7 @@ impl LineBuffer {
         ensures { IfOk result (λ line. line ≡ []) }
     {
         Ok(LineBuffer {
-            bytes: vec![in alloc; 0; LINE_LIMIT]?,
-            len: 0,
+            bytes: Vec::with_capacity(alloc, LINE_LIMIT)?,
         })
     }
 
@@ -188,20 +186,20 @@ impl LineBuffer {
     pub fn as_slice(&self) -> &[u8]
         ensures { result.now ≡ self.now }
     {
-        &self.bytes[..self.len]
+        self.bytes.as_slice()
     }
 
     fn clear(&mut self)
         ensures { self.new ≡ [] }
     {
-        self.len = 0;
+        self.bytes.clear();
     }
 
     // Returns how many bytes it still has room for.
     fn room(&self) -> usize
         ensures room { result + length self.now ≡ line_limit }
     {
-        LINE_LIMIT - self.len
+        LINE_LIMIT - self.bytes.len()
     }
 
     // Adds these bytes at the end.
@@ -209,9 +207,9 @@ impl LineBuffer {
         requires { length self.old + length text.now ≤ line_limit }
         ensures { self.new ≡ self.old ++ text.now }
     {
-        let end = self.len + text.len();
-        self.bytes[self.len..end].copy_from_slice(text);
-        self.len = end;
+        if self.bytes.extend_from_slice(text).is_err() {
+            unreachable!()
+        }
     }
 }
 

@@ -1,15 +1,16 @@
 //! Reading a line.
-ghost use Rattle.std.specs.Prelude.{◌≡◌, ◌<◌, length, drop, map, Ok, None};
+ghost use Rattle.std.specs.Prelude.{◌≡◌, ◌<◌, false, codes, length, drop, map, Ok, None};
 ghost use Rattle.std.specs.Option.{option_map};
 ghost use Rattle.script_text.specs.Asking as asking;
-ghost use Rattle.script_text.specs.Asking.{side_of, name_of, extra_of, terms_of, triples_of, names_of, if_right, long_of, asked_by, asked_of};
+ghost use Rattle.script_text.specs.Asking.{is_word, side_of, name_of, extra_of, terms_of, triples_of, names_of, if_right, long_of, asked_by, asked_of};
+ghost use Rattle.script_text.specs.Words.{words_of};
 ghost use Rattle.script_text.specs.Commands.{IsRight, right_command, right_option};
 ghost use Rattle.script_text.specs.model.Triples.{after_first, right_triple, given_uptimes, right_triples, right_withdrawals, shown_triple};
 
 use crate::command::{Command, Terms};
 use crate::fault::LineFault;
 use crate::numbers::{long, owner};
-use crate::words::{is_printable, split_word, words_in};
+use crate::words::{REGISTER_WORDS, fill_words, is_printable, split_word, words_in};
 use clash_record::{Name, SideId, Uptimes, Withdrawal, name};
 use hex::decode_to_slice;
 use std::alloc::{AllocError, Global};
@@ -19,7 +20,7 @@ use std::alloc::{AllocError, Global};
 /// The line has no line feed. Returns 51 for an unknown word, a wrong number of words or a byte outside ASCII's printable
 /// characters, and otherwise, for the leftmost invalid word, 44 for a name, 50 for hex digits and 52 for a number.
 /// Returns 90 when out of memory: it allocates the list of words and the list of withdrawn names, and nothing for a
-/// blank line or a comment.
+/// blank line, a comment or a registration.
 #[tactic(auto, using(crate::proofs::Silences::asks_something))]
 pub fn command_of(alloc: Global, line: &[u8]) -> Result<Option<Command<'_>>, LineFault>
     ensures asked { IsRight (right_option result) (asked_of line.now) }
@@ -34,8 +35,7 @@ pub fn command_of(alloc: Global, line: &[u8]) -> Result<Option<Command<'_>>, Lin
     if !is_printable(line) {
         return Err(LineFault::Word);
     }
-    let words = words_in(alloc, rest)?;
-    Ok(Some(command(alloc, first, words.as_slice())?))
+    Ok(Some(command(alloc, first, rest)?))
 }
 
 fn begins_comment(first: &[u8]) -> bool
@@ -44,13 +44,28 @@ fn begins_comment(first: &[u8]) -> bool
     matches!(first, [b'#', ..])
 }
 
-fn command<'a>(alloc: Global, first: &[u8], words: &[&'a [u8]]) -> Result<Command<'a>, LineFault>
+// Parses a command, with the text that follows its first word. Allocates nothing for `register`, the most frequent one.
+fn command<'a>(alloc: Global, first: &[u8], rest: &'a [u8]) -> Result<Command<'a>, LineFault>
+    ensures { IsRight (right_command result) (asked_by first.now (words_of rest.now)) }
+{
+    if first == b"register".as_slice() {
+        return register(rest);
+    }
+    let words = words_in(alloc, rest)?;
+    other_command(alloc, first, words.as_slice())
+}
+
+// Parses a command other than `register`.
+fn other_command<'a>(
+    alloc: Global,
+    first: &[u8],
+    words: &[&'a [u8]],
+) -> Result<Command<'a>, LineFault>
+    requires { is_word first.now (codes "register") ≡ false }
     ensures { IsRight (right_command result) (asked_by first.now (map (λ word. word.now) words.now)) }
 {
     if first == b"upload".as_slice() {
         upload(words)
-    } else if first == b"register".as_slice() {
-        register(words)
     } else if first == b"unregister".as_slice() {
         unregister(words)
     } else if first == b"whereis".as_slice() {
@@ -74,12 +89,14 @@ fn upload<'a>(words: &[&'a [u8]]) -> Result<Command<'a>, LineFault>
 }
 
 #[tactic(auto, using(crate::proofs::Triples::register_by_seven))]
-fn register<'a>(words: &[&'a [u8]]) -> Result<Command<'a>, LineFault>
-    ensures { right_command result ≡ asking.register_of (map (λ word. word.now) words.now) }
+fn register(text: &[u8]) -> Result<Command<'_>, LineFault>
+    ensures { right_command result ≡ asking.register_of (words_of text.now) }
 {
-    let [side_word, name, owner, stamp, weight, extra, resolver] = words else {
+    let mut words = [text; REGISTER_WORDS];
+    if !fill_words(text, &mut words) {
         return Err(LineFault::Word);
-    };
+    }
+    let [side_word, name, owner, stamp, weight, extra, resolver] = words;
     let side = side(side_word)?;
     let name = name_in(name)?;
     let terms = terms(owner, stamp, weight, extra)?;

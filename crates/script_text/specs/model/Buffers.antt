@@ -1,5 +1,5 @@
 -- The layout of buffers.
-use Rattle.std.specs.Prelude.{◌≡◌, ◌<◌, ◌≤◌, vec_len}
+use Rattle.std.specs.Prelude.{◌<◌, ◌≤◌, vec_len, vec_capacity}
 use Rattle.script_text.specs.declared.input.ReadBuffer.TheInside as read
 use Rattle.script_text.specs.declared.input.LineBuffer.TheInside as line
 use Rattle.script_text.specs.Lines.{line_limit}
@@ -12,5 +12,5 @@ pub record IsWithin (buffer : read.Inside) : Type 0 where
 
 -- the buffer has room for a line
 pub record HasRoom (buffer : line.Inside) : Type 0 where
-  pub within : buffer.len ≤ line_limit
-  pub room : vec_len buffer.bytes ≡ line_limit
+  pub within : vec_len buffer.bytes ≤ line_limit
+  pub room : line_limit ≤ vec_capacity buffer.bytes

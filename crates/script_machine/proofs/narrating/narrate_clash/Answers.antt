@@ -1,4 +1,4 @@
-use Rattle.std.proofs.Common.{◌++◌, codes, List, ℕ}
+use Rattle.std.proofs.Common.{◌++◌, List, ℕ}
 use Rattle.std.specs.List.{flat_map}
 use Rattle.script_machine.specs.Healed.{notices_by}
 use Rattle.script_machine.specs.Narrated.{owners_words, verdict_words, notice_words}

@@ -1,5 +1,4 @@
-use Rattle.std.proofs.Common.{None, refl, ap, ◌∙◌}
-use Rattle.numbered.specs.declared.refusal.NumberedRefusal.{NumberedRefusal}
+use Rattle.std.proofs.Common.{refl, ap, ◌∙◌}
 use Rattle.cluster.specs.Faults.{heal_fault_number}
 use Rattle.script_machine.specs.declared.reply.Reply.TheVariants.{Refused}
 use Rattle.script_machine.proofs.machine.Machine.heal.Goals as goal

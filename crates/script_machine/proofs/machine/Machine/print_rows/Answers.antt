@@ -1,4 +1,4 @@
-use Rattle.std.proofs.Common.{◌++◌, List, codes, subst, ap, ◌∙◌, append_assoc}
+use Rattle.std.proofs.Common.{◌++◌, codes, subst, ap, ◌∙◌, append_assoc}
 use Rattle.std.specs.List.{flat_map}
 use Rattle.output.specs.Sending.{Sends, SendsOn}
 use Rattle.partition_table.specs.Tables.{rows_of}
