@@ -29,8 +29,8 @@ EDITS = {
     "record-end": [  # the last byte of the record can't be read
         ("verifier/specs/Rules.antt", "in_record len a = is_inside (pos 0) (pos len) a",
          "in_record len a = is_inside (pos 0) (pos (len - 1)) a"),
-        ("verifier/src/memory_access.rt", "self.is_within(*span, 0, RECORD_LEN as i32)",
-         "self.is_within(*span, 0, RECORD_LEN as i32 - 1)")],
+        ("verifier/src/memory_access.rt", "self.is_within(*span, 0, context_len as i32)",
+         "self.is_within(*span, 0, context_len as i32 - 1)")],
     "quotients": [  # the least quotient of two ranges is 0
         ("abstract_value/specs/Ranges.antt", "make (a.lo / b.hi) (a.hi / b.lo) else make 0 a.hi",
          "make 0 (a.hi / b.lo) else make 0 a.hi"),

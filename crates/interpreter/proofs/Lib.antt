@@ -1,4 +1,0 @@
-pub mod Instructions
-pub mod Fronts
-pub mod Runs
-pub mod Loop

@@ -4,5 +4,6 @@
 mod running;
 mod scratch;
 
-pub use running::{Ended, one_meaning_theorem, run, run_in, run_written};
+pub use bpf::Ended;
+pub use running::{one_meaning_theorem, run, run_in, run_written};
 pub use scratch::Scratch;

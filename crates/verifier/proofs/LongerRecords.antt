@@ -290,7 +290,7 @@ ends_alike laws code bytes is_code structured typable whole =
     let long : length bytes ≡ record_len = whole.0 in
     let front : IsRecordOf shorter_len (take shorter_len bytes) =
     (length-take-le shorter_len bytes (omega arith), All-take (λ byte. byte < 256) shorter_len bytes whole.1) in
-    let q = safe laws shorter_len (omega arith) code is_code structured typable (take shorter_len bytes) front in
+    let q = safe laws shorter_len code is_code structured typable (take shorter_len bytes) front in
     record {
       value = q.0;
       steps = q.1;

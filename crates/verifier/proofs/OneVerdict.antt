@@ -12,11 +12,11 @@ use Rattle.verifier.specs.declared.rule.Rule.TheVariants.{Backward, Outside, Int
 use Rattle.verifier.specs.declared.refusal.Refusal.{Refusal}
 use Rattle.verifier.specs.Structure.{rule_number, MeetsStructure, IsStructured, IsIllStructured}
 use Rattle.instruction_set.specs.Machine.{slot_count}
-use Rattle.verifier.specs.Assignments.{Assignment, Carries, FulfilsBefore, IsTypable, IsLeast, FailsLeast}
-use Rattle.verifier.specs.Rules.{meets}
-use Rattle.verifier.specs.Peak.{IsPeak}
+use Rattle.verifier.specs.Assignments.{Assignment, Carries, FulfilsBeforeFor, IsTypableFor, IsLeastFor, FailsLeastFor}
+use Rattle.verifier.specs.Rules.{meets_for}
+use Rattle.verifier.specs.Peak.{IsPeakFor}
 use Rattle.verifier.proofs.Peaks.{most_same}
-use Rattle.verifier.specs.Refusals.{IsUnfulfilled, IsRefusedAt}
+use Rattle.verifier.specs.Refusals.{IsUnfulfilledFor, IsRefusedAtFor}
 use Rattle.instruction_set.specs.laws.Places.{insn_within}
 
 -- ---- a rule is known by its number
@@ -86,9 +86,9 @@ same_bool false false h k = refl
 same_bool true false h k = sym (h refl)
 same_bool false true h k = k refl
 
-module _ {D : Type 0} {o : Ops D} (laws : Laws o) (code : List Insn) where
-  fulfils_less : (m n : ℕ) (states : Assignment D) → m ≤ n → FulfilsBefore o code n states
-      → FulfilsBefore o code m states
+module _ {D : Type 0} {o : Ops D} (laws : Laws o) (len : ℕ) (code : List Insn) where
+  fulfils_less : (m n : ℕ) (states : Assignment D) → m ≤ n → FulfilsBeforeFor len o code n states
+      → FulfilsBeforeFor len o code m states
   fulfils_less m n states less f = record {
     start = f.start;
     inside = f.inside;
@@ -97,7 +97,7 @@ module _ {D : Type 0} {o : Ops D} (laws : Laws o) (code : List Insn) where
     jumps = λ slot i s before. f.jumps slot i s (omega arith);
   }
 
-  not_unfulfilled : (slot : ℕ) (rule : Rule) → IsTypable o code → IsUnfulfilled o code slot rule → ⊥
+  not_unfulfilled : (slot : ℕ) (rule : Rule) → IsTypableFor len o code → IsUnfulfilledFor len o code slot rule → ⊥
   not_unfulfilled slot rule typable un =
       let within : slot < slot_count code = insn_within code slot un.fails.insn un.fails.is_at in
       un.unfulfilled typable.0 (fulfils_less (slot + 1) (slot_count code) typable.0 (omega arith) typable.1)
@@ -125,23 +125,23 @@ module _ {D : Type 0} {o : Ops D} (laws : Laws o) (code : List Insn) where
       let g : b.0 ≡ s = let f = b.1 in cc in
       ap Some (view_both s t (subst (λ v. ViewBelow o s v) e a.2) (subst (λ v. ViewBelow o t v) g b.2))
 
-  pub same_least : (slot : ℕ) (a b : Assignment D) → IsLeast o code slot a → IsLeast o code slot b → (k : ℕ)
+  pub same_least : (slot : ℕ) (a b : Assignment D) → IsLeastFor len o code slot a → IsLeastFor len o code slot b → (k : ℕ)
       → a k ≡ b k
   same_least slot a b p q k =
       alike (a k) (b k) (λ s e. p.least b q.fulfils k s e) (λ t e. q.least a p.fulfils k t e)
 
-  pub one_peak : (slot m n : ℕ) → IsPeak o code slot m → IsPeak o code slot n → m ≡ n
+  pub one_peak : (slot m n : ℕ) → IsPeakFor len o code slot m → IsPeakFor len o code slot n → m ≡ n
   one_peak slot m n a b =
       a.is
       ∙ most_same o code b.states a.states slot (λ k l. same_least slot a.states b.states a.least b.least k)
       ∙ sym b.is
 
-  unfulfilled_later : (s t : ℕ) (r q : Rule) → IsUnfulfilled o code s r → IsUnfulfilled o code t q → s < t → ⊥
+  unfulfilled_later : (s t : ℕ) (r q : Rule) → IsUnfulfilledFor len o code s r → IsUnfulfilledFor len o code t q → s < t → ⊥
   unfulfilled_later s t r q a b less = a.unfulfilled b.fails.states
       (fulfils_less (s + 1) t b.fails.states (omega arith) b.fails.least.fulfils)
 
   -- the least states at the slot where a rule fails are the same
-  state_below : (s : ℕ) (r q : Rule) → (a : FailsLeast o code s r) → (b : FailsLeast o code s q)
+  state_below : (s : ℕ) (r q : Rule) → (a : FailsLeastFor len o code s r) → (b : FailsLeastFor len o code s q)
       → ViewBelow o a.state b.state
   state_below s r q a b =
       let above : Carries o b.states s a.state = a.least.least b.states b.least.fulfils s a.state a.is_state in
@@ -149,26 +149,26 @@ module _ {D : Type 0} {o : Ops D} (laws : Laws o) (code : List Insn) where
       let same : above.0 ≡ b.state = cc in
       subst (λ v. ViewBelow o a.state v) same above.2
 
-  fails_lesser : (s : ℕ) (r q : Rule) → (a : FailsLeast o code s r) → (b : FailsLeast o code s q)
+  fails_lesser : (s : ℕ) (r q : Rule) → (a : FailsLeastFor len o code s r) → (b : FailsLeastFor len o code s q)
       → rule_number r < rule_number q → ⊥
   fails_lesser s r q a b less =
       let there : Some b.insn ≡ Some a.insn = sym b.is_at ∙ a.is_at in
       let same_insn : b.insn ≡ a.insn = cc in
       let same_state : b.state ≡ a.state = view_both b.state a.state (state_below s q r b a) (state_below s r q a b) in
-      let met : IsTrue (meets o a.insn a.state r) = subst (λ v. IsTrue (meets o a.insn v r)) same_state
-      (subst (λ i. IsTrue (meets o i b.state r)) same_insn (b.fails.first r less)) in
+      let met : IsTrue (meets_for len o a.insn a.state r) = subst (λ v. IsTrue (meets_for len o a.insn v r)) same_state
+      (subst (λ i. IsTrue (meets_for len o i b.state r)) same_insn (b.fails.first r less)) in
       absurd (cc)
 
-  unfulfilled_once : (s t : ℕ) (r q : Rule) → IsUnfulfilled o code s r → IsUnfulfilled o code t q → (s ≡ t) × (r ≡ q)
+  unfulfilled_once : (s t : ℕ) (r q : Rule) → IsUnfulfilledFor len o code s r → IsUnfulfilledFor len o code t q → (s ≡ t) × (r ≡ q)
   unfulfilled_once s t r q a b =
       let here : s ≡ t = neither_less s t (unfulfilled_later s t r q a b) (unfulfilled_later t s q r b a) in
-      let c : IsUnfulfilled o code s q = subst (λ k. IsUnfulfilled o code k q) (sym here) b in
+      let c : IsUnfulfilledFor len o code s q = subst (λ k. IsUnfulfilledFor len o code k q) (sym here) b in
       (here, same_rule r q (fails_lesser s r q a.fails c.fails) (fails_lesser s q r c.fails a.fails))
 
   -- ---- all rules
 
-  split : (slot : ℕ) (rule : Rule) → IsRefusedAt o code slot rule
-      → IsIllStructured code slot rule ⊎ IsUnfulfilled o code slot rule
+  split : (slot : ℕ) (rule : Rule) → IsRefusedAtFor len o code slot rule
+      → IsIllStructured code slot rule ⊎ IsUnfulfilledFor len o code slot rule
   split slot Backward h = inl h
   split slot Outside h = inl h
   split slot IntoWide h = inl h
@@ -176,24 +176,24 @@ module _ {D : Type 0} {o : Ops D} (laws : Laws o) (code : List Insn) where
   split slot NoEdge h = inl h
   split slot _ h = inr h
 
-  once : (s t : ℕ) (r q : Rule) → IsIllStructured code s r ⊎ IsUnfulfilled o code s r
-      → IsIllStructured code t q ⊎ IsUnfulfilled o code t q → (s ≡ t) × (r ≡ q)
+  once : (s t : ℕ) (r q : Rule) → IsIllStructured code s r ⊎ IsUnfulfilledFor len o code s r
+      → IsIllStructured code t q ⊎ IsUnfulfilledFor len o code t q → (s ≡ t) × (r ≡ q)
   once s t r q (inl a) (inl b) = ill_once code s t r q a b
   once s t r q (inr a) (inr b) = unfulfilled_once s t r q a b
   once s t r q (inl a) (inr b) = absurd (not_ill code s r b.fails.structured a)
   once s t r q (inr a) (inl b) = absurd (not_ill code t q a.fails.structured b)
 
-  not_split : (slot : ℕ) (rule : Rule) → IsStructured code → IsTypable o code
-      → IsIllStructured code slot rule ⊎ IsUnfulfilled o code slot rule → ⊥
+  not_split : (slot : ℕ) (rule : Rule) → IsStructured code → IsTypableFor len o code
+      → IsIllStructured code slot rule ⊎ IsUnfulfilledFor len o code slot rule → ⊥
   not_split slot rule structured typable (inl ill) = not_ill code slot rule structured ill
   not_split slot rule structured typable (inr un) = not_unfulfilled slot rule typable un
 
-  pub not_refused : (refusal : Refusal) → IsStructured code → IsTypable o code
-      → IsRefusedAt o code refusal.slot refusal.rule → ⊥
+  pub not_refused : (refusal : Refusal) → IsStructured code → IsTypableFor len o code
+      → IsRefusedAtFor len o code refusal.slot refusal.rule → ⊥
   not_refused refusal structured typable h = not_split refusal.slot refusal.rule structured typable
       (split refusal.slot refusal.rule h)
 
-  pub refused_once : (a b : Refusal) → IsRefusedAt o code a.slot a.rule → IsRefusedAt o code b.slot b.rule → a ≡ b
+  pub refused_once : (a b : Refusal) → IsRefusedAtFor len o code a.slot a.rule → IsRefusedAtFor len o code b.slot b.rule → a ≡ b
   refused_once a b h k i =
       let same = once a.slot b.slot a.rule b.rule (split a.slot a.rule h) (split b.slot b.rule k) in
       record { slot = same.0 i; rule = same.1 i }

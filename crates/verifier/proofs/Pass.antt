@@ -13,8 +13,8 @@ use Rattle.abstract_value.specs.laws.OrderOfStates.{view_same, view_through, vie
 use Rattle.verifier.specs.declared.rule.Rule.{Rule}
 use Rattle.verifier.specs.declared.rule.Rule.TheVariants.{Outside, IntoWide, FallsOff}
 use Rattle.verifier.specs.Structure.{distance_of, goes_on, forward_target, leads_to, IsStructured}
-use Rattle.verifier.specs.Rules.{Passes, fall, jump}
-use Rattle.verifier.specs.Assignments.{Assignment, Carries, EdgeCarries, FulfilsBefore, IsTypable, IsLeast, FailsLeast}
+use Rattle.verifier.specs.Rules.{PassesFor, fall, jump}
+use Rattle.verifier.specs.Assignments.{Assignment, Carries, EdgeCarries, FulfilsBeforeFor, IsTypableFor, IsLeastFor, FailsLeastFor}
 use Rattle.abstract_value.specs.Pending.{nothing, with_joined}
 use Rattle.verifier.specs.model.Flow.{flow, flow_edge}
 use Rattle.verifier.proofs.Tags.{tells}
@@ -88,7 +88,7 @@ each_more xs ys P n x y e f p before k a b h u v =
       | inr q ↦ let ne : k ≢ n = q.1 in before k a b (omega arith) u v
     ]
 
-module _ {D : Type 0} {o : Ops D} (laws : Laws o) where
+module _ {D : Type 0} {o : Ops D} (laws : Laws o) (len : ℕ) where
   -- ---- flowing
 
   above_old : (x : Option (View D)) (t u : View D) → x ≡ Some u → ViewBelow o u (with_joined o x t)
@@ -208,8 +208,8 @@ module _ {D : Type 0} {o : Ops D} (laws : Laws o) where
   edge_inside states (Some j) t code h i k s e = flow_inside states j t code (λ u q. h j refl) i k s e
 
   -- fewer instructions fulfil the rules
-  pub fulfils_upto : (code : List Insn) (n m : ℕ) (states : Assignment D) → n ≤ m → FulfilsBefore o code m states
-      → FulfilsBefore o code n states
+  pub fulfils_upto : (code : List Insn) (n m : ℕ) (states : Assignment D) → n ≤ m → FulfilsBeforeFor len o code m states
+      → FulfilsBeforeFor len o code n states
   fulfils_upto code n m states l f = record {
     start = f.start;
     inside = f.inside;
@@ -231,8 +231,8 @@ module _ {D : Type 0} {o : Ops D} (laws : Laws o) where
 
   -- an instruction that passes
   pub passed : (code : List Insn) (n : ℕ) (i : Insn) (states : Assignment D) (s : View D) → IsCode code
-      → IsStructured code → IsLeast o code n states → insn_at code n ≡ Some i → states n ≡ Some s → Passes o i s
-      → IsLeast o code (n + 1) (flow_edge o (flow o states (n + slots_of i) (fall o i s)) (leads_to n i) (jump o i s))
+      → IsStructured code → IsLeastFor len o code n states → insn_at code n ≡ Some i → states n ≡ Some s → PassesFor len o i s
+      → IsLeastFor len o code (n + 1) (flow_edge o (flow o states (n + slots_of i) (fall o i s)) (leads_to n i) (jump o i s))
   passed code n i states s is_code structured m at is p =
       let next = n + slots_of i in
       let falling = flow o states next (fall o i s) in
@@ -256,7 +256,7 @@ module _ {D : Type 0} {o : Ops D} (laws : Laws o) where
           start = keeps 0 entry f.start;
           inside = edge_inside falling (leads_to n i) (jump o i s) code jumps_to
               (flow_inside states next (fall o i s) code falls_to f.inside);
-          passes = λ k j t h a b. each_more (insn_at code) states (λ k' j' t'. Passes o j' t') n i s at is p f.passes k
+          passes = λ k j t h a b. each_more (insn_at code) states (λ k' j' t'. PassesFor len o j' t') n i s at is p f.passes k
               j t h a (sym (same k h) ∙ b);
           falls = λ k j t h a b. each_more (insn_at code) states
               (λ k' j' t'. EdgeCarries o after (Some (k' + slots_of j')) (fall o j' t')) n i s at is
@@ -276,15 +276,15 @@ module _ {D : Type 0} {o : Ops D} (laws : Laws o) where
             let q = g.passes n i here.0 h at here.1 in
             edge_least falling others (leads_to n i) (jump o i s)
             (flow_least states others next (fall o i s) below
-            (edge_below others (Some next) (fall o i s) (fall o i here.0) (fall_up laws s here.0 here.2 i listed q)
+            (edge_below others (Some next) (fall o i s) (fall o i here.0) (fall_up laws len s here.0 here.2 i listed q)
             (g.falls n i here.0 h at here.1)))
-            (edge_below others (leads_to n i) (jump o i s) (jump o i here.0) (jump_up laws s here.0 here.2 i q)
+            (edge_below others (leads_to n i) (jump o i s) (jump o i here.0) (jump_up laws len s here.0 here.2 i q)
             (g.jumps n i here.0 h at here.1));
       }
 
   -- a slot that no state reaches
-  pub skipped : (code : List Insn) (n : ℕ) (states : Assignment D) → IsLeast o code n states → states n ≡ None
-      → IsLeast o code (n + 1) states
+  pub skipped : (code : List Insn) (n : ℕ) (states : Assignment D) → IsLeastFor len o code n states → states n ≡ None
+      → IsLeastFor len o code (n + 1) states
   skipped code n states m e =
       let f = m.fulfils in
       let less : (k : ℕ) (t : View D) → k < n + 1 → states k ≡ Some t → k < n = λ k t h g. elim (tells k n) [
@@ -304,14 +304,14 @@ module _ {D : Type 0} {o : Ops D} (laws : Laws o) where
 
   -- over all slots of an instruction
   pub over_insn : (code : List Insn) (n : ℕ) (i : Insn) (states : Assignment D) → insn_at code n ≡ Some i
-      → IsLeast o code (n + 1) states → IsLeast o code (n + slots_of i) states
+      → IsLeastFor len o code (n + 1) states → IsLeastFor len o code (n + slots_of i) states
   over_insn code n i states is m =
       elim (one_or_two i) [
-        | inl e ↦ subst (λ w. IsLeast o code (n + w) states) (sym e) m
+        | inl e ↦ subst (λ w. IsLeastFor len o code (n + w) states) (sym e) m
         | inr e ↦
             let two : n + 1 + 1 ≡ n + slots_of i = omega arith in
             let none : insn_at code (n + 1) ≡ None = none_within code n (n + 1) i is (omega arith) (omega arith) in
-            subst (λ w. IsLeast o code w states) two (skipped code (n + 1) states m
+            subst (λ w. IsLeastFor len o code w states) two (skipped code (n + 1) states m
             (stateless (states (n + 1)) (λ s g. nowhere (insn_at code (n + 1)) none
             (m.fulfils.inside (n + 1) s g))))
       ]
@@ -324,24 +324,24 @@ module _ {D : Type 0} {o : Ops D} (laws : Laws o) where
       stateless (Some s) h = absurd (h s refl)
 
   -- at a refusal no assignment fulfils the rules
-  pub refused : (code : List Insn) (slot : ℕ) (rule : Rule) → FailsLeast o code slot rule → (states : Assignment D)
-      → FulfilsBefore o code (slot + 1) states → ⊥
+  pub refused : (code : List Insn) (slot : ℕ) (rule : Rule) → FailsLeastFor len o code slot rule → (states : Assignment D)
+      → FulfilsBeforeFor len o code (slot + 1) states → ⊥
   refused code slot rule r states f =
       let here = r.least.least states (fulfils_upto code slot (slot + 1) states (omega arith) f) slot r.state
       r.is_state in
       let k : slot < slot + 1 = omega arith in
-      let p = passes_down laws r.state here.0 here.2 r.insn (f.passes slot r.insn here.0 k r.is_at here.1) rule in
+      let p = passes_down laws len r.state here.0 here.2 r.insn (f.passes slot r.insn here.0 k r.is_at here.1) rule in
       let q = r.fails.fails in
       absurd (cc)
 
   -- what is refused at a slot is not typable
-  pub untypable : (code : List Insn) (slot : ℕ) (rule : Rule) → FailsLeast o code slot rule → IsTypable o code → ⊥
+  pub untypable : (code : List Insn) (slot : ℕ) (rule : Rule) → FailsLeastFor len o code slot rule → IsTypableFor len o code → ⊥
   untypable code slot rule r t =
       let within : slot < slot_count code = insn_within code slot r.insn r.is_at in
       refused code slot rule r t.0 (fulfils_upto code (slot + 1) (slot_count code) t.0 (omega arith) t.1)
 
   -- the assignment with which the pass begins
-  pub begun : (code : List Insn) → IsCode code → IsLeast o code 0 (flow o nothing 0 (Some entry))
+  pub begun : (code : List Insn) → IsCode code → IsLeastFor len o code 0 (flow o nothing 0 (Some entry))
   begun code is_code = record {
     fulfils = record {
       start = flow_carries nothing 0 (Some entry);

@@ -5,7 +5,7 @@ use Rattle.std.specs.List.{list_all}
 use Rattle.std.specs.Int.{w64, cast_unsigned}
 use Rattle.std.proofs.lemmas.Int.{ints}
 use Rattle.instruction_set.specs.Slots.{IsListed}
-use Rattle.instruction_set.specs.Machine.{stack_len, record_len, bytes_of}
+use Rattle.instruction_set.specs.Machine.{stack_len, bytes_of}
 use Rattle.instruction_set.specs.Operations.{low}
 use Rattle.instruction_set.specs.declared.insn.Size.{Size}
 use Rattle.instruction_set.specs.declared.insn.Width.{Width}
@@ -26,7 +26,7 @@ use Rattle.abstract_value.specs.declared.states.Span.{Span}
 use Rattle.abstract_value.specs.declared.states.RegState.{RegState}
 use Rattle.abstract_value.specs.declared.states.RegState.TheVariants.{Scalar}
 use Rattle.verifier.specs.declared.rule.Rule.TheVariants.{Backward, Outside, IntoWide, FallsOff, NoEdge, Unreadable as UnreadableRule, WritesR10, PointerOperation, PointerRange, PointerCompared, PointerStored, OutsideRecord, WritesRecord, OutsideStack, UnwrittenStack, ScalarAddress, PointerResult}
-use Rattle.verifier.specs.Rules.{is_readable, is_pointer, is_scalar, reads, source_reads, operand, reach_of, whole, stack_index, is_written_at, Access, inside_record, spares_record, inside_stack, finds_written, of_access, meets, Passes, operation_in_range, result_of, marks, after_store, cut_one, cut_both, refined_imm, refined_pair, on_edge, fall, jump}
+use Rattle.verifier.specs.Rules.{is_readable, is_pointer, is_scalar, reads, source_reads, operand, reach_of, whole, stack_index, is_written_at, Access, inside_record, spares_record, inside_stack, finds_written, of_access, meets_for, PassesFor, operation_in_range, result_of, marks, after_store, cut_one, cut_both, refined_imm, refined_pair, on_edge, fall, jump}
 use Rattle.verifier.proofs.Accesses.{whole_of}
 use Rattle.verifier.proofs.Moves.{truth, is_mov}
 use Rattle.verifier.proofs.Steps.{reads_alu, source_readable}
@@ -52,11 +52,11 @@ inside_down first end a b offset n h k =
     (le_holds first (a.lo +ℤ offset) (omega (arith, ints)))
     (le_holds ((a.hi +ℤ offset) +ℤ pos n) end (omega (arith, ints)))
 
-inside_record_down : {D : Type 0} {o : Ops D} {a b : RegState D} (r : Access) → Readable o a b
-    → IsTrue (inside_record record_len b r) → IsTrue (inside_record record_len a r)
-inside_record_down r (numbers a b h) k = k
-inside_record_down r (records a b h) k = inside_down (pos 0) (pos record_len) a b r.offset (bytes_of r.size) h k
-inside_record_down r (stacks a b h) k = k
+inside_record_down : {D : Type 0} {o : Ops D} {a b : RegState D} (len : ℕ) (r : Access) → Readable o a b
+    → IsTrue (inside_record len b r) → IsTrue (inside_record len a r)
+inside_record_down len r (numbers a b h) k = k
+inside_record_down len r (records a b h) k = inside_down (pos 0) (pos len) a b r.offset (bytes_of r.size) h k
+inside_record_down len r (stacks a b h) k = k
 
 leaves_record_down : {D : Type 0} {o : Ops D} {a b : RegState D} (r : Access) → Readable o a b
     → IsTrue (spares_record b r) → IsTrue (spares_record a r)
@@ -168,7 +168,7 @@ mov_range o W64 op a b n = refl
 same_not : (a b : Bool) → a ≡ b → IsTrue (not b) → IsTrue (not a)
 same_not a b e h = subst (λ x. IsTrue (not x)) (sym e) h
 
-module _ {D : Type 0} {o : Ops D} (laws : Laws o) (s t : View D) (below : ViewBelow o s t) where
+module _ {D : Type 0} {o : Ops D} (laws : Laws o) (len : ℕ) (s t : View D) (below : ViewBelow o s t) where
   readable_at : (r : ℕ) → IsTrue (is_readable (t.registers r)) → Readable o (s.registers r) (t.registers r)
   readable_at r h = is_below o (s.registers r) (t.registers r) (below.registers r) h
 
@@ -177,12 +177,12 @@ module _ {D : Type 0} {o : Ops D} (laws : Laws o) (s t : View D) (below : ViewBe
       (laws.below_same (o.single (cast_unsigned w64 n)))
   operand_at (Reg r) h = readable_at r.number h
 
-  reads_down : (i : Insn) → IsTrue (meets o i t UnreadableRule) → IsTrue (meets o i s UnreadableRule)
+  reads_down : (i : Insn) → IsTrue (meets_for len o i t UnreadableRule) → IsTrue (meets_for len o i s UnreadableRule)
   reads_down i h = all_down (λ r. is_readable (s.registers r)) (λ r. is_readable (t.registers r)) (reads i)
       (λ r k. readable_down (readable_at r k)) h
 
   -- the operands of an operation are readable
-  alu_source : (w : Width) (op : AluOp) (dst : Register) (src : Source) → Passes o (Alu w op dst src) t
+  alu_source : (w : Width) (op : AluOp) (dst : Register) (src : Source) → PassesFor len o (Alu w op dst src) t
       → Readable o (operand o s src) (operand o t src)
   alu_source w op dst src p =
       elim (truth (is_mov op)) [
@@ -198,7 +198,7 @@ module _ {D : Type 0} {o : Ops D} (laws : Laws o) (s t : View D) (below : ViewBe
       ]
 
   alu_target : (w : Width) (op : AluOp) (dst : Register) (src : Source) → is_mov op ≡ false
-      → Passes o (Alu w op dst src) t → Readable o (s.registers dst.number) (t.registers dst.number)
+      → PassesFor len o (Alu w op dst src) t → Readable o (s.registers dst.number) (t.registers dst.number)
   alu_target w op dst src n p =
       let h : IsTrue (list_all (λ r. is_readable (t.registers r)) (dst.number ∷ source_reads src)) =
       subst (λ rs. IsTrue (list_all (λ r. is_readable (t.registers r)) rs)) (reads_alu w op dst src n)
@@ -216,7 +216,7 @@ module _ {D : Type 0} {o : Ops D} (laws : Laws o) (s t : View D) (below : ViewBe
       → IsTrue (list_all (λ k. is_readable (t.registers k)) rs)
   rest_at r rs h = (both (is_readable (t.registers r)) (list_all (λ k. is_readable (t.registers k)) rs) h).1
 
-  operation_down : (i : Insn) → Passes o i t → IsTrue (meets o i s PointerOperation)
+  operation_down : (i : Insn) → PassesFor len o i t → IsTrue (meets_for len o i s PointerOperation)
   operation_down (Alu w op dst src) p =
       let e = same_fit w op (s.registers dst.number) (t.registers dst.number) (operand o s src) (operand o t src)
       (λ n. same_pointer (alu_target w op dst src n p)) (same_pointer (alu_source w op dst src p)) in
@@ -231,7 +231,7 @@ module _ {D : Type 0} {o : Ops D} (laws : Laws o) (s t : View D) (below : ViewBe
       (p PointerOperation)
   operation_down i p = refl
 
-  ranges_down : (i : Insn) → Passes o i t → IsTrue (meets o i s PointerRange)
+  ranges_down : (i : Insn) → PassesFor len o i t → IsTrue (meets_for len o i s PointerRange)
   ranges_down (Alu w op dst src) p =
       elim (truth (is_mov op)) [
         | inl n ↦ mov_range o w op (s.registers dst.number) (operand o s src) n
@@ -239,7 +239,7 @@ module _ {D : Type 0} {o : Ops D} (laws : Laws o) (s t : View D) (below : ViewBe
       ]
   ranges_down i p = refl
 
-  comparison_down : (i : Insn) → Passes o i t → IsTrue (meets o i s PointerCompared)
+  comparison_down : (i : Insn) → PassesFor len o i t → IsTrue (meets_for len o i s PointerCompared)
   comparison_down (JumpIf w test dst src distance) p =
       let a = first_at dst.number (source_reads src) (p UnreadableRule) in
       let b = operand_at src (source_readable o t src (rest_at dst.number (source_reads src) (p UnreadableRule))) in
@@ -248,20 +248,20 @@ module _ {D : Type 0} {o : Ops D} (laws : Laws o) (s t : View D) (below : ViewBe
       (ap₂ (λ x y. x || y) (same_pointer a) (same_pointer b)) (p PointerCompared)
   comparison_down i p = refl
 
-  stored_down : (i : Insn) → Passes o i t → IsTrue (meets o i s PointerStored)
+  stored_down : (i : Insn) → PassesFor len o i t → IsTrue (meets_for len o i s PointerStored)
   stored_down (Store size base offset src) p =
       let a = first_at src.number [] (rest_at base.number (src.number ∷ []) (p UnreadableRule)) in
       same_not (is_pointer (s.registers src.number)) (is_pointer (t.registers src.number)) (same_pointer a)
       (p PointerStored)
   stored_down i p = refl
 
-  result_down : (i : Insn) → Passes o i t → IsTrue (meets o i s PointerResult)
+  result_down : (i : Insn) → PassesFor len o i t → IsTrue (meets_for len o i s PointerResult)
   result_down Exit p = same_not (is_pointer (s.registers 0)) (is_pointer (t.registers 0))
       (same_pointer (first_at 0 [] (p UnreadableRule))) (p PointerResult)
   result_down i p = refl
 
   -- a test of an access holds, if it holds of bases that are readable
-  reach_down : (i : Insn) (f g : RegState D → Access → Bool) → Passes o i t
+  reach_down : (i : Insn) (f g : RegState D → Access → Bool) → PassesFor len o i t
       → ((r : Access) → Readable o (s.registers r.base) (t.registers r.base)
       → IsTrue (inside_stack (t.registers r.base) r) → IsTrue (g (t.registers r.base) r)
       → IsTrue (f (s.registers r.base) r))
@@ -293,15 +293,15 @@ module _ {D : Type 0} {o : Ops D} (laws : Laws o) (s t : View D) (below : ViewBe
   reach_down i f g p k h = refl
 
   -- what passes passes in each state below
-  pub passes_down : (i : Insn) → Passes o i t → Passes o i s
+  pub passes_down : (i : Insn) → PassesFor len o i t → PassesFor len o i s
   passes_down i p UnreadableRule = reads_down i (p UnreadableRule)
   passes_down i p WritesR10 = p WritesR10
   passes_down i p PointerOperation = operation_down i p
   passes_down i p PointerRange = ranges_down i p
   passes_down i p PointerCompared = comparison_down i p
   passes_down i p PointerStored = stored_down i p
-  passes_down i p OutsideRecord = reach_down i (inside_record record_len) (inside_record record_len) p
-      (λ r q is h. inside_record_down r q h) (p OutsideRecord)
+  passes_down i p OutsideRecord = reach_down i (inside_record len) (inside_record len) p
+      (λ r q is h. inside_record_down len r q h) (p OutsideRecord)
   passes_down i p WritesRecord = reach_down i spares_record spares_record p (λ r q is h. leaves_record_down r q h)
       (p WritesRecord)
   passes_down i p OutsideStack = reach_down i inside_stack inside_stack p (λ r q is h. inside_stack_down r q h)
@@ -373,7 +373,7 @@ stored_up s t r h (stacks a b k) is = record {
   written = marks_down s.written t.written a b r.offset r.size h.written (begins a b r.offset (bytes_of r.size) k is);
 }
 
-module _ {D : Type 0} {o : Ops D} (laws : Laws o) (s t : View D) (below : ViewBelow o s t) where
+module _ {D : Type 0} {o : Ops D} (laws : Laws o) (len : ℕ) (s t : View D) (below : ViewBelow o s t) where
   cut_one_up : (d : ℕ) (p q : Option (D × D)) → BelowPair o p q → FlowBelow o (cut_one s d p) (cut_one t d q)
   cut_one_up d None q k = tt
   cut_one_up d (Some p) None k = k
@@ -410,45 +410,45 @@ module _ {D : Type 0} {o : Ops D} (laws : Laws o) (s t : View D) (below : ViewBe
   same_or_pair false p q k = k
 
   refined_up : (w : Width) (test : Test) (taken : Bool) (dst : Register) (src : Source) (distance : ℤ)
-      → Passes o (JumpIf w test dst src distance) t → FlowBelow o (on_edge o w test taken s dst.number src)
+      → PassesFor len o (JumpIf w test dst src distance) t → FlowBelow o (on_edge o w test taken s dst.number src)
       (on_edge o w test taken t dst.number src)
   refined_up w test taken dst (Imm n) distance p = refined_imm_up w test taken dst.number (cast_unsigned w64 n)
-      (first_at laws s t below dst.number [] (p UnreadableRule))
+      (first_at laws len s t below dst.number [] (p UnreadableRule))
   refined_up w test taken dst (Reg r) distance p =
-      let a = first_at laws s t below dst.number (r.number ∷ []) (p UnreadableRule) in
-      let b = first_at laws s t below r.number [] (rest_at laws s t below dst.number (r.number ∷ [])
+      let a = first_at laws len s t below dst.number (r.number ∷ []) (p UnreadableRule) in
+      let b = first_at laws len s t below r.number [] (rest_at laws len s t below dst.number (r.number ∷ [])
       (p UnreadableRule)) in
       same_or_pair (dst.number == r.number) (refined_pair o w test taken s dst.number r.number (s.registers dst.number)
       (s.registers r.number)) (refined_pair o w test taken t dst.number r.number (t.registers dst.number)
       (t.registers r.number))
       (refined_pair_up w test taken dst.number r.number a b)
 
-  alu_up : (w : Width) (op : AluOp) (dst : Register) (src : Source) → Passes o (Alu w op dst src) t
+  alu_up : (w : Width) (op : AluOp) (dst : Register) (src : Source) → PassesFor len o (Alu w op dst src) t
       → IsTrue (reg_below o (result_of o w op (s.registers dst.number) (operand o s src))
       (result_of o w op (t.registers dst.number) (operand o t src)))
   alu_up w Mov dst src p = mov_up laws w (s.registers dst.number) (t.registers dst.number)
-      (alu_source laws s t below w Mov dst src p) (operand_below src)
+      (alu_source laws len s t below w Mov dst src p) (operand_below src)
     where
       operand_below : (src : Source) → IsTrue (reg_below o (operand o s src) (operand o t src))
       operand_below (Imm n) = laws.below_same (o.single (cast_unsigned w64 n))
       operand_below (Reg r) = below.registers r.number
-  alu_up w op dst src p = result_up laws w op refl (alu_target laws s t below w op dst src refl p)
-      (alu_source laws s t below w op dst src p)
+  alu_up w op dst src p = result_up laws w op refl (alu_target laws len s t below w op dst src refl p)
+      (alu_source laws len s t below w op dst src p)
 
   -- what falls through keeps the order
-  pub fall_up : (i : Insn) → IsListed i → Passes o i t → FlowBelow o (fall o i s) (fall o i t)
+  pub fall_up : (i : Insn) → IsListed i → PassesFor len o i t → FlowBelow o (fall o i s) (fall o i t)
   fall_up (Alu w op dst src) l p = put_below o s t dst.number
       (result_of o w op (s.registers dst.number) (operand o s src))
       (result_of o w op (t.registers dst.number) (operand o t src)) below (alu_up w op dst src p)
   fall_up (Neg w dst) l p = put_below o s t dst.number _ _ below
       (scalar_up laws (o.neg w) (o.neg w) (laws.neg_monotone w)
-      (first_at laws s t below dst.number [] (p UnreadableRule)))
+      (first_at laws len s t below dst.number [] (p UnreadableRule)))
   fall_up (MovSx w bits dst src) l p = put_below o s t dst.number _ _ below
       (scalar_up laws (o.mov_sx w bits) (o.mov_sx w bits) (λ a b h. laws.mov_sx_monotone w bits a b l.selected h)
-      (first_at laws s t below src.number [] (p UnreadableRule)))
+      (first_at laws len s t below src.number [] (p UnreadableRule)))
   fall_up (End kind bits dst) l p = put_below o s t dst.number _ _ below
       (scalar_up laws (o.end kind bits) (o.end kind bits) (λ a b h. laws.end_monotone kind bits a b l.selected h)
-      (first_at laws s t below dst.number [] (p UnreadableRule)))
+      (first_at laws len s t below dst.number [] (p UnreadableRule)))
   fall_up (LoadWide dst value) l p = put_below o s t dst.number (Scalar (o.single value)) (Scalar (o.single value))
       below (laws.below_same (o.single value))
   fall_up (Load size dst base offset) l p = put_below o s t dst.number (Scalar (o.load size false))
@@ -460,21 +460,21 @@ module _ {D : Type 0} {o : Ops D} (laws : Laws o) (s t : View D) (below : ViewBe
     offset = offset;
     size = size;
     is_store = true;
-  }) below (first_at laws s t below base.number (src.number ∷ []) (p UnreadableRule))
+  }) below (first_at laws len s t below base.number (src.number ∷ []) (p UnreadableRule))
       (p OutsideStack)
   fall_up (StoreImm size base offset imm) l p = stored_up s t (record {
     base = base.number;
     offset = offset;
     size = size;
     is_store = true;
-  }) below (first_at laws s t below base.number [] (p UnreadableRule)) (p OutsideStack)
+  }) below (first_at laws len s t below base.number [] (p UnreadableRule)) (p OutsideStack)
   fall_up (Jump distance) l p = tt
   fall_up (JumpLong distance) l p = tt
   fall_up (JumpIf w test dst src distance) l p = refined_up w test false dst src distance p
   fall_up Exit l p = tt
 
   -- what jumps keeps the order
-  pub jump_up : (i : Insn) → Passes o i t → FlowBelow o (jump o i s) (jump o i t)
+  pub jump_up : (i : Insn) → PassesFor len o i t → FlowBelow o (jump o i s) (jump o i t)
   jump_up (Jump distance) p = below
   jump_up (JumpLong distance) p = below
   jump_up (JumpIf w test dst src distance) p = refined_up w test true dst src distance p

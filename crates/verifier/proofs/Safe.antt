@@ -204,31 +204,31 @@ begins_covered {D = D} o = record {
   small = λ k b e. absurd (cc);
 }
 
-begins_registers : (p : Placement) (bytes : List ℕ) → 0 < length bytes → IsPlacementFor (length bytes) p → (r : ℕ)
+begins_registers : (p : Placement) (bytes : List ℕ) → IsPlacementFor (length bytes) p → (r : ℕ)
     → r < 11 → get_or (entry_for (length bytes) p bytes).registers r None ≡ raw_option p (begins.registers r)
 unfolding entry_for
-begins_registers p bytes some placed zero h = refl
-begins_registers p bytes some placed (suc zero) h = let f = placed.record_fits in ap Some (omega (arith, ints))
-begins_registers p bytes some placed (suc (suc zero)) h = refl
-begins_registers p bytes some placed (suc (suc (suc zero))) h = refl
-begins_registers p bytes some placed (suc (suc (suc (suc zero)))) h = refl
-begins_registers p bytes some placed (suc (suc (suc (suc (suc zero))))) h = refl
-begins_registers p bytes some placed (suc (suc (suc (suc (suc (suc zero)))))) h = refl
-begins_registers p bytes some placed (suc (suc (suc (suc (suc (suc (suc zero))))))) h = refl
-begins_registers p bytes some placed (suc (suc (suc (suc (suc (suc (suc (suc zero)))))))) h = refl
-begins_registers p bytes some placed (suc (suc (suc (suc (suc (suc (suc (suc (suc zero))))))))) h = refl
-begins_registers p bytes some placed (suc (suc (suc (suc (suc (suc (suc (suc (suc (suc zero)))))))))) h =
+begins_registers p bytes placed zero h = refl
+begins_registers p bytes placed (suc zero) h = let f = placed.record_fits in ap Some (omega (arith, ints))
+begins_registers p bytes placed (suc (suc zero)) h = refl
+begins_registers p bytes placed (suc (suc (suc zero))) h = refl
+begins_registers p bytes placed (suc (suc (suc (suc zero)))) h = refl
+begins_registers p bytes placed (suc (suc (suc (suc (suc zero))))) h = refl
+begins_registers p bytes placed (suc (suc (suc (suc (suc (suc zero)))))) h = refl
+begins_registers p bytes placed (suc (suc (suc (suc (suc (suc (suc zero))))))) h = refl
+begins_registers p bytes placed (suc (suc (suc (suc (suc (suc (suc (suc zero)))))))) h = refl
+begins_registers p bytes placed (suc (suc (suc (suc (suc (suc (suc (suc (suc zero))))))))) h = refl
+begins_registers p bytes placed (suc (suc (suc (suc (suc (suc (suc (suc (suc (suc zero)))))))))) h =
     ap Some (omega (arith, ints))
-begins_registers p bytes some placed (suc (suc (suc (suc (suc (suc (suc (suc (suc (suc (suc r))))))))))) h =
+begins_registers p bytes placed (suc (suc (suc (suc (suc (suc (suc (suc (suc (suc (suc r))))))))))) h =
     absurd (omega arith)
 
-begins_matches : (p : Placement) (bytes : List ℕ) → 0 < length bytes → IsPlacementFor (length bytes) p
+begins_matches : (p : Placement) (bytes : List ℕ) → IsPlacementFor (length bytes) p
     → Matches p bytes begins (entry_for (length bytes) p bytes)
 unfolding entry_for
-begins_matches p bytes some placed = record {
+begins_matches p bytes placed = record {
   slot = refl;
   long = refl;
-  registers = begins_registers p bytes some placed;
+  registers = begins_registers p bytes placed;
   memory = λ a. elim (is_in p.record_at (length bytes) a) as
       (λ b. cond b (Some (slice_index bytes (a - p.record_at))) None
       ≡ cond b (Some (slice_index bytes (a - p.record_at))) (cond (is_in p.stack_at stack_len a) None None)) [
@@ -240,11 +240,11 @@ begins_matches p bytes some placed = record {
 
 -- code that an assignment fits ends with one answer on these bytes
 ends_on : {D : Type 0} {o : Ops D} (laws : Laws o) (code : List Insn) → IsCode code → IsStructured code
-    → (states : Assignment D) (bytes : List ℕ) → 0 < length bytes → All (λ byte. byte < 256) bytes
+    → (states : Assignment D) (bytes : List ℕ) → All (λ byte. byte < 256) bytes
     → FulfilsBeforeFor (length bytes) o code (slot_count code) states
     → (v : ℕ) × (n : ℕ) × (n ≤ length code) × EndsFor (length bytes) code bytes v n
 unfolding Reaches
-ends_on {o = o} laws code is_code structured states bytes some each f =
+ends_on {o = o} laws code is_code structured states bytes each f =
     let first = f.start in
     let c = covered_up laws entry_view first.0 begins first.2 (begins_covered o) in
     let all = left_all code in
@@ -254,15 +254,15 @@ ends_on {o = o} laws code is_code structured states bytes some each f =
       r.1,
       r.2,
       λ p placed.
-          let e = r.3 p placed (entry_for (length bytes) p bytes) (begins_matches p bytes some placed) in
+          let e = r.3 p placed (entry_for (length bytes) p bytes) (begins_matches p bytes placed) in
           record { last = e.last; counted = e.counted; reached = e.reached; at_exit = e.at_exit; answer = e.answer },
     )
 
 -- code that some assignment fits is safe
-pub safe : {D : Type 0} {o : Ops D} (laws : Laws o) (len : ℕ) → 0 < len → (code : List Insn) → IsCode code
+pub safe : {D : Type 0} {o : Ops D} (laws : Laws o) (len : ℕ) (code : List Insn) → IsCode code
     → IsStructured code → IsTypableFor len o code → IsSafeFor len code
-safe {o = o} laws len some code is_code structured typable bytes rec =
+safe {o = o} laws len code is_code structured typable bytes rec =
     let long : length bytes ≡ len = rec.0 in
     subst (λ k. (v : ℕ) × (n : ℕ) × (n ≤ length code) × EndsFor k code bytes v n) long
-    (ends_on laws code is_code structured typable.0 bytes (omega arith) rec.1
+    (ends_on laws code is_code structured typable.0 bytes rec.1
     (subst (λ k. FulfilsBeforeFor k o code (slot_count code) typable.0) (sym long) typable.1))

@@ -7,15 +7,13 @@ use Rattle.instruction_set.specs.declared.insn.Insn.{Insn}
 use Rattle.instruction_set.specs.declared.insn.Size.{Size}
 use Rattle.instruction_set.specs.declared.insn.AluOp.{AluOp}
 use Rattle.instruction_set.specs.declared.insn.AluOp.TheVariants.{Add, Sub, Mul, Div, SDiv, Or, And, Lsh, Rsh, Mod, SMod, Xor, Mov, Arsh}
-use Rattle.abstract_value.specs.Domain.{Ops}
 use Rattle.abstract_value.specs.StackBytes.{with_marks}
 use Rattle.abstract_value.specs.States.{make_span, View, with_written}
 use Rattle.abstract_value.specs.declared.states.RegState.{RegState}
 use Rattle.abstract_value.specs.declared.states.RegState.TheVariants.{Stack}
 use Rattle.abstract_value.specs.declared.states.Span.{Span}
 use Rattle.std.specs.Int.{w16}
-use Rattle.verifier.specs.declared.rule.Rule.TheVariants.{OutsideStack}
-use Rattle.verifier.specs.Rules.{is_near, span_moved, reach_of, in_stack, whole, stack_index, after_store, Access, access_of, of_access, inside_stack, Passes}
+use Rattle.verifier.specs.Rules.{is_near, span_moved, reach_of, in_stack, whole, stack_index, after_store, Access, access_of, of_access, inside_stack}
 
 -- every operation but a difference adds the steps
 pub moved_otherwise : (op : AluOp) (a : Span) (steps : ℤ × ℤ) → (op ≡ Sub → ⊥)
@@ -117,12 +115,11 @@ stored_exact s base a offset size first count is one from long =
     at_one (a.lo +ℤ offset) (a.hi +ℤ offset) (omega (arith, ints)) in
     rw (is, e) (ap₂ (λ (f n : ℕ). with_written s (with_marks s.written f n)) from long)
 
--- an access that passes lies inside the stack, where its address does
-pub reach_inside : {D : Type 0} (o : Ops D) (i : Insn) (s : View D) (r : Access) (a : Span) → FitsSigned w16 r.offset
-    → access_of i ≡ Some r → Passes o i s → s.registers r.base ≡ Stack a
+-- an access that meets its rule lies inside the stack, where its address does
+pub reach_inside : {D : Type 0} (i : Insn) (s : View D) (r : Access) (a : Span) → FitsSigned w16 r.offset
+    → access_of i ≡ Some r → IsTrue (of_access i s inside_stack) → s.registers r.base ≡ Stack a
     → IsTrue (in_stack (reach_of a (to_z w16 (of_z w16 r.offset)) r.size))
-reach_inside o i s r a fits is passes at =
-    let h : IsTrue (of_access i s inside_stack) = passes OutsideStack in
+reach_inside i s r a fits is h at =
     let k : IsTrue (inside_stack (s.registers r.base) r) = subst
     (λ (x : Option Access). IsTrue (elim x [ None ↦ true | Some q ↦ inside_stack (s.registers q.base) q ])) is
     h in

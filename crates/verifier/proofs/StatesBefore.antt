@@ -10,8 +10,8 @@ use Rattle.abstract_value.specs.States.{View}
 use Rattle.verifier.specs.declared.rule.Rule.{Rule}
 use Rattle.verifier.specs.declared.refusal.Refusal.{Refusal}
 use Rattle.verifier.specs.Structure.{IsStructured}
-use Rattle.verifier.specs.Assignments.{Assignment, IsLeast, FailsLeast}
-use Rattle.verifier.specs.Before.{HasNoState, IsStateBefore}
+use Rattle.verifier.specs.Assignments.{Assignment, IsLeastFor, FailsLeastFor}
+use Rattle.verifier.specs.Before.{HasNoStateFor, IsStateBeforeFor}
 use Rattle.verifier.specs.model.Pending.{IsPending}
 use Rattle.verifier.proofs.Pass.{fulfils_upto, refused}
 
@@ -42,9 +42,9 @@ pub is_structured : (code : List Insn) (P : Refusal → Type 0) (fault : Option 
 is_structured code P None e h = h
 is_structured code P (Some r) e h = absurd (cc)
 
-module _ {D : Type 0} {o : Ops D} (laws : Laws o) where
+module _ {D : Type 0} {o : Ops D} (laws : Laws o) (len : ℕ) where
   -- where no instruction begins
-  nothing_there : (code : List Insn) (slot : ℕ) → insn_at code slot ≡ None → HasNoState o code slot
+  nothing_there : (code : List Insn) (slot : ℕ) → insn_at code slot ≡ None → HasNoStateFor len o code slot
   nothing_there code slot none structured states least = of (states slot) refl
     where
       of : (x : Option (View D)) → states slot ≡ x → x ≡ None
@@ -52,20 +52,20 @@ module _ {D : Type 0} {o : Ops D} (laws : Laws o) where
       of (Some s) e = absurd (nowhere (insn_at code slot) none (least.fulfils.inside slot s e))
 
   -- after a rule fails
-  pub after_failure : (code : List Insn) (slot at : ℕ) (rule : Rule) → FailsLeast o code at rule → at ≢ slot
-      → IsAhead code slot at → HasNoState o code slot
+  pub after_failure : (code : List Insn) (slot at : ℕ) (rule : Rule) → FailsLeastFor len o code at rule → at ≢ slot
+      → IsAhead code slot at → HasNoStateFor len o code slot
   after_failure code slot at rule fails differs ahead structured states least = of (insn_at code slot) refl
     where
       of : (x : Option Insn) → insn_at code slot ≡ x → states slot ≡ None
       of None e = nothing_there code slot e structured states least
       of (Some i) e =
           let l : at ≤ slot = ahead (rw e refl) in
-          absurd (refused laws code at rule fails states
-          (fulfils_upto laws code (at + 1) slot states (omega (arith, l, differs)) least.fulfils))
+          absurd (refused laws len code at rule fails states
+          (fulfils_upto laws len code (at + 1) slot states (omega (arith, l, differs)) least.fulfils))
 
   -- past the last instruction
   pub past_last : (code : List Insn) (slot at : ℕ) → slot_count code ≤ at → IsAhead code slot at
-      → HasNoState o code slot
+      → HasNoStateFor len o code slot
   past_last code slot at end ahead structured states least = of (insn_at code slot) refl
     where
       of : (x : Option Insn) → insn_at code slot ≡ x → states slot ≡ None
@@ -76,11 +76,11 @@ module _ {D : Type 0} {o : Ops D} (laws : Laws o) where
 
   -- the state that is pending at the slot
   pub pending_state : (code : List Insn) (at peak : ℕ) (states : Assignment D) (found : Option (View D))
-      → IsStructured code → IsPending o code at states peak → found ≡ states at
-      → MatchOption found (HasNoState o code at) (IsStateBefore o code at)
+      → IsStructured code → IsPending len o code at states peak → found ≡ states at
+      → MatchOption found (HasNoStateFor len o code at) (IsStateBeforeFor len o code at)
   pending_state code at peak states None structured p e = λ _ others least. none_else others least
     where
-      none_else : (others : Assignment D) → IsLeast o code at others → others at ≡ None
+      none_else : (others : Assignment D) → IsLeastFor len o code at others → others at ≡ None
       none_else others least = of (others at) refl
         where
           of : (x : Option (View D)) → others at ≡ x → x ≡ None

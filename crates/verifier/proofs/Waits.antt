@@ -17,11 +17,11 @@ use Rattle.abstract_value.specs.laws.Counting.{same_tells, count_one_more, count
 use Rattle.verifier.specs.declared.rule.Rule.{Rule}
 use Rattle.verifier.specs.declared.rule.Rule.TheVariants.{FallsOff}
 use Rattle.verifier.specs.Structure.{leads_to, IsStructured}
-use Rattle.verifier.specs.Rules.{Passes, FailsFirst, fall, jump}
-use Rattle.verifier.specs.Assignments.{Assignment, FailsLeast}
+use Rattle.verifier.specs.Rules.{PassesFor, FailsFirstFor, fall, jump}
+use Rattle.verifier.specs.Assignments.{Assignment, FailsLeastFor}
 use Rattle.verifier.specs.Width.{most_below, is_slot, jumps_to, is_target, targets_above, widest}
 use Rattle.verifier.specs.model.Flow.{flow, flow_edge}
-use Rattle.verifier.specs.Peak.{IsPeak, held_at, most_held}
+use Rattle.verifier.specs.Peak.{IsPeakFor, held_at, most_held}
 use Rattle.verifier.specs.model.Pending.{IsDue, IsPending}
 use Rattle.verifier.proofs.Tags.{tells}
 use Rattle.verifier.proofs.Pass.{fall_goes, leads_past, begun, skipped, passed, passed_same, over_insn}
@@ -288,18 +288,18 @@ one_at_first o n h =
     let d : 1 ≤ count_held (flow o nothing 0 (Some entry)) n = count_some p n 0 h refl in
     omega arith
 
-module _ {D : Type 0} {o : Ops D} (laws : Laws o) where
+module _ {D : Type 0} {o : Ops D} (laws : Laws o) (len : ℕ) where
   -- at first the entry state waits for slot 0
   pub waits_first : (code : List Insn) (peak : ℕ) → IsCode code
       → peak ≡ count_held (flow o nothing 0 (Some entry)) (slot_count code)
-      → IsPending o code 0 (flow o nothing 0 (Some entry)) peak
+      → IsPending len o code 0 (flow o nothing 0 (Some entry)) peak
   waits_first code peak is_code counted =
       let first = flow o nothing 0 (Some entry) in
       let sent = sent_first o code first first
       (λ slot. elim (tells slot 0) [ inl p ↦ rw p.0 refl | inr p ↦ rw p.0 refl ]) in
       record {
         whole = first;
-        least = begun laws code is_code;
+        least = begun laws len code is_code;
         same = λ slot l. refl;
         due = due_flow o code 0 nothing 0 (Some entry) (λ slot s e. absurd (cc)) (λ u e. (omega arith, inl refl));
         sent = sent;
@@ -307,22 +307,22 @@ module _ {D : Type 0} {o : Ops D} (laws : Laws o) where
       }
 
   -- what is held stands where an instruction begins
-  inside : (code : List Insn) (n : ℕ) (states : Assignment D) (peak : ℕ) → IsPending o code n states peak
+  inside : (code : List Insn) (n : ℕ) (states : Assignment D) (peak : ℕ) → IsPending len o code n states peak
       → (slot : ℕ) (s : View D) → states slot ≡ Some s → IsSome (insn_at code slot)
   inside code n states peak w slot s e =
       w.least.fulfils.inside slot s (sym (w.same slot (w.due slot s e).0) ∙ e)
 
   -- an instruction that no state reaches
   pub waits_skipped : (code : List Insn) (n : ℕ) (i : Insn) (states : Assignment D) (peak : ℕ)
-      → IsPending o code n states peak → insn_at code n ≡ Some i → states n ≡ None
-      → IsPending o code (n + slots_of i) (put states n None) peak
+      → IsPending len o code n states peak → insn_at code n ≡ Some i → states n ≡ None
+      → IsPending len o code (n + slots_of i) (put states n None) peak
   waits_skipped code n i states peak w at e =
       let some = some_slots i in
       let none : w.whole n ≡ None = sym (w.same n (omega arith)) ∙ e in
       let due = due_taken code n i states at w.due (inside code n states peak w) in
       record {
         whole = w.whole;
-        least = over_insn laws code n i w.whole at (skipped laws code n w.whole w.least none);
+        least = over_insn laws len code n i w.whole at (skipped laws len code n w.whole w.least none);
         same = same_taken n (n + slots_of i) states w.whole (omega arith) w.same;
         due = due;
         sent = sent_over o code n i (put states n None) w.whole at (sent_skipped o code n states w.whole none w.sent);
@@ -330,14 +330,14 @@ module _ {D : Type 0} {o : Ops D} (laws : Laws o) where
       }
 
   pub fallen_due : (code : List Insn) (n : ℕ) (i : Insn) (states : Assignment D) (s : View D) (peak : ℕ)
-      → IsPending o code n states peak → insn_at code n ≡ Some i
+      → IsPending len o code n states peak → insn_at code n ≡ Some i
       → AllDue code (n + slots_of i) (flow o (put states n None) (n + slots_of i) (fall o i s))
   fallen_due code n i states s peak w at =
       due_flow o code (n + slots_of i) (put states n None) (n + slots_of i) (fall o i s)
       (due_taken code n i states at w.due (inside code n states peak w)) (λ u e. (omega arith, inl refl))
 
   pub jumped_due : (code : List Insn) (n : ℕ) (i : Insn) (states : Assignment D) (s : View D) (peak : ℕ)
-      → IsPending o code n states peak → insn_at code n ≡ Some i
+      → IsPending len o code n states peak → insn_at code n ≡ Some i
       → AllDue code (n + slots_of i)
       (flow_edge o (flow o (put states n None) (n + slots_of i) (fall o i s)) (leads_to n i) (jump o i s))
   jumped_due code n i states s peak w at =
@@ -346,7 +346,7 @@ module _ {D : Type 0} {o : Ops D} (laws : Laws o) where
 
   -- so few are held then
   pub fallen_few : (code : List Insn) (n : ℕ) (i : Insn) (states : Assignment D) (s : View D) (old : ℕ)
-      (p : Pending D) → IsPending o code n states old → insn_at code n ≡ Some i
+      (p : Pending D) → IsPending len o code n states old → insn_at code n ≡ Some i
       → held p ≡ flow o (put states n None) (n + slots_of i) (fall o i s) → room p ≡ slot_count code
       → size p ≤ 1 + widest code
   fallen_few code n i states s old p w at is_held is_room =
@@ -355,7 +355,7 @@ module _ {D : Type 0} {o : Ops D} (laws : Laws o) where
       (few_due code n i below at (fallen_due code n i states s old w at))
 
   pub jumped_few : (code : List Insn) (n : ℕ) (i : Insn) (states : Assignment D) (s : View D) (old : ℕ)
-      (p : Pending D) → IsPending o code n states old → insn_at code n ≡ Some i
+      (p : Pending D) → IsPending len o code n states old → insn_at code n ≡ Some i
       → held p ≡ flow_edge o (flow o (put states n None) (n + slots_of i) (fall o i s)) (leads_to n i) (jump o i s)
       → room p ≡ slot_count code → size p ≤ 1 + widest code
   jumped_few code n i states s old p w at is_held is_room =
@@ -365,12 +365,12 @@ module _ {D : Type 0} {o : Ops D} (laws : Laws o) where
 
   -- an instruction that passes: its state is taken, and what comes of it waits
   pub waits_passed : (code : List Insn) (n : ℕ) (i : Insn) (states : Assignment D) (s : View D) (old peak : ℕ)
-      → IsCode code → IsStructured code → IsPending o code n states old → insn_at code n ≡ Some i → states n ≡ Some s
-      → Passes o i s
+      → IsCode code → IsStructured code → IsPending len o code n states old → insn_at code n ≡ Some i → states n ≡ Some s
+      → PassesFor len o i s
       → peak ≡ max old (count_held
       (flow_edge o (flow o (put states n None) (n + slots_of i) (fall o i s)) (leads_to n i) (jump o i s))
       (slot_count code))
-      → IsPending o code (n + slots_of i)
+      → IsPending len o code (n + slots_of i)
       (flow_edge o (flow o (put states n None) (n + slots_of i) (fall o i s)) (leads_to n i) (jump o i s)) peak
   waits_passed code n i states s old peak is_code structured w at is p counted =
       let some = some_slots i in
@@ -381,12 +381,12 @@ module _ {D : Type 0} {o : Ops D} (laws : Laws o) where
       let after = flow_edge o whole_fallen (leads_to n i) (jump o i s) in
       let here : w.whole n ≡ Some s = sym (w.same n (omega arith)) ∙ is in
       let due = jumped_due code n i states s old w at in
-      let before : (k : ℕ) → k < n + 1 → after k ≡ w.whole k = passed_same laws n i w.whole s in
+      let before : (k : ℕ) → k < n + 1 → after k ≡ w.whole k = passed_same laws len n i w.whole s in
       let sent = sent_passed o code n i s states w.whole after at here before w.sent in
       record {
         whole = after;
-        least = over_insn laws code n i after at
-            (passed laws code n i w.whole s is_code structured w.least at here p);
+        least = over_insn laws len code n i after at
+            (passed laws len code n i w.whole s is_code structured w.least at here p);
         same = same_edge o next fallen whole_fallen (leads_to n i) (jump o i s)
             (same_flow o next (put states n None) w.whole next (fall o i s)
             (same_taken n next states w.whole (omega arith) w.same) (omega arith)) (jump_past n i);
@@ -398,8 +398,8 @@ module _ {D : Type 0} {o : Ops D} (laws : Laws o) where
 
   -- a refusal of what waits is one of the least assignment
   pub waits_refused : (code : List Insn) (n : ℕ) (i : Insn) (states : Assignment D) (s : View D) (peak : ℕ)
-      (rule : Rule) → IsStructured code → IsPending o code n states peak → insn_at code n ≡ Some i
-      → states n ≡ Some s → FailsFirst o i s rule → FailsLeast o code n rule
+      (rule : Rule) → IsStructured code → IsPending len o code n states peak → insn_at code n ≡ Some i
+      → states n ≡ Some s → FailsFirstFor len o i s rule → FailsLeastFor len o code n rule
   waits_refused code n i states s peak rule structured w at is f = record {
     structured = structured;
     states = w.whole;
@@ -412,12 +412,12 @@ module _ {D : Type 0} {o : Ops D} (laws : Laws o) where
   }
 
   -- and the peak so far is that of the pass
-  pub waits_peak : (code : List Insn) (n : ℕ) (states : Assignment D) (peak : ℕ) → IsPending o code n states peak
-      → IsPeak o code n peak
+  pub waits_peak : (code : List Insn) (n : ℕ) (states : Assignment D) (peak : ℕ) → IsPending len o code n states peak
+      → IsPeakFor len o code n peak
   waits_peak code n states peak w = record { states = w.whole; least = w.least; is = w.peaked }
 
   -- no more is held than the peak
-  pub waits_size : (code : List Insn) (n : ℕ) (states : Assignment D) (peak : ℕ) → IsPending o code n states peak
+  pub waits_size : (code : List Insn) (n : ℕ) (states : Assignment D) (peak : ℕ) → IsPending len o code n states peak
       → count_held states (slot_count code) ≤ peak
   waits_size code n states peak w =
       let c : count_held states (slot_count code) ≡ held_at o code w.whole n =

@@ -6,7 +6,7 @@ use Rattle.abstract_value.specs.Domain.{Ops}
 use Rattle.abstract_value.specs.States.{View, ViewBelow, entry}
 use Rattle.verifier.specs.declared.rule.Rule.{Rule}
 use Rattle.verifier.specs.Structure.{leads_to, IsStructured}
-use Rattle.verifier.specs.Rules.{PassesFor, FailsFirst, fall, jump}
+use Rattle.verifier.specs.Rules.{PassesFor, FailsFirstFor, fall, jump}
 
 -- a state for each instruction, by its first slot, or none
 abbrev pub Assignment : Type 0 → Type 0
@@ -37,6 +37,24 @@ pub record FulfilsBeforeFor {D : Type 0} (len : ℕ) (o : Ops D) (code : List In
 abbrev pub IsTypableFor : {D : Type 0} → ℕ → Ops D → List Insn → Type 0
 IsTypableFor {D} len o code = (states : Assignment D) × FulfilsBeforeFor len o code (slot_count code) states
 
+-- the least assignment that fulfils the rules before a slot
+pub record IsLeastFor {D : Type 0} (len : ℕ) (o : Ops D) (code : List Insn) (end : ℕ) (states : Assignment D)
+    : Type 0 where
+  pub fulfils : FulfilsBeforeFor len o code end states
+  pub least : (others : Assignment D) → FulfilsBeforeFor len o code end others → (slot : ℕ) (s : View D)
+      → states slot ≡ Some s → Carries o others slot s
+
+-- the rules can be fulfilled before the slot, and in the least state there this rule is the first that fails
+pub record FailsLeastFor {D : Type 0} (len : ℕ) (o : Ops D) (code : List Insn) (slot : ℕ) (rule : Rule) : Type 0 where
+  pub structured : IsStructured code
+  pub states : Assignment D
+  pub least : IsLeastFor len o code slot states
+  pub insn : Insn
+  pub is_at : insn_at code slot ≡ Some insn
+  pub state : View D
+  pub is_state : states slot ≡ Some state
+  pub fails : FailsFirstFor len o insn state rule
+
 -- the same for the record of a clash
 abbrev pub FulfilsBefore : {D : Type 0} → Ops D → List Insn → ℕ → Assignment D → Type 0
 FulfilsBefore = FulfilsBeforeFor record_len
@@ -44,19 +62,8 @@ FulfilsBefore = FulfilsBeforeFor record_len
 abbrev pub IsTypable : {D : Type 0} → Ops D → List Insn → Type 0
 IsTypable = IsTypableFor record_len
 
--- the least assignment that fulfils the rules before a slot
-pub record IsLeast {D : Type 0} (o : Ops D) (code : List Insn) (end : ℕ) (states : Assignment D) : Type 0 where
-  pub fulfils : FulfilsBefore o code end states
-  pub least : (others : Assignment D) → FulfilsBefore o code end others → (slot : ℕ) (s : View D) → states slot ≡ Some s
-      → Carries o others slot s
+abbrev pub IsLeast : {D : Type 0} → Ops D → List Insn → ℕ → Assignment D → Type 0
+IsLeast = IsLeastFor record_len
 
--- the rules can be fulfilled before the slot, and in the least state there this rule is the first that fails
-pub record FailsLeast {D : Type 0} (o : Ops D) (code : List Insn) (slot : ℕ) (rule : Rule) : Type 0 where
-  pub structured : IsStructured code
-  pub states : Assignment D
-  pub least : IsLeast o code slot states
-  pub insn : Insn
-  pub is_at : insn_at code slot ≡ Some insn
-  pub state : View D
-  pub is_state : states slot ≡ Some state
-  pub fails : FailsFirst o insn state rule
+abbrev pub FailsLeast : {D : Type 0} → Ops D → List Insn → ℕ → Rule → Type 0
+FailsLeast = FailsLeastFor record_len

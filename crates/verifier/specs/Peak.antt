@@ -1,7 +1,7 @@
 -- The greatest number of states that a pass holds at once. A slot's state is held from the moment that an earlier slot
 -- sends it one until the slot is visited.
 use Rattle.std.specs.Prelude.{◌≡◌, ℕ, zero, suc, ◌+◌, Bool, false, ◌&&◌, ◌||◌, ◌==◌, nat_le, Option, Some, is_some, List}
-use Rattle.instruction_set.specs.Machine.{slots_of, insn_at, slot_count}
+use Rattle.instruction_set.specs.Machine.{slots_of, insn_at, slot_count, record_len}
 use Rattle.instruction_set.specs.declared.insn.Insn.{Insn}
 use Rattle.abstract_value.specs.Counts.{count_below}
 use Rattle.abstract_value.specs.Domain.{Ops}
@@ -10,7 +10,7 @@ use Rattle.verifier.specs.declared.refusal.VerifyFault.{VerifyFault}
 use Rattle.verifier.specs.declared.refusal.VerifyFault.TheVariants.{Refused, OutOfMemory}
 use Rattle.verifier.specs.Structure.{leads_to, IsStructured}
 use Rattle.verifier.specs.Rules.{fall, jump}
-use Rattle.verifier.specs.Assignments.{Assignment, IsLeast}
+use Rattle.verifier.specs.Assignments.{Assignment, IsLeastFor}
 use Rattle.verifier.specs.Width.{most_below, is_slot}
 
 -- whether the instruction at a slot, in its state, sends a state to another slot: to its jump's target, or to the next
@@ -34,18 +34,26 @@ held_at o code states n = count_below (λ to. nat_le n to && has_state o code st
 abbrev pub most_held : {D : Type 0} → Ops D → List Insn → Assignment D → ℕ → ℕ
 most_held o code states slot = most_below (held_at o code states) (slot + 1)
 
--- the peak of a pass that stops at a slot: each state is that of the least assignment before this slot
-pub record IsPeak {D : Type 0} (o : Ops D) (code : List Insn) (slot peak : ℕ) : Type 0 where
+-- the peak of a pass that stops at a slot, for records of len bytes: each state is that of the least assignment before
+-- this slot
+pub record IsPeakFor {D : Type 0} (len : ℕ) (o : Ops D) (code : List Insn) (slot peak : ℕ) : Type 0 where
   pub states : Assignment D
-  pub least : IsLeast o code slot states
+  pub least : IsLeastFor len o code slot states
   pub is : peak ≡ most_held o code states slot
 
 -- the peak of refused code: that of the pass up to the refused slot, or 0 where a rule of structure fails and there is
 -- no pass
-pub record IsPeakOfRefused {D : Type 0} (o : Ops D) (code : List Insn) (slot peak : ℕ) : Type 0 where
-  pub structured : IsStructured code → IsPeak o code slot peak
+pub record IsPeakOfRefusedFor {D : Type 0} (len : ℕ) (o : Ops D) (code : List Insn) (slot peak : ℕ) : Type 0 where
+  pub structured : IsStructured code → IsPeakFor len o code slot peak
   pub unstructured : (IsStructured code → ⊥) → peak ≡ 0
 
+abbrev pub IsPeakAtFaultFor : {D : Type 0} → ℕ → Ops D → List Insn → ℕ → VerifyFault → Type 0
+IsPeakAtFaultFor len o code peak (Refused r) = IsPeakOfRefusedFor len o code r.slot peak
+IsPeakAtFaultFor len o code peak OutOfMemory = Unit {0}
+
+-- the same for the record of a clash
+abbrev pub IsPeak : {D : Type 0} → Ops D → List Insn → ℕ → ℕ → Type 0
+IsPeak = IsPeakFor record_len
+
 abbrev pub IsPeakAtFault : {D : Type 0} → Ops D → List Insn → ℕ → VerifyFault → Type 0
-IsPeakAtFault o code peak (Refused r) = IsPeakOfRefused o code r.slot peak
-IsPeakAtFault o code peak OutOfMemory = Unit {0}
+IsPeakAtFault = IsPeakAtFaultFor record_len

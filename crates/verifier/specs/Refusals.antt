@@ -3,6 +3,7 @@ use Rattle.std.specs.Prelude.{ℕ, ◌+◌, List, Option, Some, None}
 use Rattle.numbered.specs.Answers.{out_of_memory}
 use Rattle.numbered.specs.declared.Place.{Place}
 use Rattle.numbered.specs.declared.Place.TheVariants.{Slot}
+use Rattle.instruction_set.specs.Machine.{record_len}
 use Rattle.instruction_set.specs.declared.insn.Insn.{Insn}
 use Rattle.abstract_value.specs.Domain.{Ops}
 use Rattle.verifier.specs.declared.rule.Rule.{Rule}
@@ -10,26 +11,38 @@ use Rattle.verifier.specs.declared.rule.Rule.TheVariants.{Backward, Outside, Int
 use Rattle.verifier.specs.declared.refusal.VerifyFault.{VerifyFault}
 use Rattle.verifier.specs.declared.refusal.VerifyFault.TheVariants.{Refused, OutOfMemory}
 use Rattle.verifier.specs.Structure.{rule_number, IsIllStructured}
-use Rattle.verifier.specs.Assignments.{Assignment, FulfilsBefore, FailsLeast}
+use Rattle.verifier.specs.Assignments.{Assignment, FulfilsBeforeFor, FailsLeastFor}
 
--- a rule is the first that fails in the least state at a slot, and no assignment fulfils the rules up to there
-pub record IsUnfulfilled {D : Type 0} (o : Ops D) (code : List Insn) (slot : ℕ) (rule : Rule) : Type 0 where
-  pub fails : FailsLeast o code slot rule
-  pub unfulfilled : (states : Assignment D) → FulfilsBefore o code (slot + 1) states → ⊥
+-- a rule is the first that fails in the least state at a slot, and no assignment fulfils the rules up to there, for
+-- records of len bytes
+pub record IsUnfulfilledFor {D : Type 0} (len : ℕ) (o : Ops D) (code : List Insn) (slot : ℕ) (rule : Rule)
+    : Type 0 where
+  pub fails : FailsLeastFor len o code slot rule
+  pub unfulfilled : (states : Assignment D) → FulfilsBeforeFor len o code (slot + 1) states → ⊥
 
 -- a rule of structure fails there first, or one of the others does in the least state
-abbrev pub IsRefusedAt : {D : Type 0} → Ops D → List Insn → ℕ → Rule → Type 0
-IsRefusedAt o code slot Backward = IsIllStructured code slot Backward
-IsRefusedAt o code slot Outside = IsIllStructured code slot Outside
-IsRefusedAt o code slot IntoWide = IsIllStructured code slot IntoWide
-IsRefusedAt o code slot FallsOff = IsIllStructured code slot FallsOff
-IsRefusedAt o code slot NoEdge = IsIllStructured code slot NoEdge
-IsRefusedAt o code slot rule = IsUnfulfilled o code slot rule
+abbrev pub IsRefusedAtFor : {D : Type 0} → ℕ → Ops D → List Insn → ℕ → Rule → Type 0
+IsRefusedAtFor len o code slot Backward = IsIllStructured code slot Backward
+IsRefusedAtFor len o code slot Outside = IsIllStructured code slot Outside
+IsRefusedAtFor len o code slot IntoWide = IsIllStructured code slot IntoWide
+IsRefusedAtFor len o code slot FallsOff = IsIllStructured code slot FallsOff
+IsRefusedAtFor len o code slot NoEdge = IsIllStructured code slot NoEdge
+IsRefusedAtFor len o code slot rule = IsUnfulfilledFor len o code slot rule
 
 -- the code has this fault; running out of memory is no fault of the code
+abbrev pub IsRefusedFor : {D : Type 0} → ℕ → Ops D → List Insn → VerifyFault → Type 0
+IsRefusedFor len o code (Refused r) = IsRefusedAtFor len o code r.slot r.rule
+IsRefusedFor len o code OutOfMemory = ⊥
+
+-- the same for the record of a clash
+abbrev pub IsUnfulfilled : {D : Type 0} → Ops D → List Insn → ℕ → Rule → Type 0
+IsUnfulfilled = IsUnfulfilledFor record_len
+
+abbrev pub IsRefusedAt : {D : Type 0} → Ops D → List Insn → ℕ → Rule → Type 0
+IsRefusedAt = IsRefusedAtFor record_len
+
 abbrev pub IsRefused : {D : Type 0} → Ops D → List Insn → VerifyFault → Type 0
-IsRefused o code (Refused r) = IsRefusedAt o code r.slot r.rule
-IsRefused o code OutOfMemory = ⊥
+IsRefused = IsRefusedFor record_len
 
 -- ---- the numbers and the places of refusals
 

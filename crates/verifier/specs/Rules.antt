@@ -268,6 +268,11 @@ meets_for len o i s _ = true
 abbrev pub PassesFor : {D : Type 0} → ℕ → Ops D → Insn → View D → Type 0
 PassesFor len o i s = (rule : Rule) → IsTrue (meets_for len o i s rule)
 
+-- a rule is the first that it fails, for records of len bytes
+pub record FailsFirstFor {D : Type 0} (len : ℕ) (o : Ops D) (i : Insn) (s : View D) (rule : Rule) : Type 0 where
+  pub fails : meets_for len o i s rule ≡ false
+  pub first : (other : Rule) → rule_number other < rule_number rule → IsTrue (meets_for len o i s other)
+
 -- the same for the record of a clash
 abbrev pub meets : {D : Type 0} → Ops D → Insn → View D → Rule → Bool
 meets = meets_for record_len
@@ -275,10 +280,8 @@ meets = meets_for record_len
 abbrev pub Passes : {D : Type 0} → Ops D → Insn → View D → Type 0
 Passes = PassesFor record_len
 
--- a rule is the first that it fails
-pub record FailsFirst {D : Type 0} (o : Ops D) (i : Insn) (s : View D) (rule : Rule) : Type 0 where
-  pub fails : meets o i s rule ≡ false
-  pub first : (other : Rule) → rule_number other < rule_number rule → IsTrue (meets o i s other)
+abbrev pub FailsFirst : {D : Type 0} → Ops D → Insn → View D → Rule → Type 0
+FailsFirst = FailsFirstFor record_len
 
 -- ---- what is carried on
 

@@ -2,7 +2,7 @@
 ghost use Rattle.std.specs.Prelude.{◌≡◌, MatchOption};
 ghost use Rattle.std.specs.List.{list_all};
 ghost use Rattle.abstract_value.specs.States.{view};
-ghost use Rattle.verifier.specs.Rules.{is_readable, source_reads, reads, writes, is_r10, pointers_fit, meets_operation, operation_in_range, meets_range, meets_comparison, meets_stored, meets_result, Passes, FailsFirst};
+ghost use Rattle.verifier.specs.Rules.{is_readable, source_reads, reads, writes, is_r10, pointers_fit, meets_operation, operation_in_range, meets_range, meets_comparison, meets_stored, meets_result, PassesFor, FailsFirstFor};
 ghost use Rattle.verifier.specs.model.Accesses.{InsnAccessPasses, InsnAccessFails};
 
 use crate::kinds::{destination, is_pointer, is_readable, operand};
@@ -151,18 +151,18 @@ fn meets_result<D: Domain>(insn: Insn, state: &State<D>) -> bool
 }
 
 // Returns the first of the rules 21 to 25 that the access of an instruction fails.
-fn check_access<D: Domain>(insn: Insn, state: &State<D>) -> Option<Rule>
-    ensures { MatchOption result (InsnAccessPasses insn (view state.now))
-        (λ rule. InsnAccessFails insn (view state.now) rule) }
+fn check_access<D: Domain>(insn: Insn, state: &State<D>, context_len: u16) -> Option<Rule>
+    ensures { MatchOption result (InsnAccessPasses context_len insn (view state.now))
+        (λ rule. InsnAccessFails context_len insn (view state.now) rule) }
 {
     let access = access_of(&insn)?;
-    access.check(&state.register(access.base), state.stack())
+    access.check(&state.register(access.base), state.stack(), context_len)
 }
 
-/// Returns the first of the rules 15 to 26 that an instruction fails in a state.
-pub(crate) fn check<D: Domain>(insn: Insn, state: &State<D>) -> Option<Rule>
-    ensures { MatchOption result (Passes D.ops insn (view state.now))
-        (λ rule. FailsFirst D.ops insn (view state.now) rule) }
+/// Returns the first of the rules 15 to 26 that an instruction fails in a state, for contexts of this length.
+pub(crate) fn check<D: Domain>(insn: Insn, state: &State<D>, context_len: u16) -> Option<Rule>
+    ensures { MatchOption result (PassesFor context_len D.ops insn (view state.now))
+        (λ rule. FailsFirstFor context_len D.ops insn (view state.now) rule) }
 {
     if !meets_reads(insn, state) {
         return Some(Rule::Unreadable);
@@ -182,7 +182,7 @@ pub(crate) fn check<D: Domain>(insn: Insn, state: &State<D>) -> Option<Rule>
     if !meets_stored(insn, state) {
         return Some(Rule::PointerStored);
     }
-    if let Some(rule) = check_access(insn, state) {
+    if let Some(rule) = check_access(insn, state, context_len) {
         return Some(rule);
     }
     if !meets_result(insn, state) {

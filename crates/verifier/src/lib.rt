@@ -15,10 +15,12 @@ mod verified;
 mod verify_code;
 mod wider;
 
-pub use before::state_before;
+pub use before::{state_before, state_before_for};
 pub use longer_records::{SHORTER_RECORD_LEN, longer_record_theorem};
 pub use refusal::{Refusal, VerifyFault};
 pub use rule::Rule;
-pub use verified::Verified;
-pub use verify_code::{one_verdict_theorem, verify, verify_peak};
+pub use verified::{Verified, VerifiedFor};
+pub use verify_code::{
+    one_verdict_for_theorem, one_verdict_theorem, verify, verify_for, verify_peak, verify_peak_for,
+};
 pub use wider::wider_theorem;

@@ -1,6 +1,6 @@
 //! Accesses to memory, and the rules 21 to 25.
 ghost use Rattle.std.specs.Prelude.{◌≡◌, ◌≤◌, ◌+ℤ◌, ◌-ℤ◌, ◌+◌, pos, IsTrue, MatchOption};
-ghost use Rattle.instruction_set.specs.Machine.{bytes_of, record_len};
+ghost use Rattle.instruction_set.specs.Machine.{bytes_of};
 ghost use Rattle.abstract_value.specs.StackBytes.{is_written};
 ghost use Rattle.verifier.specs.Rules.{whole, access_of, reach_of, is_inside, in_stack, stack_index, inside_record, spares_record, inside_stack, finds_written};
 ghost use Rattle.verifier.specs.model.Accesses.{as_access, as_accesses, AccessPasses, AccessFails};
@@ -8,7 +8,7 @@ ghost use Rattle.verifier.specs.model.Accesses.{as_access, as_accesses, AccessPa
 use crate::kinds::is_scalar;
 use crate::rule::Rule;
 use abstract_value::{RegState, Span, StackState};
-use instruction_set::{Insn, RECORD_LEN, Register, STACK_LEN, Size};
+use instruction_set::{Insn, Register, STACK_LEN, Size};
 
 /// An access to memory: the register of its address, the offset, and the size.
 #[derive(Clone, Copy)]
@@ -103,11 +103,11 @@ impl Access {
         first <= start && stop <= end
     }
 
-    fn is_inside_record<D>(&self, base: &RegState<D>) -> bool
-        ensures { result ≡ inside_record record_len base.now (as_access self.now) }
+    fn is_inside_record<D>(&self, base: &RegState<D>, context_len: u16) -> bool
+        ensures { result ≡ inside_record context_len base.now (as_access self.now) }
     {
         match base {
-            RegState::Record(span) => self.is_within(*span, 0, RECORD_LEN as i32),
+            RegState::Record(span) => self.is_within(*span, 0, context_len as i32),
             _ => true,
         }
     }
@@ -144,11 +144,16 @@ impl Access {
     }
 
     /// Returns the first of the rules 21 to 25 that it fails, through a register in this state.
-    pub(crate) fn check<D>(&self, base: &RegState<D>, stack: &StackState) -> Option<Rule>
-        ensures { MatchOption result (AccessPasses (is_written stack.now) base.now (as_access self.now))
-            (λ rule. AccessFails (is_written stack.now) base.now (as_access self.now) rule) }
+    pub(crate) fn check<D>(
+        &self,
+        base: &RegState<D>,
+        stack: &StackState,
+        context_len: u16,
+    ) -> Option<Rule>
+        ensures { MatchOption result (AccessPasses context_len (is_written stack.now) base.now (as_access self.now))
+            (λ rule. AccessFails context_len (is_written stack.now) base.now (as_access self.now) rule) }
     {
-        if !self.is_inside_record(base) {
+        if !self.is_inside_record(base, context_len) {
             Some(Rule::OutsideRecord)
         } else if !self.spares_record(base) {
             Some(Rule::WritesRecord)

@@ -4,7 +4,7 @@ ghost use Rattle.instruction_set.specs.Operations.{low, IsMovSxBits, IsEndBits};
 ghost use Rattle.instruction_set.specs.Slots.{IsSelected};
 ghost use Rattle.std.specs.Int.{w64, cast_unsigned};
 ghost use Rattle.abstract_value.specs.States.{view};
-ghost use Rattle.verifier.specs.Rules.{in_stack, reach_of, of_scalar, of_scalars, result_of, after_store, on_edge, Passes, fall, jump, writes};
+ghost use Rattle.verifier.specs.Rules.{in_stack, reach_of, of_scalar, of_scalars, result_of, after_store, on_edge, of_access, inside_stack, fall, jump, writes};
 ghost use Rattle.verifier.specs.model.Flow.{if_live};
 ghost use Rattle.verifier.specs.model.Values.{value_of, with_value};
 ghost use Rattle.abstract_value.specs.declared.states.Span.{Span};
@@ -164,7 +164,7 @@ fn write_destination<D: Domain>(insn: Insn, state: &mut State<D>) -> bool
 /// Turns a state into the one of the next instruction. Returns false if none follows.
 pub(crate) fn fall<D: Domain>(insn: Insn, state: &mut State<D>) -> bool
     requires selected { IsSelected insn }
-    requires passes { Passes D.ops insn (view state.old) }
+    requires inside { IsTrue (of_access insn (view state.old) inside_stack) }
     ensures { if_live result (view state.new) ≡ fall D.ops insn (view state.old) }
 {
     // For the proof: its numbers have the widths of their fields.

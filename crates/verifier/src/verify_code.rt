@@ -1,20 +1,21 @@
 //! One forward pass over code.
-ghost use Rattle.std.specs.Prelude.{◌≡◌, ℕ, ◌<◌, ◌≤◌, ◌+◌, max, List, Some, None, IfOk, IfErr, IfSome, OnOk, OnErr, MatchOption};
+ghost use Rattle.std.specs.Prelude.{◌≡◌, ℕ, ◌<◌, ◌≤◌, ◌+◌, max, IsTrue, List, Some, None, IfOk, IfErr, IfSome, OnOk, OnErr, MatchOption};
 ghost use Rattle.std.specs.Option.{option_map};
 ghost use Rattle.instruction_set.specs.declared.insn.Insn.{Insn};
 ghost use Rattle.instruction_set.specs.Machine.{insn_at, slot_count, slots_of};
 ghost use Rattle.instruction_set.specs.Slots.{IsSelected};
 ghost use Rattle.abstract_value.specs.States.{View, view};
 ghost use Rattle.abstract_value.specs.Pending.{boxed_view, held, room, size, peak_of, nothing};
+ghost use Rattle.verifier.specs.Stores.{code_for};
 ghost use Rattle.verifier.specs.Structure.{IsStructured};
-ghost use Rattle.verifier.specs.Rules.{Passes, fall, jump};
-ghost use Rattle.verifier.specs.Assignments.{FailsLeast, IsTypable};
+ghost use Rattle.verifier.specs.Rules.{of_access, inside_stack, fall, jump};
+ghost use Rattle.verifier.specs.Assignments.{FailsLeastFor, IsTypable, IsTypableFor};
 ghost use Rattle.verifier.specs.Width.{widest};
-ghost use Rattle.verifier.specs.Peak.{IsPeak, IsPeakAtFault};
+ghost use Rattle.verifier.specs.Peak.{IsPeak, IsPeakFor, IsPeakAtFault, IsPeakAtFaultFor};
 ghost use Rattle.verifier.specs.model.Flow.{flow, flow_edge};
 ghost use Rattle.verifier.specs.model.Pending.{IsPending};
 ghost use Rattle.numbered.specs.Answers.{HasCause};
-ghost use Rattle.verifier.specs.Refusals.{verify_fault_number, IsUnfulfilled, IsRefused, IsRefusedAt};
+ghost use Rattle.verifier.specs.Refusals.{verify_fault_number, IsUnfulfilledFor, IsRefused, IsRefusedFor, IsRefusedAt, IsRefusedAtFor};
 ghost use Rattle.verifier.specs.declared.refusal.Refusal.{Refusal};
 
 use crate::checks::check;
@@ -22,9 +23,9 @@ use crate::refusal::{Refusal, VerifyFault};
 use crate::rule::Rule;
 use crate::structure::{check_structure, leads_to};
 use crate::transfer::{fall, jump};
-use crate::verified::Verified;
+use crate::verified::{Verified, VerifiedFor};
 use abstract_value::{Domain, Pending, State};
-use instruction_set::{Code, Insn};
+use instruction_set::{Code, Insn, RECORD_LEN};
 use std::alloc::{AllocError, Global};
 
 // Returns a copy of the state that follows a jump, if any.
@@ -46,7 +47,7 @@ fn jumping<D: Domain>(insn: Insn, state: &State<D>) -> Option<State<D>>
 // Turns the state into the one of the next instruction, if any.
 fn falling<D: Domain>(insn: Insn, state: Box<State<D>>) -> Option<Box<State<D>>>
     requires selected { IsSelected insn }
-    requires passes { Passes D.ops insn (view state.value) }
+    requires inside { IsTrue (of_access insn (view state.value) inside_stack) }
     ensures { boxed_view result ≡ fall D.ops insn (view state.value) }
 {
     let mut state = state;
@@ -120,6 +121,7 @@ fn carry_over<D: Domain>(
 pub(crate) fn visit<D: Domain>(
     alloc: Global,
     code: &Code,
+    context_len: u16,
     at: usize,
     insn: Insn,
     pending: &mut Pending<D>,
@@ -128,11 +130,12 @@ pub(crate) fn visit<D: Domain>(
     requires is_at { insn_at code.now at ≡ Some insn }
     requires structured { IsStructured code.now }
     requires room { room pending.old ≡ slot_count code.now }
-    requires least { IsPending D.ops code.now at (held pending.old) (peak_of pending.old) }
+    requires least { IsPending context_len D.ops code.now at (held pending.old) (peak_of pending.old) }
     ensures least { IfOk result (λ failed. MatchOption failed
-        (IsPending D.ops code.now (at + slots_of insn) (held pending.new) (peak_of pending.new))
-        (λ rule. FailsLeast D.ops code.now at rule)) }
-    ensures stops { IfOk result (λ failed. IfSome failed (λ _. IsPeak D.ops code.now at (peak_of pending.new))) }
+        (IsPending context_len D.ops code.now (at + slots_of insn) (held pending.new) (peak_of pending.new))
+        (λ rule. FailsLeastFor context_len D.ops code.now at rule)) }
+    ensures stops { IfOk result (λ failed. IfSome failed
+        (λ _. IsPeakFor context_len D.ops code.now at (peak_of pending.new))) }
     ensures room { room pending.new ≡ room pending.old }
     ensures kept { peak_of pending.old ≤ peak_of pending.new }
     ensures peak { peak_of pending.new ≤ max (peak_of pending.old) (1 + widest code.now) }
@@ -143,7 +146,7 @@ pub(crate) fn visit<D: Domain>(
         Some(state) => state,
         None => return Ok(None),
     };
-    if let Some(rule) = check(insn, &state) {
+    if let Some(rule) = check(insn, &state, context_len) {
         return Ok(Some(rule));
     }
     let jumping = jumping(insn, &state);
@@ -156,6 +159,7 @@ pub(crate) fn visit<D: Domain>(
 fn pass<D: Domain>(
     alloc: Global,
     code: &Code,
+    context_len: u16,
     pending: &mut Pending<D>,
 ) -> Result<Option<Refusal>, AllocError>
     requires structured { IsStructured code.now }
@@ -163,10 +167,11 @@ fn pass<D: Domain>(
     requires none { held pending.old ≡ nothing }
     requires peak { peak_of pending.old ≡ 0 }
     ensures answer { IfOk result (λ refusal. MatchOption refusal
-        (IsTypable D.ops code.now) (λ r. IsUnfulfilled D.ops code.now r.slot r.rule)) }
+        (IsTypableFor context_len D.ops code.now)
+        (λ r. IsUnfulfilledFor context_len D.ops code.now r.slot r.rule)) }
     ensures exact { IfOk result (λ refusal. MatchOption refusal
-        (IsPeak D.ops code.now (slot_count code.now) (peak_of pending.new))
-        (λ r. IsPeak D.ops code.now r.slot (peak_of pending.new))) }
+        (IsPeakFor context_len D.ops code.now (slot_count code.now) (peak_of pending.new))
+        (λ r. IsPeakFor context_len D.ops code.now r.slot (peak_of pending.new))) }
     ensures some { OnOk result (1 ≤ peak_of pending.new) }
     ensures peak { peak_of pending.new ≤ 1 + widest code.now }
 {
@@ -176,7 +181,7 @@ fn pass<D: Domain>(
     let insns = code.insns();
     let mut at = 0;
     for &insn in insns {
-        if let Some(rule) = visit(alloc, code, at, insn, pending)? {
+        if let Some(rule) = visit(alloc, code, context_len, at, insn, pending)? {
             return Ok(Some(Refusal {
                 slot: at as u32,
                 rule,
@@ -185,6 +190,63 @@ fn pass<D: Domain>(
         at += insn.slots();
     }
     Ok(None)
+}
+
+/// Verifies code like `verify_for`, and also returns the peak number of states.
+pub fn verify_peak_for<D: Domain>(
+    alloc: Global,
+    code: Code,
+    context_len: u16,
+) -> (Result<VerifiedFor, VerifyFault>, u32)
+    // The result is the code passed in, for contexts of this length. Its type states that it is safe.
+    ensures accepted { IfOk result.0 (λ verified. verified ≡ code_for code context_len) }
+    ensures structured { IfOk result.0 (λ _. IsStructured code) }
+    ensures typable { IfOk result.0 (λ _. IsTypableFor context_len D.ops code) }
+    // A refusal names the slot and the rule, and no assignment fulfils the rules up to there.
+    ensures refused { IfErr result.0 (HasCause verify_fault_number (IsRefusedFor context_len D.ops code)) }
+    // Accepted code needs at least one state; the peak is bounded by the code's width.
+    ensures held { IfOk result.0 (λ _. 1 ≤ result.1) }
+    ensures peak { result.1 ≤ 1 + widest code }
+    // The peak is that of the whole pass, or of the pass up to the refused slot.
+    ensures exact { IfOk result.0 (λ _. IsPeakFor context_len D.ops code (slot_count code) result.1) }
+    ensures exact_refused { IfErr result.0 (IsPeakAtFaultFor context_len D.ops code result.1) }
+{
+    if let Some(refusal) = check_structure(&code) {
+        return (Err(VerifyFault::Refused(refusal)), 0);
+    }
+    // For the proof: it has few slots, and its instructions are listed.
+    code.known();
+    let mut pending: Pending<D> = match Pending::new(alloc, code.slot_count()) {
+        Ok(pending) => pending,
+        Err(AllocError) => return (Err(VerifyFault::OutOfMemory), 0),
+    };
+    let answer = pass(alloc, &code, context_len, &mut pending);
+    let peak = pending.peak();
+    match answer {
+        Ok(None) => (Ok(VerifiedFor::new(code, context_len)), peak),
+        Ok(Some(refusal)) => (Err(VerifyFault::Refused(refusal)), peak),
+        Err(AllocError) => (Err(VerifyFault::OutOfMemory), peak),
+    }
+}
+
+/// Accepts code that is safe for contexts of this length, or returns the first slot that fails and the least rule that
+/// fails there.
+///
+/// Applies the rules of `verify` with the context in place of the record. A context of 0 bytes has no byte to load.
+/// Returns 90 when out of memory, and allocates like `verify`.
+pub fn verify_for<D: Domain>(
+    alloc: Global,
+    code: Code,
+    context_len: u16,
+) -> Result<VerifiedFor, VerifyFault>
+    // The result is the code passed in, for contexts of this length. Its type states that it is safe.
+    ensures accepted { IfOk result (λ verified. verified ≡ code_for code context_len) }
+    ensures structured { IfOk result (λ _. IsStructured code) }
+    ensures typable { IfOk result (λ _. IsTypableFor context_len D.ops code) }
+    // A refusal names the slot and the rule, and no assignment fulfils the rules up to there.
+    ensures refused { IfErr result (HasCause verify_fault_number (IsRefusedFor context_len D.ops code)) }
+{
+    verify_peak_for::<D>(alloc, code, context_len).0
 }
 
 /// Verifies code like `verify`, and also returns the peak number of states.
@@ -202,21 +264,10 @@ pub fn verify_peak<D: Domain>(alloc: Global, code: Code) -> (Result<Verified, Ve
     ensures exact { IfOk result.0 (λ _. IsPeak D.ops code (slot_count code) result.1) }
     ensures exact_refused { IfErr result.0 (IsPeakAtFault D.ops code result.1) }
 {
-    if let Some(refusal) = check_structure(&code) {
-        return (Err(VerifyFault::Refused(refusal)), 0);
-    }
-    // For the proof: it has few slots, and its instructions are listed.
-    code.known();
-    let mut pending: Pending<D> = match Pending::new(alloc, code.slot_count()) {
-        Ok(pending) => pending,
-        Err(AllocError) => return (Err(VerifyFault::OutOfMemory), 0),
-    };
-    let answer = pass(alloc, &code, &mut pending);
-    let peak = pending.peak();
+    let (answer, peak) = verify_peak_for::<D>(alloc, code, RECORD_LEN as u16);
     match answer {
-        Ok(None) => (Ok(Verified::new(code)), peak),
-        Ok(Some(refusal)) => (Err(VerifyFault::Refused(refusal)), peak),
-        Err(AllocError) => (Err(VerifyFault::OutOfMemory), peak),
+        Ok(verified) => (Ok(Verified::new(verified)), peak),
+        Err(fault) => (Err(fault), peak),
     }
 }
 
@@ -247,4 +298,17 @@ pub fn one_verdict_theorem<D: Domain>()
         → IsRefusedAt D.ops code b.slot b.rule → a ≡ b }
     // Two peaks up to one slot are equal, so `verify_peak` returns the only one.
     ensures one_peak { (code : List Insn) (slot m n : ℕ) → IsPeak D.ops code slot m → IsPeak D.ops code slot n → m ≡ n }
+{}
+
+/// States what `one_verdict_theorem` states, for contexts of each length. Does nothing at run time.
+pub fn one_verdict_for_theorem<D: Domain>()
+    // Code that fulfils the rules isn't refused, so `verify_for` accepts it unless memory runs out.
+    ensures either { (len : ℕ) (code : List Insn) (refusal : Refusal) → IsStructured code → IsTypableFor len D.ops code
+        → IsRefusedAtFor len D.ops code refusal.slot refusal.rule → ⊥ }
+    // Two refusals of code are equal, so `verify_for` returns the only one.
+    ensures one_refusal { (len : ℕ) (code : List Insn) (a b : Refusal) → IsRefusedAtFor len D.ops code a.slot a.rule
+        → IsRefusedAtFor len D.ops code b.slot b.rule → a ≡ b }
+    // Two peaks up to one slot are equal, so `verify_peak_for` returns the only one.
+    ensures one_peak { (len : ℕ) (code : List Insn) (slot m n : ℕ) → IsPeakFor len D.ops code slot m
+        → IsPeakFor len D.ops code slot n → m ≡ n }
 {}

@@ -3,7 +3,7 @@ use Rattle.std.specs.Prelude.{◌≡◌, ℕ, ◌≤◌, ◌⊎◌, IsTrue, Some
 use Rattle.instruction_set.specs.declared.insn.Insn.{Insn}
 use Rattle.abstract_value.specs.Domain.{Ops}
 use Rattle.abstract_value.specs.States.{View}
-use Rattle.verifier.specs.Assignments.{Assignment, IsLeast}
+use Rattle.verifier.specs.Assignments.{Assignment, IsLeastFor}
 use Rattle.verifier.specs.Peak.{has_state, most_held}
 use Rattle.verifier.specs.Width.{is_target}
 
@@ -12,11 +12,11 @@ abbrev pub IsDue : List Insn → ℕ → ℕ → Type 0
 IsDue code at slot = (at ≤ slot) × ((slot ≡ at) ⊎ IsTrue (is_target code at slot))
 
 -- the pending states are those of the least assignment from a slot on, at due slots only, each sent from a slot before;
--- with the peak of the pass so far
-pub record IsPending {D : Type 0} (o : Ops D) (code : List Insn) (at : ℕ) (states : Assignment D) (peak : ℕ)
+-- with the peak of the pass so far, for records of len bytes
+pub record IsPending {D : Type 0} (len : ℕ) (o : Ops D) (code : List Insn) (at : ℕ) (states : Assignment D) (peak : ℕ)
     : Type 0 where
   pub whole : Assignment D
-  pub least : IsLeast o code at whole
+  pub least : IsLeastFor len o code at whole
   pub same : (slot : ℕ) → at ≤ slot → states slot ≡ whole slot
   pub due : (slot : ℕ) (s : View D) → states slot ≡ Some s → IsDue code at slot
   pub sent : (slot : ℕ) → at ≤ slot → is_some (states slot) ≡ has_state o code whole at slot

@@ -5,7 +5,7 @@ use Rattle.instruction_set.specs.Machine.{slot_count, slots_of}
 use Rattle.instruction_set.specs.laws.Places.{insn_within}
 use Rattle.abstract_value.specs.Pending.{boxed_view, held, peak_of}
 use Rattle.verifier.specs.declared.rule.Rule.{Rule}
-use Rattle.verifier.specs.Before.{HasNoState, IsStateBefore}
+use Rattle.verifier.specs.Before.{HasNoStateFor, IsStateBeforeFor}
 use Rattle.verifier.specs.model.Pending.{IsPending}
 use Rattle.verifier.proofs.Places.{insn_here}
 use Rattle.verifier.proofs.StatesBefore.{IsAhead, after_failure, ahead_next, past_last, pending_state}
@@ -31,10 +31,10 @@ pub returns-then-at-slot : goal.returns-then-at-slot
 returns-then-at-slot g c =
     let o = g.D.Domain.ops in
     let code = c.args.code.now in
-    let found = pending_state g.met.D.Domain.laws code c.loop-insn.at (peak_of c.loop-insn.pending)
+    let found = pending_state g.met.D.Domain.laws c.args.context_len code c.loop-insn.at (peak_of c.loop-insn.pending)
     (held c.loop-insn.pending) (boxed_view c.take.result) c.requires.structured c.loop-insn.invariant.least
     c.take.ensures.state in
-    subst (λ slot. MatchOption (boxed_view c.take.result) (HasNoState o code slot) (IsStateBefore o code slot))
+    subst (λ slot. MatchOption (boxed_view c.take.result) (HasNoStateFor c.args.context_len o code slot) (IsStateBeforeFor c.args.context_len o code slot))
     c.if-at-slot.true found
 
 pub visit-requires-clause-place : goal.visit-requires-clause-place
@@ -51,7 +51,7 @@ visit-requires-clause-is_at g c =
 pub returns-then-is_some : goal.returns-then-is_some
 returns-then-is_some g c =
     failed c.in_ok-visit.field-0 _ _ _ (sym c.is_some.ensures ∙ c.if-is_some.true) c.in_ok-visit.ensures.least
-    (λ rule fails. after_failure g.met.D.Domain.laws c.args.code.now c.args.slot c.loop-insn.at rule fails
+    (λ rule fails. after_failure g.met.D.Domain.laws c.args.context_len c.args.code.now c.args.slot c.loop-insn.at rule fails
     c.if-at-slot.false c.loop-insn.invariant.ahead)
 
 pub loop-insn-preserved : goal.loop-insn-preserved
@@ -67,7 +67,7 @@ loop-insn-preserved g c =
     record {
       place = rw (c.slots.ensures, more, ← c.insn-item.is, c.loop-insn.invariant.place) refl;
       room = c.visit.ensures.room ∙ c.loop-insn.invariant.room;
-      least = subst (λ n. IsPending o code (c.loop-insn.at + n) (held c.visit.new.pending)
+      least = subst (λ n. IsPending c.args.context_len o code (c.loop-insn.at + n) (held c.visit.new.pending)
           (peak_of c.visit.new.pending)) (sym c.slots.ensures) after;
       ahead = subst (λ n. IsAhead code c.args.slot (c.loop-insn.at + n)) (sym c.slots.ensures)
           (ahead_next code c.args.slot c.loop-insn.at c.insn-item.result here c.if-at-slot.false
@@ -81,4 +81,4 @@ returns g c =
     take_all c.loop-insn.insn-index insns (omega (arith, c.loop-insn-test.false)) in
     let end : slot_count c.args.code.now ≤ c.loop-insn.at =
     rw (c.loop-insn.invariant.place, whole, c.insns-insns.ensures) (omega arith) in
-    past_last g.met.D.Domain.laws c.args.code.now c.args.slot c.loop-insn.at end c.loop-insn.invariant.ahead
+    past_last g.met.D.Domain.laws c.args.context_len c.args.code.now c.args.slot c.loop-insn.at end c.loop-insn.invariant.ahead

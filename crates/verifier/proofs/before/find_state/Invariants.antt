@@ -10,6 +10,6 @@ abbrev pub invariant-loop-insn : goal.invariant-loop-insn
 invariant-loop-insn g l = record {
   place : l.at ≡ slot_count (take l.insn-index l.insns);
   room : room l.pending ≡ slot_count l.code;
-  least : IsPending g.D.Domain.ops l.code l.at (held l.pending) (peak_of l.pending);
+  least : IsPending l.context_len g.D.Domain.ops l.code l.at (held l.pending) (peak_of l.pending);
   ahead : IsAhead l.code l.slot l.at;
 }

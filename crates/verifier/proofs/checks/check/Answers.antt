@@ -6,7 +6,7 @@ use Rattle.verifier.proofs.checks.check.Goals as goal
 
 pub returns : goal.returns
 returns g c =
-    passes_each g.D.Domain.ops c.args.insn (view c.args.state.now) (sym c.meets_reads.ensures
+    passes_each c.args.context_len g.D.Domain.ops c.args.insn (view c.args.state.now) (sym c.meets_reads.ensures
     ∙ c.if-not-meets_reads.false)
     (ap not (sym c.writes_r10.ensures ∙ c.if-writes_r10.false))
     (sym c.meets_operation.ensures ∙ c.if-not-meets_operation.false)

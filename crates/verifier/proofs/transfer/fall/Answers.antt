@@ -10,24 +10,24 @@ pub after_store-requires : goal.after_store-requires
 after_store-requires g c =
     let fits : FitsSigned w16 c.in-Store.offset = rw c.in-Store.is at c.known.ensures in (
       search rules,
-      λ a e. reach_inside g.D.Domain.ops c.args.insn (view c.args.state.now) (record {
+      λ a e. reach_inside c.args.insn (view c.args.state.now) (record {
         base = c.in-Store.base.number;
         offset = c.in-Store.offset;
         size = c.in-Store.size;
         is_store = true;
       }) a fits
-          (ap access_of c.in-Store.is) c.requires.passes e,
+          (ap access_of c.in-Store.is) c.requires.inside e,
     )
 
 pub after_store-requires-in-StoreImm : goal.after_store-requires-in-StoreImm
 after_store-requires-in-StoreImm g c =
     let fits = rw c.in-StoreImm.is at c.known.ensures in (
       search rules,
-      λ a e. reach_inside g.D.Domain.ops c.args.insn (view c.args.state.now) (record {
+      λ a e. reach_inside c.args.insn (view c.args.state.now) (record {
         base = c.in-StoreImm.base.number;
         offset = c.in-StoreImm.offset;
         size = c.in-StoreImm.size;
         is_store = true;
       }) a
-          fits.0 (ap access_of c.in-StoreImm.is) c.requires.passes e,
+          fits.0 (ap access_of c.in-StoreImm.is) c.requires.inside e,
     )

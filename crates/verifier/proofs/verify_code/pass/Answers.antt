@@ -28,8 +28,8 @@ loop-insn-init g c =
     record {
       place = refl;
       room = n;
-      least = subst (λ x. IsPending o code 0 x (peak_of c.put.new.self)) (sym e)
-          (waits_first g.met.D.Domain.laws code (peak_of c.put.new.self) c.known.ensures (omega arith));
+      least = subst (λ x. IsPending c.args.context_len o code 0 x (peak_of c.put.new.self)) (sym e)
+          (waits_first g.met.D.Domain.laws c.args.context_len code (peak_of c.put.new.self) c.known.ensures (omega arith));
       some = omega arith;
       peak = omega arith;
     }
@@ -50,5 +50,5 @@ returns-in-Some-clause-answer g c =
     let f = rw c.in-Some.is at c.in_ok-rule.ensures.least in
     record {
       fails = f;
-      unfulfilled = refused g.met.D.Domain.laws c.args.code.now c.loop-insn.at c.in-Some.rule f;
+      unfulfilled = refused g.met.D.Domain.laws c.args.context_len c.args.code.now c.loop-insn.at c.in-Some.rule f;
     }

@@ -10,7 +10,7 @@ abbrev pub invariant-loop-insn : goal.invariant-loop-insn
 invariant-loop-insn g l = record {
   place : l.at ≡ slot_count (take l.insn-index l.insns);
   room : room l.pending ≡ slot_count l.code;
-  least : IsPending g.D.Domain.ops l.code l.at (held l.pending) (peak_of l.pending);
+  least : IsPending l.context_len g.D.Domain.ops l.code l.at (held l.pending) (peak_of l.pending);
   some : 1 ≤ peak_of l.pending;
   peak : peak_of l.pending ≤ 1 + widest l.code;
 }

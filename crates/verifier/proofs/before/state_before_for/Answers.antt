@@ -6,7 +6,7 @@ use Rattle.verifier.specs.model.Flow.{flow}
 use Rattle.verifier.specs.model.Pending.{IsPending}
 use Rattle.verifier.proofs.Waits.{waits_first, size_is, one_at_first}
 use Rattle.verifier.proofs.StatesBefore.{is_structured}
-use Rattle.verifier.proofs.before.state_before.Goals as goal
+use Rattle.verifier.proofs.before.state_before_for.Goals as goal
 
 pub find_state-requires : goal.find_state-requires
 find_state-requires g c =
@@ -29,8 +29,8 @@ find_state-requires g c =
         is_structured code _ c.check_structure.result (sym c.is_some.ensures ∙ c.if-is_some.false) c.check_structure.ensures,
         (
           n,
-          subst (λ x. IsPending o code 0 x (peak_of c.put.new.self)) (sym e)
-              (waits_first g.met.D.Domain.laws code (peak_of c.put.new.self) c.known.ensures (omega arith)),
+          subst (λ x. IsPending c.args.context_len o code 0 x (peak_of c.put.new.self)) (sym e)
+              (waits_first g.met.D.Domain.laws c.args.context_len code (peak_of c.put.new.self) c.known.ensures (omega arith)),
         ),
       ),
     )

@@ -1,0 +1,5 @@
+pub mod Instructions
+pub mod Fronts
+pub mod Runs
+pub mod Loop
+pub mod Outcomes
