@@ -23,7 +23,7 @@ states() {
 if command -v python3 > /dev/null; then
     ./refusals.py --check
 fi
-../scripts/versions.sh
+../scripts/versions.py
 if ! command -v cc > /dev/null; then
     skip "there is no C compiler, so the bindings were not tested"
     exit 0

@@ -1,13 +1,17 @@
 #!/usr/bin/env python3
-"""Runs conformance cases of BPF's operations: conformance.py [PROGRAM]
+"""Runs conformance cases of BPF's operations: conformance.py [--contexts] [PROGRAM]
 
 The cases are restated from RFC 9669 and from what the tests of Linux's lib/test_bpf, uBPF and rbpf are known to cover: each operation at
 each width, with operands at its edges. The results are written here as numbers, and come from no implementation. `heal asm` assembles
 programs of a few cases each, and `heal judge` runs them on a record that holds the operands. A program returns 2 at a wrong result, else 1.
 Each mnemonic of docs/TEXT.md must have a case.
+
+With --contexts libheal runs the programs (`heal_bpf_run`, by Python), on contexts that have the operands alone, on longer ones up to
+65,535 bytes, and, where a program reads none, on one of no bytes.
 """
 
 import itertools
+import os
 import pathlib
 import subprocess
 import sys
@@ -18,7 +22,12 @@ sys.path.insert(0, str(ROOT / "oracle"))
 
 from machine import MNEMONICS
 
-PROGRAM = sys.argv[1] if len(sys.argv) > 1 else str(ROOT / "crates/heal_main/out/heal_main")
+CONTEXTS = sys.argv[1:2] == ["--contexts"]
+PROGRAM = (sys.argv[1 + CONTEXTS :] or [str(ROOT / "crates/heal_main/out/heal_main")])[0]
+if CONTEXTS:
+    os.environ.setdefault("HEAL_LIBRARY", str(ROOT / "bindings/c/out/libheal.so"))
+    sys.path.insert(0, str(ROOT / "bindings/python"))
+    from heal import Sandbox
 MASK = (1 << 64) - 1
 
 # An operation of two operands: the destination, the source, and the destination afterwards. Negative numbers are of 64 bits.
@@ -460,9 +469,21 @@ def program_of(checks):
     return [*lines, "mov64 r0, 1", "exit"]
 
 
+def lengths_for(lines, operands):
+    """The lengths of contexts to run a program on, whose operands have so many bytes."""
+    return {0 if not any("[r1" in line for line in lines) else operands, operands, operands + 1, 65535}
+
+
 def judged(lines, record):
-    """Assembles a program, runs it on a record, and returns its verdict."""
+    """Assembles a program, runs it on a record, or on contexts, and returns its verdict."""
     assembled = subprocess.run([PROGRAM, "asm", "-"], input="\n".join(lines), capture_output=True, text=True, check=False)
+    if CONTEXTS:
+        code = bytes.fromhex(assembled.stdout.strip())
+        answers = set()
+        for length in lengths_for(lines, len(record)):
+            with Sandbox(code, length) as sandbox:
+                answers.add(sandbox.run(record.ljust(length, b"\0")[:length]).r0)
+        return {1: "first", 2: "second"}.get(answers.pop(), "none") if len(answers) == 1 else "several"
     ran = subprocess.run([PROGRAM, "judge", assembled.stdout.strip(), record.hex()], capture_output=True, text=True, check=False)
     if assembled.returncode or ran.returncode:
         sys.exit(f"conformance.py: {assembled.stderr}{ran.stderr}")
@@ -478,7 +499,7 @@ def passes(group):
         checks += made
     fitting = SLOTS // max(slots(program_of([check])) for check in checks)
     parts = [checks[start:start + fitting] for start in range(0, len(checks), fitting)]
-    return all(judged(program_of(part), record.ljust(160, b"\0")) == "first" for part in parts)
+    return all(judged(program_of(part), record if CONTEXTS else record.ljust(160, b"\0")) == "first" for part in parts)
 
 
 def check_cases():

@@ -30,7 +30,7 @@ commit=$(git rev-parse HEAD)
 [ "$(cat out/passed 2> /dev/null)" = "$commit" ] || refuse "the gate has not passed at $commit: run .ci/run"
 [ -x "$heal" ] || refuse "there is no proved program"
 [ -f "$built/libheal.a" ] && [ -f "$built/libheal.so.$version" ] || refuse "there is no libheal: run bindings/c/build.sh"
-scripts/versions.sh
+scripts/versions.py
 SOURCE_DATE_EPOCH=$(git log -1 --format=%ct)
 export SOURCE_DATE_EPOCH LC_ALL=C TZ=UTC PYTHONDONTWRITEBYTECODE=1
 umask 022

@@ -150,6 +150,7 @@ enum {
 /* The end of what refusals.py writes. */
 
 typedef struct { void *at; } heal_program; /* a verified program */
+typedef struct { void *at; } heal_bpf;     /* a verified program for contexts of one length, with a memory for its runs */
 typedef struct { void *at; } heal_side;    /* one half's side of exchanges, with its table and its uploads */
 typedef struct { void *at; } heal_bytes;   /* a message */
 typedef struct { void *at; } heal_outcome; /* a finished exchange */
@@ -159,9 +160,10 @@ typedef struct { void *at; } heal_replica; /* a node's copy of a half */
 typedef struct {
     const uint8_t *data;
     size_t len;
+    uint64_t reserved; /* zero */
 } heal_span;
 
-#define HEAL_NO_BYTES { (const uint8_t *)"", 0 }
+#define HEAL_NO_BYTES { (const uint8_t *)"", 0, 0 }
 
 typedef struct {
     uint32_t node;
@@ -181,16 +183,19 @@ typedef struct {
 typedef struct {
     uint32_t len;
     uint8_t bytes[32]; /* the name, then zeros */
+    uint32_t reserved; /* zero */
 } heal_name;
 
 typedef struct {
     heal_name name;
     heal_registration registration;
+    uint64_t reserved; /* zero */
 } heal_row;
 
 typedef struct {
-    uint64_t size;   /* names in the table of this half */
-    uint64_t uptime; /* of this half, in your unit */
+    uint64_t size;     /* names in the table of this half */
+    uint64_t uptime;   /* of this half, in your unit */
+    uint64_t reserved; /* not read */
 } heal_facts;
 
 typedef struct {
@@ -208,13 +213,15 @@ typedef struct {
     uint32_t keeps;           /* who keeps the name: the verdict, or HEAL_NEITHER if the winner was withdrawn */
     uint32_t first_half;      /* HEAL_A if half A registered `first`, HEAL_B if half B did */
     uint32_t notices;         /* how many to deliver: 0, 1 or 2 */
+    uint64_t reserved;        /* zero */
 } heal_clash;
 
 typedef struct {
     uint32_t kind;    /* HEAL_NOTICE_EXIT: `to` exits. HEAL_NOTICE_CONFLICT: `to` no longer holds the name.
                          HEAL_NOTICE_CONFLICT_WITH: neither `to` nor `other` holds it. */
     heal_owner to;
-    heal_owner other; /* zero unless HEAL_NOTICE_CONFLICT_WITH */
+    heal_owner other;  /* zero unless HEAL_NOTICE_CONFLICT_WITH */
+    uint32_t reserved; /* zero */
 } heal_notice;
 
 /* What a side knows. Flags are 0 or 1. Without an open exchange `number` and `missing` are 0. */
@@ -250,6 +257,7 @@ typedef struct {
     uint64_t at;
     uint32_t reason; /* for 81 the refusal of the row's code; otherwise 0 */
     uint32_t slot;   /* for 81 the slot of that refusal, or 0 */
+    uint64_t reserved; /* zero */
 } heal_fault;
 
 /* One life of a node. A node that restarts stores an incarnation that it never had, and then starts with it. */
@@ -264,6 +272,7 @@ typedef struct {
     heal_life primary; /* of the view */
     uint64_t view;     /* the number of the view: its primary counts from 1 */
     uint64_t op;       /* how many entries of the view led to the position */
+    uint64_t reserved; /* not read, and zero in results */
 } heal_position;
 
 /* What a replica knows. Flags are 0 or 1. */
@@ -274,6 +283,7 @@ typedef struct {
     uint64_t latest;     /* the greatest number of an exchange that the half began, or 0 */
     uint32_t has_begun;  /* the half has begun a number */
     uint32_t is_primary; /* it is the primary of its view */
+    uint64_t reserved;   /* zero */
 } heal_replica_state;
 
 /* What a log begins with. */
@@ -300,6 +310,21 @@ uint32_t heal_program_judge(const heal_program *program, const uint8_t record[16
 uint32_t heal_program_id(const heal_program *program, uint8_t id[32]);
 
 void heal_program_free(heal_program *program);
+
+/* The next three calls don't need the registry: they run untrusted programs that decide over any bytes, the context. A program starts
+   with the address of the context in R1 and the end of a stack of 512 bytes in R10. It reads only the context and the stack bytes that
+   it wrote, writes only the stack, and answers with R0. */
+
+/* Reads `len` bytes as a program for contexts of `context_len` bytes, from 0 to 65,535, verifies it, and puts it into the handle.
+   Rejects a greater length (92), and otherwise what heal_program_load rejects, with the slot; 21 is an access that may leave the
+   context. */
+uint32_t heal_bpf_load(const uint8_t *code, size_t len, uint32_t context_len, heal_bpf *bpf, uint32_t *slot);
+
+/* Runs the program on a context. It ends after at most as many steps as it has instructions, and its answer depends on the context
+   alone. Returns 93 unless `len` is the length of its contexts. Needs no memory. One thread at a time may run with a handle. */
+uint32_t heal_bpf_run(heal_bpf *bpf, const uint8_t *context, size_t len, heal_ended *ended);
+
+void heal_bpf_free(heal_bpf *bpf);
 
 /* Writes the record of a clash of two registrations of a name at a word. Returns 44 and 76. */
 uint32_t heal_record(const uint8_t *name, size_t len, const heal_registration *first, const heal_registration *second,

@@ -39,14 +39,16 @@
 SIZE(heal_replica, sizeof(void *));
 SIZE(heal_life, 16);
 AT(heal_life, node, 8);
-SIZE(heal_position, 32);
+SIZE(heal_position, 40);
 AT(heal_position, view, 16);
 AT(heal_position, op, 24);
-SIZE(heal_replica_state, 64);
-AT(heal_replica_state, names, 32);
-AT(heal_replica_state, latest, 48);
-AT(heal_replica_state, has_begun, 56);
-AT(heal_replica_state, is_primary, 60);
+AT(heal_position, reserved, 32);
+SIZE(heal_replica_state, 80);
+AT(heal_replica_state, names, 40);
+AT(heal_replica_state, latest, 56);
+AT(heal_replica_state, has_begun, 64);
+AT(heal_replica_state, is_primary, 68);
+AT(heal_replica_state, reserved, 72);
 SIZE(heal_front, 16);
 AT(heal_front, size, 8);
 

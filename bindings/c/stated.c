@@ -44,8 +44,9 @@ SIZE(heal_program, sizeof(void *));
 SIZE(heal_side, sizeof(void *));
 SIZE(heal_bytes, sizeof(void *));
 SIZE(heal_outcome, sizeof(void *));
-SIZE(heal_span, 16);
+SIZE(heal_span, 24);
 AT(heal_span, len, 8);
+AT(heal_span, reserved, 16);
 SIZE(heal_owner, 8);
 AT(heal_owner, serial, 4);
 SIZE(heal_registration, 80);
@@ -55,16 +56,19 @@ AT(heal_registration, extra, 24);
 AT(heal_registration, resolver, 40);
 AT(heal_registration, program, 44);
 AT(heal_registration, reserved, 76);
-SIZE(heal_name, 36);
+SIZE(heal_name, 40);
 AT(heal_name, bytes, 4);
-SIZE(heal_row, 120);
+AT(heal_name, reserved, 36);
+SIZE(heal_row, 128);
 AT(heal_row, registration, 40);
-SIZE(heal_facts, 16);
+AT(heal_row, reserved, 120);
+SIZE(heal_facts, 24);
 AT(heal_facts, uptime, 8);
+AT(heal_facts, reserved, 16);
 SIZE(heal_ended, 16);
 AT(heal_ended, steps, 8);
 AT(heal_ended, reserved, 12);
-SIZE(heal_clash, 224);
+SIZE(heal_clash, 232);
 AT(heal_clash, first, 40);
 AT(heal_clash, second, 120);
 AT(heal_clash, word, 200);
@@ -72,6 +76,7 @@ AT(heal_clash, verdict, 208);
 AT(heal_clash, keeps, 212);
 AT(heal_clash, first_half, 216);
 AT(heal_clash, notices, 220);
+AT(heal_clash, reserved, 224);
 SIZE(heal_side_state, 64);
 AT(heal_side_state, is_open, 4);
 AT(heal_side_state, has_heard, 8);
@@ -90,14 +95,16 @@ AT(heal_head, side, 8);
 AT(heal_head, reserved, 12);
 AT(heal_head, number, 16);
 AT(heal_head, seed, 24);
-SIZE(heal_fault, 24);
+SIZE(heal_fault, 32);
 AT(heal_fault, place, 4);
 AT(heal_fault, at, 8);
 AT(heal_fault, reason, 16);
 AT(heal_fault, slot, 20);
-SIZE(heal_notice, 20);
+AT(heal_fault, reserved, 24);
+SIZE(heal_notice, 24);
 AT(heal_notice, to, 4);
 AT(heal_notice, other, 12);
+AT(heal_notice, reserved, 20);
 
 /* A message in memory of this program. */
 struct message {
@@ -598,6 +605,47 @@ static void check_first_half(void)
     discard(list, 2);
 }
 
+/* Reserved fields are zero in results, whatever they held before. */
+#define ZEROES(name, call)                   \
+    do {                                     \
+        memset(&(name), 0xff, sizeof(name)); \
+        RETURNS(0, call);                    \
+        REQUIRE((name).reserved == 0);       \
+    } while (0)
+
+static void check_reserved(void)
+{
+    heal_side side[2] = {{0}, {0}};
+    heal_outcome outcome[2] = {{0}, {0}};
+    heal_bytes offer = {0};
+    heal_clash clash;
+    heal_notice notice;
+    heal_name name;
+    heal_row row;
+    heal_fault fault;
+    heal_head head;
+    heal_side_state state;
+    heal_span lent;
+
+    heal(side, outcome, false);
+    ZEROES(clash, heal_outcome_clash(&outcome[0], 0, &clash));
+    REQUIRE(clash.name.reserved == 0 && clash.first.reserved == 0 && clash.second.reserved == 0);
+    ZEROES(notice, heal_outcome_notice(&outcome[0], 0, 0, &notice));
+    ZEROES(row, heal_side_row(&side[0], 0, &row));
+    RETURNS(0, heal_side_begin(&side[0], 2, 0, 0, &offer));
+    RETURNS(0, heal_side_withdraw(&side[0], text("db"), 2));
+    ZEROES(name, heal_side_withdrawn(&side[0], 0, &name));
+    ZEROES(state, heal_side_query(&side[0], &state));
+    ZEROES(lent, heal_bytes_lend(&offer, &lent));
+    ZEROES(fault, heal_offer_fault(lent.data, lent.len, &fault));
+    ZEROES(head, heal_message_peek(lent.data, lent.len, &head));
+    heal_bytes_free(&offer);
+    for (int i = 0; i < 2; i++) {
+        heal_side_free(&side[i]);
+        heal_outcome_free(&outcome[i]);
+    }
+}
+
 /* In an open exchange the withdrawn names can be listed, and the others without them. */
 static void check_withdrawn_names(void)
 {
@@ -810,6 +858,55 @@ static void check_faults(void)
     free(list.bytes);
 }
 
+/* A program that reads the last byte of its context runs on contexts of its length alone, and is rejected for shorter ones. */
+static void check_bpf(void)
+{
+    static const uint32_t lengths[] = {1, 64, 160, 32768};
+    static uint8_t context[65535];
+    uint8_t last[] = {0x71, 0x10, 0, 0, 0, 0, 0, 0, 0x95, 0, 0, 0, 0, 0, 0, 0};
+    static const uint8_t seven[] = {0xb7, 0, 0, 0, 7, 0, 0, 0, 0x95, 0, 0, 0, 0, 0, 0, 0};
+    /* r2 = r1; r2 += 32767; r2 += 32767; r0 = *(u8 *)(r2 + 0); exit */
+    static const uint8_t far[] = {0xbf, 0x12, 0, 0, 0, 0, 0, 0, 0x07, 0x02, 0, 0, 0xff, 0x7f, 0, 0, 0x07, 0x02, 0, 0,
+        0xff, 0x7f, 0, 0, 0x71, 0x20, 0, 0, 0, 0, 0, 0, 0x95, 0, 0, 0, 0, 0, 0, 0};
+    heal_bpf bpf = {0};
+    heal_ended ended = {0};
+    uint32_t slot = 0;
+
+    memset(context, 0, sizeof context);
+    for (size_t i = 0; i < sizeof lengths / sizeof *lengths; i++) {
+        uint32_t len = lengths[i];
+        last[2] = (uint8_t)(len - 1);
+        last[3] = (uint8_t)((len - 1) >> 8);
+        RETURNS(0, heal_bpf_load(last, sizeof last, len, &bpf, &slot));
+        context[len - 1] = 0xa5;
+        RETURNS(0, heal_bpf_run(&bpf, context, len, &ended));
+        REQUIRE(ended.r0 == 0xa5 && ended.steps == 2 && ended.reserved == 0);
+        RETURNS(93, heal_bpf_run(&bpf, context, len - 1, &ended));
+        RETURNS(93, heal_bpf_run(&bpf, context, len + 1, &ended));
+        RETURNS(21, heal_bpf_load(last, sizeof last, len - 1, &bpf, &slot));
+        REQUIRE(slot == 0 && ended.r0 == 0xa5);
+        context[len - 1] = 0;
+        RETURNS(0, heal_bpf_run(&bpf, context, len, &ended));
+        REQUIRE(ended.r0 == 0);
+    }
+    context[65534] = 0x5a;
+    RETURNS(0, heal_bpf_load(far, sizeof far, 65535, &bpf, &slot));
+    RETURNS(0, heal_bpf_run(&bpf, context, 65535, &ended));
+    REQUIRE(ended.r0 == 0x5a && ended.steps == 5);
+    RETURNS(21, heal_bpf_load(far, sizeof far, 65534, &bpf, &slot));
+    REQUIRE(slot == 3);
+    RETURNS(92, heal_bpf_load(seven, sizeof seven, 65536, &bpf, &slot));
+    RETURNS(0, heal_bpf_load(seven, sizeof seven, 0, &bpf, &slot));
+    RETURNS(0, heal_bpf_run(&bpf, NULL, 0, &ended));
+    REQUIRE(ended.r0 == 7 && ended.steps == 2);
+    heal_bpf_free(&bpf);
+    REQUIRE(bpf.at == NULL);
+    RETURNS(91, heal_bpf_run(&bpf, NULL, 0, &ended));
+    RETURNS(1, heal_bpf_load(NULL, 0, 8, &bpf, &slot));
+    REQUIRE(bpf.at == NULL && ended.r0 == 7);
+    heal_bpf_free(&bpf);
+}
+
 /* The version is that of the header, and there are two ids of sides. */
 static void check_version_and_ids(void)
 {
@@ -853,7 +950,9 @@ int main(void)
 {
     check_version_and_ids();
     check_limits();
+    check_bpf();
     check_first_half();
+    check_reserved();
     check_withdrawn_names();
     check_faults();
     check_lent();

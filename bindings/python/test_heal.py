@@ -24,6 +24,7 @@ from heal import (
     Refusal,
     Refused,
     Registration,
+    Sandbox,
     Side,
     Verdict,
     record,
@@ -126,6 +127,30 @@ class Programs(unittest.TestCase):
         for other in (Registration(Owner(1 << 32, 1)), Registration(Owner(1, 1), resolver=1 << 32)):
             with self.assertRaises(OverflowError):
                 record("db", other, self.SECOND, 0, Facts(0, 0), Facts(0, 0))
+
+
+class Sandboxes(unittest.TestCase):
+    # r0 = *(u8 *)(r1 + 7); exit
+    EIGHTH = bytes.fromhex("71100700000000009500000000000000")
+
+    def test_runs_on_contexts_of_its_length(self):
+        with Sandbox(self.EIGHTH, 8) as sandbox:
+            self.assertEqual(sandbox.run(bytes(7) + b"\x2a"), Ended(42, 2))
+            self.assertEqual(sandbox.run(bytes(8)), Ended(0, 2))
+            for length in 0, 7, 9:
+                with self.assertRaises(Refused) as caught:
+                    sandbox.run(bytes(length))
+                self.assertEqual(caught.exception.number, 93)
+
+    def test_refusals(self):
+        for length, number, slot in (7, 21, 0), (65536, 92, None):
+            with self.assertRaises(Refused) as caught:
+                Sandbox(self.EIGHTH, length)
+            self.assertEqual((caught.exception.number, caught.exception.slot), (number, slot))
+
+    def test_a_context_of_no_bytes(self):
+        with Sandbox(bytes.fromhex("b7000000070000009500000000000000"), 0) as sandbox:
+            self.assertEqual(sandbox.run(b""), Ended(7, 2))
 
 
 class Types(unittest.TestCase):

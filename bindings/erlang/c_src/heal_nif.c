@@ -331,6 +331,7 @@ static bool get_registration(ErlNifEnv *env, term map, heal_registration *to)
 
 static bool get_facts(ErlNifEnv *env, term map, heal_facts *to)
 {
+    memset(to, 0, sizeof *to);
     return enif_is_map(env, map) && get_field(env, map, atom_size, true, &to->size)
         && get_field(env, map, atom_uptime, true, &to->uptime);
 }
@@ -850,6 +851,7 @@ static bool get_position(ErlNifEnv *env, term from, heal_position *to)
 {
     int arity, of_life;
     const term *words, *life;
+    memset(to, 0, sizeof *to);
     return enif_get_tuple(env, from, &arity, &words) && arity == 3 && enif_get_tuple(env, words[0], &of_life, &life)
         && of_life == 2 && get_life(env, life[0], life[1], &to->primary) && get_u64(env, words[1], &to->view)
         && get_u64(env, words[2], &to->op);

@@ -46,6 +46,7 @@ __all__ = [
     "Refusal",
     "Refused",
     "Registration",
+    "Sandbox",
     "Side",
     "State",
     "Verdict",
@@ -247,19 +248,19 @@ class _Registration(ctypes.Structure):
 
 
 class _Name(ctypes.Structure):
-    _fields_ = [("len", c_uint32), ("bytes", c_uint8 * 32)]
+    _fields_ = [("len", c_uint32), ("bytes", c_uint8 * 32), ("reserved", c_uint32)]
 
 
 class _Row(ctypes.Structure):
-    _fields_ = [("name", _Name), ("registration", _Registration)]
+    _fields_ = [("name", _Name), ("registration", _Registration), ("reserved", c_uint64)]
 
 
 class _Span(ctypes.Structure):
-    _fields_ = [("data", POINTER(c_uint8)), ("len", c_size_t)]
+    _fields_ = [("data", POINTER(c_uint8)), ("len", c_size_t), ("reserved", c_uint64)]
 
 
 class _Facts(ctypes.Structure):
-    _fields_ = [("size", c_uint64), ("uptime", c_uint64)]
+    _fields_ = [("size", c_uint64), ("uptime", c_uint64), ("reserved", c_uint64)]
 
 
 class _Ended(ctypes.Structure):
@@ -276,11 +277,12 @@ class _Clash(ctypes.Structure):
         ("keeps", c_uint32),
         ("first_half", c_uint32),
         ("notices", c_uint32),
+        ("reserved", c_uint64),
     ]
 
 
 class _Notice(ctypes.Structure):
-    _fields_ = [("kind", c_uint32), ("to", _Owner), ("other", _Owner)]
+    _fields_ = [("kind", c_uint32), ("to", _Owner), ("other", _Owner), ("reserved", c_uint32)]
 
 
 class _State(ctypes.Structure):
@@ -299,7 +301,10 @@ class _Head(ctypes.Structure):
 
 
 class _Fault(ctypes.Structure):
-    _fields_ = [("number", c_uint32), ("place", c_uint32), ("at", c_uint64), ("reason", c_uint32), ("slot", c_uint32)]
+    _fields_ = [
+        *[("number", c_uint32), ("place", c_uint32), ("at", c_uint64)],
+        *[("reason", c_uint32), ("slot", c_uint32), ("reserved", c_uint64)],
+    ]
 
 
 _BYTES = POINTER(c_uint8)
@@ -311,6 +316,8 @@ _ARGUMENTS = {
     "heal_program_load": [_BYTES, c_size_t, _HANDLE, POINTER(c_uint32)],
     "heal_program_judge": [_HANDLE, _BYTES, POINTER(_Ended)],
     "heal_program_id": [_HANDLE, _BYTES],
+    "heal_bpf_load": [_BYTES, c_size_t, c_uint32, _HANDLE, POINTER(c_uint32)],
+    "heal_bpf_run": [_HANDLE, _BYTES, c_size_t, POINTER(_Ended)],
     "heal_record": [
         _BYTES,
         c_size_t,
@@ -583,6 +590,25 @@ class Program(_Owned):
         return Ended(ended.r0, ended.steps)
 
 
+class Sandbox(_Owned):
+    """A verified program for contexts of one length, from 0 to 65,535 bytes, which needs no registry."""
+
+    _kind = "bpf"
+
+    def __init__(self, code: Buffer, context_len: int) -> None:
+        super().__init__()
+        slot = c_uint32()
+        number = _LIBRARY.heal_bpf_load(*_in(code), _number(context_len, 32), byref(self._handle), byref(slot))
+        if number != 0:
+            raise Refused(number, _slot_of(number, slot.value))
+
+    def run(self, context: Buffer) -> Ended:
+        """Runs the program on a context of its length."""
+        ended = _Ended()
+        self._call("run", *_in(context), byref(ended))
+        return Ended(ended.r0, ended.steps)
+
+
 class _Message(_Owned):
     """A message that a side sends."""
 
@@ -591,7 +617,7 @@ class _Message(_Owned):
     def take(self) -> bytes:
         """Returns the bytes and frees the message."""
         with self:
-            lent = _Span((c_uint8 * 1)(), 0)
+            lent = _Span((c_uint8 * 1)())
             self._call("lend", byref(lent))
             return ctypes.string_at(lent.data, lent.len)
 

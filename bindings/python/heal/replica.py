@@ -73,7 +73,7 @@ class _Life(ctypes.Structure):
 
 
 class _Position(ctypes.Structure):
-    _fields_ = [("primary", _Life), ("view", c_uint64), ("op", c_uint64)]
+    _fields_ = [("primary", _Life), *[(name, c_uint64) for name in ("view", "op", "reserved")]]
 
 
 class _ReplicaState(ctypes.Structure):
@@ -81,6 +81,7 @@ class _ReplicaState(ctypes.Structure):
         ("at", _Position),
         *[(name, c_uint64) for name in ("names", "limit", "latest")],
         *[(name, c_uint32) for name in ("has_begun", "is_primary")],
+        ("reserved", c_uint64),
     ]
 
 

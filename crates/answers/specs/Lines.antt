@@ -150,6 +150,10 @@ IsPrinted question (Err e) status line words = ⊥
 
 -- ---- what is written
 
+-- the line for the version, whose number is that of the file VERSION
+abbrev pub version_line : List ℕ
+version_line = codes "heal 0.1.0\n"
+
 -- the whole text is written, with this status; or the status is 3, and a prefix of it is written
 abbrev pub Prints : Option (List ℕ) → Option (List ℕ) → List ℕ → ℕ → ℕ → Type 0
 Prints old new text due status = (Appends old new text × (status ≡ due)) ⊎ (AppendsFront old new text × (status ≡ 3))

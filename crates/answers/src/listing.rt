@@ -1,7 +1,7 @@
 //! The version, and the list of refusals.
-ghost use Rattle.std.specs.Prelude.{◌≡◌, IfOk, codes, string_bytes};
+ghost use Rattle.std.specs.Prelude.{◌≡◌, IfOk, string_bytes};
 ghost use Rattle.std.specs.List.{flat_map};
-ghost use Rattle.answers.specs.Lines.{IsListing, Prints, refusal_row};
+ghost use Rattle.answers.specs.Lines.{IsListing, Prints, refusal_row, version_line};
 
 use numbered::REFUSALS;
 use output::deliver;
@@ -13,7 +13,7 @@ pub const VERSION_LINE: &'static [u8] = b"heal 0.1.0\n";
 
 /// Prints the version, and returns the exit status: 0, or 3 if the writer fails.
 pub fn print_version<W: Write>(writer: &mut W) -> u8
-    ensures { Prints (W.contents writer.old) (W.contents writer.new) (codes "heal 0.1.0\n") 0 result }
+    ensures { Prints (W.contents writer.old) (W.contents writer.new) version_line 0 result }
 {
     match deliver(writer, VERSION_LINE) {
         Ok(()) => 0,

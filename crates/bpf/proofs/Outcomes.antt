@@ -53,7 +53,8 @@ module _ {D : Type 0} (o : Ops D) (len : ℕ) (bytes : List ℕ) (code : List In
     (either : (c : List Insn) (f : CodecFault) → Spells bytes c → IsFirstFault bytes f → ⊥)
     (one_code : (c : List Insn) → Spells bytes c → c ≡ code)
     (judged : (r : Refusal) → IsStructured code → IsTypableFor len o code → IsRefusedAtFor len o code r.slot r.rule → ⊥)
-    (one_refusal : (a b : Refusal) → IsRefusedAtFor len o code a.slot a.rule → IsRefusedAtFor len o code b.slot b.rule → a ≡ b) where
+    (one_refusal : (a b : Refusal) → IsRefusedAtFor len o code a.slot a.rule → IsRefusedAtFor len o code b.slot b.rule →
+    a ≡ b) where
   pub refused_taken : (v : VerifyFault) → HasCause verify_fault_number (IsRefusedFor len o code) v → (c : List Insn)
       → IsLoadableOver o len bytes c → ReturnsOrRunsOut program_fault_number (Err (Verify v)) (Ok (code_for c len))
   refused_taken v (inr out) c a = inr out
@@ -62,7 +63,8 @@ module _ {D : Type 0} (o : Ops D) (len : ℕ) (bytes : List ℕ) (code : List In
       let same = one_code c a.spelled in
       absurd (judged r (subst IsStructured same a.structured) (subst (IsTypableFor len o) same a.typable) h)
 
-  pub refused_told : (v : VerifyFault) → HasCause verify_fault_number (IsRefusedFor len o code) v → (fault : ProgramFault)
+  pub refused_told : (v : VerifyFault) → HasCause verify_fault_number (IsRefusedFor len o code) v
+      → (fault : ProgramFault)
       → IsLoadFaultOver o len bytes fault
       → ReturnsOrRunsOut {A = CodeFor} program_fault_number (Err (Verify v)) (Err fault)
   refused_told v (inr out) fault k = inr out
@@ -74,7 +76,8 @@ module _ {D : Type 0} (o : Ops D) (len : ℕ) (bytes : List ℕ) (code : List In
       inl (ap (λ x. Err (Verify (Refused x)))
       (one_refusal r s h (subst (λ c. IsRefusedAtFor len o c s.slot s.rule) same k.refused)))
 
-  pub accepted_told : IsStructured code → IsTypableFor len o code → (fault : ProgramFault) → IsLoadFaultOver o len bytes fault
+  pub accepted_told : IsStructured code → IsTypableFor len o code → (fault : ProgramFault)
+      → IsLoadFaultOver o len bytes fault
       → ReturnsOrRunsOut program_fault_number (Ok (code_for code len)) (Err fault)
   accepted_told s t (Codec f) k = absurd (either code f spelled k)
   accepted_told s t (Verify OutOfMemory) k = absurd k

@@ -20,8 +20,10 @@
 mod loaded;
 mod memory;
 mod running;
+mod sandbox;
 
 pub use loaded::{Loaded, load};
 pub use memory::Memory;
 pub use program::ProgramFault as LoadFault;
 pub use running::{Ended, one_meaning_for_theorem, run_code, run_for};
+pub use sandbox::{Sandbox, load_sandbox};

@@ -59,7 +59,7 @@ facts_of facts = record { size = facts.size; uptime = facts.uptime }
 -- ---- what C gets
 
 abbrev pub name_code : Name → HealName
-name_code name = record { len = length name; bytes = padded name }
+name_code name = record { len = length name; bytes = padded name; reserved = 0 }
 
 abbrev pub owner_code : Owner → HealOwner
 owner_code owner = record { node = owner.node; serial = owner.serial }
@@ -86,7 +86,7 @@ registration_code r = record {
 }
 
 abbrev pub row_code : Name × Registration → HealRow
-row_code row = record { name = name_code row.0; registration = registration_code row.1 }
+row_code row = record { name = name_code row.0; registration = registration_code row.1; reserved = 0 }
 
 abbrev pub verdict_code : Verdict3 → ℕ
 verdict_code Neither = 0
@@ -103,6 +103,6 @@ nobody = record { node = 0; serial = 0 }
 
 -- exit is 0, conflict 1, and conflict with another owner 2
 abbrev pub notice_code : Notice → HealNotice
-notice_code (Exit owner) = record { kind = 0; to = owner_code owner; other = nobody }
-notice_code (Conflict name owner) = record { kind = 1; to = owner_code owner; other = nobody }
-notice_code (ConflictWith name owner other) = record { kind = 2; to = owner_code owner; other = owner_code other }
+notice_code (Exit owner) = record { kind = 0; to = owner_code owner; other = nobody; reserved = 0 }
+notice_code (Conflict name owner) = record { kind = 1; to = owner_code owner; other = nobody; reserved = 0 }
+notice_code (ConflictWith name owner other) = record { kind = 2; to = owner_code owner; other = owner_code other; reserved = 0 }

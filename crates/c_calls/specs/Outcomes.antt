@@ -120,6 +120,7 @@ clash_code x = record {
   keeps = verdict_code (keeper x.1.1.kept x.1.0.answer);
   first_half = side_code (first_half x.1.1);
   notices = length (notices_to x.0 x.1.0.answer x.1.1.kept);
+  reserved = 0;
 }
 
 -- clash i, or 92

@@ -15,11 +15,11 @@ pub record IsLoaded (bytes : List ℕ) (program : Upload) : Type 0 where
   pub accepted : IsAccepted bytes program.code
   pub named : program.id ≡ id_of bytes
 
--- the handle has the program of the bytes, and nothing is refused
-pub record Loads (bytes : List ℕ) (new : Option Upload) (n slot : ℕ) : Type 0 where
-  pub program : Upload
-  pub held : new ≡ Some program
-  pub loaded : IsLoaded bytes program
+-- the handle has what is loaded, and nothing is refused
+pub record Loads {V : Type 0} (IsLoaded : V → Type 0) (new : Option V) (n slot : ℕ) : Type 0 where
+  pub value : V
+  pub held : new ≡ Some value
+  pub loaded : IsLoaded value
   pub no_refusal : n ≡ 0
   pub no_slot : slot ≡ 0
 
@@ -32,16 +32,21 @@ abbrev pub IsNumbered : ProgramFault → ℕ → ℕ → Type 0
 IsNumbered fault n slot = (n ≡ program_fault_number fault) × (slot ≡ slot_of (program_fault_number fault) (program_fault_place fault))
 
 -- the refusal is a fault of the bytes, or the call ran out of memory
-abbrev pub IsRefusal : List ℕ → ℕ → ℕ → Type 0
-IsRefusal bytes n slot = ((fault : ProgramFault) × IsProgramFault bytes fault × IsNumbered fault n slot) ⊎ RanOut n slot
+abbrev pub IsRefusal : (ProgramFault → Type 0) → ℕ → ℕ → Type 0
+IsRefusal IsFault n slot = ((fault : ProgramFault) × IsFault fault × IsNumbered fault n slot) ⊎ RanOut n slot
 
--- what loading bytes returns and leaves
-pub record IsLoad (bytes : List ℕ) (old new : Option Upload) (n slot : ℕ) : Type 0 where
-  pub answer : Loads bytes new n slot ⊎ (IsRefusal bytes n slot × (new ≡ old))
+-- what loading bytes returns and leaves, where bytes have this code or this fault
+pub record IsLoadOf {V : Type 0} (HasCode : List Insn → Type 0) (IsFault : ProgramFault → Type 0) (IsLoaded : V → Type 0)
+    (old new : Option V) (n slot : ℕ) : Type 0 where
+  pub answer : Loads IsLoaded new n slot ⊎ (IsRefusal IsFault n slot × (new ≡ old))
   -- accepted code is loaded, unless memory runs out
-  pub taken : (code : List Insn) → IsAccepted bytes code → Loads bytes new n slot ⊎ (RanOut n slot × (new ≡ old))
+  pub taken : (code : List Insn) → HasCode code → Loads IsLoaded new n slot ⊎ (RanOut n slot × (new ≡ old))
   -- a fault of the bytes is returned, unless memory runs out
-  pub told : (fault : ProgramFault) → IsProgramFault bytes fault → (IsNumbered fault n slot ⊎ RanOut n slot) × (new ≡ old)
+  pub told : (fault : ProgramFault) → IsFault fault → (IsNumbered fault n slot ⊎ RanOut n slot) × (new ≡ old)
+
+-- what loading bytes as a resolver returns and leaves
+abbrev pub IsLoad : List ℕ → Option Upload → Option Upload → ℕ → ℕ → Type 0
+IsLoad bytes = IsLoadOf (IsAccepted bytes) (IsProgramFault bytes) (IsLoaded bytes)
 
 -- what a program answers to a record
 pub record IsJudged (program : Upload) (bytes : List ℕ) (ended : HealEnded) : Type 0 where

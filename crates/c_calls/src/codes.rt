@@ -31,28 +31,31 @@ pub struct HealRegistration {
     pub reserved: u32,
 }
 
-/// A name: `len` bytes, then zeros.
+/// A name: `len` bytes, then zeros. `reserved` is written as 0.
 #[repr(C)]
 #[derive(Clone, Copy, Debug)]
 pub struct HealName {
     pub len: u32,
     pub bytes: [u8; 32],
+    pub reserved: u32,
 }
 
-/// A row of a table.
+/// A row of a table. `reserved` is written as 0.
 #[repr(C)]
 #[derive(Clone, Copy, Debug)]
 pub struct HealRow {
     pub name: HealName,
     pub registration: HealRegistration,
+    pub reserved: u64,
 }
 
-/// The size of a half's table, and the half's uptime.
+/// The size of a half's table, and the half's uptime. `reserved` isn't read.
 #[repr(C)]
 #[derive(Clone, Copy, Debug)]
 pub struct HealFacts {
     pub size: u64,
     pub uptime: u64,
+    pub reserved: u64,
 }
 
 /// The result of a program's run. `reserved` is written as 0.
@@ -65,7 +68,7 @@ pub struct HealEnded {
 }
 
 /// A clash with its ruling. `verdict` and `keeps` are 0 for neither, 1 for the first, and 2 for the second; `keeps` is 0 also if
-/// the winner was withdrawn. `first_half` is 0 if half A registered `first`, and 1 if half B did.
+/// the winner was withdrawn. `first_half` is 0 if half A registered `first`, and 1 if half B did. `reserved` is written as 0.
 #[repr(C)]
 #[derive(Clone, Copy, Debug)]
 pub struct HealClash {
@@ -77,15 +80,17 @@ pub struct HealClash {
     pub keeps: u32,
     pub first_half: u32,
     pub notices: u32,
+    pub reserved: u64,
 }
 
-/// A notice. `kind` is 0 for exit, 1 for conflict, and 2 for conflict with another owner.
+/// A notice. `kind` is 0 for exit, 1 for conflict, and 2 for conflict with another owner. `reserved` is written as 0.
 #[repr(C)]
 #[derive(Clone, Copy, Debug)]
 pub struct HealNotice {
     pub kind: u32,
     pub to: HealOwner,
     pub other: HealOwner,
+    pub reserved: u32,
 }
 
 const NOBODY: HealOwner = HealOwner { node: 0, serial: 0 };
@@ -150,6 +155,7 @@ pub fn name_code(name: &Name) -> HealName
     HealName {
         len: text.len() as u32,
         bytes,
+        reserved: 0,
     }
 }
 
@@ -175,6 +181,7 @@ pub fn row_code(name: &Name, registration: &Registration) -> HealRow
     HealRow {
         name: name_code(name),
         registration: registration_code(registration),
+        reserved: 0,
     }
 }
 
@@ -251,16 +258,19 @@ pub fn notice_code(notice: &Notice) -> HealNotice
             kind: 0,
             to: owner_code(owner),
             other: NOBODY,
+            reserved: 0,
         },
         Notice::Conflict(_, owner) => HealNotice {
             kind: 1,
             to: owner_code(owner),
             other: NOBODY,
+            reserved: 0,
         },
         Notice::ConflictWith(_, owner, other) => HealNotice {
             kind: 2,
             to: owner_code(owner),
             other: owner_code(other),
+            reserved: 0,
         },
     }
 }

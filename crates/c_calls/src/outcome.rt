@@ -132,6 +132,7 @@ impl Outcome {
             keeps: verdict_code(keeper(mark.kept, judged.answer)),
             first_half: side_code(first_half(mark)),
             notices: count_notices(clash, judged.answer, mark.kept),
+            reserved: 0,
         })
     }
 

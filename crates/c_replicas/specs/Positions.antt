@@ -19,7 +19,7 @@ abbrev pub position_of : HealPosition → Position
 position_of p = record { view = record { primary = life_of p.primary; number = p.view }; op = p.op }
 
 abbrev pub position_code : Position → HealPosition
-position_code p = record { primary = life_code p.view.primary; view = p.view.number; op = p.op }
+position_code p = record { primary = life_code p.view.primary; view = p.view.number; op = p.op; reserved = 0 }
 
 abbrev pub flag : Bool → ℕ
 flag is = if is then 1 else 0
@@ -32,4 +32,5 @@ state_of r = record {
   latest = unwrap_or r.half.latest 0;
   has_begun = flag (is_some r.half.latest);
   is_primary = flag (is_primary r);
+  reserved = 0;
 }

@@ -14,16 +14,18 @@ pub struct HealLife {
     pub reserved: u32,
 }
 
-/// A position: the primary of its view, the number of the view, and the operation number.
+/// A position: the primary of its view, the number of the view, and the operation number. `reserved` isn't read, and is written as 0.
 #[repr(C)]
 #[derive(Clone, Copy, Debug)]
 pub struct HealPosition {
     pub primary: HealLife,
     pub view: u64,
     pub op: u64,
+    pub reserved: u64,
 }
 
 /// What a replica knows. Flags are 0 or 1. `latest` is the greatest number of an exchange that the half began, or 0.
+/// `reserved` is written as 0.
 #[repr(C)]
 #[derive(Clone, Copy, Debug)]
 pub struct HealReplicaState {
@@ -33,6 +35,7 @@ pub struct HealReplicaState {
     pub latest: u64,
     pub has_begun: u32,
     pub is_primary: u32,
+    pub reserved: u64,
 }
 
 /// Reads a life.
@@ -77,6 +80,7 @@ fn position_code(position: Position) -> HealPosition
         primary: life_code(position.view.primary),
         view: position.view.number,
         op: position.op,
+        reserved: 0,
     }
 }
 
@@ -93,6 +97,7 @@ pub fn state(replica: &Replica) -> HealReplicaState
         latest: latest.unwrap_or(0),
         has_begun: flag(latest.is_some()),
         is_primary: flag(replica.is_primary()),
+        reserved: 0,
     }
 }
 

@@ -7,4 +7,5 @@ pub mod OutcomeWords
 pub mod Processes
 pub mod ProgramWords
 pub mod ReplicaWords
+pub mod SandboxWords
 pub mod Told

@@ -16,7 +16,7 @@ use Rattle.c_calls.specs.Answers.{slot_of}
 
 -- a refusal without a place; 0 is none
 abbrev pub numbered : ℕ → HealFault
-numbered n = record { number = n; place = 0; at = 0; reason = 0; slot = 0 }
+numbered n = record { number = n; place = 0; at = 0; reason = 0; slot = 0; reserved = 0 }
 
 -- a byte is 1, and a row or a name 2; code that the verifier rejects has its own refusal too
 abbrev pub item_code : ItemFault → ℕ → HealFault
@@ -26,11 +26,12 @@ item_code (item.Program f) at = record {
   at = at;
   reason = program_fault_number f;
   slot = slot_of (program_fault_number f) (program_fault_place f);
+  reserved = 0;
 }
-item_code fault at = record { number = item_fault_number fault; place = 2; at = at; reason = 0; slot = 0 }
+item_code fault at = record { number = item_fault_number fault; place = 2; at = at; reason = 0; slot = 0; reserved = 0 }
 
 abbrev pub fault_code : MessageFault → HealFault
-fault_code (message.Field what at) = record { number = field_fault_number what; place = 1; at = at; reason = 0; slot = 0 }
+fault_code (message.Field what at) = record { number = field_fault_number what; place = 1; at = at; reason = 0; slot = 0; reserved = 0 }
 fault_code (message.Item fault at) = item_code fault at
 fault_code message.OutOfMemory = numbered out_of_memory
 

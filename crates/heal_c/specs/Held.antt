@@ -7,6 +7,8 @@ use Rattle.c_calls.specs.Halves.{Half}
 use Rattle.c_calls.specs.contracts.half.Half as half
 use Rattle.c_calls.specs.declared.outcome.Outcome.{Outcome}
 use Rattle.c_calls.specs.contracts.outcome.Outcome as outcome
+use Rattle.verifier.specs.Stores.{CodeFor}
+use Rattle.bpf.specs.contracts.sandbox.Sandbox as sandbox
 use Rattle.replica.specs.Replicas.{Replica}
 use Rattle.replica.specs.contracts.replica.Replica as replica
 
@@ -18,6 +20,9 @@ coded_half = coded_option (half.the_row).coded
 
 abbrev pub coded_outcome : Coded (Option Outcome)
 coded_outcome = coded_option (outcome.the_row).coded
+
+abbrev pub coded_sandbox : Coded (Option CodeFor)
+coded_sandbox = coded_option (sandbox.the_row).coded
 
 abbrev pub coded_replica : Coded (Option Replica)
 coded_replica = coded_option (replica.the_row).coded

@@ -8,6 +8,8 @@ use Rattle.heal_c.specs.declared.half_handle.HealSide.{HealSide}
 use Rattle.heal_c.specs.declared.message_handle.HealBytes.{HealBytes}
 use Rattle.heal_c.specs.declared.outcome_handle.HealOutcome.{HealOutcome}
 use Rattle.heal_c.specs.declared.replica_handle.HealReplica.{HealReplica}
+use Rattle.heal_c.specs.declared.sandbox_handle.HealSandbox.{HealSandbox}
+use Rattle.verifier.specs.Stores.{CodeFor}
 use Rattle.replica.specs.Replicas.{Replica}
 
 abbrev pub with_half : HealSide → Half → HealSide
@@ -21,6 +23,9 @@ with_message handle message = record handle { message = Some message }
 
 abbrev pub with_outcome : HealOutcome → Outcome → HealOutcome
 with_outcome handle outcome = record handle { outcome = Some outcome }
+
+abbrev pub with_sandbox : HealSandbox → CodeFor → HealSandbox
+with_sandbox handle program = record handle { sandbox = Some program }
 
 abbrev pub with_replica : HealReplica → Replica → HealReplica
 with_replica handle replica = record handle { replica = Some replica }

@@ -5,4 +5,5 @@ pub mod Lending
 pub mod Lent
 pub mod Processes
 pub mod Records
+pub mod Sandboxes
 pub mod Words

@@ -10,7 +10,7 @@ use numbered::Numbered;
 use std::alloc::Global;
 
 /// A refusal in full. `place` is 0 for none, 1 for the byte and 2 for the row or the name with the index `at`. For 81 `reason` is
-/// the refusal of the code, and `slot` its slot; otherwise they are 0.
+/// the refusal of the code, and `slot` its slot; otherwise they are 0. `reserved` is written as 0.
 #[repr(C)]
 #[derive(Clone, Copy, Debug)]
 pub struct HealFault {
@@ -19,6 +19,7 @@ pub struct HealFault {
     pub at: u64,
     pub reason: u32,
     pub slot: u32,
+    pub reserved: u64,
 }
 
 const BYTE: u32 = 1;
@@ -84,6 +85,7 @@ fn numbered(number: u32) -> HealFault
         at: 0,
         reason: 0,
         slot: 0,
+        reserved: 0,
     }
 }
 
@@ -111,6 +113,7 @@ fn item_code(fault: &ItemFault, number: u32, at: usize) -> HealFault
             at: at as u64,
             reason: inner.number(),
             slot: slot_of(inner),
+            reserved: 0,
         },
         _ => placed(number, ITEM, at),
     }
@@ -118,7 +121,7 @@ fn item_code(fault: &ItemFault, number: u32, at: usize) -> HealFault
 
 // Writes a refusal with a place.
 fn placed(number: u32, place: u32, at: usize) -> HealFault
-    ensures { result ≡ record { number = number; place = place; at = at; reason = 0; slot = 0 } }
+    ensures { result ≡ record { number = number; place = place; at = at; reason = 0; slot = 0; reserved = 0 } }
 {
     HealFault {
         number,
@@ -126,5 +129,6 @@ fn placed(number: u32, place: u32, at: usize) -> HealFault
         at: at as u64,
         reason: 0,
         slot: 0,
+        reserved: 0,
     }
 }

@@ -11,14 +11,18 @@ ghost use Rattle.c_calls.specs.contracts.outcome.Outcome as outcome_row;
 ghost use Rattle.heal_c.specs.contracts.outcome_handle.HealOutcome as outcome_handle;
 ghost use Rattle.replica.specs.contracts.replica.Replica as replica_row;
 ghost use Rattle.heal_c.specs.contracts.replica_handle.HealReplica as replica_handle;
+ghost use Rattle.bpf.specs.contracts.sandbox.Sandbox as sandbox_row;
+ghost use Rattle.heal_c.specs.contracts.sandbox_handle.HealSandbox as sandbox_handle;
 ghost use Rattle.heal_c.specs.Lending.{StaysLent};
-ghost use Rattle.heal_c.specs.Lent.{with_half, with_program, with_message, with_outcome, with_replica};
+ghost use Rattle.heal_c.specs.Lent.{with_half, with_program, with_message, with_outcome, with_replica, with_sandbox};
 
 use crate::half_handle::HealSide;
 use crate::message_handle::HealBytes;
 use crate::outcome_handle::HealOutcome;
 use crate::program_handle::HealProgram;
 use crate::replica_handle::HealReplica;
+use crate::sandbox_handle::HealSandbox;
+use bpf::Sandbox;
 use c_calls::{Half, Message, Outcome};
 use replica::Replica;
 use upload_store::Upload;
@@ -105,6 +109,21 @@ impl HealReplica {
             None
         } else {
             Some(unsafe { &mut *(at as *mut Replica) })
+        }
+    }
+}
+
+impl HealSandbox {
+    // Borrows the sandbox.
+    pub(crate) fn held(&mut self) -> Option<&mut Sandbox>
+        ensures* writes_back { sem 𝓛 (LendsIf sandbox_handle.the_row sandbox_row.the_row self.entry result (with_sandbox self.old) self.old) }
+        ensures value { MatchOption result (self.old.sandbox ≡ None) (λ held. self.old.sandbox ≡ Some held.now) }
+    {
+        let at = self.at;
+        if at.is_null() {
+            None
+        } else {
+            Some(unsafe { &mut *(at as *mut Sandbox) })
         }
     }
 }

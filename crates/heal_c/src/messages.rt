@@ -26,12 +26,13 @@ pub extern "C" fn heal_bytes_len(bytes: &mut HealBytes, len: &mut usize) -> u32
     }
 }
 
-/// Where bytes are that a call lends, and how many.
+/// Where bytes are that a call lends, and how many. `reserved` is written as 0.
 #[derive(Clone, Copy, Debug)]
 #[repr(C)]
 pub struct HealSpan<'a> {
     /// The bytes.
     pub bytes: &'a [u8],
+    pub reserved: u64,
 }
 
 /// Lends the message: its bytes stay where they are until the message is freed or the handle holds another.
@@ -41,7 +42,7 @@ pub struct HealSpan<'a> {
 pub extern "C" fn heal_bytes_lend<'a>(bytes: &'a mut HealBytes, span: &mut HealSpan<'a>) -> u32
     ensures* stays { sem 𝓛 (StaysLent bytes.entry) }
     ensures lent { MatchOption bytes.old.message ((result ≡ 91) × (span.new ≡ span.old))
-        (λ held. (result ≡ 0) × (span.new.bytes.now ≡ held)) }
+        (λ held. (result ≡ 0) × (span.new.bytes.now ≡ held) × (span.new.reserved ≡ 0)) }
 {
     point(bytes.lent(), span)
 }
@@ -49,11 +50,12 @@ pub extern "C" fn heal_bytes_lend<'a>(bytes: &'a mut HealBytes, span: &mut HealS
 // Writes where these bytes are and returns 0, or returns 91.
 fn point<'a>(bytes: Option<&'a [u8]>, span: &mut HealSpan<'a>) -> u32
     ensures { MatchOption bytes.entry ((result ≡ 91) × (span.new ≡ span.old))
-        (λ lent. (result ≡ 0) × (span.new.bytes.now ≡ lent.now)) }
+        (λ lent. (result ≡ 0) × (span.new.bytes.now ≡ lent.now) × (span.new.reserved ≡ 0)) }
 {
     match bytes {
         Some(lent) => {
             span.bytes = lent;
+            span.reserved = 0;
             0
         }
         None => EMPTY_HANDLE,

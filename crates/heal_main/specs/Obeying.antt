@@ -3,7 +3,7 @@ use Rattle.std.specs.Prelude.{◌≡◌, ◌⊎◌, ℕ, List, codes, Option}
 use Rattle.output.specs.Sending.{AppendsFront}
 use Rattle.task.specs.declared.Task.{Task}
 use Rattle.task.specs.declared.Task.TheVariants.{Answer, Run, Version, Refusals}
-use Rattle.answers.specs.Lines.{IsListing, IsReply, Prints}
+use Rattle.answers.specs.Lines.{IsListing, IsReply, Prints, version_line}
 use Rattle.script_engine.specs.Runs.{IsScriptRun}
 
 -- a file could not be opened, as the device failed or memory ran out
@@ -21,5 +21,5 @@ pub data RunsFile (limit : ℕ) (old new : Option (List ℕ)) (status : ℕ) : T
 abbrev pub Obeys : Task → Option (List ℕ) → Option (List ℕ) → Option (List ℕ) → Option (List ℕ) → ℕ → Type 0
 Obeys (Answer question) old new told_old told_new status = IsReply question old new told_old told_new status
 Obeys (Run file workers names explain) old new told_old told_new status = RunsFile names.count old new status
-Obeys Version old new told_old told_new status = Prints old new (codes "heal 0.1.0\n") 0 status
+Obeys Version old new told_old told_new status = Prints old new version_line 0 status
 Obeys Refusals old new told_old told_new status = IsListing old new status

@@ -125,7 +125,8 @@ module _ {D : Type 0} {o : Ops D} (laws : Laws o) (len : ℕ) (code : List Insn)
       let g : b.0 ≡ s = let f = b.1 in cc in
       ap Some (view_both s t (subst (λ v. ViewBelow o s v) e a.2) (subst (λ v. ViewBelow o t v) g b.2))
 
-  pub same_least : (slot : ℕ) (a b : Assignment D) → IsLeastFor len o code slot a → IsLeastFor len o code slot b → (k : ℕ)
+  pub same_least : (slot : ℕ) (a b : Assignment D) → IsLeastFor len o code slot a → IsLeastFor len o code slot b
+      → (k : ℕ)
       → a k ≡ b k
   same_least slot a b p q k =
       alike (a k) (b k) (λ s e. p.least b q.fulfils k s e) (λ t e. q.least a p.fulfils k t e)
@@ -136,7 +137,8 @@ module _ {D : Type 0} {o : Ops D} (laws : Laws o) (len : ℕ) (code : List Insn)
       ∙ most_same o code b.states a.states slot (λ k l. same_least slot a.states b.states a.least b.least k)
       ∙ sym b.is
 
-  unfulfilled_later : (s t : ℕ) (r q : Rule) → IsUnfulfilledFor len o code s r → IsUnfulfilledFor len o code t q → s < t → ⊥
+  unfulfilled_later : (s t : ℕ) (r q : Rule) → IsUnfulfilledFor len o code s r → IsUnfulfilledFor len o code t q → s < t
+      → ⊥
   unfulfilled_later s t r q a b less = a.unfulfilled b.fails.states
       (fulfils_less (s + 1) t b.fails.states (omega arith) b.fails.least.fulfils)
 
@@ -159,7 +161,8 @@ module _ {D : Type 0} {o : Ops D} (laws : Laws o) (len : ℕ) (code : List Insn)
       (subst (λ i. IsTrue (meets_for len o i b.state r)) same_insn (b.fails.first r less)) in
       absurd (cc)
 
-  unfulfilled_once : (s t : ℕ) (r q : Rule) → IsUnfulfilledFor len o code s r → IsUnfulfilledFor len o code t q → (s ≡ t) × (r ≡ q)
+  unfulfilled_once : (s t : ℕ) (r q : Rule) → IsUnfulfilledFor len o code s r → IsUnfulfilledFor len o code t q
+      → (s ≡ t) × (r ≡ q)
   unfulfilled_once s t r q a b =
       let here : s ≡ t = neither_less s t (unfulfilled_later s t r q a b) (unfulfilled_later t s q r b a) in
       let c : IsUnfulfilledFor len o code s q = subst (λ k. IsUnfulfilledFor len o code k q) (sym here) b in
@@ -193,7 +196,8 @@ module _ {D : Type 0} {o : Ops D} (laws : Laws o) (len : ℕ) (code : List Insn)
   not_refused refusal structured typable h = not_split refusal.slot refusal.rule structured typable
       (split refusal.slot refusal.rule h)
 
-  pub refused_once : (a b : Refusal) → IsRefusedAtFor len o code a.slot a.rule → IsRefusedAtFor len o code b.slot b.rule → a ≡ b
+  pub refused_once : (a b : Refusal) → IsRefusedAtFor len o code a.slot a.rule → IsRefusedAtFor len o code b.slot b.rule
+      → a ≡ b
   refused_once a b h k i =
       let same = once a.slot b.slot a.rule b.rule (split a.slot a.rule h) (split b.slot b.rule k) in
       record { slot = same.0 i; rule = same.1 i }

@@ -231,8 +231,10 @@ module _ {D : Type 0} {o : Ops D} (laws : Laws o) (len : ℕ) where
 
   -- an instruction that passes
   pub passed : (code : List Insn) (n : ℕ) (i : Insn) (states : Assignment D) (s : View D) → IsCode code
-      → IsStructured code → IsLeastFor len o code n states → insn_at code n ≡ Some i → states n ≡ Some s → PassesFor len o i s
-      → IsLeastFor len o code (n + 1) (flow_edge o (flow o states (n + slots_of i) (fall o i s)) (leads_to n i) (jump o i s))
+      → IsStructured code → IsLeastFor len o code n states → insn_at code n ≡ Some i → states n ≡ Some s
+      → PassesFor len o i s
+      → IsLeastFor len o code (n + 1) (flow_edge o (flow o states (n + slots_of i) (fall o i s)) (leads_to n i)
+      (jump o i s))
   passed code n i states s is_code structured m at is p =
       let next = n + slots_of i in
       let falling = flow o states next (fall o i s) in
@@ -256,7 +258,8 @@ module _ {D : Type 0} {o : Ops D} (laws : Laws o) (len : ℕ) where
           start = keeps 0 entry f.start;
           inside = edge_inside falling (leads_to n i) (jump o i s) code jumps_to
               (flow_inside states next (fall o i s) code falls_to f.inside);
-          passes = λ k j t h a b. each_more (insn_at code) states (λ k' j' t'. PassesFor len o j' t') n i s at is p f.passes k
+          passes = λ k j t h a b. each_more (insn_at code) states (λ k' j' t'. PassesFor len o j' t') n i s at is p
+              f.passes k
               j t h a (sym (same k h) ∙ b);
           falls = λ k j t h a b. each_more (insn_at code) states
               (λ k' j' t'. EdgeCarries o after (Some (k' + slots_of j')) (fall o j' t')) n i s at is
@@ -324,7 +327,8 @@ module _ {D : Type 0} {o : Ops D} (laws : Laws o) (len : ℕ) where
       stateless (Some s) h = absurd (h s refl)
 
   -- at a refusal no assignment fulfils the rules
-  pub refused : (code : List Insn) (slot : ℕ) (rule : Rule) → FailsLeastFor len o code slot rule → (states : Assignment D)
+  pub refused : (code : List Insn) (slot : ℕ) (rule : Rule) → FailsLeastFor len o code slot rule
+      → (states : Assignment D)
       → FulfilsBeforeFor len o code (slot + 1) states → ⊥
   refused code slot rule r states f =
       let here = r.least.least states (fulfils_upto code slot (slot + 1) states (omega arith) f) slot r.state
@@ -335,7 +339,8 @@ module _ {D : Type 0} {o : Ops D} (laws : Laws o) (len : ℕ) where
       absurd (cc)
 
   -- what is refused at a slot is not typable
-  pub untypable : (code : List Insn) (slot : ℕ) (rule : Rule) → FailsLeastFor len o code slot rule → IsTypableFor len o code → ⊥
+  pub untypable : (code : List Insn) (slot : ℕ) (rule : Rule) → FailsLeastFor len o code slot rule
+      → IsTypableFor len o code → ⊥
   untypable code slot rule r t =
       let within : slot < slot_count code = insn_within code slot r.insn r.is_at in
       refused code slot rule r t.0 (fulfils_upto code (slot + 1) (slot_count code) t.0 (omega arith) t.1)

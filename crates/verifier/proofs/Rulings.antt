@@ -9,8 +9,10 @@ use Rattle.verifier.specs.model.Accesses.{InsnAccessPasses}
 use Rattle.std.proofs.Common.{refl}
 
 pub passes_each : {D : Type 0} (len : ℕ) (o : Ops D) (i : Insn) (s : View D) → IsTrue (meets_for len o i s Unreadable)
-    → IsTrue (meets_for len o i s WritesR10) → IsTrue (meets_for len o i s PointerOperation) → IsTrue (meets_for len o i s PointerRange)
-    → IsTrue (meets_for len o i s PointerCompared) → IsTrue (meets_for len o i s PointerStored) → InsnAccessPasses len i s
+    → IsTrue (meets_for len o i s WritesR10) → IsTrue (meets_for len o i s PointerOperation)
+    → IsTrue (meets_for len o i s PointerRange)
+    → IsTrue (meets_for len o i s PointerCompared) → IsTrue (meets_for len o i s PointerStored)
+    → InsnAccessPasses len i s
     → IsTrue (meets_for len o i s PointerResult) → PassesFor len o i s
 passes_each len o i s a b c d e f g h Backward = refl
 passes_each len o i s a b c d e f g h Outside = refl

@@ -365,7 +365,8 @@ module _ {D : Type 0} {o : Ops D} (laws : Laws o) (len : ℕ) where
 
   -- an instruction that passes: its state is taken, and what comes of it waits
   pub waits_passed : (code : List Insn) (n : ℕ) (i : Insn) (states : Assignment D) (s : View D) (old peak : ℕ)
-      → IsCode code → IsStructured code → IsPending len o code n states old → insn_at code n ≡ Some i → states n ≡ Some s
+      → IsCode code → IsStructured code → IsPending len o code n states old → insn_at code n ≡ Some i
+      → states n ≡ Some s
       → PassesFor len o i s
       → peak ≡ max old (count_held
       (flow_edge o (flow o (put states n None) (n + slots_of i) (fall o i s)) (leads_to n i) (jump o i s))

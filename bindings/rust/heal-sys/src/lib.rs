@@ -19,12 +19,14 @@ impl Handle {
 pub struct Span {
     pub data: *const u8,
     pub len: usize,
+    pub reserved: u64,
 }
 
 impl Span {
     pub const EMPTY: Span = Span {
         data: std::ptr::NonNull::dangling().as_ptr(),
         len: 0,
+        reserved: 0,
     };
 }
 
@@ -52,6 +54,7 @@ pub struct Registration {
 pub struct Name {
     pub len: u32,
     pub bytes: [u8; 32],
+    pub reserved: u32,
 }
 
 #[repr(C)]
@@ -59,6 +62,7 @@ pub struct Name {
 pub struct Row {
     pub name: Name,
     pub registration: Registration,
+    pub reserved: u64,
 }
 
 #[repr(C)]
@@ -66,6 +70,7 @@ pub struct Row {
 pub struct Facts {
     pub size: u64,
     pub uptime: u64,
+    pub reserved: u64,
 }
 
 #[repr(C)]
@@ -87,6 +92,7 @@ pub struct Clash {
     pub keeps: u32,
     pub first_half: u32,
     pub notices: u32,
+    pub reserved: u64,
 }
 
 #[repr(C)]
@@ -95,6 +101,7 @@ pub struct Notice {
     pub kind: u32,
     pub to: Owner,
     pub other: Owner,
+    pub reserved: u32,
 }
 
 #[repr(C)]
@@ -133,6 +140,7 @@ pub struct Fault {
     pub at: u64,
     pub reason: u32,
     pub slot: u32,
+    pub reserved: u64,
 }
 
 #[repr(C)]
@@ -149,6 +157,7 @@ pub struct Position {
     pub primary: Life,
     pub view: u64,
     pub op: u64,
+    pub reserved: u64,
 }
 
 #[repr(C)]
@@ -160,6 +169,7 @@ pub struct ReplicaState {
     pub latest: u64,
     pub has_begun: u32,
     pub is_primary: u32,
+    pub reserved: u64,
 }
 
 #[repr(C)]
@@ -177,6 +187,9 @@ extern "C" {
     pub fn heal_program_judge(program: *const Handle, record: *const [u8; 160], ended: *mut Ended) -> u32;
     pub fn heal_program_id(program: *const Handle, id: *mut [u8; 32]) -> u32;
     pub fn heal_program_free(program: *mut Handle);
+    pub fn heal_bpf_load(code: *const u8, len: usize, context_len: u32, bpf: *mut Handle, slot: *mut u32) -> u32;
+    pub fn heal_bpf_run(bpf: *mut Handle, context: *const u8, len: usize, ended: *mut Ended) -> u32;
+    pub fn heal_bpf_free(bpf: *mut Handle);
     pub fn heal_record(name: *const u8, len: usize, first: *const Registration, second: *const Registration, word: u64,
         of_first: *const Facts, of_second: *const Facts, record: *mut [u8; 160]) -> u32;
     pub fn heal_refusal_words(number: u32, words: *mut u8, capacity: usize) -> usize;

@@ -7,6 +7,7 @@ use heal_sys as ffi;
 #[derive(Clone, Copy, Debug)]
 pub(crate) enum Kind {
     Program,
+    Sandbox,
     Side,
     Bytes,
     Outcome,
@@ -124,6 +125,7 @@ impl Drop for Held {
     fn drop(&mut self) {
         let free = match self.kind {
             Kind::Program => ffi::heal_program_free,
+            Kind::Sandbox => ffi::heal_bpf_free,
             Kind::Side => ffi::heal_side_free,
             Kind::Bytes => ffi::heal_bytes_free,
             Kind::Outcome => ffi::heal_outcome_free,

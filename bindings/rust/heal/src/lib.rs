@@ -14,12 +14,14 @@
 mod handle;
 mod refusal;
 mod replica;
+mod sandbox;
 mod types;
 
 use handle::{Held, Kind};
 use heal_sys as ffi;
 pub use refusal::Refusal;
 pub use replica::{log_front, Life, LogFront, Position, Replica, ReplicaState};
+pub use sandbox::Sandbox;
 use std::error::Error;
 use std::fmt;
 pub use types::{

@@ -55,6 +55,7 @@ impl From<Position> for ffi::Position {
             primary: at.primary.into(),
             view: at.view,
             op: at.op,
+            reserved: 0,
         }
     }
 }

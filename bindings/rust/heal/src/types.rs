@@ -150,6 +150,7 @@ impl From<Facts> for ffi::Facts {
         ffi::Facts {
             size: facts.size,
             uptime: facts.uptime,
+            reserved: 0,
         }
     }
 }

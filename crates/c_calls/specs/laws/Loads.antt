@@ -19,14 +19,14 @@ program_ran_out : (f : ProgramFault) → program_fault_number f ≡ out_of_memor
 program_ran_out f e = (e, no_slot (program_fault_number f) (program_fault_place f) e)
 
 -- what a fault and a cause say of a refused load
-module _ (bytes : List ℕ) (f : ProgramFault) where
+module _ (IsFault : ProgramFault → Type 0) (f : ProgramFault) where
   abbrev n : ℕ
   n = program_fault_number f
 
   abbrev slot : ℕ
   slot = slot_of n (program_fault_place f)
 
-  refusal : HasCause program_fault_number (IsProgramFault bytes) f → load.IsRefusal bytes n slot
+  refusal : HasCause program_fault_number IsFault f → load.IsRefusal IsFault n slot
   refusal (inl cause) = inl (f, cause, (refl, refl))
   refusal (inr e) = inr (program_ran_out f e)
 
@@ -41,14 +41,23 @@ module _ (bytes : List ℕ) (f : ProgramFault) where
   spent (Err g) e (inl ok) = absurd (true≢false (sym ok))
   spent (Err g) e (inr out) = let equal : g ≡ f = cc in program_ran_out f (subst (λ (h : ProgramFault). program_fault_number h ≡ out_of_memory) equal out)
 
--- a refused load
+-- a refused load, of bytes that have this code or this fault
+pub refused_of : {V A : Type 0} (HasCode : List Insn → Type 0) (IsFault : ProgramFault → Type 0) (IsLoaded : V → Type 0)
+    (old : Option V) (r : Result A ProgramFault) (f : ProgramFault) → r ≡ Err f
+    → IfErr r (HasCause program_fault_number IsFault)
+    → ((code : List Insn) → HasCode code → IsOk r ⊎ RanOut program_fault_number r)
+    → ((fault : ProgramFault) → IsFault fault → (r ≡ Err fault) ⊎ RanOut program_fault_number r)
+    → load.IsLoadOf HasCode IsFault IsLoaded old old (program_fault_number f) (slot_of (program_fault_number f) (program_fault_place f))
+refused_of {A = A} HasCode IsFault IsLoaded old r f e refused taken told = record {
+  answer = inr (refusal IsFault f (subst (λ (x : Result A ProgramFault). IfErr x (HasCause program_fault_number IsFault)) e refused), refl);
+  taken = λ code accepted. inr (spent IsFault f r e (taken code accepted), refl);
+  told = λ fault is. (numbered IsFault f fault r e (told fault is), refl);
+}
+
+-- a refused load of a resolver
 pub load_refused : {A : Type 0} (bytes : List ℕ) (old : Option Upload) (r : Result A ProgramFault) (f : ProgramFault) → r ≡ Err f
     → IfErr r (HasCause program_fault_number (IsProgramFault bytes))
     → ((code : List Insn) → IsAccepted bytes code → IsOk r ⊎ RanOut program_fault_number r)
     → ((fault : ProgramFault) → IsProgramFault bytes fault → (r ≡ Err fault) ⊎ RanOut program_fault_number r)
     → load.IsLoad bytes old old (program_fault_number f) (slot_of (program_fault_number f) (program_fault_place f))
-load_refused {A} bytes old r f e refused taken told = record {
-  answer = inr (refusal bytes f (subst (λ (x : Result A ProgramFault). IfErr x (HasCause program_fault_number (IsProgramFault bytes))) e refused), refl);
-  taken = λ code accepted. inr (spent bytes f r e (taken code accepted), refl);
-  told = λ fault is. (numbered bytes f fault r e (told fault is), refl);
-}
+load_refused bytes = refused_of (IsAccepted bytes) (IsProgramFault bytes) (load.IsLoaded bytes)

@@ -11,7 +11,8 @@ use Rattle.bpf.proofs.loaded.load_over.Goals as goal
 
 pub returns-in_err-code-clause-taken : goal.returns-in_err-code-clause-taken
 returns-in_err-code-clause-taken g c = λ code h.
-    subst (λ r. ReturnsOrRunsOut program_fault_number r (Ok (code_for code c.args.context_len))) (sym (converted c.from_residual.result
+    subst (λ r. ReturnsOrRunsOut program_fault_number r (Ok (code_for code c.args.context_len)))
+    (sym (converted c.from_residual.result
     (Codec c.in_err-code.field-0.0) c.from_residual.ensures))
     (codec_taken c.in_err-code.field-0.0 code (c.in_err-code.ensures.read code h.spelled))
 
@@ -28,9 +29,11 @@ returns-in_err-verified-clause-taken g c = λ code h.
     let spelled = c.in_ok-code.ensures.spelled in
     let one : (other : List Insn) → Spells bytes other → other ≡ c.in_ok-code.code =
     λ other s. c.one_reading_theorem.ensures.one_code bytes other c.in_ok-code.code s spelled in
-    subst (λ r. ReturnsOrRunsOut program_fault_number r (Ok (code_for code c.args.context_len))) (sym (converted c.from_residual-in_err-verified.result
+    subst (λ r. ReturnsOrRunsOut program_fault_number r (Ok (code_for code c.args.context_len)))
+    (sym (converted c.from_residual-in_err-verified.result
     (Verify c.in_err-verified.field-0.0) c.from_residual-in_err-verified.ensures))
-    (refused_taken g.D.Domain.ops c.args.context_len bytes c.in_ok-code.code spelled (c.one_reading_theorem.ensures.either bytes) one
+    (refused_taken g.D.Domain.ops c.args.context_len bytes c.in_ok-code.code spelled
+    (c.one_reading_theorem.ensures.either bytes) one
     (c.one_verdict_for_theorem.ensures.either c.args.context_len c.in_ok-code.code)
     (c.one_verdict_for_theorem.ensures.one_refusal c.args.context_len c.in_ok-code.code)
     c.in_err-verified.field-0.0 c.in_err-verified.ensures.refused code h)
@@ -42,8 +45,10 @@ returns-in_err-verified-clause-told g c = λ fault h.
     let one : (other : List Insn) → Spells bytes other → other ≡ c.in_ok-code.code =
     λ other s. c.one_reading_theorem.ensures.one_code bytes other c.in_ok-code.code s spelled in
     subst (λ r. ReturnsOrRunsOut program_fault_number r (Err fault)) (sym (converted
-    c.from_residual-in_err-verified.result (Verify c.in_err-verified.field-0.0) c.from_residual-in_err-verified.ensures))
-    (refused_told g.D.Domain.ops c.args.context_len bytes c.in_ok-code.code spelled (c.one_reading_theorem.ensures.either bytes) one
+    c.from_residual-in_err-verified.result (Verify c.in_err-verified.field-0.0)
+    c.from_residual-in_err-verified.ensures))
+    (refused_told g.D.Domain.ops c.args.context_len bytes c.in_ok-code.code spelled
+    (c.one_reading_theorem.ensures.either bytes) one
     (c.one_verdict_for_theorem.ensures.either c.args.context_len c.in_ok-code.code)
     (c.one_verdict_for_theorem.ensures.one_refusal c.args.context_len c.in_ok-code.code)
     c.in_err-verified.field-0.0 c.in_err-verified.ensures.refused fault h)
@@ -56,7 +61,8 @@ returns-clause-told g c = λ fault h.
     λ other s. c.one_reading_theorem.ensures.one_code bytes other c.in_ok-code.code s spelled in
     subst (λ loaded. ReturnsOrRunsOut program_fault_number (Ok loaded) (Err fault))
     (sym c.in_ok-verified.ensures.accepted)
-    (accepted_told g.D.Domain.ops c.args.context_len bytes c.in_ok-code.code spelled (c.one_reading_theorem.ensures.either bytes) one
+    (accepted_told g.D.Domain.ops c.args.context_len bytes c.in_ok-code.code spelled
+    (c.one_reading_theorem.ensures.either bytes) one
     (c.one_verdict_for_theorem.ensures.either c.args.context_len c.in_ok-code.code)
     (c.one_verdict_for_theorem.ensures.one_refusal c.args.context_len c.in_ok-code.code)
     c.in_ok-verified.ensures.structured c.in_ok-verified.ensures.typable fault h)

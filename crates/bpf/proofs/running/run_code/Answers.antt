@@ -60,7 +60,8 @@ execute-requires-clause-ready c =
     ready_here _ _ _ _ _ _ _ _ c.loop-next.invariant c.index-slots-0.result c.index-slots-0.is
 
 turn_of : (c : goal.In-Some)
-    → Turn c.args.context_len c.args.code.now c.slots-slots.result.now (take c.args.context_len c.args.memory.now) c.loop-next.steps
+    → Turn c.args.context_len c.args.code.now c.slots-slots.result.now (take c.args.context_len c.args.memory.now)
+    c.loop-next.steps
     c.execute.new.registers.words c.execute.new.memory c.loop-next.slots.now c.in-Some.next.now
 turn_of c =
     turn _ _ _ _ _ _ _ _ c.loop-next.invariant _ _ _ c.index-slots-0.result c.index-slots-0.is
@@ -72,12 +73,14 @@ loop-next-smaller c = (turn_of c).fewer
 pub loop-next-preserved : goal.loop-next-preserved
 loop-next-preserved c = (turn_of c).reached
 
-ends : (c : goal.After-answer) → EndsFor c.args.context_len c.args.code.now (take c.args.context_len c.args.memory.now) c.answer.result (c.loop-next.steps + 1)
+ends : (c : goal.After-answer) → EndsFor c.args.context_len c.args.code.now
+    (take c.args.context_len c.args.memory.now) c.answer.result (c.loop-next.steps + 1)
 ends c =
     let e =
     over _ _ _ _ _ _ _ _ c.loop-next.invariant _ _ c.index-slots-0.result c.index-slots-0.is
     (c.in-None.ensures.next, c.in-None.ensures.registers, c.in-None.ensures.memory) in
-    subst (λ v. EndsFor c.args.context_len c.args.code.now (take c.args.context_len c.args.memory.now) v (c.loop-next.steps + 1)) (sym c.answer.ensures) e
+    subst (λ v. EndsFor c.args.context_len c.args.code.now (take c.args.context_len c.args.memory.now) v
+    (c.loop-next.steps + 1)) (sym c.answer.ensures) e
 
 few : (c : goal.After-answer) → c.loop-next.steps + 1 ≤ length c.args.code.now
 few c = (here _ _ _ _ _ _ _ _ c.loop-next.invariant).few
@@ -87,7 +90,8 @@ returns-in-None-clause-ends c = ends c
 
 pub returns-in-None-clause-meaning : goal.returns-in-None-clause-meaning
 returns-in-None-clause-meaning c =
-    sym (meaning_is c.args.context_len (omega arith) c.args.code.now (take c.args.context_len c.args.memory.now) c.answer.result (c.loop-next.steps + 1) (few c) (ends c))
+    sym (meaning_is c.args.context_len (omega arith) c.args.code.now (take c.args.context_len c.args.memory.now)
+    c.answer.result (c.loop-next.steps + 1) (few c) (ends c))
 
 pub returns-in-None-clause-few : goal.returns-in-None-clause-few
 returns-in-None-clause-few c = few c

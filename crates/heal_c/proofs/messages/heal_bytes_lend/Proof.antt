@@ -57,11 +57,11 @@ Lent message r = MatchOption r (message ≡ None) (λ lent. message ≡ Some len
 
 -- the clause of `point`
 abbrev Pointed : Option (Bor (List ℕ)) → HealSpan → HealSpan → ℕ → Type 0
-Pointed r before after n = MatchOption r ((n ≡ 91) × (after ≡ before)) (λ held. (n ≡ 0) × (after.bytes.now ≡ held.now))
+Pointed r before after n = MatchOption r ((n ≡ 91) × (after ≡ before)) (λ held. (n ≡ 0) × (after.bytes.now ≡ held.now) × (after.reserved ≡ 0))
 
 -- the clause of `heal_bytes_lend` on its results
 abbrev Answered : Option (List ℕ) → HealSpan → HealSpan → ℕ → Type 0
-Answered message before after n = MatchOption message ((n ≡ 91) × (after ≡ before)) (λ held. (n ≡ 0) × (after.bytes.now ≡ held))
+Answered message before after n = MatchOption message ((n ≡ 91) × (after ≡ before)) (λ held. (n ≡ 0) × (after.bytes.now ≡ held) × (after.reserved ≡ 0))
 
 answered : (message : Option (List ℕ)) (r : Option (Bor (List ℕ))) (before after : HealSpan) (n : ℕ) → Lent message r → Pointed r before after n → Answered message before after n
 answered message None before after n is so = subst (λ (m : Option (List ℕ)). Answered m before after n) (sym is) so

@@ -34,7 +34,8 @@ returns-then-at-slot g c =
     let found = pending_state g.met.D.Domain.laws c.args.context_len code c.loop-insn.at (peak_of c.loop-insn.pending)
     (held c.loop-insn.pending) (boxed_view c.take.result) c.requires.structured c.loop-insn.invariant.least
     c.take.ensures.state in
-    subst (λ slot. MatchOption (boxed_view c.take.result) (HasNoStateFor c.args.context_len o code slot) (IsStateBeforeFor c.args.context_len o code slot))
+    subst (λ slot. MatchOption (boxed_view c.take.result) (HasNoStateFor c.args.context_len o code slot)
+    (IsStateBeforeFor c.args.context_len o code slot))
     c.if-at-slot.true found
 
 pub visit-requires-clause-place : goal.visit-requires-clause-place
@@ -51,7 +52,8 @@ visit-requires-clause-is_at g c =
 pub returns-then-is_some : goal.returns-then-is_some
 returns-then-is_some g c =
     failed c.in_ok-visit.field-0 _ _ _ (sym c.is_some.ensures ∙ c.if-is_some.true) c.in_ok-visit.ensures.least
-    (λ rule fails. after_failure g.met.D.Domain.laws c.args.context_len c.args.code.now c.args.slot c.loop-insn.at rule fails
+    (λ rule fails. after_failure g.met.D.Domain.laws c.args.context_len c.args.code.now c.args.slot c.loop-insn.at rule
+    fails
     c.if-at-slot.false c.loop-insn.invariant.ahead)
 
 pub loop-insn-preserved : goal.loop-insn-preserved
@@ -81,4 +83,5 @@ returns g c =
     take_all c.loop-insn.insn-index insns (omega (arith, c.loop-insn-test.false)) in
     let end : slot_count c.args.code.now ≤ c.loop-insn.at =
     rw (c.loop-insn.invariant.place, whole, c.insns-insns.ensures) (omega arith) in
-    past_last g.met.D.Domain.laws c.args.context_len c.args.code.now c.args.slot c.loop-insn.at end c.loop-insn.invariant.ahead
+    past_last g.met.D.Domain.laws c.args.context_len c.args.code.now c.args.slot c.loop-insn.at end
+    c.loop-insn.invariant.ahead

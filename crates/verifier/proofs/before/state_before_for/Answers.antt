@@ -26,11 +26,13 @@ find_state-requires g c =
     let p : peak_of c.put.new.self ≡ max (peak_of c.in_ok-pending.pending) (size c.put.new.self) = c.put.ensures.peak in (
       g.met.D.Domain.fits,
       (
-        is_structured code _ c.check_structure.result (sym c.is_some.ensures ∙ c.if-is_some.false) c.check_structure.ensures,
+        is_structured code _ c.check_structure.result (sym c.is_some.ensures ∙ c.if-is_some.false)
+            c.check_structure.ensures,
         (
           n,
           subst (λ x. IsPending c.args.context_len o code 0 x (peak_of c.put.new.self)) (sym e)
-              (waits_first g.met.D.Domain.laws c.args.context_len code (peak_of c.put.new.self) c.known.ensures (omega arith)),
+              (waits_first g.met.D.Domain.laws c.args.context_len code (peak_of c.put.new.self) c.known.ensures
+              (omega arith)),
         ),
       ),
     )

@@ -29,7 +29,8 @@ loop-insn-init g c =
       place = refl;
       room = n;
       least = subst (λ x. IsPending c.args.context_len o code 0 x (peak_of c.put.new.self)) (sym e)
-          (waits_first g.met.D.Domain.laws c.args.context_len code (peak_of c.put.new.self) c.known.ensures (omega arith));
+          (waits_first g.met.D.Domain.laws c.args.context_len code (peak_of c.put.new.self) c.known.ensures
+          (omega arith));
       some = omega arith;
       peak = omega arith;
     }

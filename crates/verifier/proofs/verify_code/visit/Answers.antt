@@ -21,23 +21,28 @@ returns-in-None-clause-least g c =
     let code = c.args.code.now in
     let at = c.args.at in
     let i = c.args.insn in
-    let w = waits_skipped g.met.D.Domain.laws c.args.context_len code at i (held c.args.pending.now) (peak_of c.args.pending.now)
+    let w = waits_skipped g.met.D.Domain.laws c.args.context_len code at i (held c.args.pending.now)
+    (peak_of c.args.pending.now)
     c.requires.least c.requires.is_at (sym c.take.ensures.state ∙ ap boxed_view c.in-None.is) in
-    subst (λ states. IsPending c.args.context_len o code (at + slots_of i) states (peak_of c.take.new.self)) (sym c.take.ensures.states)
-    (subst (IsPending c.args.context_len o code (at + slots_of i) (put (held c.args.pending.now) at None)) (sym c.take.ensures.peak) w)
+    subst (λ states. IsPending c.args.context_len o code (at + slots_of i) states (peak_of c.take.new.self))
+    (sym c.take.ensures.states)
+    (subst (IsPending c.args.context_len o code (at + slots_of i) (put (held c.args.pending.now) at None))
+    (sym c.take.ensures.peak) w)
 
 pub returns-in-Some-check-clause-least : goal.returns-in-Some-check-clause-least
 returns-in-Some-check-clause-least g c =
     waits_refused g.met.D.Domain.laws c.args.context_len c.args.code.now c.args.at c.args.insn (held c.args.pending.now)
     (view c.in-Some.state.value) (peak_of c.args.pending.now) c.in-Some-check.rule c.requires.structured
     c.requires.least c.requires.is_at (sym c.take.ensures.state ∙ ap boxed_view c.in-Some.is)
-    (subst (λ s. FailsFirstFor c.args.context_len g.D.Domain.ops c.args.insn (view s) c.in-Some-check.rule) c.deref.ensures
+    (subst (λ s. FailsFirstFor c.args.context_len g.D.Domain.ops c.args.insn
+    (view s) c.in-Some-check.rule) c.deref.ensures
     c.in-Some-check.ensures)
 
 pub returns-in-Some-check-clause-stops : goal.returns-in-Some-check-clause-stops
 returns-in-Some-check-clause-stops g c =
     subst (IsPeakFor c.args.context_len g.D.Domain.ops c.args.code.now c.args.at) (sym c.take.ensures.peak)
-    (waits_peak g.met.D.Domain.laws c.args.context_len c.args.code.now c.args.at (held c.args.pending.now) (peak_of c.args.pending.now)
+    (waits_peak g.met.D.Domain.laws c.args.context_len c.args.code.now c.args.at (held c.args.pending.now)
+    (peak_of c.args.pending.now)
     c.requires.least)
 
 pub falling-requires : goal.falling-requires
@@ -56,7 +61,8 @@ carry-requires g c =
     let at = c.args.at in
     let states = held c.args.pending.now in
     let long : room c.take.new.self ≡ slot_count code = c.take.ensures.room ∙ c.requires.room in
-    let a = waits_size g.met.D.Domain.laws c.args.context_len code at states (peak_of c.args.pending.now) c.requires.least in
+    let a = waits_size g.met.D.Domain.laws c.args.context_len code at states
+    (peak_of c.args.pending.now) c.requires.least in
     let b = fewer_taken states at (slot_count code) in
     let d : size c.take.new.self ≡ count_held (put states at None) (slot_count code) =
     size_is c.take.new.self (put states at None) (slot_count code) c.take.ensures.states long in
@@ -99,7 +105,8 @@ returns-clause-least g c =
     let s = view c.in-Some.state.value in
     let states = held c.args.pending.now in
     let old = peak_of c.args.pending.now in
-    let p : PassesFor c.args.context_len o i s = subst (λ x. PassesFor c.args.context_len o i (view x)) c.deref.ensures c.in_default.ensures in
+    let p : PassesFor c.args.context_len o i s = subst (λ x. PassesFor c.args.context_len o i
+    (view x)) c.deref.ensures c.in_default.ensures in
     let fallen = fallen_is o states (held c.take.new.self) (held c.carry.new.pending) at c.slots.result i s
     (boxed_view c.falling.result) c.take.ensures.states c.carry.ensures.states c.slots.ensures c.falling.ensures in
     let below = flow o (put states at None) (at + slots_of i) (fall o i s) in
@@ -117,7 +124,8 @@ returns-clause-least g c =
     (peak_of c.carry_over.new.pending) (size c.carry.new.pending) (size c.carry_over.new.pending) c.take.ensures.peak
     c.carry.ensures.peak c.in_ok-carry_over.ensures.peak (omega arith) in
     subst (λ x. IsPending c.args.context_len o code (at + slots_of i) x (peak_of c.carry_over.new.pending)) (sym last)
-    (waits_passed g.met.D.Domain.laws c.args.context_len code at i states s old (peak_of c.carry_over.new.pending) c.known.ensures
+    (waits_passed g.met.D.Domain.laws c.args.context_len code at i states s old
+    (peak_of c.carry_over.new.pending) c.known.ensures
     c.requires.structured c.requires.least c.requires.is_at (sym c.take.ensures.state ∙ ap boxed_view c.in-Some.is) p
     (counted ∙ ap (max old) size_last))
 
@@ -131,7 +139,8 @@ returns-in_err-carry_over-clause-peak g c =
     let states = held c.args.pending.now in
     let fallen = fallen_is o states (held c.take.new.self) (held c.carry.new.pending) at c.slots.result i s
     (boxed_view c.falling.result) c.take.ensures.states c.carry.ensures.states c.slots.ensures c.falling.ensures in
-    let few = fallen_few g.met.D.Domain.laws c.args.context_len code at i states s (peak_of c.args.pending.now) c.carry.new.pending
+    let few = fallen_few g.met.D.Domain.laws c.args.context_len code at i states s
+    (peak_of c.args.pending.now) c.carry.new.pending
     c.requires.least c.requires.is_at fallen (c.carry.ensures.room ∙ c.take.ensures.room ∙ c.requires.room) in
     let a : peak_of c.take.new.self ≡ peak_of c.args.pending.now = c.take.ensures.peak in
     let b : peak_of c.carry.new.pending ≡ max (peak_of c.take.new.self) (size c.carry.new.pending) =

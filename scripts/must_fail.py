@@ -1,0 +1,193 @@
+#!/usr/bin/env python3
+"""must_fail.py [CRATE[/EDIT] ..]: tries the wrong bodies crates/CRATE/must-fail/EDIT.edit: the prover must refuse each.
+
+`rt ci` tries them one by one, and most of each try is loading. This tries those of a crate together, in as few checks as it can: one
+check has at most one wrong body of each function. A wrong body counts as refused if the check doesn't prove its function, for the
+function's own goals and not only because it calls another that isn't proved. Proofs are modular, so the other wrong bodies
+don't change what is proved of it. A wrong body that isn't refused like this, or that lies outside functions, is tried alone, as
+`rt ci` does: then the crate must not be proved.
+
+Takes the libraries in crates/*/out/rlib, as `rt ci` or prove.py left them. Prints one line for each wrong body, and at the end
+'N refused, M not refused'. The status is 1 if one isn't refused or can't be tried.
+"""
+
+import os
+import re
+import shutil
+import subprocess
+import sys
+import tempfile
+import time
+from concurrent.futures import ThreadPoolExecutor, as_completed
+
+from prove import ROOT, read_crates, with_below
+
+KIT = os.path.dirname(subprocess.run(["rt", "doc"], capture_output=True, text=True, check=True).stdout.strip())
+FUNCTION = re.compile(r"(\s*)(?:pub(?:\([^)]*\))? )?(?:const |unsafe |final |extern \"C\" )*fn (\w+)")
+IMPL = re.compile(r"impl(?:<.*?>)?\s+(?:(?P<trait>[\w:]+)(?:<.*>)?\s+for\s+)?(?P<type>[\w:]+)")
+
+
+class Edit:
+    """A wrong body: the file that it changes, its text there, and the function around it."""
+
+    def __init__(self, crate, path):
+        self.name = f"{crate}/{os.path.basename(path)[: -len('.edit')]}"
+        self.pairs, self.file = [], None
+        with open(path, encoding="utf-8") as lines:
+            for line in lines.read().splitlines():
+                word, _, text = line.partition(": ")
+                if word == "file":
+                    self.file = text.strip()
+                elif word == "old":
+                    old = text
+                elif word in ("new", "new:"):
+                    self.pairs.append((self.file, old, text))
+        self.function = self.find_function(crate)
+
+    def find_function(self, crate):
+        """Returns the path of the function that all pairs lie in, or None."""
+        found = {function_at(crate, file, old) for file, old, _ in self.pairs}
+        return found.pop() if len(found) == 1 else None
+
+    def apply(self, folder):
+        """Writes the wrong body into a copy of the crate."""
+        for file, old, new in self.pairs:
+            with open(f"{folder}/{file}", encoding="utf-8") as it:
+                text = it.read()
+            if text.count(old) != 1:
+                raise ValueError(f"{self.name}: its old text is in {file} {text.count(old)} times, and not once")
+            with open(f"{folder}/{file}", "w", encoding="utf-8") as it:
+                it.write(text.replace(old, new))
+
+
+def function_at(crate, file, old):
+    """Returns the path of the function around a text of a crate's file, or the end of its path, as the prover names it, or None.
+
+    The prover names a method by the module of its type, which may be in another file.
+    """
+    with open(f"{ROOT}/crates/{crate}/{file}", encoding="utf-8") as it:
+        text = it.read()
+    lines = text.split("\n")
+    last = text[: text.find(old)].count("\n")
+    at = next((n for n in range(last, -1, -1) if FUNCTION.match(lines[n])), None)
+    if at is None or any(line == "}" for line in lines[at:last]):
+        return None
+    indent, name = FUNCTION.match(lines[at]).groups()
+    if not indent:
+        modules = [it for it in file[len("src/") : -len(".rt")].split("/") if it not in ("lib", "main")]
+        return "::".join([crate, *modules, name])
+    head = next((lines[n] for n in range(at, -1, -1) if lines[n].startswith(("impl", "trait", "pub trait"))), "")
+    owner = IMPL.match(head)
+    return f"{owner['type']}{(owner['trait'] or '').rpartition('::')[2]}::{name}" if owner else None
+
+
+def check_words(lines, uses, crate):
+    """Returns the command that checks a crate over the libraries below it."""
+    own = lines[crate].partition(":")
+    is_program = os.path.isfile(f"{ROOT}/crates/{crate}/src/main.rt")
+    words = [f"{KIT}/bin/rattle", "check", "--crate-name", crate, "src/main.rt" if is_program else "src/lib.rt"]
+    words += ["--extern", f"std={KIT}/rlibs/std.rlib", "-L", f"dependency={KIT}/rlibs"]
+    for name in own[2].split():
+        folder = f"{ROOT}/crates/{name}/out/rlib" if name in uses else f"{KIT}/rlibs"
+        words += ["--extern", f"{name}={folder}/{name}.rlib"]
+    for name in with_below(uses, crate)[:-1]:
+        words += ["-L", f"dependency={ROOT}/crates/{name}/out/rlib"]
+    words += ["--antt-project", f"{KIT}/rattle/logic/antt-project.json", "--logic-built", f"{KIT}/logic_built"]
+    words += ["--links", f"{crate}=", "--jobs", "1"]
+    return words + (["--crate-type", "staticlib"] if "staticlib" in own[0] else [])
+
+
+def checked(crate, words, edits, kept, functions):
+    """Checks a copy of the crate with these wrong bodies, over kept work, and returns the status and what was printed."""
+    with tempfile.TemporaryDirectory(prefix="must-fail-") as folder:
+        for part in ("src", "specs", "proofs"):
+            if os.path.isdir(f"{ROOT}/crates/{crate}/{part}"):
+                shutil.copytree(f"{ROOT}/crates/{crate}/{part}", f"{folder}/{part}")
+        for edit in edits:
+            edit.apply(folder)
+        only = [word for it in functions for word in ("--only", it)]
+        how = {"stdin": subprocess.DEVNULL, "stdout": subprocess.PIPE, "stderr": subprocess.STDOUT, "errors": "replace"}
+        ran = subprocess.run([*words, "--incremental", kept, *only], cwd=folder, **how)
+        return ran.returncode, ran.stdout
+
+
+def is_refused(printed, function):
+    """Checks whether the prover refused a function for its own goals."""
+    line = re.search(rf"^fn (?:\S*::)?{re.escape(function)}: (.*)$", printed, re.M)
+    return bool(line and (line[1].startswith("not proved") or re.match(r"no proof: (?!it calls)", line[1])))
+
+
+def rounds_of(edits):
+    """Groups wrong bodies, at most one of each function in a group."""
+    rounds = []
+    for edit in edits:
+        free = next((it for it in rounds if edit.function not in [other.function for other in it]), None)
+        if free is None:
+            rounds.append(free := [])
+        free.append(edit)
+    return rounds
+
+
+def try_alone(crate, words, edit, kept):
+    """Returns why the crate with this wrong body isn't refused, or None if it is."""
+    status, printed = checked(crate, words, [edit], kept, [])
+    last = printed.rstrip().rpartition("\n")[2]
+    if status == 1 and last.startswith("logic=not-proved"):
+        return None
+    return "the crate is still proved" if status == 0 else f"it did not reach the prover: {printed.strip()[:300]}"
+
+
+def try_crate(lines, uses, crate, edits):
+    """Tries the wrong bodies of a crate, and returns a line for each and how many are not refused."""
+    start = time.monotonic()
+    words = check_words(lines, uses, crate)
+    said, failed = [], 0
+    with tempfile.TemporaryDirectory(prefix="must-fail-kept-") as kept:
+        left = [it for it in edits if it.function is None]
+        for group in rounds_of([it for it in edits if it.function]):
+            status, printed = checked(crate, words, group, kept, [it.function for it in group])
+            if status not in (0, 1):
+                said.append(f"{crate}: tries each alone: {printed.strip()[-300:]}")
+            for edit in group:
+                if is_refused(printed, edit.function):
+                    said.append(f"{edit.name}: refused, as it must be: {edit.function}")
+                else:
+                    left.append(edit)
+        for edit in left:
+            why = try_alone(crate, words, edit, kept)
+            said.append(f"{edit.name}: {'NOT REFUSED: ' + why if why else 'refused, as it must be, alone'}")
+            failed += why is not None
+    said.append(f"{crate}: {len(edits)} wrong bodies in {time.monotonic() - start:.0f} s")
+    return said, failed
+
+
+def edits_of(crate, names):
+    """Returns the wrong bodies of a crate, or those of these names."""
+    folder = f"{ROOT}/crates/{crate}/must-fail"
+    files = sorted(os.listdir(folder)) if os.path.isdir(folder) else []
+    paths = [f"{folder}/{it}" for it in files if it.endswith(".edit")]
+    return [Edit(crate, it) for it in paths if not names or f"{crate}/{os.path.basename(it)[: -len('.edit')]}" in names]
+
+
+def main():
+    lines, uses = read_crates()
+    wanted = sys.argv[1:]
+    crates = list(dict.fromkeys(it.partition("/")[0] for it in wanted)) or list(lines)
+    tasks = [(it, edits_of(it, [name for name in wanted if name.startswith(f"{it}/")])) for it in crates]
+    # Crates with much to check go first.
+    tasks.sort(key=lambda task: -len(with_below(uses, task[0])) * len(task[1]))
+    jobs = int(os.environ.get("RT_JOBS") or os.cpu_count())
+    tried = failed = 0
+    with ThreadPoolExecutor(jobs) as pool:
+        running = {pool.submit(try_crate, lines, uses, crate, edits): edits for crate, edits in tasks if edits}
+        for done in as_completed(running):
+            said, bad = done.result()
+            print("\n".join(f"must-fail {it}" for it in said), flush=True)
+            tried, failed = tried + len(running[done]), failed + bad
+    refused = tried - failed
+    print(f"{refused} refused, {failed} not refused")
+    return 1 if failed or not refused else 0
+
+
+if __name__ == "__main__":
+    sys.exit(main())
