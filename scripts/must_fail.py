@@ -112,9 +112,17 @@ def checked(crate, words, edits, kept, functions):
 
 
 def is_refused(printed, function):
-    """Checks whether the prover refused a function for its own goals."""
+    """Checks whether the prover refused a function for its own goals.
+
+    One that only calls what isn't proved reads "no proof: it calls ..", and one whose proof cites what is refused elsewhere "not
+    proved; it stands on ..", with the refused lemmas.
+    """
     line = re.search(rf"^fn (?:\S*::)?{re.escape(function)}: (.*)$", printed, re.M)
-    return bool(line and (line[1].startswith("not proved") or re.match(r"no proof: (?!it calls)", line[1])))
+    if not line or not line[1].startswith("not proved"):
+        return bool(line and re.match(r"no proof: (?!it calls)", line[1]))
+    stands_on = re.findall(r"`(Rattle\.[^`]*)`", line[1].partition("it stands on ")[2])
+    own = f".{function.partition('::')[2] if function.count('::') > 1 else function}.".replace("::", ".")
+    return not stands_on or any(own in it for it in stands_on)
 
 
 def rounds_of(edits):
