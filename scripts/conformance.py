@@ -13,6 +13,7 @@ With --contexts libheal runs the programs (`heal_bpf_run`, by Python), on contex
 import itertools
 import os
 import pathlib
+import re
 import subprocess
 import sys
 
@@ -471,7 +472,8 @@ def program_of(checks):
 
 def lengths_for(lines, operands):
     """The lengths of contexts to run a program on, whose operands have so many bytes."""
-    return {0 if not any("[r1" in line for line in lines) else operands, operands, operands + 1, 65535}
+    reads = any(re.search(r"\br1\b", line) for line in lines)
+    return {operands if reads else 0, operands, operands + 1, 65535}
 
 
 def judged(lines, record):
