@@ -24,11 +24,12 @@ from prove import ROOT, read_crates, with_below
 
 KIT = os.path.dirname(subprocess.run(["rt", "doc"], capture_output=True, text=True, check=True).stdout.strip())
 FUNCTION = re.compile(r"(\s*)(?:pub(?:\([^)]*\))? )?(?:const |unsafe |final |extern \"C\" )*fn (\w+)")
+CONSTANT = re.compile(r"(?:pub(?:\([^)]*\))? )?(?:const|static) (\w+)\s*:")
 IMPL = re.compile(r"impl(?:<.*?>)?\s+(?:(?P<trait>[\w:]+)(?:<.*>)?\s+for\s+)?(?P<type>[\w:]+)")
 
 
 class Edit:
-    """A wrong body: the file that it changes, its text there, and the function around it."""
+    """A wrong body: the file that it changes, its text there, and the functions that it may make wrong."""
 
     def __init__(self, crate, path):
         self.name = f"{crate}/{os.path.basename(path)[: -len('.edit')]}"
@@ -42,12 +43,15 @@ class Edit:
                     old = text
                 elif word in ("new", "new:"):
                     self.pairs.append((self.file, old, text))
-        self.function = self.find_function(crate)
+        self.functions = self.find_functions(crate)
 
-    def find_function(self, crate):
-        """Returns the path of the function that all pairs lie in, or None."""
-        found = {function_at(crate, file, old) for file, old, _ in self.pairs}
-        return found.pop() if len(found) == 1 else None
+    def find_functions(self, crate):
+        """Returns the path of the function that all pairs lie in, or those of the functions that name the constant that they change.
+
+        There are none if the pairs lie in several items.
+        """
+        found = {items_at(crate, file, old) for file, old, _ in self.pairs}
+        return found.pop() if len(found) == 1 else ()
 
     def apply(self, folder):
         """Writes the wrong body into a copy of the crate."""
@@ -60,15 +64,40 @@ class Edit:
                 it.write(text.replace(old, new))
 
 
-def function_at(crate, file, old):
-    """Returns the path of the function around a text of a crate's file, or the end of its path, as the prover names it, or None.
+def lines_of(crate, file):
+    """Returns the lines of a crate's file."""
+    with open(f"{ROOT}/crates/{crate}/{file}", encoding="utf-8") as it:
+        return it.read().split("\n")
+
+
+def items_at(crate, file, old):
+    """Returns the path of the function around a text of a crate's file, or those of the functions that name the constant around it."""
+    lines = lines_of(crate, file)
+    at = "\n".join(lines).partition(old)[0].count("\n")
+    function = function_at(crate, file, lines, at)
+    if function:
+        return (function,)
+    start = next((n for n in range(at, -1, -1) if CONSTANT.match(lines[n]) or lines[n] in ("", "}")), at)
+    constant = CONSTANT.match(lines[start])
+    return naming(crate, constant[1]) if constant else ()
+
+
+def naming(crate, constant):
+    """Returns the paths of the functions of a crate that name a constant."""
+    folder, found = f"{ROOT}/crates/{crate}", []
+    for at, _, names in os.walk(f"{folder}/src"):
+        for file in sorted(os.path.relpath(f"{at}/{it}", folder) for it in names):
+            lines = lines_of(crate, file)
+            places = [n for n, line in enumerate(lines) if re.search(rf"\b{constant}\b", line)]
+            found += [function_at(crate, file, lines, n) for n in places]
+    return tuple(dict.fromkeys(it for it in found if it))
+
+
+def function_at(crate, file, lines, last):
+    """Returns the path of the function around a line of a crate's file, or the end of its path, as the prover names it, or None.
 
     The prover names a method by the module of its type, which may be in another file.
     """
-    with open(f"{ROOT}/crates/{crate}/{file}", encoding="utf-8") as it:
-        text = it.read()
-    lines = text.split("\n")
-    last = text[: text.find(old)].count("\n")
     at = next((n for n in range(last, -1, -1) if FUNCTION.match(lines[n])), None)
     if at is None or any(line == "}" for line in lines[at:last]):
         return None
@@ -129,7 +158,7 @@ def rounds_of(edits):
     """Groups wrong bodies, at most one of each function in a group."""
     rounds = []
     for edit in edits:
-        free = next((it for it in rounds if edit.function not in [other.function for other in it]), None)
+        free = next((it for it in rounds if not any(set(edit.functions) & set(other.functions) for other in it)), None)
         if free is None:
             rounds.append(free := [])
         free.append(edit)
@@ -151,14 +180,15 @@ def try_crate(lines, uses, crate, edits):
     words = check_words(lines, uses, crate)
     said, failed = [], 0
     with tempfile.TemporaryDirectory(prefix="must-fail-kept-") as kept:
-        left = [it for it in edits if it.function is None]
-        for group in rounds_of([it for it in edits if it.function]):
-            status, printed = checked(crate, words, group, kept, [it.function for it in group])
+        left = [it for it in edits if not it.functions]
+        for group in rounds_of([it for it in edits if it.functions]):
+            status, printed = checked(crate, words, group, kept, [function for it in group for function in it.functions])
             if status not in (0, 1):
                 said.append(f"{crate}: tries each alone: {printed.strip()[-300:]}")
             for edit in group:
-                if is_refused(printed, edit.function):
-                    said.append(f"{edit.name}: refused, as it must be: {edit.function}")
+                refused = next((it for it in edit.functions if is_refused(printed, it)), None)
+                if refused:
+                    said.append(f"{edit.name}: refused, as it must be: {refused}")
                 else:
                     left.append(edit)
         for edit in left:
