@@ -1,7 +1,7 @@
 #!/usr/bin/env python3
 """refusals.py [--write | --check]: the refusals of C, Python and Rust by name, from the tables of words and names.
 
-The words are those of numbered::REFUSALS, the names those of docs/REFUSALS.md. --write puts them between the marks of c/heal.h and
+The words are those of refusals::REFUSALS, the names those of docs/REFUSALS.md. --write puts them between the marks of c/heal.h and
 into python/heal/refusal.py and rust/heal/src/refusal.rs; --check fails if one of them is stale.
 """
 import os

@@ -17,21 +17,21 @@ import sys
 TOP = os.path.join(os.path.dirname(os.path.abspath(__file__)), "..")
 PAGE = os.path.join(TOP, "docs", "PROOFS.md")
 # The definitions that the page shows, by name, with their modules.
-SHOWN = {"IsLawfulMerge": "Rattle.exchange_core.specs.History"}
+SHOWN = {"IsLawfulMerge": "Rattle.exchange_law.specs.History"}
 
 # Each promise with the public functions whose contracts carry it.
 PROMISES = [
     ("accepted code is safe, and `run` is its meaning", ["verifier::Verified::code", "interpreter::run"]),
-    ("an instruction has the effect of its form", ["execution::execute"]),
+    ("an instruction has the effect of its form", ["one_step::execute"]),
     ("bytes are decoded and encoded as the standard defines", ["insn_codec::decode", "insn_codec::encode"]),
-    ("the verifier is exact", ["verifier::verify", "program::read_program"]),
+    ("the verifier is exact", ["verifier::verify", "verifier::read_program"]),
     ("`verify` holds few states", ["verifier::verify_peak"]),
     ("text is read and written by the grammar", ["assembler_text::assemble", "assembler_text::disassemble"]),
     ("uploads", ["upload_store::UploadStore::upload", "upload_store::UploadStore::get"]),
     ("tables, clashes, verdicts and the merge", [
         "partition_table::Table::register", "partition_table::Table::unregister", "partition_table::clashes",
         "partition_table::Verdict::judged", "partition_table::merge"]),
-    ("**two sides that finish hold one table** (the headline)", ["exchange_core::history_theorem"]),
+    ("**two sides that finish hold one table** (the headline)", ["exchange_law::history_theorem"]),
     ("each call of a side is a step, and each refusal has its cause", [
         "exchange_core::Side::" + name for name in
         ("register", "unregister", "begin", "hear", "take", "withdraw", "close_list", "hear_list", "finish", "abandon",
@@ -56,8 +56,8 @@ PROMISES = [
     ("notices of a verdict", ["builtin_resolvers::notices"]),
     ("each function of the C library makes the call that it wraps", ["heal_c"]),
     ("two processes that use the C library have one outcome", ["heal_c::two_processes_theorem"]),
-    ("answers to questions", ["QUESTIONS::reply_to"]),
-    ("what a script reads and writes", ["script_engine::run_script"]),
+    ("answers to questions", ["questions::reply_to"]),
+    ("what a script reads and writes", ["scripts::run_script"]),
     ("the whole program `heal`", ["heal_main::answer"]),
 ]
 
@@ -190,7 +190,6 @@ def words(text, scope):
 def contract(path):
     """The words of a function's contract, and of the views of the types in its signature."""
     crate, _, name = path.partition("::")
-    crate = {"QUESTIONS": "questions" if "questions" in SOURCES else "answers"}.get(crate, crate)
     found = [source for source in SOURCES[crate] if name in source.functions]
     if not found:
         sys.exit(f"definitions.py: {path} isn't found")
@@ -249,7 +248,6 @@ def table():
         inside, outside = reach(root for path in paths for root in contract(path))
         kit = sum(1 for module, _ in outside if is_of_kit(module))
         calls = f"`{paths[0]}`" + (f" and {len(paths) - 1} more" if len(paths) > 1 else "")
-        calls = calls.replace("QUESTIONS", "questions" if "questions" in SOURCES else "answers")
         rows.append(f"| {promise} | {calls} | {len(inside)} | {lines_of(inside)} | {kit} |")
     return "\n".join(rows)
 

@@ -29,7 +29,7 @@ from terminals import ErlangShell, Shell, Stuck
 TOP = os.path.dirname(os.path.dirname(os.path.abspath(__file__)))
 PAGES = ["docs/INSTALL.md", "README.md", "docs/WRITING_RESOLVERS.md", "docs/EMBEDDING.md", "docs/ERLANG.md"]
 # The programs of the checkout that `rt ci` proves and runs, and what it compares their output with.
-PROVED = ["crates/embedding/src/*.rt", "crates/embedding/stdout", "crates/one_half/src/*.rt"]
+PROVED = ["crates/example_cluster/src/*.rt", "crates/example_cluster/stdout", "crates/example_half/src/*.rt"]
 # The first line of each block that isn't run, and why.
 ARCHIVE = "$ tar -xzf heal-"
 PACKAGE = "$ sudo apt-get install ./heal_"

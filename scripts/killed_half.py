@@ -1,7 +1,7 @@
 #!/usr/bin/env python3
 """Kills one of two halves at each step of an exchange: killed_half.py [PROGRAM]
 
-Two processes of crates/one_half exchange bytes, as in two_processes.py. One is killed (SIGKILL) at each of its steps, before it answers
+Two processes of crates/example_half exchange bytes, as in two_processes.py. One is killed (SIGKILL) at each of its steps, before it answers
 and after. The other goes on as far as it can: it finishes if it has both messages of the dead one, or else abandons the exchange. It
 must hold the merge then, or its own names without those that it withdrew. A new process takes the place of the dead one, and the next
 exchange ends with one table on both. Every process but the killed ends with status 0, and nothing may take ten seconds.

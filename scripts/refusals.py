@@ -1,7 +1,7 @@
 #!/usr/bin/env python3
-"""refusals.py [--write | --check]: compares the words of docs/REFUSALS.md with those of numbered::REFUSALS.
+"""refusals.py [--write | --check]: compares the words of docs/REFUSALS.md with those of refusals::REFUSALS.
 
-Without an option it prints the table of docs/REFUSALS.md with the words of crates/numbered. --write puts it into the page; the
+Without an option it prints the table of docs/REFUSALS.md with the words of crates/refusals. --write puts it into the page; the
 other columns stay as they are. --check fails if the words differ. All fail if one of the two lacks a number.
 """
 import os
@@ -10,7 +10,7 @@ import sys
 
 TOP = os.path.join(os.path.dirname(os.path.abspath(__file__)), "..")
 PAGE = os.path.join(TOP, "docs", "REFUSALS.md")
-SOURCE = os.path.join(TOP, "crates", "numbered", "src", "table.rt")
+SOURCE = os.path.join(TOP, "crates", "refusals", "src", "table.rt")
 ROW = re.compile(r"\| (\d+) \|")
 WORDS = 3  # the place of the words in a row that is split at its bars
 
@@ -41,7 +41,7 @@ def main():
     rows = [row.group(1) for row in map(ROW.match, lines) if row]
     if rows != [number for number, _ in listed]:
         strays = sorted({number for number, _ in listed} ^ set(rows), key=int)
-        sys.exit("refusals.py: docs/REFUSALS.md and numbered::REFUSALS list other numbers, or in another order: "
+        sys.exit("refusals.py: docs/REFUSALS.md and refusals::REFUSALS list other numbers, or in another order: "
                  + " ".join(strays))
     new = [with_words(line, dict(listed)) for line in lines]
     if not sys.argv[1:]:

@@ -3,8 +3,8 @@
 # to answer as with ample memory, or to end with status 3 and print `refused 90`, or on standard error that memory ran out while
 # the words were read. Of a script, a line may be refused 90, and then the other lines answer as if it weren't there; a `heal` may
 # be refused with another number where no round could start a worker, or print words of a later round.
-# Then it runs memory_sweep and memory_sweep_replicas, which have each call of the crates refused in turn, and looks whether each
-# refusal was answered and each answer had none. Needs what `rt ci` builds of the three programs, and a C compiler.
+# Then it runs memory_sweep, which has each call of the crates refused in turn, and looks whether each refusal was answered and each
+# answer had none. Needs what `rt ci` builds of the two programs, and a C compiler.
 set -e
 here=$(cd "$(dirname "$0")" && pwd)
 root=$here/..
@@ -87,12 +87,11 @@ is_right_script() {
 # Reads the output of such a program and of the library, and prints for each call how many requests it makes and how many refused
 # ones it does without. A call is wrong if it reports a fault, if it was refused though no request was, if it answers though a
 # request was refused, if its last window refused a request, if it allocates and shouldn't, and if it should and was never
-# refused. A merge, and so a finish, collects its rows into a map, and so does the decoder of a snapshot: if the room for all rows is
-# refused, it allocates row by row. On what this sweep makes some calls need no memory: unregistering copies a shared table alone;
-# hearing a list adds an owner; a program that a replica uploads or applies adds one to a store with room.
+# refused. A merge, and so a finish, collects its rows into a map: if the room for all rows is refused, it allocates row by row. On
+# what this sweep makes some calls need no memory: unregistering copies a shared table alone; hearing a list adds an owner.
 read_sweep() {
-    awk -v asks_again='^(merge|Side::finish|decode_snapshot)$' \
-        -v needs_none='^(Side::(unregister|hear_list)|Replica::(edit|apply) of a program)$' '
+    awk -v asks_again='^(merge|Side::finish)$' \
+        -v needs_none='^Side::(unregister|hear_list)$' '
         function fault(what) { print call ": " what > "/dev/stderr"; faults++ }
         /^call / { call = substr($0, 6); if (!(call in runs)) order[++calls] = call; runs[call]++ }
         /^refuse / { every = $2 == "all"; number = $2; made = -1 }
@@ -190,4 +189,3 @@ sweep_script "$out/comments" none
 sweep_script "$out/wrong" none
 echo "$runs runs, none wrong"
 sweep_calls memory_sweep
-sweep_calls memory_sweep_replicas

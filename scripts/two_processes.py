@@ -1,5 +1,5 @@
 #!/usr/bin/env python3
-"""Heals a split between two processes of crates/one_half, which exchange bytes and nothing else.
+"""Heals a split between two processes of crates/example_half, which exchange bytes and nothing else.
 
 Checks each answer against the expected one, and that both processes end with the same names.
 Usage: two_processes.py [PROGRAM]
@@ -10,7 +10,7 @@ import subprocess
 import sys
 
 ROOT = os.path.dirname(os.path.dirname(os.path.realpath(__file__)))
-PROGRAM = sys.argv[1] if len(sys.argv) > 1 else f"{ROOT}/crates/one_half/out/one_half"
+PROGRAM = sys.argv[1] if len(sys.argv) > 1 else f"{ROOT}/crates/example_half/out/example_half"
 
 # The registration with the later stamp keeps the name, or the first if the stamps are equal.
 LATER_STAMP = "79123800000000007913600000000000b7000000010000003d32010000000000b7000000020000009500000000000000"

@@ -14,9 +14,9 @@ ROOT = os.path.dirname(os.path.dirname(os.path.realpath(__file__)))
 NUMBER = r"\d+\.\d+\.\d+"
 # Each file, with what surrounds the version in it: all places that match are the version's.
 PLACES = [
-    ("crates/answers/src/listing.rt", r'(b"heal )()(\\n")', "dotted"),
-    ("crates/answers/specs/Lines.antt", r'(codes "heal )()(\\n")', "dotted"),
-    ("crates/answers/must-fail/other_version.edit", r'(old: .*b"heal )()(\\n")', "dotted"),
+    ("crates/questions/src/listing.rt", r'(b"heal )()(\\n")', "dotted"),
+    ("crates/questions/specs/Lines.antt", r'(codes "heal )()(\\n")', "dotted"),
+    ("crates/questions/must-fail/other_version.edit", r'(old: .*b"heal )()(\\n")', "dotted"),
     ("crates/heal_c/src/version.rt", r"(const VERSION: u32 = )()(;)", "bytes"),
     ("crates/heal_c/src/version.rt", r"(ensures \{ result ≡ )()( \})", "number"),
     ("bindings/c/heal.h", r"(#define HEAL_VERSION )()(\n)", "hex"),

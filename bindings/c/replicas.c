@@ -1,7 +1,7 @@
 /*
  * Checks what heal.h states of replicas: the layout of structs, the refusals of each call, entries and snapshots that are
- * repeated, lost, cut and changed, an exchange between two primaries, and each allocation refused in turn: a call that returns 90
- * changes nothing, and succeeds when it is made again. Link with -Wl,--wrap=malloc,--wrap=realloc.
+ * repeated, lost, cut and changed, an exchange between two primaries, which calls take no memory, and each allocation refused in turn:
+ * a call that returns 90 changes nothing, and succeeds when it is made again. Link with -Wl,--wrap=malloc,--wrap=realloc.
  */
 #include "heal.h"
 
@@ -73,6 +73,14 @@ void *__wrap_realloc(void *old, size_t size)
 
 /* Always 1: mov64 r0, 1; exit. */
 static const uint8_t FIRST[] = {0xb7, 0, 0, 0, 1, 0, 0, 0, 0x95, 0, 0, 0, 0, 0, 0, 0};
+
+/* The call succeeds and allocates nothing. */
+#define TAKES_NO_MEMORY(call)            \
+    do {                                 \
+        unsigned long made_before_ = made; \
+        REQUIRE((call) == 0);            \
+        REQUIRE(made == made_before_);   \
+    } while (0)
 
 /* Bytes of a message. */
 struct message {
@@ -384,6 +392,28 @@ static void check_exchange(void)
         heal_replica_free(&node[i]);
 }
 
+/* Calls that take no memory. */
+static void check_without_memory(void)
+{
+    heal_replica node = started(1, 1);
+    struct message entry = added(&node, "db", (heal_owner){1, 1}), snapshot = snapshot_of(&node);
+    heal_replica_state state;
+    heal_registration found;
+    heal_row row;
+    heal_front front;
+
+    TAKES_NO_MEMORY(heal_replica_lead(&node));
+    TAKES_NO_MEMORY(heal_replica_query(&node, &state));
+    TAKES_NO_MEMORY(heal_replica_whereis(&node, text("db"), 2, &found));
+    TAKES_NO_MEMORY(heal_replica_row(&node, 0, &row));
+    TAKES_NO_MEMORY(heal_replica_row_after(&node, text("a"), 1, &row));
+    TAKES_NO_MEMORY(heal_log_front(entry.bytes, entry.len, &front));
+    TAKES_NO_MEMORY(heal_log_front(snapshot.bytes, snapshot.len, &front));
+    free(entry.bytes);
+    free(snapshot.bytes);
+    heal_replica_free(&node);
+}
+
 static void run(void)
 {
     made = 0;
@@ -397,6 +427,7 @@ int main(void)
     unsigned long count;
 
     check_log();
+    check_without_memory();
     run();
     count = made;
     for (failing = 1; failing <= count; failing++)

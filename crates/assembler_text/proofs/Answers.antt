@@ -1,7 +1,7 @@
 -- The answer for a text, where memory may run out; lines and texts have one reading.
 use Rattle.std.proofs.Common.{◌≡◌, ◌∙◌, sym, ℕ, List, Option, Result, Ok, Err, inl, inr, ◌⊎◌}
 use Rattle.std.specs.Prelude.{IfOk, IfErr}
-use Rattle.numbered.specs.Answers.{HasCause, ReturnsOrRunsOut}
+use Rattle.refusals.specs.Answers.{HasCause, ReturnsOrRunsOut}
 use Rattle.instruction_set.specs.declared.insn.Insn.{Insn}
 use Rattle.assembler_text.specs.declared.faults.Fault.{Fault}
 use Rattle.assembler_text.specs.declared.faults.LineFault.{LineFault}

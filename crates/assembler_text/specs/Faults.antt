@@ -1,8 +1,8 @@
 -- The numbers and the lines of the refusals.
 use Rattle.std.specs.Prelude.{ℕ, Option, Some, None}
-use Rattle.numbered.specs.Answers.{out_of_memory}
-use Rattle.numbered.specs.declared.Place.{Place}
-use Rattle.numbered.specs.declared.Place.TheVariants as place
+use Rattle.refusals.specs.Answers.{out_of_memory}
+use Rattle.refusals.specs.declared.Place.{Place}
+use Rattle.refusals.specs.declared.Place.TheVariants as place
 use Rattle.assembler_text.specs.declared.faults.Fault.{Fault}
 use Rattle.assembler_text.specs.declared.faults.Fault.TheVariants as fault
 use Rattle.assembler_text.specs.declared.faults.LineFault.{LineFault}

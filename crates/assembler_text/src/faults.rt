@@ -1,7 +1,7 @@
 //! The faults of texts.
 ghost use Rattle.assembler_text.specs.Faults.{fault_number, fault_place, line_fault_number, line_fault_place};
 
-use numbered::{Numbered, OUT_OF_MEMORY, Place, words_of};
+use refusals::{Numbered, OUT_OF_MEMORY, Place, words_of};
 use thiserror::Error;
 
 /// The leftmost fault of a line.

@@ -1,7 +1,7 @@
 -- The answer about bytes is the only one, since bytes have one reading, and code has one verdict.
 use Rattle.std.proofs.Common.{◌≡◌, ap, subst, inl, inr, ℕ, List, Result, Ok, Err}
 use Rattle.std.specs.Result.{IsErr, IsErrAnd}
-use Rattle.numbered.specs.Answers.{HasCause, ReturnsOrRunsOut}
+use Rattle.refusals.specs.Answers.{HasCause, ReturnsOrRunsOut}
 use Rattle.instruction_set.specs.declared.insn.Insn.{Insn}
 use Rattle.insn_codec.specs.Encoding.{Spells}
 use Rattle.insn_codec.specs.Faults.{fault_number, IsFirstFault}
@@ -14,10 +14,10 @@ use Rattle.verifier.specs.declared.refusal.VerifyFault.{VerifyFault}
 use Rattle.verifier.specs.declared.refusal.VerifyFault.TheVariants.{Refused, OutOfMemory}
 use Rattle.abstract_value.specs.Domain.{Ops}
 use Rattle.verifier.specs.Stores.{CodeFor, code_for}
-use Rattle.program.specs.Programs.{program_fault_number}
+use Rattle.verifier.specs.Programs.{program_fault_number}
 use Rattle.bpf.specs.Loading.{IsLoadableOver, IsLoadFaultOver}
-use Rattle.program.specs.declared.fault.ProgramFault.{ProgramFault}
-use Rattle.program.specs.declared.fault.ProgramFault.TheVariants.{Codec, Verify}
+use Rattle.verifier.specs.declared.program_fault.ProgramFault.{ProgramFault}
+use Rattle.verifier.specs.declared.program_fault.ProgramFault.TheVariants.{Codec, Verify}
 
 -- a fault that `?` converts
 pub converted : {A F : Type 0} (r : Result A F) (x : F) → IsErr r × IsErrAnd r (λ y. y ≡ x) → r ≡ Err x

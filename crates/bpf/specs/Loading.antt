@@ -9,9 +9,9 @@ use Rattle.verifier.specs.Assignments.{IsTypableFor}
 use Rattle.verifier.specs.Refusals.{IsRefusedAtFor}
 use Rattle.verifier.specs.declared.refusal.Refusal.{Refusal}
 use Rattle.verifier.specs.declared.refusal.VerifyFault.TheVariants as verify
-use Rattle.program.specs.Programs.{profile}
-use Rattle.program.specs.declared.fault.ProgramFault.{ProgramFault}
-use Rattle.program.specs.declared.fault.ProgramFault.TheVariants.{Codec, Verify}
+use Rattle.verifier.specs.Programs.{profile}
+use Rattle.verifier.specs.declared.program_fault.ProgramFault.{ProgramFault}
+use Rattle.verifier.specs.declared.program_fault.ProgramFault.TheVariants.{Codec, Verify}
 
 -- ---- over any domain
 

@@ -24,6 +24,6 @@ mod sandbox;
 
 pub use loaded::{Loaded, load};
 pub use memory::Memory;
-pub use program::ProgramFault as LoadFault;
 pub use running::{Ended, one_meaning_for_theorem, run_code, run_for};
 pub use sandbox::{Sandbox, load_sandbox};
+pub use verifier::ProgramFault as LoadFault;

@@ -1,11 +1,11 @@
 //! Loaded programs.
 ghost use Rattle.std.specs.Prelude.{◌≡◌, ◌≤◌, List, Ok, Err, IfOk, IfErr, length, replicate};
-ghost use Rattle.numbered.specs.Answers.{HasCause, ReturnsOrRunsOut};
+ghost use Rattle.refusals.specs.Answers.{HasCause, ReturnsOrRunsOut};
 ghost use Rattle.instruction_set.specs.declared.insn.Insn.{Insn};
 ghost use Rattle.instruction_set.specs.Machine.{IsSafeFor};
 ghost use Rattle.verifier.specs.Stores.{code_for};
-ghost use Rattle.program.specs.Programs.{program_fault_number};
-ghost use Rattle.program.specs.declared.fault.ProgramFault.{ProgramFault};
+ghost use Rattle.verifier.specs.Programs.{program_fault_number};
+ghost use Rattle.verifier.specs.declared.program_fault.ProgramFault.{ProgramFault};
 ghost use Rattle.bpf.specs.Loading.{IsLoadable, IsLoadFault, IsLoadableOver, IsLoadFaultOver};
 
 use crate::memory::Memory;
@@ -13,10 +13,9 @@ use crate::running::{Ended, run_for};
 use abstract_value::Domain;
 use insn_codec::{decode, one_reading_theorem};
 use instruction_set::Code;
-use program::{Profile, ProgramFault};
 use std::alloc::{AllocError, Global};
 use std::marker::Model;
-use verifier::{VerifiedFor, one_verdict_for_theorem, verify_for};
+use verifier::{Profile, ProgramFault, VerifiedFor, one_verdict_for_theorem, verify_for};
 
 /// A program that is safe on each context of its length: it ends with one answer, in at most as many steps as it has
 /// instructions, reads nothing outside its context and its own stack, and writes nothing but that stack.

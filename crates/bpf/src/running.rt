@@ -5,8 +5,8 @@ ghost use Rattle.instruction_set.specs.Machine.{Placement, EndsWithFor, EndsFor,
 ghost use Rattle.verifier.specs.Structure.{IsStructured};
 ghost use Rattle.bpf.specs.Running.{HasRoomFor};
 
-use execution::{Registers, execute};
 use instruction_set::{Code, layout_theorem};
+use one_step::{Registers, execute};
 use verifier::VerifiedFor;
 
 /// The end of a run.

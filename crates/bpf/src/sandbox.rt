@@ -1,20 +1,19 @@
 //! Loaded programs with a memory for their runs.
 ghost use Rattle.std.specs.Prelude.{◌≡◌, ◌≢◌, List, Ok, Err, IfOk, IfErr, length};
-ghost use Rattle.numbered.specs.Answers.{HasCause, ReturnsOrRunsOut};
+ghost use Rattle.refusals.specs.Answers.{HasCause, ReturnsOrRunsOut};
 ghost use Rattle.instruction_set.specs.declared.insn.Insn.{Insn};
 ghost use Rattle.instruction_set.specs.Machine.{IsSafeFor};
 ghost use Rattle.verifier.specs.Stores.{code_for};
-ghost use Rattle.program.specs.Programs.{program_fault_number};
-ghost use Rattle.program.specs.declared.fault.ProgramFault.{ProgramFault};
+ghost use Rattle.verifier.specs.Programs.{program_fault_number};
+ghost use Rattle.verifier.specs.declared.program_fault.ProgramFault.{ProgramFault};
 ghost use Rattle.bpf.specs.Loading.{IsLoadable, IsLoadFault};
 
 use crate::loaded::{Loaded, load};
 use crate::memory::Memory;
 use crate::running::Ended;
-use program::ProgramFault;
 use std::alloc::{AllocError, Global};
 use std::marker::Model;
-use verifier::VerifyFault;
+use verifier::{ProgramFault, VerifyFault};
 
 /// A loaded program with a memory of its own.
 ///

@@ -1,7 +1,7 @@
 -- The answer of a call, by the result of the call that it wraps.
 use Rattle.std.proofs.Common.{◌≡◌, inl, inr, refl, ap, sym}
 use Rattle.std.specs.Prelude.{ℕ, Option, Some, None, Result, Ok, Err, OnOk, OnErr}
-use Rattle.numbered.specs.Answers.{IsAnswered}
+use Rattle.refusals.specs.Answers.{IsAnswered}
 use Rattle.c_calls.specs.Answers.{IsAnswer, number_in, unless}
 
 -- a call's answer, by its number

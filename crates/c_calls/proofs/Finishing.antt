@@ -7,10 +7,10 @@ use Rattle.clash_record.specs.declared.side_id.SideId.{SideId}
 use Rattle.clash_record.specs.declared.side_id.SideId.TheVariants.{A, B}
 use Rattle.partition_table.specs.Tables.{Clash, Table}
 use Rattle.partition_table.specs.declared.judged.Judged.{Judged}
-use Rattle.exchange_core.specs.Sides.{Heard, Exchange, Side, clashes_for, clashes_heard, clashes_of, heard_clashes}
+use Rattle.exchange_law.specs.Sides.{Heard, Exchange, Side, clashes_for, clashes_heard, clashes_of, heard_clashes}
 use Rattle.exchange_core.specs.Finished.{Finished, clashes_merged, finished_at, finished_in, finished_of, finished_from}
 use Rattle.exchange_core.specs.declared.side.Side as held
-use Rattle.exchange_core.specs.Calls.{Finish}
+use Rattle.exchange_law.specs.Calls.{Finish}
 use Rattle.exchange_core.specs.Refusals.{finish_fault}
 use Rattle.exchange_core.specs.Shown.{shown, is_full, IsDone, IsUntouched}
 use Rattle.upload_store.specs.Programs.{Programs}

@@ -1,7 +1,7 @@
 -- Messages that are judged by their heads.
 use Rattle.std.proofs.Common.{◌≡◌, ◌⊎◌, ℕ, inl, inr, ap, ◌∙◌}
 use Rattle.std.specs.Prelude.{Option, Some, None, Result, Ok, Err}
-use Rattle.numbered.specs.Answers.{ReturnsOrRunsOut, out_of_memory}
+use Rattle.refusals.specs.Answers.{ReturnsOrRunsOut, out_of_memory}
 use Rattle.exchange_codec.specs.declared.fault.MessageFault.{MessageFault}
 use Rattle.exchange_codec.specs.declared.head.MessageHead.{MessageHead}
 use Rattle.exchange_codec.specs.Faults.{message_fault_number}

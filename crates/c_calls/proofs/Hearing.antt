@@ -1,9 +1,9 @@
 -- Messages that are encoded before a call, and messages that are decoded.
 use Rattle.std.proofs.Common.{◌≡◌, List, ℕ, length, inl, inr, ◌∙◌}
 use Rattle.std.specs.Prelude.{Result, Ok, Err, IfOk, IsOkAnd}
-use Rattle.numbered.specs.Answers.{ReturnsOrRunsOut, out_of_memory}
-use Rattle.exchange_core.specs.Sides as sides
-use Rattle.exchange_core.specs.Lists.{IsNameList}
+use Rattle.refusals.specs.Answers.{ReturnsOrRunsOut, out_of_memory}
+use Rattle.exchange_law.specs.Sides as sides
+use Rattle.exchange_law.specs.Lists.{IsNameList}
 use Rattle.exchange_codec.specs.declared.fault.MessageFault.{MessageFault}
 use Rattle.exchange_codec.specs.Faults.{message_fault_number}
 use Rattle.exchange_codec.specs.Offers.{SpellsOffer}

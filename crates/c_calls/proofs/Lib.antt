@@ -7,3 +7,4 @@ pub mod Hearing
 pub mod Keeping
 pub mod Uploading
 pub mod Repeating
+pub mod MarkedRows

@@ -1,6 +1,6 @@
 -- Messages after the first of their kind and number.
 use Rattle.std.proofs.Common.{◌≡◌, Bool, true, false, ℕ, inl, inr, sym, true≢false}
-use Rattle.numbered.specs.Answers.{out_of_memory}
+use Rattle.refusals.specs.Answers.{out_of_memory}
 use Rattle.c_calls.specs.Halves.{Half}
 use Rattle.c_calls.specs.Exchanges.{UnlessOther}
 use Rattle.c_calls.specs.Sides.{Stays}

@@ -1,7 +1,7 @@
 -- Uploads, by the results of the calls that they wrap.
 use Rattle.std.proofs.Common.{◌≡◌, ◌⊎◌, inl, inr, refl, ap, sym, subst}
 use Rattle.std.specs.Prelude.{ℕ, List, Result, Ok, Err, IfOk, IfErr, OnErr}
-use Rattle.numbered.specs.Answers.{HasCause, ReturnsOrRunsOut, out_of_memory}
+use Rattle.refusals.specs.Answers.{HasCause, ReturnsOrRunsOut, out_of_memory}
 use Rattle.clash_record.specs.declared.registrations.ProgramId.{ProgramId}
 use Rattle.upload_store.specs.declared.fault.UploadFault.{UploadFault}
 use Rattle.upload_store.specs.Faults.{upload_fault_number, upload_fault_place}

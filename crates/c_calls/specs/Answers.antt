@@ -1,8 +1,8 @@
 -- The numbers that calls return, and what each number means for a handle.
 use Rattle.std.specs.Prelude.{◌≡◌, ◌⊎◌, ℕ, ◌==◌, if◌then◌else◌, Option, Some, None, Result, Ok, Err}
-use Rattle.numbered.specs.Answers.{out_of_memory}
-use Rattle.numbered.specs.declared.place.Place.{Place}
-use Rattle.numbered.specs.declared.place.Place.TheVariants.{Slot}
+use Rattle.refusals.specs.Answers.{out_of_memory}
+use Rattle.refusals.specs.declared.place.Place.{Place}
+use Rattle.refusals.specs.declared.place.Place.TheVariants.{Slot}
 
 -- ---- numbers of results
 

@@ -1,10 +1,10 @@
 -- The calls of a half in an exchange: what is due to each, and what it leaves.
 use Rattle.std.specs.Prelude.{◌≡◌, ◌⊎◌, ℕ, Bool, if◌then◌else◌, List, length, Option, Some, None, IsSomeAnd, Result, Ok, Err}
 use Rattle.std.specs.Option.{option_map}
-use Rattle.numbered.specs.Answers.{out_of_memory}
+use Rattle.refusals.specs.Answers.{out_of_memory}
 use Rattle.clash_record.specs.Name.{Name}
-use Rattle.exchange_core.specs.Sides as sides
-use Rattle.exchange_core.specs.Calls.{Begin, Hear, Withdraw, Close_list, Hear_list, Finish, Abandon}
+use Rattle.exchange_law.specs.Sides as sides
+use Rattle.exchange_law.specs.Calls.{Begin, Hear, Withdraw, Close_list, Hear_list, Finish, Abandon}
 use Rattle.exchange_core.specs.declared.fault.SideFault.{SideFault}
 use Rattle.exchange_core.specs.Faults.{side_fault_number}
 use Rattle.exchange_core.specs.Finished.{Finished, finished_from}
@@ -12,7 +12,7 @@ use Rattle.exchange_core.specs.Refusals as due
 use Rattle.exchange_core.specs.Settling.{IsSettled, the_round}
 use Rattle.exchange_core.specs.Shown.{shown, calls, limit_of, is_full, IsDone, IsUntouched}
 use Rattle.exchange_core.specs.declared.side.Side.{Side}
-use Rattle.exchange_core.specs.Worlds.{offer_of, list_of}
+use Rattle.exchange_law.specs.Worlds.{offer_of, list_of}
 use Rattle.exchange_codec.specs.declared.fault.MessageFault.{MessageFault}
 use Rattle.exchange_codec.specs.declared.head.MessageHead.{MessageHead}
 use Rattle.exchange_codec.specs.Faults.{message_fault_number}

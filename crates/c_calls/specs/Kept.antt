@@ -4,7 +4,7 @@ use Rattle.std.specs.Ordering.{eq_by_cmp}
 use Rattle.std.specs.List.{flat_map, list_any}
 use Rattle.std.specs.Option.{option_map, ok_or}
 use Rattle.std.specs.FinMap as map
-use Rattle.numbered.specs.Answers.{out_of_memory}
+use Rattle.refusals.specs.Answers.{out_of_memory}
 use Rattle.instruction_set.specs.declared.insn.Insn.{Insn}
 use Rattle.insn_codec.specs.Encoding.{insn_bytes}
 use Rattle.clash_record.specs.Name.{Name}

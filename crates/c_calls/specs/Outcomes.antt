@@ -15,7 +15,7 @@ use Rattle.partition_table.specs.Tables.{Table, Clash, Gone, same_registration}
 use Rattle.partition_table.specs.declared.judged.Judged.{Judged}
 use Rattle.clash_record.specs.Name.{Name}
 use Rattle.exchange_core.specs.Finished.{Finished, clashes_merged}
-use Rattle.exchange_core.specs.Sides.{Side, withdrawn_by}
+use Rattle.exchange_law.specs.Sides.{Side, withdrawn_by}
 use Rattle.c_calls.specs.declared.codes.HealClash.{HealClash}
 use Rattle.c_calls.specs.declared.codes.HealName.{HealName}
 use Rattle.c_calls.specs.declared.codes.HealNotice.{HealNotice}

@@ -1,11 +1,11 @@
 -- Programs: what loading bytes gives, and what judging returns.
 use Rattle.std.specs.Prelude.{◌≡◌, ◌≤◌, ◌⊎◌, ℕ, List, length, Option, Some}
-use Rattle.numbered.specs.Answers.{out_of_memory}
+use Rattle.refusals.specs.Answers.{out_of_memory}
 use Rattle.instruction_set.specs.declared.insn.Insn.{Insn}
 use Rattle.instruction_set.specs.Machine.{Ends, meaning}
 use Rattle.upload_store.specs.Programs.{id_of}
-use Rattle.program.specs.Programs.{IsAccepted, IsProgramFault, program_fault_number, program_fault_place}
-use Rattle.program.specs.declared.fault.ProgramFault.{ProgramFault}
+use Rattle.verifier.specs.Programs.{IsAccepted, IsProgramFault, program_fault_number, program_fault_place}
+use Rattle.verifier.specs.declared.program_fault.ProgramFault.{ProgramFault}
 use Rattle.upload_store.specs.Programs.{Upload}
 use Rattle.c_calls.specs.declared.codes.HealEnded.{HealEnded}
 use Rattle.c_calls.specs.Answers.{slot_of}

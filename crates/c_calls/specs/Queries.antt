@@ -6,11 +6,11 @@ use Rattle.std.specs.FinMap.{get}
 use Rattle.clash_record.specs.Name.{Name}
 use Rattle.partition_table.specs.Tables.{rows_of, rows_above}
 use Rattle.exchange_core.specs.Shown.{shown}
-use Rattle.exchange_core.specs.Sides.{shown_table, withdrawn_by, heard_clashes}
+use Rattle.exchange_law.specs.Sides.{shown_table, withdrawn_by, heard_clashes}
 use Rattle.exchange_core.specs.Refusals.{missing_of}
 use Rattle.exchange_core.specs.declared.fault.MissingPart.{MissingPart}
 use Rattle.exchange_core.specs.declared.fault.MissingPart.TheVariants.{TheirOffer, Ruling, OwnList, OtherList}
-use Rattle.exchange_core.specs.Sides as sides
+use Rattle.exchange_law.specs.Sides as sides
 use Rattle.c_calls.specs.Halves.{Half}
 use Rattle.c_calls.specs.declared.codes.HealName.{HealName}
 use Rattle.c_calls.specs.declared.codes.HealRow.{HealRow}

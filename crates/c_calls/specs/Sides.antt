@@ -2,7 +2,7 @@
 use Rattle.std.specs.Prelude.{◌≡◌, ◌≢◌, ◌≤◌, ◌+◌, ◌⊎◌, ◌&&◌, ℕ, nat_lt, nat_le, ◌==◌, if◌then◌else◌, List, [], length, Result, Ok, Err}
 use Rattle.std.specs.Option.{option_map, ok_or}
 use Rattle.std.specs.FinMap as map
-use Rattle.numbered.specs.Answers.{out_of_memory}
+use Rattle.refusals.specs.Answers.{out_of_memory}
 use Rattle.clash_record.specs.Name.{Name}
 use Rattle.clash_record.specs.declared.side_id.SideId.{SideId}
 use Rattle.clash_record.specs.declared.side_id.SideId.TheVariants.{A, B}
@@ -12,11 +12,11 @@ use Rattle.upload_store.specs.declared.fault.UploadFault.{UploadFault}
 use Rattle.upload_store.specs.Faults.{upload_fault_number, upload_fault_place}
 use Rattle.upload_store.specs.Uploads.{Fits, IsKept, IsUploadFault}
 use Rattle.partition_table.specs.Tables.{most_names, row_for}
-use Rattle.exchange_core.specs.Calls.{Call, Register, Unregister}
+use Rattle.exchange_law.specs.Calls.{Call, Register, Unregister}
 use Rattle.exchange_core.specs.Faults.{side_fault_number}
 use Rattle.exchange_core.specs.Refusals.{register_fault, unregister_fault, renew_fault}
 use Rattle.exchange_core.specs.Shown.{shown, calls, limit_of, is_full, IsDone, IsUntouched}
-use Rattle.exchange_core.specs.Sides.{new_side, rested, shown_table, withdrawn_by}
+use Rattle.exchange_law.specs.Sides.{new_side, rested, shown_table, withdrawn_by}
 use Rattle.c_calls.specs.Halves.{Half}
 use Rattle.c_calls.specs.declared.codes.HealRegistration.{HealRegistration}
 use Rattle.c_calls.specs.declared.codes.HealRow.{HealRow}

@@ -2,7 +2,7 @@
 ghost use Rattle.std.specs.Prelude.{◌≡◌};
 ghost use Rattle.c_calls.specs.Answers.{Gives, number_in, slot_in, slot_of};
 
-use numbered::{Numbered, OUT_OF_MEMORY, Place};
+use refusals::{Numbered, OUT_OF_MEMORY, Place};
 
 /// 31: the name isn't registered.
 pub const NOT_REGISTERED: u32 = 31;

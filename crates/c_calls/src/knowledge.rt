@@ -6,7 +6,7 @@ ghost use Rattle.std.specs.Map.Iter.{deref_pair};
 ghost use Rattle.partition_table.specs.Tables.{rows_above};
 ghost use Rattle.exchange_core.specs.Rows.{rows_left};
 ghost use Rattle.exchange_core.specs.Shown.{shown};
-ghost use Rattle.exchange_core.specs.Sides.{heard_clashes};
+ghost use Rattle.exchange_law.specs.Sides.{heard_clashes};
 ghost use Rattle.c_calls.specs.Queries as spec;
 ghost use Rattle.c_calls.specs.Queries.{is_live, live_after, live_at, withdrawn_at};
 

@@ -1,16 +1,15 @@
 //! Bytes that are loaded as a program.
 ghost use Rattle.std.specs.Prelude.{◌≡◌, ◌⊎◌, List, Err, IsOk, IfOk, IfErr};
-ghost use Rattle.numbered.specs.Answers.{HasCause, RanOut};
+ghost use Rattle.refusals.specs.Answers.{HasCause, RanOut};
 ghost use Rattle.instruction_set.specs.declared.insn.Insn.{Insn};
-ghost use Rattle.program.specs.Programs.{IsAccepted, IsProgramFault, program_fault_number};
-ghost use Rattle.program.specs.declared.fault.ProgramFault.{ProgramFault};
+ghost use Rattle.verifier.specs.Programs.{IsAccepted, IsProgramFault, program_fault_number};
+ghost use Rattle.verifier.specs.declared.program_fault.ProgramFault.{ProgramFault};
 ghost use Rattle.upload_store.specs.Programs.{id_of};
 ghost use Rattle.c_calls.specs.Programs.{IsLoaded};
 
-use program::{ProgramFault, read_program};
 use std::alloc::{AllocError, Global};
 use upload_store::Upload;
-use verifier::{Verified, VerifyFault};
+use verifier::{ProgramFault, Verified, VerifyFault, read_program};
 
 /// Reads bytes as a verified program with its id, on the heap.
 ///

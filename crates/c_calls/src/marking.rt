@@ -1,14 +1,16 @@
 //! What a finished exchange did with each clash.
-ghost use Rattle.std.specs.Prelude.{◌≡◌, ◌↔◌, IsFalse, [], length, map, is_some};
+ghost use Rattle.std.specs.Prelude.{◌≡◌, ◌↔◌, IsFalse, IfSome, Some, [], length, map, is_some};
+ghost use Rattle.std.specs.Option.{option_map};
 ghost use Rattle.std.specs.FinMap.{get};
-ghost use Rattle.partition_table.specs.Tables.{same_facts, facts_of};
+ghost use Rattle.partition_table.specs.Tables.{Table, same_facts, same_registration, facts_of};
 ghost use Rattle.exchange_core.specs.Finished.{clashes_merged};
 ghost use Rattle.c_calls.specs.Outcomes.{has_first, has_winner, is_kept};
+ghost use Rattle.c_calls.specs.Rows.{AreRowsOf};
 
 use builtin_resolvers::Verdict3;
-use clash_record::{Facts, Name};
+use clash_record::{Facts, Name, Registration};
 use exchange_core::{Finished, Judged};
-use partition_table::{Clash, Finder, Table, clashes_theorem, merge_theorem};
+use partition_table::{Clash, Finder, Rows, Table, clashes_theorem, merge_theorem};
 
 // Marks each clash whose name the merged table has.
 #[tactic(auto, using(crate::proofs::ClashMarks::winners_kept))]
@@ -128,21 +130,54 @@ fn mark_rows(table: &Table, clashes: &[Clash], marks: &mut [bool])
     requires { length marks.old ≡ length clashes.now }
     ensures { marks.new ≡ map (has_first table.now) clashes.now }
 {
-    let mut rows = Finder::new(table);
+    let mut rows = table.rows();
     let mut i = 0;
     while i < clashes.len() {
-        marks[i] = has_first(&mut rows, &clashes[i]);
+        marks[i] = has_first(table, &mut rows, &clashes[i]);
         i += 1;
     }
 }
 
-// Checks whether the table has the name of a clash with its first registration.
-fn has_first(table: &mut Finder<'_>, clash: &Clash) -> bool
-    ensures answer { result ≡ has_first table.old clash.now }
-    ensures same { table.new ≡ table.old }
+// Checks whether the table has the name of a clash with its first registration. Goes on to that name among these rows of the
+// table, and searches if they lack it.
+fn has_first(table: &Table, rows: &mut Rows<'_>, clash: &Clash) -> bool
+    requires { AreRowsOf table.now rows.old }
+    ensures answer { result ≡ has_first table.now clash.now }
+    ensures left { AreRowsOf table.now rows.new }
 {
-    match table.find(clash.name()) {
-        Some(registration) => registration.cmp(clash.first()).is_eq(),
+    match next_of(rows, clash.name()) {
+        Some(registration) => is_first(registration, clash),
+        None => finds_first(table, clash),
+    }
+}
+
+// Checks whether the table has the name of a clash with its first registration.
+fn finds_first(table: &Table, clash: &Clash) -> bool
+    ensures { result ≡ has_first table.now clash.now }
+{
+    match table.whereis(clash.name()) {
+        Some(registration) => is_first(registration, clash),
         None => false,
     }
+}
+
+// Checks whether it is the first registration of a clash.
+fn is_first(registration: &Registration, clash: &Clash) -> bool
+    ensures { result ≡ same_registration registration.now clash.now.first }
+{
+    registration.cmp(clash.first()).is_eq()
+}
+
+// Goes on to the row of this name, and returns its registration.
+fn next_of<'a>(rows: &mut Rows<'a>, name: &Name) -> Option<&'a Registration>
+    ensures found { (table : Table) → AreRowsOf table rows.old
+        → IfSome result (λ r. option_map (λ row. row.registration) (get table name.now) ≡ Some r.now) }
+    ensures left { (table : Table) → AreRowsOf table rows.old → AreRowsOf table rows.new }
+{
+    while let Some((ahead, registration)) = rows.next() {
+        if ahead.cmp(name).is_eq() {
+            return Some(registration);
+        }
+    }
+    None
 }

@@ -1,9 +1,9 @@
 //! The calls of a half in an exchange.
 ghost use Rattle.std.specs.Prelude.{◌≡◌, ◌⊎◌, ℕ, List, Option, Some, Ok, IfOk, IsOkAnd};
-ghost use Rattle.numbered.specs.Answers.{out_of_memory};
+ghost use Rattle.refusals.specs.Answers.{out_of_memory};
 ghost use Rattle.std.specs.Option.{option_map_or};
 ghost use Rattle.exchange_core.specs.Shown.{shown};
-ghost use Rattle.exchange_core.specs.Sides.{clashes_of};
+ghost use Rattle.exchange_law.specs.Sides.{clashes_of};
 ghost use Rattle.c_calls.specs.declared.outcome.Outcome.{Outcome};
 ghost use Rattle.c_calls.specs.Answers.{filled, number_in};
 ghost use Rattle.c_calls.specs.Exchanges.{Begins, Hears, HearsFirst, HearsFirstNames, HearsNames, HearsOffer, HearsWhole, HearsWholeList, Settles, Withdraws, Closes, HearsList, Finishes, FinishesSide, Abandons, head_refusal, refusal_of};
@@ -19,7 +19,7 @@ use exchange_codec::{
     MessageHead, decode_offer, decode_withdrawals, peek, spell_offer, spell_withdrawals,
 };
 use exchange_core::{Offer, Side, Withdrawals};
-use numbered::{Numbered, OUT_OF_MEMORY};
+use refusals::{Numbered, OUT_OF_MEMORY};
 use std::alloc::{AllocError, Global};
 
 impl Half {

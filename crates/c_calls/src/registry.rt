@@ -8,8 +8,8 @@ use crate::half::{Half, forget};
 use crate::rows::{row_in, row_in_after};
 use clash_record::{Name, ProgramId, Registration, SideId};
 use exchange_core::Side;
-use numbered::Numbered;
 use partition_table::{Agreement, NameLimit};
+use refusals::Numbered;
 use std::alloc::Global;
 use upload_store::{UploadFault, UploadStore};
 

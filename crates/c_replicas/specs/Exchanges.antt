@@ -2,7 +2,7 @@
 use Rattle.std.specs.Prelude.{◌≡◌, ℕ, Bool, true, false, nat_le, if◌then◌else◌, is_some, Option, Some, None, Result, Ok, Err}
 use Rattle.std.specs.FinMap.{len}
 use Rattle.clash_record.specs.declared.side_id.SideId.{SideId}
-use Rattle.exchange_core.specs.Sides as sides
+use Rattle.exchange_law.specs.Sides as sides
 use Rattle.exchange_core.specs.Shown.{shown, limit_of}
 use Rattle.replica.specs.Replicas.{Replica, Change, left_by, change_fault}
 use Rattle.c_calls.specs.Halves.{Half}

@@ -1,6 +1,6 @@
 -- Views, snapshots and entries: what is due to each call, and what it leaves.
 use Rattle.std.specs.Prelude.{◌≡◌, ◌⊎◌, ℕ, List, Option, IsSomeAnd}
-use Rattle.numbered.specs.Answers.{out_of_memory}
+use Rattle.refusals.specs.Answers.{out_of_memory}
 use Rattle.replica_law.specs.Worlds.{Snapshot}
 use Rattle.replica.specs.declared.messages.Entry.{Entry}
 use Rattle.replica.specs.Messages.{entry_seen}

@@ -1,6 +1,6 @@
 -- The front of a log as C reads it.
 use Rattle.std.specs.Prelude.{◌≡◌, ◌⊎◌, ℕ, List, Result, Ok, Err}
-use Rattle.numbered.specs.Answers.{out_of_memory}
+use Rattle.refusals.specs.Answers.{out_of_memory}
 use Rattle.replica_codec.specs.declared.fault.ReplicaMessageFault.{ReplicaMessageFault}
 use Rattle.replica_codec.specs.declared.log.LogFront.{LogFront}
 use Rattle.replica_codec.specs.declared.log.LogFront.TheVariants.{End, Cut, Entry, Snapshot}

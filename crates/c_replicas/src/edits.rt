@@ -6,8 +6,8 @@ ghost use Rattle.replica.specs.Replicas.{max_number};
 ghost use Rattle.c_replicas.specs.Edits.{Makes, MakesIf, MakesLimit, entry_of, registering, unregistering};
 
 use c_calls::{HealRegistration, INDEX_OUT_OF_RANGE, Message, boxed, name_of, registration_of};
-use numbered::{Numbered, OUT_OF_MEMORY};
 use partition_table::NameLimit;
+use refusals::{Numbered, OUT_OF_MEMORY};
 use replica::{Edit, Entry, Position, Replica};
 use replica_codec::encode_entry;
 use std::alloc::Global;

@@ -6,7 +6,7 @@ ghost use Rattle.c_replicas.specs.Exchanges.{Changes, Gets};
 
 use crate::positions::{HealPosition, position_of};
 use c_calls::{HEALING, Half, number_of, side_id};
-use numbered::{Numbered, OUT_OF_MEMORY};
+use refusals::{Numbered, OUT_OF_MEMORY};
 use replica::Replica;
 use std::alloc::Global;
 

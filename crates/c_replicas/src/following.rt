@@ -4,7 +4,7 @@ ghost use Rattle.c_calls.specs.Answers.{filled, number_in};
 ghost use Rattle.c_replicas.specs.Following.{Applies, AppliesEntry, Follows, FollowsSnapshot, Leads, Shows};
 
 use c_calls::{Message, boxed, number_of};
-use numbered::{Numbered, OUT_OF_MEMORY};
+use refusals::{Numbered, OUT_OF_MEMORY};
 use replica::{Entry, Replica, Snapshot};
 use replica_codec::{decode_entry, decode_snapshot, encode_snapshot};
 use std::alloc::Global;

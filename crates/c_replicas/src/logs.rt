@@ -2,7 +2,7 @@
 ghost use Rattle.std.specs.Prelude.{◌≡◌};
 ghost use Rattle.c_replicas.specs.Logs as code;
 
-use numbered::Numbered;
+use refusals::Numbered;
 use replica_codec::{LogFront, read_front};
 
 /// What a log begins with: 0 for nothing, 1 for a message that is cut, 3 for an entry, 4 for a snapshot. `size` is the number of

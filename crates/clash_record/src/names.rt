@@ -10,7 +10,7 @@ ghost use Rattle.clash_record.specs.Orders.{name_cmp};
 pub(crate) mod naming;
 
 use byteorder::{BigEndian, ByteOrder};
-use numbered::{Numbered, Place, words_of};
+use refusals::{Numbered, Place, words_of};
 use std::cmp::Ordering;
 use std::fmt;
 use std::marker::Model;

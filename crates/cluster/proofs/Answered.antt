@@ -5,8 +5,8 @@ use Rattle.std.specs.declared.result.Result.{Result}
 use Rattle.std.specs.declared.result.Result.TheVariants.{Ok, Err}
 use Rattle.exchange_core.specs.declared.fault.SideFault.{SideFault}
 use Rattle.exchange_core.specs.declared.side.Side as code
-use Rattle.exchange_core.specs.Sides.{Side}
-use Rattle.exchange_core.specs.Calls.{Call, carried_out}
+use Rattle.exchange_law.specs.Sides.{Side}
+use Rattle.exchange_law.specs.Calls.{Call, carried_out}
 use Rattle.exchange_core.specs.Shown.{shown, IsDone, IsUntouched}
 use Rattle.cluster.specs.Clusters.{Standing, Cluster, Extends, standing_of}
 use Rattle.cluster.specs.Healing.{Grows, HaveGrown}

@@ -7,8 +7,8 @@ use Rattle.std.specs.declared.result.Result.TheVariants.{Ok, Err}
 use Rattle.exchange_core.specs.declared.fault.SideFault.{SideFault}
 use Rattle.exchange_core.specs.declared.side.Side as code
 use Rattle.clash_record.specs.declared.side_id.SideId.{SideId}
-use Rattle.exchange_core.specs.Calls.{Call, carried_out}
-use Rattle.exchange_core.specs.Sides.{rested}
+use Rattle.exchange_law.specs.Calls.{Call, carried_out}
+use Rattle.exchange_law.specs.Sides.{rested}
 use Rattle.exchange_core.specs.Shown.{shown, calls, limit_of, IsDone}
 use Rattle.cluster.specs.Clusters.{Standing, Cluster, standing_of, at, with_standing, HasChanged, IsCalled, IsGivenUp, IsRenewed}
 

@@ -5,10 +5,10 @@ use Rattle.std.specs.FinMap.{contains_key}
 use Rattle.std.specs.Prelude.{IfErr, OnOk, OnErr}
 use Rattle.std.specs.Result.{IsErr, IsErrAnd}
 use Rattle.std.proofs.lemmas.List.Elements.{filter_map-append}
-use Rattle.exchange_core.specs.Worlds.{list_of}
+use Rattle.exchange_law.specs.Worlds.{list_of}
 use Rattle.std.specs.declared.result.Result.{Result}
 use Rattle.std.specs.declared.result.Result.TheVariants.{Ok, Err}
-use Rattle.numbered.specs.Answers.{IsAnswered}
+use Rattle.refusals.specs.Answers.{IsAnswered}
 use Rattle.clash_record.specs.Name.{Name}
 use Rattle.clash_record.specs.declared.side_id.SideId.{SideId}
 use Rattle.clash_record.specs.declared.side_id.SideId.TheVariants.{A, B}
@@ -24,10 +24,10 @@ use Rattle.exchange_core.specs.declared.fault.MissingPart.TheVariants.{TheirOffe
 use Rattle.partition_table.specs.Faults.{table_fault_number}
 use Rattle.exchange_core.specs.Faults.{side_fault_number}
 use Rattle.exchange_core.specs.declared.side.Side as code
-use Rattle.exchange_core.specs.Sides.{Side, Exchange, Offer, Withdrawals, is_above, is_side, shown_table, in_exchange, begin, hear, hear_in, hear_first, withdraw, withdraw_in}
-use Rattle.exchange_core.specs.Calls.{Begin, Hear, Withdraw}
+use Rattle.exchange_law.specs.Sides.{Side, Exchange, Offer, Withdrawals, is_above, is_side, shown_table, in_exchange, begin, hear, hear_in, hear_first, withdraw, withdraw_in}
+use Rattle.exchange_law.specs.Calls.{Begin, Hear, Withdraw}
 use Rattle.exchange_core.specs.Shown.{shown, IsDone, IsUntouched}
-use Rattle.exchange_core.specs.laws.Carried.{when, when_some, goes}
+use Rattle.exchange_law.specs.laws.Carried.{when, when_some, goes}
 use Rattle.exchange_core.specs.Refusals as due
 use Rattle.cluster.specs.Clusters.{Cluster, at}
 use Rattle.cluster.specs.Healing.{Plan, IsNew, HasHeld, are_held_after, gone_of_side}

@@ -3,13 +3,13 @@ use Rattle.std.proofs.Common.{◌≡◌, ℕ, length, Option, None, refl, sym, a
 use Rattle.std.specs.Option.{option_map_or}
 use Rattle.std.proofs.lemmas.List.{take_all}
 use Rattle.clash_record.specs.declared.side_id.SideId.{SideId}
-use Rattle.exchange_core.specs.Sides.{Exchange, Side, shown_table, without}
+use Rattle.exchange_law.specs.Sides.{Exchange, Side, shown_table, without}
 use Rattle.exchange_core.specs.Finished.{Finished, IsFinished}
 use Rattle.cluster.specs.Clusters.{Cluster, at}
 use Rattle.partition_table.specs.declared.judged.Judged.{Judged}
 use Rattle.verdict_board.specs.Boards.{Pass}
 use Rattle.cluster.specs.Healing.{Plan, HasHeld, gone_of_side, idle_side, IsLeft, as_before, left_open, untouched, IsMerged}
-use Rattle.exchange_core.specs.Sides.{rested}
+use Rattle.exchange_law.specs.Sides.{rested}
 use Rattle.cluster.specs.model.Stages.{IsRested, IsTrying, HasFinished}
 
 module _ (plan : Plan) (was : Cluster) (id : SideId) (same : (at was id).side.id ≡ id) where

@@ -6,9 +6,9 @@ use Rattle.std.specs.declared.result.Result.TheVariants.{Ok}
 use Rattle.clash_record.specs.declared.side_id.SideId.TheVariants.{A, B}
 use Rattle.exchange_core.specs.declared.fault.SideFault.{SideFault}
 use Rattle.exchange_core.specs.declared.side.Side as code
-use Rattle.exchange_core.specs.Sides.{Withdrawals}
-use Rattle.exchange_core.specs.Worlds.{list_of}
-use Rattle.exchange_core.specs.Calls.{Close_list, Hear_list}
+use Rattle.exchange_law.specs.Sides.{Withdrawals}
+use Rattle.exchange_law.specs.Worlds.{list_of}
+use Rattle.exchange_law.specs.Calls.{Close_list, Hear_list}
 use Rattle.exchange_core.specs.Shown.{shown, IsDone, IsUntouched}
 use Rattle.cluster.specs.Clusters.{Cluster}
 use Rattle.cluster.specs.Healing.{Plan, gone_of_side}

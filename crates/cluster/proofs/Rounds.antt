@@ -9,8 +9,8 @@ use Rattle.exchange_core.specs.declared.side.Side as code
 use Rattle.clash_record.specs.declared.side_id.SideId.{SideId}
 use Rattle.clash_record.specs.declared.side_id.SideId.TheVariants.{A, B}
 use Rattle.clash_record.specs.Name.{Name}
-use Rattle.exchange_core.specs.Sides.{Side, clashes_of, take_in, take, finish}
-use Rattle.exchange_core.specs.Calls.{Take, carried_out}
+use Rattle.exchange_law.specs.Sides.{Side, clashes_of, take_in, take, finish}
+use Rattle.exchange_law.specs.Calls.{Take, carried_out}
 use Rattle.partition_table.specs.Rulings.{Ruling}
 use Rattle.exchange_core.specs.Finished.{Finished, IsFinished, finished_from}
 use Rattle.exchange_core.specs.Shown.{shown, calls}
@@ -21,7 +21,7 @@ use Rattle.cluster.specs.Clusters.{Cluster}
 use Rattle.cluster.specs.Healing.{Plan, gone_of_side, IsFailed, IsLeft, AreLeft, none_merged, a_merged, b_merged}
 use Rattle.cluster.specs.model.Stages.{AreSides, AddsEvents, no_ruling, seen_by, IsTrying, AreTrying, HasFinished, IsInRounds, AreInRounds}
 use Rattle.cluster.proofs.Answered.{pair, grown_on}
-use Rattle.exchange_core.specs.laws.Carried.{some_inj, goes}
+use Rattle.exchange_law.specs.laws.Carried.{some_inj, goes}
 use Rattle.cluster.proofs.Steps.{takes, holds_more, finishes}
 use Rattle.cluster.proofs.Left.{left_all, is_merged}
 

@@ -4,8 +4,8 @@ use Rattle.std.specs.Option.{option_map}
 use Rattle.std.specs.FinMap.{len}
 use Rattle.partition_table.specs.declared.judged.Judged.{Judged}
 use Rattle.clash_record.specs.Name.{Name}
-use Rattle.exchange_core.specs.Sides.{Exchange, Heard, Side, clashes_for, clashes_heard, heard_clashes}
-use Rattle.exchange_core.specs.laws.Carried.{some_inj}
+use Rattle.exchange_law.specs.Sides.{Exchange, Heard, Side, clashes_for, clashes_heard, heard_clashes}
+use Rattle.exchange_law.specs.laws.Carried.{some_inj}
 use Rattle.exchange_core.specs.Finished.{Finished, IsFinished}
 use Rattle.partition_table.specs.Tables.{Table, Clash, clashes}
 use Rattle.verdict_board.specs.Boards.{Place, Pass}

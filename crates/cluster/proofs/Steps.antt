@@ -8,15 +8,15 @@ use Rattle.clash_record.specs.declared.side_id.SideId.{SideId}
 use Rattle.clash_record.specs.declared.side_id.SideId.TheVariants.{A, B}
 use Rattle.clash_record.specs.Name.{Name}
 use Rattle.partition_table.specs.Tables.{Table}
-use Rattle.exchange_core.specs.Sides.{Offer, Withdrawals, Heard, Exchange, Side, new_exchange, put_ruling, is_above, begin, hear_in, hear_first, heard_of, hear, clashes_of, take_heard, take_in, take, withdraw_in, withdraw, close_in, close_list, hear_list_in, hear_list, finish, in_exchange, merged_table, shown_table}
-use Rattle.exchange_core.specs.Worlds.{offer_of, list_of}
+use Rattle.exchange_law.specs.Sides.{Offer, Withdrawals, Heard, Exchange, Side, new_exchange, put_ruling, is_above, begin, hear_in, hear_first, heard_of, hear, clashes_of, take_heard, take_in, take, withdraw_in, withdraw, close_in, close_list, hear_list_in, hear_list, finish, in_exchange, merged_table, shown_table}
+use Rattle.exchange_law.specs.Worlds.{offer_of, list_of}
 use Rattle.exchange_core.specs.Finished.{Finished, IsFinished, Half, finished_by, finished_in, finished_of, finished_from, all_held}
 use Rattle.cluster.specs.Clusters.{Cluster, at}
 use Rattle.cluster.specs.Healing.{Plan, gone_of_side, finished_as, idle_side}
 use Rattle.verdict_board.specs.Boards.{Pass}
 use Rattle.registry_lock.specs.Meeting.{AgreesWith}
 use Rattle.cluster.specs.model.Stages.{other, uptime_of, IsRested, offer_in, seen_by, HasHeard, IsUnderWay, IsTrying, HasFinished}
-use Rattle.exchange_core.specs.laws.Carried.{some_inj, when, unless, when_some, goes, found}
+use Rattle.exchange_law.specs.laws.Carried.{some_inj, when, unless, when_some, goes, found}
 use Rattle.cluster.proofs.Held.{one_held}
 
 both_true : (a b : Bool) → (a && b) ≡ true → b ≡ true

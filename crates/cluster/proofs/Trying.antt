@@ -13,13 +13,13 @@ use Rattle.exchange_core.specs.declared.side.Side as code
 use Rattle.clash_record.specs.declared.side_id.SideId.{SideId}
 use Rattle.clash_record.specs.declared.side_id.SideId.TheVariants.{A, B}
 use Rattle.clash_record.specs.Name.{Name}
-use Rattle.exchange_core.specs.Sides.{Side, Offer, Withdrawals}
-use Rattle.exchange_core.specs.Calls.{Call, Begin, Hear, Withdraw, Close_list, Hear_list, carried_out}
+use Rattle.exchange_law.specs.Sides.{Side, Offer, Withdrawals}
+use Rattle.exchange_law.specs.Calls.{Call, Begin, Hear, Withdraw, Close_list, Hear_list, carried_out}
 use Rattle.exchange_core.specs.Shown.{shown, IsDone, IsUntouched}
 use Rattle.clash_record.specs.declared.halves.Withdrawal.{Withdrawal}
 use Rattle.cluster.specs.Clusters.{Standing, Cluster, at, half_full, is_long, IsRenewed, IsFresh, AreFresh}
 use Rattle.cluster.specs.Healing.{Plan, Grows, gone_of_side, IsLeft, untouched, IsMerged, AreLeft, none_merged, a_merged, b_merged, IsFailed}
-use Rattle.exchange_core.specs.Sides.{rested}
+use Rattle.exchange_law.specs.Sides.{rested}
 use Rattle.cluster.specs.model.Stages.{AreSides, AddsEvents, IsRested, AreRested, HaveAbandoned, AreOffers, no_ruling, IsTrying, AreTrying}
 use Rattle.cluster.proofs.Answered.{pair, was_ok, by_answer, done_grows, answer_grows, never_grows, adds_on, grown_on}
 use Rattle.cluster.proofs.Steps.{begun, hears, withdraws, closes, hears_list}

@@ -1,13 +1,13 @@
 -- Why a healing fails.
 use Rattle.std.specs.Prelude.{◌≡◌, IsTrue}
 use Rattle.clash_record.specs.declared.side_id.SideId.TheVariants.{A, B}
-use Rattle.numbered.specs.Answers.{out_of_memory}
+use Rattle.refusals.specs.Answers.{out_of_memory}
 use Rattle.partition_table.specs.Tables.{fit_within}
 use Rattle.partition_table.specs.declared.fault.TableFault.TheVariants.{NoSuchName, TooManyNames, OtherCode}
 use Rattle.exchange_core.specs.declared.fault.SideFault.{SideFault}
 use Rattle.exchange_core.specs.declared.fault.SideFault.TheVariants as of
 use Rattle.exchange_core.specs.Faults.{side_fault_number}
-use Rattle.exchange_core.specs.Sides.{shown_table}
+use Rattle.exchange_law.specs.Sides.{shown_table}
 use Rattle.clash_record.specs.declared.side_id.SideId.{SideId}
 use Rattle.cluster.specs.Clusters.{Cluster, at}
 use Rattle.cluster.specs.Healing.{Plan, IsNew, HasHeld}

@@ -6,8 +6,8 @@ use Rattle.exchange_core.specs.declared.side.Side as code
 use Rattle.clash_record.specs.declared.side_id.SideId.{SideId}
 use Rattle.clash_record.specs.declared.side_id.SideId.TheVariants.{A, B}
 use Rattle.exchange_core.specs.Journal.{max_events}
-use Rattle.exchange_core.specs.Calls.{Call, carried_out}
-use Rattle.exchange_core.specs.Sides.{Side, new_side, rested}
+use Rattle.exchange_law.specs.Calls.{Call, carried_out}
+use Rattle.exchange_law.specs.Sides.{Side, new_side, rested}
 use Rattle.exchange_core.specs.Shown.{shown, calls, limit_of}
 use Rattle.cluster.specs.declared.cluster.Cluster as halves
 

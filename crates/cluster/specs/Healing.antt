@@ -9,7 +9,7 @@ use Rattle.clash_record.specs.declared.side_id.SideId.{SideId}
 use Rattle.clash_record.specs.declared.side_id.SideId.TheVariants.{A, B}
 use Rattle.partition_table.specs.Tables.{Table, Gone, is_in}
 use Rattle.partition_table.specs.declared.judged.Judged.{Judged}
-use Rattle.exchange_core.specs.Sides.{Side, Exchange, is_above, is_side, shown_table, without}
+use Rattle.exchange_law.specs.Sides.{Side, Exchange, is_above, is_side, shown_table, without}
 use Rattle.exchange_core.specs.Finished.{Finished, IsFinished, clashes_merged}
 use Rattle.cluster.specs.Clusters.{Standing, Cluster, Extends, at, half_full}
 use Rattle.cluster.specs.Healings.{Healing}

@@ -23,8 +23,8 @@ impl Cluster {
     ghost use Rattle.std.specs.Option.{option_map};
     ghost use Rattle.std.specs.FinMap.{get};
     ghost use Rattle.partition_table.specs.Tables.{max_names, row_for};
-    ghost use Rattle.exchange_core.specs.Calls as call;
-    ghost use Rattle.numbered.specs.Answers.{IsAnswered};
+    ghost use Rattle.exchange_law.specs.Calls as call;
+    ghost use Rattle.refusals.specs.Answers.{IsAnswered};
     ghost use Rattle.exchange_core.specs.Faults.{side_fault_number};
     ghost use Rattle.exchange_core.specs.Refusals as due;
     ghost use Rattle.cluster.specs.Clusters.{standing_of, cluster_of, new_cluster, at, is_full_at, IsCalled};

@@ -4,7 +4,7 @@ ghost use Rattle.cluster.specs.Faults.{heal_fault_number};
 ghost use Rattle.cluster.specs.declared.fault.HealFault.TheVariants.{Side, Meet, OutOfMemory};
 
 use exchange_core::SideFault;
-use numbered::{Numbered, OUT_OF_MEMORY, Place, words_of};
+use refusals::{Numbered, OUT_OF_MEMORY, Place, words_of};
 use registry_lock::MeetFault;
 use std::alloc::AllocError;
 use thiserror::Error;

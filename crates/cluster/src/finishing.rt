@@ -1,9 +1,9 @@
 //! The attempts to finish one half.
 ghost use Rattle.std.specs.Prelude.{◌≡◌, ◌⊎◌, None, Some, Ok, OnOk, OnErr, IfOk, IfErr};
 ghost use Rattle.clash_record.specs.declared.side_id.SideId.{SideId};
-ghost use Rattle.exchange_core.specs.Calls.{Finish};
+ghost use Rattle.exchange_law.specs.Calls.{Finish};
 ghost use Rattle.exchange_core.specs.Finished.{IsFinished, finished_from};
-ghost use Rattle.numbered.specs.Answers.{IsAnswered};
+ghost use Rattle.refusals.specs.Answers.{IsAnswered};
 ghost use Rattle.exchange_core.specs.Faults.{side_fault_number};
 ghost use Rattle.exchange_core.specs.Refusals as due;
 ghost use Rattle.exchange_core.specs.Shown.{shown, is_full, IsDone, IsUntouched};

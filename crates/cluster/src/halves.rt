@@ -5,7 +5,7 @@ ghost use Rattle.exchange_core.specs.Shown.{shown, calls};
 ghost use Rattle.cluster.specs.Clusters as shown_as;
 ghost use Rattle.cluster.specs.Healing as planned;
 ghost use Rattle.cluster.specs.Healing.{plan_of, IsFailed};
-ghost use Rattle.exchange_core.specs.Sides.{rested};
+ghost use Rattle.exchange_law.specs.Sides.{rested};
 ghost use Rattle.cluster.specs.Causes.{IsSideCause, IsCause};
 ghost use Rattle.cluster.specs.model.Stages.{halves_of, AreSides, AddsEvents, AreRested, HaveAbandoned, AreOffers, AreTrying};
 ghost use Rattle.cluster.specs.model.Stages.{AreUnlisted, IsRefusalOf};

@@ -2,7 +2,7 @@
 use Rattle.std.specs.Prelude.{IfSome, option_map, IfOk, IfErr, string_bytes}
 use Rattle.std.specs.Prelude.{String}
 use Rattle.std.proofs.Common.{◌≡◌, ◌≤◌, ◌+◌, ◌++◌, [], ℕ, List, Option, Some, None, Result, Ok, Err, inl, inr, refl, length, take, subst, arith, length-take, take_all}
-use Rattle.numbered.specs.Answers.{HasCause}
+use Rattle.refusals.specs.Answers.{HasCause}
 use Rattle.code_file.specs.Files.{IsReading, IsFileCode, IsFileFault, IsNoFileCode, OfBytes, max_file_len, too_long, no_code, faulty, unread, starved, file_fault_number}
 use Rattle.code_file.specs.CodeFiles.{IsNoCodeFile, fault_number}
 use Rattle.code_file.specs.declared.fault.CodeFileFault.{CodeFileFault}

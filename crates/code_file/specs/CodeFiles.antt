@@ -5,8 +5,8 @@ use Rattle.std.specs.Str.{bytes_eq}
 use Rattle.std.specs.Char.{is_ascii_hexdigit, is_ascii_whitespace}
 use Rattle.hex.specs.Hex.{decode_of}
 use Rattle.hex.specs.declared.error.FromHexError.{FromHexError}
-use Rattle.numbered.specs.Answers.{out_of_memory}
-use Rattle.numbered.specs.declared.Place.{Place}
+use Rattle.refusals.specs.Answers.{out_of_memory}
+use Rattle.refusals.specs.declared.Place.{Place}
 use Rattle.code_file.specs.declared.fault.CodeFileFault.{CodeFileFault}
 use Rattle.code_file.specs.declared.fault.CodeFileFault.TheVariants.{Object, HexText, OutOfMemory}
 use Rattle.code_file.specs.Objects.{IsObjectCode, magic}

@@ -1,8 +1,8 @@
 -- The code of a word: hex digits, or `@` and the file that has it.
 use Rattle.std.specs.Prelude.{◌≡◌, ℕ, ◌+◌, ◌<◌, ◌≤◌, ◌==◌, if◌then◌else◌, List, [], ◌∷◌, length, take, Option, Some, None, IfSome}
 use Rattle.hex.specs.Hex.{encode_lower}
-use Rattle.numbered.specs.Answers.{out_of_memory}
-use Rattle.numbered.specs.declared.Place.{Place}
+use Rattle.refusals.specs.Answers.{out_of_memory}
+use Rattle.refusals.specs.declared.Place.{Place}
 use Rattle.code_file.specs.CodeFiles.{IsCodeFile, IsNoCodeFile, fault_number}
 use Rattle.code_file.specs.declared.fault.CodeFileFault.{CodeFileFault}
 use Rattle.code_file.specs.declared.fault.FileFault.{FileFault}

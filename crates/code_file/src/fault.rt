@@ -5,7 +5,7 @@ ghost use Rattle.code_file.specs.Files.{file_fault_number, file_fault_place};
 ghost use Rattle.code_file.specs.declared.fault.CodeFileFault.TheVariants.{OutOfMemory};
 ghost use Rattle.code_file.specs.declared.fault.FileFault.TheVariants.{Code, Unreadable};
 
-use numbered::{Numbered, OUT_OF_MEMORY, Place, words_of};
+use refusals::{Numbered, OUT_OF_MEMORY, Place, words_of};
 use std::alloc::AllocError;
 use std::io;
 use std::io::ErrorKind;

@@ -1,6 +1,6 @@
 //! Reads files of code.
 ghost use Rattle.std.specs.Prelude.{None, IfOk, IfErr, string_bytes};
-ghost use Rattle.numbered.specs.Answers.{HasCause};
+ghost use Rattle.refusals.specs.Answers.{HasCause};
 ghost use Rattle.code_file.specs.Files.{IsFileCode, IsFileFault, IsNoFileCode, IsReading, OfBytes, file_fault_number};
 
 use crate::fault::FileFault;

@@ -2,7 +2,7 @@
 ghost use Rattle.std.specs.Prelude.{◌≡◌, ◌⊎◌, ℕ, List, take, Ok, IfOk, IfErr};
 ghost use Rattle.std.specs.List.{list_all};
 ghost use Rattle.hex.specs.Hex.{decode_of};
-ghost use Rattle.numbered.specs.Answers.{HasCause};
+ghost use Rattle.refusals.specs.Answers.{HasCause};
 ghost use Rattle.code_file.specs.CodeFiles.{IsCodeFile, IsHexFault, IsNoCodeFile, IsObjectFault, digits_of, fault_number, is_elf, is_hex};
 ghost use Rattle.code_file.specs.Objects.{IsObjectCode};
 ghost use Rattle.code_file.specs.declared.fault.CodeFileFault.{CodeFileFault};

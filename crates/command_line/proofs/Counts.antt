@@ -7,8 +7,8 @@ use Rattle.std.specs.Str.Parse.{AllDigits, IsNumeral, digits_value, without_lead
 use Rattle.std.proofs.lemmas.Bool.Decides.{nat_tests}
 use Rattle.clap.specs.Words.{Text}
 use Rattle.clap.specs.ValueTests.{is_numeral}
-use Rattle.task.specs.Names.{most_names, names_if}
-use Rattle.task.specs.Workers.{workers_if}
+use Rattle.command_line.specs.Names.{most_names, names_if}
+use Rattle.command_line.specs.Workers.{workers_if}
 use Rattle.command_line.specs.Asked.{number_named}
 
 less_than : (m n : ℕ) → m < n → nat_lt m n ≡ true

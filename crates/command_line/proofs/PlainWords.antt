@@ -9,7 +9,7 @@ use Rattle.clap.specs.Simple.{filled}
 use Rattle.clap.specs.declared.parser.matches.ValueSource.{ValueSource}
 use Rattle.clap.specs.declared.parser.matches.ValueSource.TheVariants.{DefaultValue, CommandLine}
 use Rattle.clap.proofs.OnLiterals.{clap_on_literals}
-use Rattle.task.specs.declared.Profile.TheVariants.{Unsigned, Both}
+use Rattle.questions.specs.declared.question.Profile.TheVariants.{Unsigned, Both}
 use Rattle.command_line.specs.Asked.{Asks, asked_of, explain_option, given, heal_app, needed, asm, by_bytes, check, dis, judge, refusals, run, version}
 use Rattle.command_line.specs.Plain.{IsPlain}
 

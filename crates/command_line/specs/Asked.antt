@@ -12,15 +12,15 @@ use Rattle.command_line.specs.declared.faults.CommandFault.{CommandFault}
 use Rattle.command_line.specs.declared.faults.CommandFault.TheVariants.{Parse, NoTask, NotText}
 use Rattle.clap.specs.declared.builder.action.ArgAction.TheVariants.{Set, SetTrue}
 use Rattle.clap.specs.declared.builder.value_parser.ValueParser.TheVariants as value
-use Rattle.task.specs.declared.ClashWords.{ClashWords}
-use Rattle.task.specs.declared.ClashWords.TheVariants.{Bytes, Fields}
-use Rattle.task.specs.declared.Profile.{Profile}
-use Rattle.task.specs.declared.Profile.TheVariants.{Unsigned, Both}
-use Rattle.task.specs.declared.Question.TheVariants.{Check, Judge, Asm, Dis}
-use Rattle.task.specs.declared.Task.{Task}
-use Rattle.task.specs.declared.Task.TheVariants.{Answer, Run, Version, Refusals}
-use Rattle.task.specs.Names.{names_if}
-use Rattle.task.specs.Workers.{workers_if}
+use Rattle.questions.specs.declared.question.ClashWords.{ClashWords}
+use Rattle.questions.specs.declared.question.ClashWords.TheVariants.{Bytes, Fields}
+use Rattle.questions.specs.declared.question.Profile.{Profile}
+use Rattle.questions.specs.declared.question.Profile.TheVariants.{Unsigned, Both}
+use Rattle.questions.specs.declared.question.Question.TheVariants.{Check, Judge, Asm, Dis}
+use Rattle.command_line.specs.declared.task.Task.{Task}
+use Rattle.command_line.specs.declared.task.Task.TheVariants.{Answer, Run, Version, Refusals}
+use Rattle.command_line.specs.Names.{names_if}
+use Rattle.command_line.specs.Workers.{workers_if}
 
 -- ---- the command
 

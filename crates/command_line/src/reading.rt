@@ -5,15 +5,18 @@ ghost use Rattle.command_line.specs.Asked.{Asked, Asks, IsForMemory, asked_by, a
 ghost use Rattle.command_line.specs.Asked as asked;
 ghost use Rattle.std.specs.Str.{bytes_eq};
 ghost use Rattle.command_line.specs.Asked.{asm, asm_asked, by_bytes, check, check_asked, clash_by, clash_named, dis, dis_asked, explain_named, judge, judge_asked, names_named, profile_named, refusals, run, run_asked, version, workers_named};
-ghost use Rattle.task.specs.declared.Profile.TheVariants.{Unsigned, Both};
+ghost use Rattle.questions.specs.declared.question.Profile.TheVariants.{Unsigned, Both};
 ghost use Rattle.command_line.specs.Plain.{IsPlain};
 
 use crate::faults::CommandFault;
 use crate::grammar::heal;
+use crate::names::Names;
+use crate::task::Task;
+use crate::workers::Workers;
 use clap::ArgMatches;
+use questions::{ClashWords, Profile, Question};
 use std::alloc::Global;
 use std::convert::AsStr;
-use task::{ClashWords, Names, Profile, Question, Task, Workers};
 
 // Returns the first value of `id`.
 #[tactic(auto, using(crate::proofs::Rows::rows))]

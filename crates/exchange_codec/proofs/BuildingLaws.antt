@@ -12,11 +12,11 @@ use Rattle.std.specs.BTreeMap.{get, Updates}
 use Rattle.std.specs.Map.{lookup}
 use Rattle.std.proofs.lemmas.Bool.{and_parts}
 use Rattle.std.proofs.lemmas.List.{nil_from_length}
-use Rattle.numbered.specs.Answers.{HasCause, out_of_memory}
+use Rattle.refusals.specs.Answers.{HasCause, out_of_memory}
 use Rattle.instruction_set.specs.declared.insn.Insn.{Insn}
 use Rattle.instruction_set.specs.Machine.{IsSafe}
-use Rattle.program.specs.declared.fault.ProgramFault.{ProgramFault}
-use Rattle.program.specs.Programs.{IsAccepted, IsProgramFault, program_fault_number}
+use Rattle.verifier.specs.declared.program_fault.ProgramFault.{ProgramFault}
+use Rattle.verifier.specs.Programs.{IsAccepted, IsProgramFault, program_fault_number}
 use Rattle.clash_record.specs.Name.{Name}
 use Rattle.clash_record.specs.Orders.{name_cmp, id_cmp}
 use Rattle.clash_record.specs.laws.Orders.{names_total}

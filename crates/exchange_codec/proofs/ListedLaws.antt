@@ -1,9 +1,9 @@
 -- The names of a list that is decoded.
 use Rattle.std.proofs.Common.{◌≡◌, ℕ, ◌≤◌, [], length, Option, Some, None, Result, Ok, Err, refl, ap, ◌∙◌, arith, inl, inr}
 use Rattle.std.proofs.lemmas.Bool.{le-ltb}
-use Rattle.numbered.specs.Answers.{ReturnsOrRunsOut}
+use Rattle.refusals.specs.Answers.{ReturnsOrRunsOut}
 use Rattle.partition_table.specs.Tables.{most_names}
-use Rattle.exchange_core.specs.Sides.{Withdrawals}
+use Rattle.exchange_law.specs.Sides.{Withdrawals}
 use Rattle.exchange_core.specs.Repeats.{list_fault_number, names_due}
 use Rattle.exchange_core.specs.Repeats.{unless_again as unless}
 use Rattle.exchange_core.specs.declared.withdrawn_names.ListFault.{ListFault}

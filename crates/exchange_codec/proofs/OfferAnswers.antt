@@ -2,12 +2,12 @@
 use Rattle.std.proofs.Common.{◌≡◌, ℕ, ◌-◌, List, [], length, Result, Ok, Err, refl, sym, ap, subst, ◌∙◌, ◌≤◌, arith, inl, inr}
 use Rattle.std.specs.Prelude.{IfOk, IfErr}
 use Rattle.std.specs.FinMap.{entries}
-use Rattle.numbered.specs.Answers.{HasCause, ReturnsOrRunsOut}
+use Rattle.refusals.specs.Answers.{HasCause, ReturnsOrRunsOut}
 use Rattle.partition_table.specs.Tables.{Table, most_names}
 use Rattle.exchange_codec.specs.declared.offers.OfferText as lent
 use Rattle.exchange_codec.specs.OffersText.{view}
 use Rattle.exchange_codec.proofs.RebuildingLaws.{views_len}
-use Rattle.exchange_core.specs.Sides.{Offer}
+use Rattle.exchange_law.specs.Sides.{Offer}
 use Rattle.exchange_codec.specs.declared.offers.OfferHead.{OfferHead}
 use Rattle.exchange_codec.specs.declared.fault.FieldFault.{FieldFault}
 use Rattle.exchange_codec.specs.declared.fault.Fault.{Fault}

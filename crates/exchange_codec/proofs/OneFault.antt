@@ -9,7 +9,7 @@ use lib.Dec.{T}
 use Rattle.std.proofs.lemmas.Bool.{and_parts}
 use Rattle.instruction_set.specs.declared.insn.Insn.{Insn}
 use Rattle.insn_codec.specs.Encoding.{insn_bytes}
-use Rattle.program.specs.Programs.{IsAccepted, IsProgramFault}
+use Rattle.verifier.specs.Programs.{IsAccepted, IsProgramFault}
 use Rattle.clash_record.specs.Name.{Name}
 use Rattle.clash_record.specs.Orders.{name_cmp}
 use Rattle.clash_record.specs.declared.registrations.ProgramId.{ProgramId}

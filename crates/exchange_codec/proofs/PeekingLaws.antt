@@ -2,8 +2,8 @@
 use Rattle.std.proofs.Common.{◌≡◌, ℕ, ◌^◌, List, ◌∷◌, ◌++◌, length, Result, Ok, Err, inl, inr, refl, ap, ◌∙◌, append_assoc, lit<}
 use Rattle.std.specs.List.{flat_map}
 use Rattle.std.specs.Int.{w32, w64, to_le_bytes}
-use Rattle.numbered.specs.Answers.{ReturnsOrRunsOut}
-use Rattle.exchange_core.specs.Sides.{Offer, Withdrawals}
+use Rattle.refusals.specs.Answers.{ReturnsOrRunsOut}
+use Rattle.exchange_law.specs.Sides.{Offer, Withdrawals}
 use Rattle.exchange_codec.specs.declared.fault.Fault.{Fault}
 use Rattle.exchange_codec.specs.declared.fault.ReadError.{ReadError}
 use Rattle.exchange_codec.specs.declared.fault.ReadError.TheVariants as errors

@@ -20,7 +20,7 @@ use Rattle.exchange_codec.specs.declared.fault.ItemFault.TheVariants as item
 use Rattle.exchange_codec.specs.declared.fault.MessageFault.{MessageFault}
 use Rattle.exchange_codec.specs.declared.fault.MessageFault.TheVariants as message
 use Rattle.exchange_codec.specs.Faults.{item_fault_number, message_fault_number}
-use Rattle.numbered.specs.Answers.{HasCause}
+use Rattle.refusals.specs.Answers.{HasCause}
 use Rattle.exchange_codec.specs.Rows.{RowText, texts_of}
 use Rattle.exchange_codec.specs.RowsText.{row_view, rows_view}
 use Rattle.exchange_codec.specs.Offers.{is_above, IsRowFault}

@@ -1,7 +1,7 @@
 -- The answers of `decode_table`.
 use Rattle.std.proofs.Common.{◌≡◌, ℕ, ◌-◌, List, length, Result, Ok, Err, refl, sym, ap, subst, ◌∙◌, ◌≤◌, arith, inl, inr}
 use Rattle.std.specs.Prelude.{IfOk, IfErr}
-use Rattle.numbered.specs.Answers.{HasCause, ReturnsOrRunsOut}
+use Rattle.refusals.specs.Answers.{HasCause, ReturnsOrRunsOut}
 use Rattle.partition_table.specs.Tables.{Table, IsTable, most_names}
 use Rattle.exchange_codec.specs.declared.rows.RowText as lent
 use Rattle.exchange_codec.specs.RowsText.{rows_view}

@@ -14,7 +14,7 @@ use Rattle.std.specs.BTreeSet.{BTreeSet}
 use Rattle.std.specs.List.{AllByRecursion}
 use Rattle.exchange_codec.proofs.EachLaws.{all_more}
 use Rattle.std.specs.Int.{w32, w64, to_le_bytes}
-use Rattle.exchange_core.specs.Sides.{Offer}
+use Rattle.exchange_law.specs.Sides.{Offer}
 use Rattle.exchange_core.specs.laws.Entries.{has_entry}
 use Rattle.exchange_codec.proofs.IdLaws.{texts_more, ids_more, no_text, no_id, texts_len}
 use Rattle.exchange_codec.specs.Tables.{table_bytes, table_text, IsTableText}

@@ -12,13 +12,13 @@ use Rattle.clash_record.specs.Name.{Name, is_name}
 use Rattle.partition_table.specs.Tables.{most_names, is_in}
 use Rattle.partition_table.specs.Tables.{is_name as same_name}
 use Rattle.partition_table.specs.laws.Sameness.{equivalent_by, name_decides}
-use Rattle.exchange_core.specs.Lists.{IsNameList}
-use Rattle.exchange_core.specs.Sides.{Withdrawals}
+use Rattle.exchange_law.specs.Lists.{IsNameList}
+use Rattle.exchange_law.specs.Sides.{Withdrawals}
 use Rattle.exchange_codec.specs.declared.fault.Fault.{Fault}
 use Rattle.exchange_codec.specs.declared.fault.MessageFault.{MessageFault}
 use Rattle.exchange_codec.specs.declared.fault.ReadError.{ReadError}
 use Rattle.exchange_codec.specs.declared.fault.ReadError.TheVariants as errors
-use Rattle.numbered.specs.Answers.{ReturnsOrRunsOut}
+use Rattle.refusals.specs.Answers.{ReturnsOrRunsOut}
 use Rattle.exchange_codec.specs.Faults.{message_fault_number}
 use Rattle.exchange_codec.specs.Placing.{told_of}
 use Rattle.exchange_codec.specs.Reading.{◌>>=◌, Fails, number_at, header_at, count_at, many_at, ended}

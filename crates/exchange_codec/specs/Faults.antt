@@ -1,8 +1,8 @@
 -- The numbers and the places of the faults of messages.
 use Rattle.std.specs.Prelude.{ℕ, Option, Some, None}
-use Rattle.numbered.specs.Answers.{out_of_memory}
-use Rattle.numbered.specs.declared.Place.{Place}
-use Rattle.numbered.specs.declared.Place.TheVariants.{Byte, Item}
+use Rattle.refusals.specs.Answers.{out_of_memory}
+use Rattle.refusals.specs.declared.Place.{Place}
+use Rattle.refusals.specs.declared.Place.TheVariants.{Byte, Item}
 use Rattle.exchange_codec.specs.declared.fault.FieldFault.{FieldFault}
 use Rattle.exchange_codec.specs.declared.fault.FieldFault.TheVariants.{Cut, Header, Trailing, Count, Side, Name, Resolver, Version}
 use Rattle.exchange_codec.specs.declared.fault.ItemFault.{ItemFault}

@@ -2,7 +2,7 @@
 use Rattle.std.specs.Prelude.{◌≡◌, ℕ, ◌-◌, ◌<◌, ◌^◌, List, ◌∷◌, ◌++◌, length, Result, Ok, Err}
 use Rattle.std.specs.Int.{w64, to_le_bytes}
 use Rattle.partition_table.specs.Tables.{IsTable}
-use Rattle.exchange_core.specs.Sides.{Offer}
+use Rattle.exchange_law.specs.Sides.{Offer}
 use Rattle.exchange_codec.specs.declared.offers.OfferHead.{OfferHead}
 use Rattle.exchange_codec.specs.declared.fault.Fault.{Fault}
 use Rattle.exchange_codec.specs.declared.fault.MessageFault.{MessageFault}

@@ -1,7 +1,7 @@
 -- The first fields of a message.
 use Rattle.std.specs.Prelude.{ℕ, ◌==◌, if◌then◌else◌, List, Some, None, Result, Ok}
 use Rattle.std.specs.Int.{w64}
-use Rattle.exchange_core.specs.Sides.{Offer, Withdrawals}
+use Rattle.exchange_law.specs.Sides.{Offer, Withdrawals}
 use Rattle.exchange_codec.specs.declared.fault.Fault.{Fault}
 use Rattle.exchange_codec.specs.declared.head.MessageHead.{MessageHead}
 use Rattle.exchange_codec.specs.declared.head.MessageKind.TheVariants as kind

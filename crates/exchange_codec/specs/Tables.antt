@@ -4,7 +4,7 @@ use Rattle.std.specs.Ordering.{is_lt}
 use Rattle.std.specs.List.{flat_map, list_all, AllByRecursion}
 use Rattle.std.specs.Int.{w32, to_le_bytes}
 use Rattle.std.specs.FinMap.{entries}
-use Rattle.program.specs.Programs.{IsProgramFault}
+use Rattle.verifier.specs.Programs.{IsProgramFault}
 use Rattle.clash_record.specs.declared.registrations.ProgramId.{ProgramId}
 use Rattle.clash_record.specs.Orders.{name_cmp}
 use Rattle.upload_store.specs.Programs.{id_of}

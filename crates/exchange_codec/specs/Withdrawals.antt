@@ -4,7 +4,7 @@ use Rattle.std.specs.List.{flat_map, AllByRecursion}
 use Rattle.std.specs.Int.{w32, w64, to_le_bytes}
 use Rattle.clash_record.specs.Name.{is_name}
 use Rattle.partition_table.specs.Tables.{most_names}
-use Rattle.exchange_core.specs.Sides.{Withdrawals}
+use Rattle.exchange_law.specs.Sides.{Withdrawals}
 pub use Rattle.exchange_core.specs.Repeats.{first_again}
 use Rattle.exchange_codec.specs.declared.fault.Fault.{Fault}
 use Rattle.exchange_codec.specs.declared.fault.MessageFault.{MessageFault}

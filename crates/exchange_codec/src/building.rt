@@ -4,9 +4,9 @@ ghost use Rattle.std.specs.Option.{option_map};
 ghost use Rattle.std.specs.Ordering.{is_lt};
 ghost use Rattle.std.specs.Arc.{arc_value};
 ghost use Rattle.std.specs.FinMap.{entries, insert, len};
-ghost use Rattle.numbered.specs.Answers.{HasCause};
+ghost use Rattle.refusals.specs.Answers.{HasCause};
 ghost use Rattle.instruction_set.specs.Machine.{IsSafe};
-ghost use Rattle.program.specs.Programs.{IsAccepted};
+ghost use Rattle.verifier.specs.Programs.{IsAccepted};
 ghost use Rattle.clash_record.specs.Orders.{name_cmp};
 ghost use Rattle.partition_table.specs.Tables.{IsNewRow, IsTable, most_names};
 ghost use Rattle.exchange_codec.specs.Faults.{message_fault_number};
@@ -23,14 +23,13 @@ use crate::offers::OfferText;
 use crate::rows::{ResolverText, RowText};
 use clash_record::{ProgramId, Registration, ResolverId};
 use exchange_core::{Offer, Side};
-use numbered::{Numbered, OUT_OF_MEMORY};
 use partition_table::{NameLimit, Table, TableBuilder};
-use program::{ProgramFault, read_program};
+use refusals::{Numbered, OUT_OF_MEMORY};
 use sha2::{Digest, Sha256};
 use std::alloc::Global;
 use std::collections::BTreeMap;
 use std::sync::Arc;
-use verifier::Verified;
+use verifier::{ProgramFault, Verified, read_program};
 
 // A program whose code an earlier row has.
 #[derive(Drop)]
@@ -238,7 +237,7 @@ fn add_by(
         extra: row.extra,
         resolver,
     };
-    match builder.push(row.name, registration, program) {
+    match builder.push(&row.name, &registration, program) {
         Ok(()) => Ok(()),
         Err(_) => Err(MessageFault::OutOfMemory),
     }

@@ -4,13 +4,13 @@ ghost use Rattle.exchange_codec.specs.declared.fault.ReadError.TheVariants.{Memo
 ghost use Rattle.exchange_codec.specs.Faults.{field_fault_number, item_fault_number, message_fault_number, message_fault_place};
 ghost use Rattle.exchange_codec.specs.declared.fault.ReadError.TheVariants as errors;
 ghost use Rattle.exchange_codec.specs.declared.fault.MessageFault.TheVariants as message;
-ghost use Rattle.numbered.specs.Answers.{out_of_memory};
+ghost use Rattle.refusals.specs.Answers.{out_of_memory};
 ghost use Rattle.exchange_codec.specs.Placing.{told_of};
 
-use numbered::{Numbered, OUT_OF_MEMORY, Place, words_of};
-use program::ProgramFault;
+use refusals::{Numbered, OUT_OF_MEMORY, Place, words_of};
 use std::alloc::{AllocError, AllocFailed};
 use thiserror::Error;
+use verifier::ProgramFault;
 
 /// A fault of a field.
 #[derive(Clone, Copy, Debug, PartialEq, Eq, Error)]

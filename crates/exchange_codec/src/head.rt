@@ -1,7 +1,7 @@
 //! The first fields of a message, read without the rest.
 ghost use Rattle.std.specs.Prelude.{◌≡◌, Some, None, Ok, length};
-ghost use Rattle.numbered.specs.Answers.{ReturnsOrRunsOut};
-ghost use Rattle.exchange_core.specs.Sides as sides;
+ghost use Rattle.refusals.specs.Answers.{ReturnsOrRunsOut};
+ghost use Rattle.exchange_law.specs.Sides as sides;
 ghost use Rattle.exchange_codec.specs.Faults.{message_fault_number};
 ghost use Rattle.exchange_codec.specs.Offers.{SpellsOffer};
 ghost use Rattle.exchange_codec.specs.Withdrawals.{SpellsWithdrawals};

@@ -1,7 +1,7 @@
 //! Offers as bytes.
 ghost use Rattle.std.specs.Prelude.{◌≡◌, ◌++◌, Ok, Err, IfOk, IfErr, OnOk};
-ghost use Rattle.numbered.specs.Answers.{HasCause, ReturnsOrRunsOut};
-ghost use Rattle.exchange_core.specs.Sides as sides;
+ghost use Rattle.refusals.specs.Answers.{HasCause, ReturnsOrRunsOut};
+ghost use Rattle.exchange_law.specs.Sides as sides;
 ghost use Rattle.exchange_codec.specs.Faults.{message_fault_number};
 ghost use Rattle.exchange_codec.specs.declared.fault.MessageFault.{MessageFault};
 ghost use Rattle.exchange_codec.specs.Reading.{Gives};
@@ -18,9 +18,8 @@ use clash_record::SideId;
 use exchange_core::Offer;
 use insn_codec::one_reading_theorem;
 use partition_table::Table;
-use program::Profile;
 use std::alloc::{AllocError, Global};
-use verifier::one_verdict_theorem;
+use verifier::{Profile, one_verdict_theorem};
 
 // "HEALXC", version 1, kind 1.
 pub(crate) const HEADER: u64 = 0x0101_4358_4C41_4548;

@@ -1,7 +1,7 @@
 //! Tables as bytes: the last part of an offer.
 ghost use Rattle.std.specs.Prelude.{◌≡◌, ◌++◌, [], Ok, Err, IfOk, IfErr, OnOk};
 ghost use Rattle.std.specs.List.{flat_map, AllByRecursion};
-ghost use Rattle.numbered.specs.Answers.{HasCause, ReturnsOrRunsOut};
+ghost use Rattle.refusals.specs.Answers.{HasCause, ReturnsOrRunsOut};
 ghost use Rattle.partition_table.specs.Tables as tables;
 ghost use Rattle.exchange_codec.specs.Faults.{message_fault_number};
 ghost use Rattle.exchange_codec.specs.Rows.{row_bytes, IsRow};
@@ -16,10 +16,9 @@ use crate::fields::{count_at, push_u32};
 use crate::rows::{RowText, all_rows, push_row};
 use insn_codec::one_reading_theorem;
 use partition_table::{NameLimit, Table};
-use program::Profile;
 use std::alloc::{AllocError, Global};
 use std::collections::BTreeSet;
-use verifier::one_verdict_theorem;
+use verifier::{Profile, one_verdict_theorem};
 
 /// Encodes a table as the last part of an offer. Fails only when out of memory.
 pub fn encode_table(alloc: Global, table: &Table) -> Result<Vec<u8>, AllocError>

@@ -1,6 +1,6 @@
 //! Bytes spell one message or have one fault.
 ghost use Rattle.std.specs.Prelude.{◌≡◌, ◌<◌, ℕ, List, Ok, All, length};
-ghost use Rattle.exchange_core.specs.Sides.{Offer, Withdrawals};
+ghost use Rattle.exchange_law.specs.Sides.{Offer, Withdrawals};
 ghost use Rattle.exchange_codec.specs.declared.fault.MessageFault.{MessageFault};
 ghost use Rattle.exchange_codec.specs.Withdrawals.{SpellsWithdrawals, list_of, list_due};
 ghost use Rattle.partition_table.specs.Tables.{Table};
@@ -8,8 +8,7 @@ ghost use Rattle.exchange_codec.specs.Tables.{SpellsTable, IsTableFault};
 ghost use Rattle.exchange_codec.specs.Offers.{SpellsOffer, IsOfferFault};
 
 use insn_codec::one_reading_theorem;
-use program::Profile;
-use verifier::one_verdict_theorem;
+use verifier::{Profile, one_verdict_theorem};
 
 /// States that bytes spell at most one message, that bytes that spell one have no fault, that bytes have at most one fault,
 /// and that a message has one spelling. Does nothing at run time.

@@ -2,10 +2,10 @@
 ghost use Rattle.std.specs.Prelude.{◌≡◌, ◌≤◌, ◌++◌, [], length, IsTrue, Ok, IfOk, OnOk};
 ghost use Rattle.std.specs.List.{flat_map, AllByRecursion};
 ghost use Rattle.clash_record.specs.Name.{is_name};
-ghost use Rattle.numbered.specs.Answers.{ReturnsOrRunsOut};
+ghost use Rattle.refusals.specs.Answers.{ReturnsOrRunsOut};
 ghost use Rattle.partition_table.specs.Tables.{most_names};
-ghost use Rattle.exchange_core.specs.Lists.{IsNameList};
-ghost use Rattle.exchange_core.specs.Sides as sides;
+ghost use Rattle.exchange_law.specs.Lists.{IsNameList};
+ghost use Rattle.exchange_law.specs.Sides as sides;
 ghost use Rattle.exchange_codec.specs.Faults.{message_fault_number};
 ghost use Rattle.exchange_codec.specs.Reading.{Gives, many_at};
 ghost use Rattle.exchange_codec.specs.Names.{name_at, name_bytes};

@@ -9,14 +9,14 @@ use Rattle.clash_record.specs.laws.Orders.{names_total}
 use Rattle.clash_record.specs.declared.side_id.SideId.{SideId}
 use Rattle.clash_record.specs.declared.side_id.SideId.TheVariants.{A, B}
 use Rattle.partition_table.specs.Tables.{Table, Gone, merge, union_len}
-use Rattle.exchange_core.specs.Sides.{Offer, Withdrawals, Judged, Heard, Exchange, Side, new_exchange, without, merge_for, merged_table, answer_in, shown_table, rested, clashes_of, heard_of, hear_first, hear_in, put_ruling, take_heard, take_in, withdraw_in, close_in, hear_list_in}
-use Rattle.exchange_core.specs.Calls.{Call, Register, Unregister, Begin, Hear, Take, Withdraw, Close_list, Hear_list, Finish, Abandon, carried_out}
+use Rattle.exchange_law.specs.Sides.{Offer, Withdrawals, Judged, Heard, Exchange, Side, new_exchange, without, merge_for, merged_table, answer_in, shown_table, rested, clashes_of, heard_of, hear_first, hear_in, put_ruling, take_heard, take_in, withdraw_in, close_in, hear_list_in}
+use Rattle.exchange_law.specs.Calls.{Call, Register, Unregister, Begin, Hear, Take, Withdraw, Close_list, Hear_list, Finish, Abandon, carried_out}
 use Rattle.exchange_core.specs.Limits.{IsWithin}
 use Rattle.exchange_core.specs.Refusals.{union_for}
 use Rattle.exchange_core.specs.Settling.{judge_in, settled_heard, settled_exchange, settled}
-use Rattle.exchange_core.specs.laws.Carried.{some_inj, when, when_some, unless, Goes, goes, found}
-use Rattle.exchange_core.proofs.Kept.{is_idle}
-use Rattle.exchange_core.proofs.Sent.{begun}
+use Rattle.exchange_law.specs.laws.Carried.{some_inj, when, when_some, unless, Goes, goes, found}
+use Rattle.exchange_law.specs.laws.Kept.{is_idle}
+use Rattle.exchange_law.specs.laws.Sent.{begun}
 
 -- ---- tables that get no more names
 

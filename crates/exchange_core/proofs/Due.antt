@@ -10,9 +10,9 @@ use Rattle.exchange_core.specs.declared.fault.SideFault.TheVariants.{Healing, No
 use Rattle.exchange_core.specs.declared.fault.SideFault.TheVariants as of
 use Rattle.partition_table.specs.declared.fault.TableFault.TheVariants.{NoSuchName, TooManyNames, OtherCode}
 use Rattle.exchange_core.specs.declared.fault.MissingPart.{MissingPart}
-use Rattle.exchange_core.specs.Sides.{Offer, Withdrawals, Heard, Exchange, Side, is_above, is_theirs, hear_in, hear}
+use Rattle.exchange_law.specs.Sides.{Offer, Withdrawals, Heard, Exchange, Side, is_above, is_theirs, hear_in, hear}
 use Rattle.exchange_core.specs.Refusals.{unregister_fault, begin_fault, union_for, agree_for, first_offer_fault, is_first_offer, hear_fault_in, hear_fault, is_strange, take_fault_in, take_fault, withdraw_fault_in, withdraw_fault, close_list_fault_in, close_list_fault, sent_fault, hear_list_fault, missing_of, missing_or_full, finish_fault, abandon_fault}
-use Rattle.exchange_core.specs.laws.Carried.{some_inj, when_some, goes}
+use Rattle.exchange_law.specs.laws.Carried.{some_inj, when_some, goes}
 use Rattle.exchange_core.specs.model.Early.{early_offer_fault, early_hear_fault_in, early_hear_fault}
 
 -- one of three refusals

@@ -8,12 +8,12 @@ use Rattle.clash_record.specs.Name.{Name}
 use Rattle.partition_table.specs.Tables.{Table, Clash}
 use Rattle.clash_record.specs.declared.side_id.SideId.{SideId}
 use Rattle.clash_record.specs.declared.side_id.SideId.TheVariants.{A, B}
-use Rattle.exchange_core.specs.Sides.{Judged, Heard, Exchange, Side, clashes_for, fit_for, merge_for, is_lawful, answer_in, merged_table, finish_in, finish}
+use Rattle.exchange_law.specs.Sides.{Judged, Heard, Exchange, Side, clashes_for, fit_for, merge_for, is_lawful, answer_in, merged_table, finish_in, finish}
 use Rattle.exchange_core.specs.Finished.{IsFinished, all_held, finished_at, finished_of, finished_in, finished_from}
 use Rattle.exchange_core.specs.model.Pairing.{clash_names_for}
 use Rattle.exchange_core.specs.model.Finishing.{IsMergeable, IsMergeOf}
-use Rattle.exchange_core.specs.laws.Carried.{some_inj}
-use Rattle.exchange_core.proofs.Merges.{clash_names_are}
+use Rattle.exchange_law.specs.laws.Carried.{some_inj}
+use Rattle.exchange_law.specs.laws.Merges.{clash_names_are, own_merge}
 
 abbrev pub answers : List Judged → List Verdict3
 answers rulings = map (λ judged. judged.answer) rulings
@@ -46,6 +46,11 @@ length-names A own u other v =
     sym (length-map (clashes_for A own u other v) (λ (c : Clash). c.name)) ∙ ap length (clash_names_are own other u v)
 length-names B own u other v =
     sym (length-map (clashes_for B own u other v) (λ (c : Clash). c.name)) ∙ ap length (clash_names_are other own v u)
+
+-- a side that merges its table with an equal one keeps it, if no name was withdrawn
+pub own_merge_for : (id : SideId) (own : Table) (answers : List Verdict3) → merge_for id own own answers [] [] ≡ own
+own_merge_for A own answers = own_merge own answers
+own_merge_for B own answers = own_merge own answers
 
 module _ {id : SideId} {own : Table} {x : Exchange} (m : IsMergeable id own x) where
   same_heard : (heard : Heard) → x.heard ≡ Some heard → m.heard ≡ heard

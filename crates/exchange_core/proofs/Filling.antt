@@ -3,9 +3,9 @@ use Rattle.std.proofs.Common.{◌≡◌, ℕ, suc, true, false, is_some, get_or,
 use Rattle.std.proofs.lemmas.List.{take_more, take_more_set, drop-set-lt, reverse-append}
 use Rattle.std.proofs.lemmas.Option.{get_or_from_slice_get, slice_get_within, slice_get-get_or}
 use Rattle.partition_table.specs.Tables.{Clash}
-use Rattle.exchange_core.specs.Sides.{Judged}
+use Rattle.exchange_law.specs.Sides.{Judged}
 use Rattle.exchange_core.specs.Settling.{filled, lacking}
-use Rattle.exchange_core.specs.Calls.{Call, Take}
+use Rattle.exchange_law.specs.Calls.{Call, Take}
 use Rattle.exchange_core.specs.model.Settling.{take_calls}
 
 -- what is at k stands first of what is left

@@ -1,18 +1,16 @@
 -- What is left to refuse an offer to which nothing is due early.
 use Rattle.std.proofs.Common.{◌≡◌, ◌≤◌, ◌==◌, ◌&&◌, ℕ, Bool, true, false, not, nat_le, if◌then◌else◌, Option, Some, None, is_some, is_none, refl, ap, sym, ◌∙◌, arith, option_map, option_and_then}
-use Rattle.std.proofs.lemmas.Bool.{and_parts, and_from, leb-true, not-true}
+use Rattle.std.proofs.lemmas.Bool.{and_parts, and_from, leb-true}
 use Rattle.std.proofs.lemmas.Bool.Decides.{nat_tests}
 use Rattle.std.specs.Option.{option_map_or}
 use Rattle.clash_record.specs.declared.side_id.SideId.{SideId}
 use Rattle.clash_record.specs.declared.side_id.SideId.TheVariants.{A, B}
 use Rattle.partition_table.specs.Tables.{Table, most_names, union_len, tables_agree, fit_together}
 use Rattle.partition_table.specs.Faults.{fit_fault}
-use Rattle.partition_table.specs.declared.fault.TableFault.{TableFault}
 use Rattle.partition_table.specs.declared.fault.TableFault.TheVariants.{TooManyNames, OtherCode}
-use Rattle.exchange_core.specs.declared.fault.SideFault.{SideFault}
 use Rattle.exchange_core.specs.declared.fault.SideFault.TheVariants.{NotHealing, SeedDiffers, JournalFull, OtherNumber, OwnOffer}
 use Rattle.exchange_core.specs.declared.fault.SideFault.TheVariants as of
-use Rattle.exchange_core.specs.Sides.{Offer, Heard, Exchange, Side, is_side, is_theirs, fit_for, heard_of, hear_first, hear_in, hear}
+use Rattle.exchange_law.specs.Sides.{Offer, Heard, Exchange, Side, is_side, is_theirs, fit_for, heard_of, hear_first, hear_in, hear}
 use Rattle.exchange_core.specs.Refusals.{union_for, agree_for, first_offer_fault, is_first_offer, sent_fault, hear_fault_in, hear_fault}
 use Rattle.exchange_core.specs.model.Early.{early_offer_fault, early_hear_fault_in, early_hear_fault}
 use Rattle.exchange_core.specs.model.Hearing.{has_heard}

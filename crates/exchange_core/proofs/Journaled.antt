@@ -5,12 +5,13 @@ use Rattle.std.specs.FinMap.{len, len-empty}
 use Rattle.clash_record.specs.declared.side_id.SideId.{SideId}
 use Rattle.clash_record.specs.Orders.{name_cmp}
 use Rattle.partition_table.specs.Tables.{Row, most_names}
-use Rattle.exchange_core.specs.Sides.{Exchange, Side, new_side}
-use Rattle.exchange_core.specs.Calls.{Call, carried_out, replay}
-use Rattle.exchange_core.specs.Journal.{max_events, most_events, IsJournal}
+use Rattle.exchange_law.specs.Sides.{Exchange, Side, new_side}
+use Rattle.exchange_law.specs.Calls.{Call, carried_out, replay}
+use Rattle.exchange_core.specs.Journal.{max_events, most_events}
+use Rattle.exchange_law.specs.Calls.{IsJournal}
 use Rattle.exchange_core.specs.Limits.{IsWithin}
 use Rattle.exchange_core.proofs.Bounded.{HasRoom, idle_within, call_within}
-use Rattle.exchange_core.proofs.Replays.{replay_holds}
+use Rattle.exchange_law.specs.laws.Replays.{replay_holds}
 
 -- a call that is carried out leads on
 pub led_on : (calls : List Call) (call : Call) (old new : Side) → IsJournal calls old →

@@ -9,12 +9,12 @@ use Rattle.std.specs.FinMap.{contains_key, contains_key-keys, entries, keys, len
 use Rattle.clash_record.specs.Name.{Name}
 use Rattle.partition_table.specs.Tables.{Table, IsTable, is_name}
 use Rattle.partition_table.specs.laws.Sameness.{name_decides}
-use Rattle.exchange_core.specs.Calls.{Call}
-use Rattle.exchange_core.specs.Sides.{Exchange, Side}
-use Rattle.exchange_core.specs.Worlds.{list_of}
-use Rattle.exchange_core.specs.Journal.{IsJournal}
-use Rattle.exchange_core.specs.Lists.{IsNameList, AreNamesOf}
-use Rattle.exchange_core.proofs.Replays.{is_name_equivalence, none_apart, replayed_names}
+use Rattle.exchange_law.specs.Calls.{Call}
+use Rattle.exchange_law.specs.Sides.{Exchange, Side}
+use Rattle.exchange_law.specs.Worlds.{list_of}
+use Rattle.exchange_law.specs.Calls.{IsJournal}
+use Rattle.exchange_law.specs.Lists.{IsNameList, AreNamesOf}
+use Rattle.exchange_law.specs.laws.Replays.{is_name_equivalence, none_apart, replayed_names}
 
 -- a name that equals one of these names of the table is a name of the table
 member_there : (table : Table) (names : List Name) → list_all (contains_key table) names ≡ true → (q : Name) →

@@ -3,12 +3,12 @@ use Rattle.std.proofs.Common.{◌≡◌, ℕ, true, false, suc, List, [], ◌∷
 use Rattle.std.proofs.lemmas.Bool.{and_parts}
 use Rattle.std.specs.Option.{option_map_or}
 use Rattle.partition_table.specs.Tables.{Clash, answer, word_of, clashes, merge}
-use Rattle.exchange_core.specs.Sides.{Judged, is_answer, is_lawful}
+use Rattle.exchange_law.specs.Sides.{Judged, is_answer, is_lawful}
 use Rattle.exchange_core.specs.Finished.{Finished, IsFinished, clashes_merged}
 use Rattle.exchange_core.specs.Settling.{IsOfRound}
-use Rattle.exchange_core.specs.laws.Carried.{some_inj}
+use Rattle.exchange_law.specs.laws.Carried.{some_inj}
 use Rattle.exchange_core.proofs.Ending.{answers}
-use Rattle.exchange_core.proofs.Rulings.{lawful}
+use Rattle.exchange_law.specs.laws.Rulings.{lawful}
 
 -- lists that are alike at each place
 same_lists : {X : Type 0} (xs ys : List X) → length xs ≡ length ys →

@@ -5,10 +5,10 @@ use Rattle.std.specs.List.{list_all}
 use Rattle.clash_record.specs.Name.{Name}
 use Rattle.exchange_core.specs.declared.fault.MissingPart.{MissingPart}
 use Rattle.exchange_core.specs.declared.fault.SideFault.TheVariants.{NotHealing}
-use Rattle.exchange_core.specs.Sides.{Judged, Heard, Exchange, Side}
+use Rattle.exchange_law.specs.Sides.{Judged, Heard, Exchange, Side}
 use Rattle.exchange_core.specs.Refusals.{first_without, missing_after, missing_by, missing_of, missing_or_full, finish_fault}
 use Rattle.exchange_core.specs.model.Finishing.{IsMergeable}
-use Rattle.exchange_core.proofs.Replays.{Holds}
+use Rattle.exchange_law.specs.laws.Replays.{Holds}
 
 all_full : (k : ℕ) (rulings : List (Option Judged)) → first_without k rulings ≡ None → list_all is_some rulings ≡ true
 all_full k [] e = refl

@@ -11,8 +11,8 @@ use Rattle.partition_table.specs.Tables.{Row, Table}
 use Rattle.partition_table.specs.declared.fault.TableFault.{TableFault}
 use Rattle.partition_table.specs.declared.fault.TableFault.TheVariants.{NameTaken, Full}
 use Rattle.partition_table.specs.Faults.{register_fault}
-use Rattle.exchange_core.specs.Sides.{Side, register}
-use Rattle.exchange_core.specs.laws.Carried.{some_inj}
+use Rattle.exchange_law.specs.Sides.{Side, register}
+use Rattle.exchange_law.specs.laws.Carried.{some_inj}
 
 pub registered_row : (side : Side) (name : Name) (row : Row) (new : Side) → register side name row ≡ Some new →
     get new.table name ≡ Some row

@@ -9,9 +9,10 @@ use Rattle.clash_record.specs.Orders.{name_cmp}
 use Rattle.clash_record.specs.laws.Orders.{names_total, names_exact}
 use Rattle.clash_record.specs.declared.registrations.Registration.{Registration}
 use Rattle.partition_table.specs.Tables.{Row, Table, IsTable, most_names, rows_agree, agrees_with, rows_of}
-use Rattle.exchange_core.specs.Sides.{Side, register}
-use Rattle.exchange_core.specs.Calls.{Call, Register, Begin, Abandon, carried_out}
-use Rattle.exchange_core.specs.Journal.{IsJournal, most_events}
+use Rattle.exchange_law.specs.Sides.{Side, register}
+use Rattle.exchange_law.specs.Calls.{Call, Register, Begin, Abandon, carried_out}
+use Rattle.exchange_core.specs.Journal.{most_events}
+use Rattle.exchange_law.specs.Calls.{IsJournal}
 use Rattle.exchange_core.specs.model.Renewing.{number_calls}
 use Rattle.exchange_core.specs.laws.Entries.{Entry, entries_front, has_entry, is_new, not_in_front, made_again}
 use Rattle.exchange_core.proofs.Journaled.{kept_on}

@@ -13,10 +13,10 @@ use Rattle.clash_record.specs.Name.{Name}
 use Rattle.clash_record.specs.Orders.{name_cmp}
 use Rattle.clash_record.specs.laws.Orders.{names_total}
 use Rattle.partition_table.specs.Tables.{is_in, is_name, most_names}
-use Rattle.exchange_core.specs.Lists.{IsNameList}
+use Rattle.exchange_law.specs.Lists.{IsNameList}
 use Rattle.exchange_core.specs.Repeats.{first_again}
 use Rattle.exchange_core.specs.model.Listing.{IsSetOf}
-use Rattle.exchange_core.proofs.Replays.{is_name_equivalence, none_apart}
+use Rattle.exchange_law.specs.laws.Replays.{is_name_equivalence, none_apart}
 use Rattle.exchange_core.proofs.Listing.{one_more_listed}
 
 -- a name after names other than it

@@ -4,17 +4,18 @@ use Rattle.std.proofs.lemmas.Bool.Decides.{nat_tests}
 use Rattle.std.proofs.lemmas.List.{length-map, length-reverse}
 use Rattle.std.specs.Option.{option_map_or}
 use Rattle.partition_table.specs.Tables.{Clash}
-use Rattle.exchange_core.specs.Sides.{Judged, Heard, Exchange, Side, clashes_heard, heard_clashes, rulings_of, put_ruling, take_heard, take}
-use Rattle.exchange_core.specs.Calls.{Call, Take}
-use Rattle.exchange_core.specs.Journal.{IsJournal, max_events}
+use Rattle.exchange_law.specs.Sides.{Judged, Heard, Exchange, Side, clashes_heard, heard_clashes, rulings_of, put_ruling, take_heard, take}
+use Rattle.exchange_law.specs.Calls.{Call, Take}
+use Rattle.exchange_core.specs.Journal.{max_events}
+use Rattle.exchange_law.specs.Calls.{IsJournal}
 use Rattle.exchange_core.specs.Settling.{judged_in, filled, lacking, lacking_of, settled, settle_calls, number_in}
 use Rattle.exchange_core.specs.Refusals.{count_lacking, settle_fault, settle_fault_heard}
 use Rattle.exchange_core.specs.declared.fault.SideFault.TheVariants.{JournalFull, NotHealing}
 use Rattle.exchange_core.specs.model.Settling.{SideHasPlaces, take_calls}
 use Rattle.exchange_core.proofs.Filling.{reverse_onto, at_seam, set_seam, length-lacking}
 use Rattle.exchange_core.proofs.Journaled.{led_on}
-use Rattle.exchange_core.proofs.Replays.{Holds}
-use Rattle.exchange_core.proofs.Rulings.{lawful_passes, clashes_are}
+use Rattle.exchange_law.specs.laws.Replays.{Holds}
+use Rattle.exchange_law.specs.laws.Rulings.{lawful_passes, clashes_are}
 
 pub length-seam : {X : Type 0} (xs : List X) (x : X) → length (xs ++ x ∷ []) ≡ suc (length xs)
 length-seam [] x = refl

@@ -4,18 +4,18 @@ use Rattle.std.specs.List.{list_all}
 use Rattle.clash_record.specs.declared.side_id.SideId.{SideId}
 use Rattle.clash_record.specs.declared.side_id.SideId.TheVariants.{A, B}
 use Rattle.partition_table.specs.Tables.{Table, Clash, answer, word_of, clashes}
-use Rattle.exchange_core.specs.Sides.{Offer, Judged, Heard, Exchange, Side, is_side, clashes_for, clashes_heard, heard_clashes, has_clash, take}
-use Rattle.exchange_core.specs.Calls.{Take}
-use Rattle.exchange_core.specs.Worlds.{Ruling, Past, World, Event, Tells, Judges, side_of, with_side, called, called_if, ruling_at, taken_by, offer_by, ruling_of, clashes_between, ruling_on, add_ruling, judge, happens, world_after}
+use Rattle.exchange_law.specs.Sides.{Offer, Judged, Heard, Exchange, Side, is_side, clashes_for, clashes_heard, heard_clashes, has_clash, take}
+use Rattle.exchange_law.specs.Calls.{Take}
+use Rattle.exchange_law.specs.Worlds.{Ruling, Past, World, Event, Tells, Judges, side_of, with_side, called, called_if, ruling_at, taken_by, offer_by, ruling_of, clashes_between, ruling_on, add_ruling, judge, happens, world_after}
 use Rattle.exchange_core.specs.Settling.{judged_in, filled, settled, the_round}
 use Rattle.exchange_core.specs.Halves.{is_settling, IsSettling, SettlesByEvents}
-use Rattle.exchange_core.specs.laws.Carried.{some_inj}
-use Rattle.exchange_core.proofs.Rulings.{lawful, has_clash_passes}
-use Rattle.exchange_core.proofs.Kept.{Has, other, made, OneEach}
-use Rattle.exchange_core.proofs.Steps.{Made, judge_cases, at_more, found_key, past_is, sound}
-use Rattle.exchange_core.proofs.Places.{side_now}
-use Rattle.exchange_core.proofs.Told.{offer_key, ruling_fits, same_clashes}
-use Rattle.exchange_core.proofs.Calling.{judgings_add}
+use Rattle.exchange_law.specs.laws.Carried.{some_inj}
+use Rattle.exchange_law.specs.laws.Rulings.{lawful, has_clash_passes}
+use Rattle.exchange_law.specs.laws.Kept.{Has, other, made, OneEach}
+use Rattle.exchange_law.specs.laws.Steps.{Made, judge_cases, at_more, found_key, past_is, sound}
+use Rattle.exchange_law.specs.laws.Places.{side_now}
+use Rattle.exchange_law.specs.laws.Told.{offer_key, ruling_fits, same_clashes}
+use Rattle.exchange_law.specs.laws.Calling.{judgings_add}
 use Rattle.exchange_core.proofs.Settled.{length-seam, take_next, unheard}
 use Rattle.exchange_core.proofs.Filling.{at_seam}
 

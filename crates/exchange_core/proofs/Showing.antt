@@ -9,9 +9,9 @@ use Rattle.clash_record.specs.Orders.{name_cmp}
 use Rattle.clash_record.specs.laws.Orders.{names_total, names_exact}
 use Rattle.clash_record.specs.Name.{Name}
 use Rattle.partition_table.specs.Tables.{Row, Table, is_in, rows_of}
-use Rattle.exchange_core.specs.Sides.{Exchange, Side, without, shown_table}
+use Rattle.exchange_law.specs.Sides.{Exchange, Side, without, shown_table}
 use Rattle.exchange_core.specs.Rows.{not_withdrawn}
-use Rattle.exchange_core.proofs.Merges.{get_without}
+use Rattle.exchange_law.specs.laws.Merges.{get_without}
 
 pub shown_open : (side : Side) (x : Exchange) → side.exchange ≡ Some x →
     shown_table side ≡ without x.withdrawn side.table

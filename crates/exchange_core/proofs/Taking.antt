@@ -4,9 +4,9 @@ use Rattle.std.specs.Option.{option_map_or}
 use Rattle.builtin_resolvers.specs.declared.verdicts.Verdict3.{Verdict3}
 use Rattle.partition_table.specs.Tables.{Clash, same_clash, answer}
 use Rattle.exchange_core.specs.declared.fault.SideFault.TheVariants.{NotHealing, StrangeRuling, JournalFull, OtherNumber}
-use Rattle.exchange_core.specs.Sides.{Judged, Heard, Exchange, Side, is_one_of_four, clashes_heard, clashes_of, has_clash, is_lawful, put_ruling, take_heard, take_in, take}
+use Rattle.exchange_law.specs.Sides.{Judged, Heard, Exchange, Side, is_one_of_four, clashes_heard, clashes_of, has_clash, is_lawful, put_ruling, take_heard, take_in, take}
 use Rattle.exchange_core.specs.Refusals.{is_strange, take_fault_in, take_fault}
-use Rattle.exchange_core.proofs.Rulings.{lawful_is, has_clash_is, clashes_are}
+use Rattle.exchange_law.specs.laws.Rulings.{lawful_is, has_clash_is, clashes_are}
 
 made_so : {X Y : Type 0} (f : X → Y) (b : Bool) (x : X) → b ≡ true
     → is_some (option_map f (if b then Some x else None)) ≡ true

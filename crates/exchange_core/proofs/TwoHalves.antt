@@ -7,20 +7,20 @@ use Rattle.clash_record.specs.declared.side_id.SideId.TheVariants.{A, B}
 use Rattle.builtin_resolvers.specs.declared.verdicts.Verdict3.{Verdict3}
 use Rattle.clash_record.specs.Name.{Name}
 use Rattle.partition_table.specs.Tables.{Table, Clash, word_of}
-use Rattle.exchange_core.specs.Sides.{Offer, Withdrawals, Judged, Heard, Exchange, Side, is_side, clashes_for, clashes_heard, merge_for, merged_table, finish}
-use Rattle.exchange_core.specs.Calls.{Call, Register, Unregister, Begin, Hear, Take, Withdraw, Close_list, Hear_list, Finish, Abandon, carried_out, takes_message}
-use Rattle.exchange_core.specs.Worlds.{Ruling, Past, World, Event, Does, Hears, Hears_list, Tells, Judges, side_of, past_after, with_side, called, called_if, ruling_at, offer_by, clashes_between, happens, world_after}
+use Rattle.exchange_law.specs.Sides.{Offer, Withdrawals, Judged, Heard, Exchange, Side, is_side, clashes_for, clashes_heard, merge_for, merged_table, finish}
+use Rattle.exchange_law.specs.Calls.{Call, Register, Unregister, Begin, Hear, Take, Withdraw, Close_list, Hear_list, Finish, Abandon, carried_out, takes_message}
+use Rattle.exchange_law.specs.Worlds.{Ruling, Past, World, Event, Does, Hears, Hears_list, Tells, Judges, side_of, past_after, with_side, called, called_if, ruling_at, offer_by, clashes_between, happens, world_after}
 use Rattle.exchange_core.specs.Finished.{Finished, IsFinished, all_held, finished_at, finished_of, finished_in, finished_from}
 use Rattle.exchange_core.specs.Settling.{IsOfRound, settled, the_round}
 use Rattle.exchange_core.specs.Halves.{IsRuledInRound, is_settling, Act, Happens, Settles, is_own, halves_after, ActsAreCalls, FinishesWith, IsSettledMerge}
 use Rattle.exchange_core.specs.model.Finishing.{IsMergeable}
-use Rattle.exchange_core.specs.laws.Carried.{some_inj, found}
-use Rattle.exchange_core.proofs.Kept.{Has, other, made, made_list, Grows, our_offer}
-use Rattle.exchange_core.proofs.Steps.{Made, judge_cases, at_more, step_grows, grows_on, sound}
-use Rattle.exchange_core.proofs.Places.{judged_at}
-use Rattle.exchange_core.proofs.Told.{offer_key}
-use Rattle.exchange_core.proofs.Calling.{event_leaves}
-use Rattle.exchange_core.proofs.Replays.{Holds, replay_holds, led}
+use Rattle.exchange_law.specs.laws.Carried.{some_inj, found}
+use Rattle.exchange_law.specs.laws.Kept.{Has, other, made, made_list, Grows, our_offer}
+use Rattle.exchange_law.specs.laws.Steps.{Made, judge_cases, at_more, step_grows, grows_on, sound}
+use Rattle.exchange_law.specs.laws.Places.{judged_at}
+use Rattle.exchange_law.specs.laws.Told.{offer_key}
+use Rattle.exchange_law.specs.laws.Calling.{event_leaves}
+use Rattle.exchange_law.specs.laws.Replays.{Holds, replay_holds, led}
 use Rattle.exchange_core.proofs.Ending.{held_answers, held_at, merged_so, finished_so}
 use Rattle.exchange_core.proofs.OneRound.{one_rulings, one_round}
 use Rattle.exchange_core.proofs.Settles.{BothOffers, both_offers, offers, settles}

@@ -8,9 +8,9 @@ use Rattle.clash_record.specs.declared.side_id.SideId.{SideId}
 use Rattle.clash_record.specs.declared.side_id.SideId.TheVariants.{A, B}
 use Rattle.clash_record.specs.Name.{Name}
 use Rattle.partition_table.specs.Tables.{Row, Table, Clash, clash_at, clashes, facts_of, merge, fit_together, agrees_with, most_names}
-use Rattle.exchange_core.specs.Sides.{Offer, Judged, Exchange, Side, new_exchange, hear, finish}
-use Rattle.exchange_core.specs.Calls.{Begin, Close_list, Finish}
-use Rattle.exchange_core.specs.Worlds.{World, Past, Does, Hears, Hears_list, side_of, with_side}
+use Rattle.exchange_law.specs.Sides.{Offer, Judged, Exchange, Side, new_exchange, hear, finish}
+use Rattle.exchange_law.specs.Calls.{Begin, Close_list, Finish}
+use Rattle.exchange_law.specs.Worlds.{World, Past, Does, Hears, Hears_list, side_of, with_side}
 use Rattle.exchange_core.specs.Finished.{finished_from}
 use Rattle.exchange_core.specs.Settling.{judged_in, filled, settled, the_round}
 use Rattle.exchange_core.specs.Halves.{Act, Happens, Settles, after_act, halves_after, BothFinish}

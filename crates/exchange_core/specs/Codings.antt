@@ -12,7 +12,7 @@ use Rattle.partition_table.specs.Tables.{Table}
 use Rattle.partition_table.specs.Views.{coded_table}
 use Rattle.clash_record.specs.declared.side_id.SideId.{SideId}
 use Rattle.clash_record.specs.declared.side_id.SideId.TheVariants.{A, B}
-use Rattle.exchange_core.specs.Sides.{Offer, Withdrawals, Judged, Heard, Exchange, Side}
+use Rattle.exchange_law.specs.Sides.{Offer, Withdrawals, Judged, Heard, Exchange, Side}
 use Rattle.exchange_core.specs.Finished.{Finished}
 
 -- names that have several owners

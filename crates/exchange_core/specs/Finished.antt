@@ -5,7 +5,7 @@ use Rattle.clash_record.specs.Name.{Name}
 use Rattle.partition_table.specs.Tables.{Table, Clash, Gone, clashes, merge, fit_together}
 use Rattle.clash_record.specs.declared.side_id.SideId.{SideId}
 use Rattle.clash_record.specs.declared.side_id.SideId.TheVariants.{A, B}
-use Rattle.exchange_core.specs.Sides.{Judged, Heard, Exchange, Side, is_lawful, merged_table}
+use Rattle.exchange_law.specs.Sides.{Judged, Heard, Exchange, Side, is_lawful, merged_table}
 
 -- the two tables that were merged, with the uptimes of their halves and the names withdrawn of each, the ruling of each
 -- clash, and the merged table

@@ -4,10 +4,10 @@ use Rattle.std.specs.List.{list_all}
 use Rattle.partition_table.specs.Tables.{Clash, word_of}
 use Rattle.clash_record.specs.declared.side_id.SideId.{SideId}
 use Rattle.clash_record.specs.declared.side_id.SideId.TheVariants.{A, B}
-use Rattle.exchange_core.specs.Sides.{Offer, Withdrawals, Exchange, Side, is_side, heard_clashes, finish}
-use Rattle.exchange_core.specs.Calls.{Finish}
-use Rattle.exchange_core.specs.Worlds.{Ruling, World, Event, Does, Tells, Judges, first_world, side_of, with_side, ruling_at, happens, world_after}
-use Rattle.exchange_core.specs.Steps.{call_at, after_call}
+use Rattle.exchange_law.specs.Sides.{Offer, Withdrawals, Exchange, Side, is_side, heard_clashes, finish}
+use Rattle.exchange_law.specs.Calls.{Finish}
+use Rattle.exchange_law.specs.Worlds.{Ruling, World, Event, Does, Tells, Judges, first_world, side_of, with_side, ruling_at, happens, world_after}
+use Rattle.exchange_law.specs.Steps.{call_at, after_call}
 use Rattle.exchange_core.specs.Settling.{IsOfRound, settled, the_round}
 use Rattle.exchange_core.specs.Finished.{Finished, IsFinished, finished_from}
 

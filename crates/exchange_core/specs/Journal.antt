@@ -6,8 +6,7 @@ use Rattle.partition_table.specs.Tables.{most_names}
 use Rattle.exchange_core.specs.declared.journal.Event.{Event}
 use Rattle.exchange_core.specs.declared.journal.Event.TheVariants as event
 use Rattle.exchange_core.specs.declared.journal.Past.{Past, Empty, Then'}
-use Rattle.exchange_core.specs.Sides.{Side}
-use Rattle.exchange_core.specs.Calls.{Call, Register, Unregister, Begin, Hear, Take, Withdraw, Close_list, Hear_list, Finish, Abandon, replay}
+use Rattle.exchange_law.specs.Calls.{Call, Register, Unregister, Begin, Hear, Take, Withdraw, Close_list, Hear_list, Finish, Abandon}
 
 -- the most events that the journal of a side of this limit holds: 16 for each name
 abbrev pub max_events : ℕ → ℕ
@@ -37,7 +36,3 @@ call_of event.Abandon = Abandon
 abbrev pub calls_of : Past → List Call
 calls_of Empty = []
 calls_of (Then' event shape earlier) = call_of event ∷ calls_of earlier
-
--- the calls lead to the side
-abbrev pub IsJournal : List Call → Side → Type 0
-IsJournal calls side = replay side.id calls ≡ side

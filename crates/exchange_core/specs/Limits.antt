@@ -1,7 +1,7 @@
 -- The limit of a side.
 use Rattle.std.specs.Prelude.{◌≡◌, ℕ, ◌≤◌, Some}
 use Rattle.std.specs.FinMap.{len}
-use Rattle.exchange_core.specs.Sides.{Heard, Exchange, Side}
+use Rattle.exchange_law.specs.Sides.{Heard, Exchange, Side}
 use Rattle.exchange_core.specs.Refusals.{union_for}
 
 -- the side has at most this many names, and will have once it finishes

@@ -16,7 +16,7 @@ use Rattle.exchange_core.specs.declared.fault.SideFault.{SideFault}
 use Rattle.exchange_core.specs.declared.fault.SideFault.TheVariants.{Healing, NotHealing, StaleNumber, SeedDiffers, StrangeRuling, Missing, JournalFull, OtherNumber, OwnOffer, Withdrawn, ListClosed}
 use Rattle.exchange_core.specs.declared.fault.SideFault.TheVariants as of
 use Rattle.exchange_core.specs.Journal.{max_events}
-use Rattle.exchange_core.specs.Sides.{Offer, Withdrawals, Judged, Heard, Exchange, Side, is_one_of_four, is_side, is_above, is_theirs, clashes_of, has_clash}
+use Rattle.exchange_law.specs.Sides.{Offer, Withdrawals, Judged, Heard, Exchange, Side, is_one_of_four, is_side, is_above, is_theirs, clashes_of, has_clash}
 
 -- a call that needs no memory succeeds exactly where no refusal is due, and else returns that refusal
 abbrev pub IsDecidedBy : {A : Type 0} → Option SideFault → Result A SideFault → Type 0

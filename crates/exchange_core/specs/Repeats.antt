@@ -1,11 +1,11 @@
 -- Lists made of names.
 use Rattle.std.specs.Prelude.{ℕ, ◌+◌, nat_lt, List, [], ◌∷◌, ◌++◌, length, Option, Some, None, Result, Ok, Err, if◌then◌else◌}
-use Rattle.numbered.specs.Answers.{out_of_memory}
-use Rattle.numbered.specs.declared.Place.{Place}
-use Rattle.numbered.specs.declared.Place.TheVariants.{Item}
+use Rattle.refusals.specs.Answers.{out_of_memory}
+use Rattle.refusals.specs.declared.Place.{Place}
+use Rattle.refusals.specs.declared.Place.TheVariants.{Item}
 use Rattle.clash_record.specs.Name.{Name}
 use Rattle.partition_table.specs.Tables.{most_names, is_in}
-use Rattle.exchange_core.specs.Sides.{Withdrawals}
+use Rattle.exchange_law.specs.Sides.{Withdrawals}
 use Rattle.exchange_core.specs.declared.withdrawn_names.ListFault.{ListFault}
 use Rattle.exchange_core.specs.declared.withdrawn_names.ListFault.TheVariants.{TooMany, NameAgain, OutOfMemory}
 

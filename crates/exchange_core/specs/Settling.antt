@@ -3,8 +3,8 @@ use Rattle.std.specs.Prelude.{◌≡◌, ℕ, suc, List, [], ◌∷◌, ◌++◌
 use Rattle.std.specs.Option.{option_map, option_map_or}
 use Rattle.partition_table.specs.Tables.{Clash, answer, word_of}
 use Rattle.exchange_core.specs.declared.side.Side as declared
-use Rattle.exchange_core.specs.Sides.{Judged, Heard, Exchange, Side, clashes_of}
-use Rattle.exchange_core.specs.Calls.{Call, Take}
+use Rattle.exchange_law.specs.Sides.{Judged, Heard, Exchange, Side, clashes_of}
+use Rattle.exchange_law.specs.Calls.{Call, Take}
 use Rattle.exchange_core.specs.Shown.{shown, calls, limit_of}
 use Rattle.exchange_core.specs.Finished.{Finished, clashes_merged}
 

@@ -1,8 +1,8 @@
 -- What contracts see of a side: its state, the calls of its journal, and its limit.
 use Rattle.std.specs.Prelude.{◌≡◌, ℕ, Bool, nat_le, List, ◌∷◌, length, Some}
 use Rattle.exchange_core.specs.declared.side.Side.{Side}
-use Rattle.exchange_core.specs.Sides as sides
-use Rattle.exchange_core.specs.Calls.{Call, carried_out}
+use Rattle.exchange_law.specs.Sides as sides
+use Rattle.exchange_law.specs.Calls.{Call, carried_out}
 use Rattle.exchange_core.specs.Journal.{max_events, calls_of}
 
 abbrev pub shown : Side → sides.Side

@@ -2,7 +2,7 @@
 use Rattle.std.specs.Arc.{arc_value}
 use Rattle.exchange_core.specs.declared.finished.Finished.TheInside as finished
 use Rattle.exchange_core.specs.declared.state.State.TheInside as state
-use Rattle.exchange_core.specs.Sides.{Side}
+use Rattle.exchange_law.specs.Sides.{Side}
 use Rattle.exchange_core.specs.Finished.{Finished, finished_by}
 use Rattle.exchange_core.specs.Codings.{names_of}
 

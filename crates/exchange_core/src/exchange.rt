@@ -3,7 +3,7 @@ ghost use Rattle.std.specs.Prelude.{◌≡◌, ◌==◌, ◌&&◌, ◌≤◌, �
 ghost use Rattle.std.specs.Option.{option_map};
 ghost use Rattle.std.specs.Arc.{arc_value};
 ghost use Rattle.partition_table.specs.Tables.{is_in, same_table};
-ghost use Rattle.exchange_core.specs.Sides.{put_ruling, new_exchange};
+ghost use Rattle.exchange_law.specs.Sides.{put_ruling, new_exchange};
 ghost use Rattle.exchange_core.specs.Refusals.{first_without, missing_of};
 ghost use Rattle.exchange_core.specs.model.Changing.{with_ruling};
 ghost use Rattle.exchange_core.specs.Settling.{filled, lacking};
@@ -32,7 +32,7 @@ pub(crate) struct Heard {
 
 impl Model for Heard {
     ghost use Rattle.std.specs.Arc.{arc_value};
-    ghost use Rattle.exchange_core.specs.Sides.{Heard};
+    ghost use Rattle.exchange_law.specs.Sides.{Heard};
     ghost use Rattle.exchange_core.specs.Codings.{coded_heard};
 
     ghost Value = { Heard };
@@ -131,7 +131,7 @@ pub(crate) struct Exchange {
 
 impl Model for Exchange {
     ghost use Rattle.std.specs.Option.{option_map};
-    ghost use Rattle.exchange_core.specs.Sides.{Exchange};
+    ghost use Rattle.exchange_law.specs.Sides.{Exchange};
     ghost use Rattle.exchange_core.specs.Codings.{coded_exchange, names_of};
 
     ghost Value = { Exchange };

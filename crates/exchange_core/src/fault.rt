@@ -3,8 +3,8 @@ ghost use Rattle.std.specs.Prelude.{◌≡◌, None};
 ghost use Rattle.exchange_core.specs.declared.fault.SideFault.TheVariants.{Table, OutOfMemory};
 ghost use Rattle.exchange_core.specs.Faults.{side_fault_number};
 
-use numbered::{Numbered, Place, words_of};
 use partition_table::TableFault;
+use refusals::{Numbered, Place, words_of};
 use std::alloc::AllocError;
 use thiserror::Error;
 

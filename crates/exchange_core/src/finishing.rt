@@ -1,7 +1,8 @@
 //! Finishes an exchange.
 ghost use Rattle.std.specs.Prelude.{◌≡◌, Some, IsTrue, IfOk, OnOk, OnErr, List, is_some, map};
 ghost use Rattle.std.specs.Arc.{arc_value};
-ghost use Rattle.exchange_core.specs.Sides as sides;
+ghost use Rattle.std.specs.Option.{option_map_or};
+ghost use Rattle.exchange_law.specs.Sides as sides;
 ghost use Rattle.exchange_core.specs.Finished.{all_held, finished_at, finished_from};
 ghost use Rattle.exchange_core.specs.model.Finishing.{IsMergeable, IsMergeOf};
 ghost use Rattle.clash_record.specs.Name.{Name};
@@ -18,11 +19,11 @@ use std::alloc::{AllocError, Global};
 use std::mem;
 use std::sync::Arc;
 
-// The rulings of an exchange, and its merged table.
+// The rulings of an exchange, and its merged table, unless that is the side's own.
 #[derive(Drop)]
 struct Merged {
     rulings: Vec<Judged>,
-    table: Table,
+    table: Option<Table>,
 }
 
 impl State {
@@ -43,7 +44,7 @@ impl State {
             self.table.table(),
             exchange,
         )?;
-        let mut held = HeldTable::new(alloc, table);
+        let mut held = hold(alloc, &mut self.table, table)?;
         let table = held.share()?;
         let Some(exchange) = self.exchange.take() else {
             unreachable!()
@@ -51,6 +52,17 @@ impl State {
         self.clashes = None;
         let own = mem::replace(&mut self.table, held);
         Ok(finished_with(self.id, own, exchange, rulings, table))
+    }
+}
+
+// Holds the merged table, or the side's own if that is the merge.
+fn hold(alloc: Global, own: &mut HeldTable, merged: Option<Table>) -> Result<HeldTable, AllocError>
+    ensures held { IfOk result (λ held. held ≡ option_map_or (λ table. table) merged own.old) }
+    ensures same { own.new ≡ own.old }
+{
+    match merged {
+        Some(table) => Ok(HeldTable::new(alloc, table)),
+        None => own.share_held(),
     }
 }
 
@@ -62,7 +74,8 @@ fn merge_exchange(
     exchange: &Exchange,
 ) -> Result<Merged, AllocError>
     requires { IsMergeable id own.now exchange.now }
-    ensures { IfOk result (λ merged. IsMergeOf id own.now exchange.now merged.rulings.items merged.table) }
+    ensures { IfOk result (λ merged. IsMergeOf id own.now exchange.now merged.rulings.items
+        (option_map_or (λ table. table) merged.table own.now)) }
 {
     let (Some(heard), Some(theirs)) = (&exchange.heard, &exchange.their_list) else {
         unreachable!()

@@ -2,8 +2,8 @@
 ghost use Rattle.std.specs.Prelude.{◌≡◌, List};
 ghost use Rattle.clash_record.specs.declared.side_id.SideId.{SideId};
 ghost use Rattle.exchange_core.specs.Finished.{Finished};
-ghost use Rattle.exchange_core.specs.Sides.{Side};
-ghost use Rattle.exchange_core.specs.Worlds.{Event};
+ghost use Rattle.exchange_law.specs.Sides.{Side};
+ghost use Rattle.exchange_law.specs.Worlds.{Event};
 ghost use Rattle.exchange_core.specs.Halves.{Act, ActsAreCalls, BothFinish, FinishesWith, IsSettledMerge, SettlesByEvents};
 
 /// Two halves that exchange offers and lists, settle, and finish one number have one outcome: one table, the merge of the

@@ -1,12 +1,18 @@
 //! A table that its one holder changes, or that several read.
-ghost use Rattle.std.specs.Prelude.{◌≡◌, IfOk, OnOk, OnErr};
+ghost use Rattle.std.specs.Prelude.{◌≡◌, IsTrue, IfOk, OnOk, OnErr};
 ghost use Rattle.std.specs.Arc.{arc_value};
+ghost use Rattle.std.specs.FinMap.{insert};
+ghost use Rattle.refusals.specs.Answers.{IsAnswered};
+ghost use Rattle.partition_table.specs.Faults.{register_fault, table_fault_number};
+ghost use Rattle.partition_table.specs.Tables.{agrees_with, row_for};
 
-use partition_table::Table;
+use clash_record::{Name, Registration};
+use partition_table::{NameLimit, Table, TableFault};
 use std::alloc::{AllocError, Global};
 use std::marker::Model;
 use std::mem;
 use std::sync::Arc;
+use upload_store::UploadStore;
 
 #[derive(Debug, Drop)]
 pub(crate) enum Held {
@@ -73,6 +79,41 @@ impl HeldTable {
         };
         let result: Result<_, _> = shared.clone();
         self.held = Held::Shared(shared);
+        result
+    }
+
+    // Holds the table together with another holder. Copies nothing.
+    pub(crate) fn share_held(&mut self) -> Result<HeldTable, AllocError>
+        ensures shared { IfOk result (λ held. held ≡ self.old) }
+        ensures same { self.new ≡ self.old }
+    {
+        let shared = self.share()?;
+        Ok(HeldTable {
+            alloc: self.alloc,
+            held: Held::Shared(shared),
+        })
+    }
+
+    // Registers the name like `Table::register_known`. Copies the table if others read it.
+    pub(crate) fn register(
+        &mut self,
+        is_known: bool,
+        limit: NameLimit,
+        name: Name,
+        registration: Registration,
+        store: &UploadStore,
+    ) -> Result<(), TableFault>
+        requires { IsTrue is_known → IsTrue (agrees_with self.old (row_for store.now registration)) }
+        ensures answer { IsAnswered table_fault_number (register_fault limit.names self.old name registration store.now) result }
+        ensures registered { OnOk result (self.new ≡ insert self.old name (row_for store.now registration)) }
+        ensures unchanged { OnErr result (self.new ≡ self.old) }
+    {
+        if let Held::Own(table) = &mut self.held {
+            return table.register_known(is_known, limit, name, registration, store);
+        }
+        let mut table = self.take()?;
+        let result = table.register_known(is_known, limit, name, registration, store);
+        self.put(table);
         result
     }
 

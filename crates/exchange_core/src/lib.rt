@@ -1,4 +1,4 @@
-//! One side of an exchange of tables, and the theorem over every history of two sides.
+//! One side of an exchange of tables: the calls of `exchange_law` in code, and the theorem over two processes.
 #![tactic(auto)]
 
 mod calls;
@@ -8,7 +8,6 @@ mod finished;
 mod finishing;
 mod halves;
 mod held_table;
-mod history;
 mod journal;
 mod limits;
 mod messages;
@@ -26,10 +25,10 @@ mod with_table;
 mod withdrawn_names;
 
 pub use clash_record::SideId;
+pub use exchange_law::history_theorem;
 pub use fault::{MissingPart, SideFault};
 pub use finished::Finished;
 pub use halves::two_halves_theorem;
-pub use history::history_theorem;
 pub use limits::MAX_EVENTS;
 pub use messages::{Offer, Withdrawals};
 pub use partition_table::Judged;

@@ -3,7 +3,7 @@ ghost use Rattle.std.specs.Prelude.{◌≡◌, ◌≤◌, [], length};
 ghost use Rattle.std.specs.FinMap.{len};
 ghost use Rattle.exchange_core.specs.Journal.{max_events};
 ghost use Rattle.exchange_core.specs.Shown.{shown, calls, limit_of, is_full};
-ghost use Rattle.exchange_core.specs.Sides.{new_side};
+ghost use Rattle.exchange_law.specs.Sides.{new_side};
 
 use crate::journal::Journal;
 use crate::side::Side;

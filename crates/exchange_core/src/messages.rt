@@ -1,7 +1,7 @@
 //! The messages that the two sides of an exchange send each other.
 ghost use Rattle.std.specs.Prelude.{◌≡◌, IfOk};
 ghost use Rattle.std.specs.Arc.{arc_value};
-ghost use Rattle.exchange_core.specs.Lists.{IsNameList};
+ghost use Rattle.exchange_law.specs.Lists.{IsNameList};
 ghost use Rattle.exchange_core.specs.Codings.{names_of};
 
 use clash_record::{Name, SideId};
@@ -35,7 +35,7 @@ impl Drop for Offer {
 
 impl Model for Offer {
     ghost use Rattle.std.specs.Arc.{arc_value};
-    ghost use Rattle.exchange_core.specs.Sides.{Offer};
+    ghost use Rattle.exchange_law.specs.Sides.{Offer};
     ghost use Rattle.exchange_core.specs.Codings.{coded_offer};
 
     ghost Value = { Offer };
@@ -136,7 +136,7 @@ impl Drop for Withdrawals {
 }
 
 impl Model for Withdrawals {
-    ghost use Rattle.exchange_core.specs.Sides.{Withdrawals};
+    ghost use Rattle.exchange_law.specs.Sides.{Withdrawals};
     ghost use Rattle.exchange_core.specs.Codings.{coded_withdrawals, names_of};
 
     ghost Value = { Withdrawals };
@@ -145,7 +145,7 @@ impl Model for Withdrawals {
 
     ghost view = { λ l. record { side = l.side; number = l.number; names = names_of l.names } };
 
-    ghost use Rattle.exchange_core.specs.Lists.{IsNameList};
+    ghost use Rattle.exchange_law.specs.Lists.{IsNameList};
 
     ghost invariant = { λ l. IsNameList (names_of l.names) };
 }

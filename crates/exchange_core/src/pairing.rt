@@ -1,12 +1,14 @@
 //! The table of a side paired with the other's. The definitions put A's first; here the side's own is first, since the
 //! order doesn't matter.
 ghost use Rattle.std.specs.Prelude.{◌≡◌, IsTrue, IfOk, length, not, nat_le};
+ghost use Rattle.std.specs.Bool.{Decides};
+ghost use Rattle.std.specs.Option.{option_map_or};
 ghost use Rattle.clash_record.specs.declared.side_id.SideId.{SideId};
-ghost use Rattle.numbered.specs.Answers.{IsAnswered};
+ghost use Rattle.refusals.specs.Answers.{IsAnswered};
 ghost use Rattle.partition_table.specs.Faults.{table_fault_number};
 ghost use Rattle.exchange_core.specs.Refusals.{union_for};
 ghost use Rattle.partition_table.specs.Tables.{fit_together, clash_names};
-ghost use Rattle.exchange_core.specs.Sides as sides;
+ghost use Rattle.exchange_law.specs.Sides as sides;
 ghost use Rattle.exchange_core.specs.model.Pairing.{fit_fault_for};
 
 use builtin_resolvers::Verdict3;
@@ -44,7 +46,8 @@ pub(crate) fn clashes_own(
     clashes_within(alloc, limit, own, own_uptime, other, other_uptime)
 }
 
-// Returns the merge of the two tables, which fit together.
+// Returns the merge of the two tables, which fit together, or none if that is the own one: no name clashes, none was
+// withdrawn, and the tables are equal.
 pub(crate) fn merge_own(
     alloc: Global,
     own: &Table,
@@ -52,15 +55,26 @@ pub(crate) fn merge_own(
     answers: &[Verdict3],
     own_gone: &[Name],
     other_gone: &[Name],
-) -> Result<Table, AllocError>
+) -> Result<Option<Table>, AllocError>
     requires fit { IsTrue (fit_together own.now other.now) }
     requires one_each { length answers.now ≡ length (clash_names own.now other.now) }
-    ensures { (id : SideId) → IfOk result (λ table. table
+    ensures { (id : SideId) → IfOk result (λ table. option_map_or (λ table. table) table own.now
         ≡ sides.merge_for id own.now other.now answers.now own_gone.now other_gone.now) }
 {
     // For the proof: both are tables.
     own.rows();
     other.rows();
     merge_theorem();
-    merge_fitting(alloc, own, other, answers, own_gone, other_gone)
+    if answers.is_empty() && own_gone.is_empty() && other_gone.is_empty() && is_same(own, other) {
+        return Ok(None);
+    }
+    let table = merge_fitting(alloc, own, other, answers, own_gone, other_gone)?;
+    Ok(Some(table))
+}
+
+// Checks whether the two tables are equal.
+fn is_same(own: &Table, other: &Table) -> bool
+    ensures { Decides result (own.now ≡ other.now) }
+{
+    own == other
 }

@@ -5,7 +5,7 @@ ghost use Rattle.std.specs.Cmp.Lexicographic.{pointwise};
 ghost use Rattle.partition_table.specs.Tables.{is_name};
 ghost use Rattle.exchange_core.specs.Refusals as due;
 ghost use Rattle.exchange_core.specs.Shown.{shown, limit_of, is_full};
-ghost use Rattle.exchange_core.specs.Sides as sides;
+ghost use Rattle.exchange_law.specs.Sides as sides;
 
 use crate::exchange::Exchange;
 use crate::fault::{MissingPart, SideFault};

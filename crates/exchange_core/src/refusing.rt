@@ -5,8 +5,8 @@ ghost use Rattle.clash_record.specs.declared.registrations.Registration.{Registr
 ghost use Rattle.upload_store.specs.Programs.{Programs};
 ghost use Rattle.partition_table.specs.Judged.{clash_of_verdict, word_of_verdict};
 ghost use Rattle.partition_table.specs.Tables.{same_clash};
-ghost use Rattle.exchange_core.specs.Sides.{is_above, is_side, is_one_of_four, clashes_of, has_clash};
-ghost use Rattle.exchange_core.specs.Sides as sides;
+ghost use Rattle.exchange_law.specs.Sides.{is_above, is_side, is_one_of_four, clashes_of, has_clash};
+ghost use Rattle.exchange_law.specs.Sides as sides;
 ghost use Rattle.exchange_core.specs.Refusals as due;
 ghost use Rattle.exchange_core.specs.model.Early.{closed_register_fault, early_offer_fault, early_hear_fault};
 

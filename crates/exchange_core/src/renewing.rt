@@ -1,7 +1,8 @@
 //! The shortest journal that leads to an idle side.
 ghost use Rattle.std.specs.Prelude.{◌≡◌, ◌≤◌, ◌+◌, None, length};
 ghost use Rattle.std.specs.FinMap.{len};
-ghost use Rattle.exchange_core.specs.Journal.{IsJournal, calls_of};
+ghost use Rattle.exchange_core.specs.Journal.{calls_of};
+ghost use Rattle.exchange_law.specs.Calls.{IsJournal};
 ghost use Rattle.exchange_core.specs.model.Renewing.{number_calls};
 
 use crate::journal::{Event, Journal};

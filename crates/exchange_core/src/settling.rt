@@ -1,6 +1,6 @@
 //! Settles an exchange: judges each clash without a ruling, all at the words of one round.
 ghost use Rattle.std.specs.Prelude.{◌≡◌, ◌≤◌, ◌<◌, ◌+◌, ◌++◌, length, reverse, Some, IfSome, slice_get};
-ghost use Rattle.exchange_core.specs.Sides as sides;
+ghost use Rattle.exchange_law.specs.Sides as sides;
 ghost use Rattle.exchange_core.specs.Refusals as due;
 ghost use Rattle.exchange_core.specs.Settling.{filled, lacking, lacking_in, lacking_of, settle_calls, settled, settled_exchange};
 ghost use Rattle.exchange_core.specs.model.Settling.{HasPlaces, SideHasPlaces, judge_by, take_calls};

@@ -1,6 +1,7 @@
 //! One side of an exchange.
 ghost use Rattle.std.specs.Prelude.{◌≤◌, length};
-ghost use Rattle.exchange_core.specs.Journal.{IsJournal, calls_of, max_events};
+ghost use Rattle.exchange_core.specs.Journal.{calls_of, max_events};
+ghost use Rattle.exchange_law.specs.Calls.{IsJournal};
 ghost use Rattle.exchange_core.specs.Limits.{IsWithin};
 
 use crate::journal::Journal;

@@ -3,17 +3,17 @@ ghost use Rattle.std.specs.Prelude.{◌≡◌, ◌≢◌, [], false, Some, None,
 ghost use Rattle.std.specs.Bool.{Decides};
 ghost use Rattle.std.specs.FinMap.{get};
 ghost use Rattle.partition_table.specs.Tables.{agrees_with, row_for, rows_of};
-ghost use Rattle.numbered.specs.Answers.{IsAnswered};
+ghost use Rattle.refusals.specs.Answers.{IsAnswered};
 ghost use Rattle.partition_table.specs.Faults as table;
-ghost use Rattle.exchange_core.specs.Sides.{new_side, rested, withdrawn_by, without, shown_table, heard_clashes};
-ghost use Rattle.exchange_core.specs.Lists.{AreNamesOf};
+ghost use Rattle.exchange_law.specs.Sides.{new_side, rested, withdrawn_by, without, shown_table, heard_clashes};
+ghost use Rattle.exchange_law.specs.Lists.{AreNamesOf};
 ghost use Rattle.exchange_core.specs.Rows.{rows_left};
 ghost use Rattle.std.specs.Option.{option_map, option_map_or};
 ghost use Rattle.std.specs.Arc.{arc_value};
 ghost use Rattle.exchange_core.specs.Faults.{side_fault_number};
 ghost use Rattle.exchange_core.specs.Refusals as due;
-ghost use Rattle.exchange_core.specs.Sides as sides;
-ghost use Rattle.exchange_core.specs.Worlds.{offer_of, list_of};
+ghost use Rattle.exchange_law.specs.Sides as sides;
+ghost use Rattle.exchange_law.specs.Worlds.{offer_of, list_of};
 ghost use Rattle.exchange_core.specs.model.Early.{early_hear_fault};
 ghost use Rattle.exchange_core.specs.model.Hearing.{has_heard, clashes_offered};
 ghost use Rattle.exchange_core.specs.model.Pairing.{fit_fault_for};
@@ -42,7 +42,7 @@ pub(crate) struct State {
 }
 
 impl Model for State {
-    ghost use Rattle.exchange_core.specs.Sides.{Side};
+    ghost use Rattle.exchange_law.specs.Sides.{Side};
     ghost use Rattle.exchange_core.specs.Codings.{coded_side};
 
     ghost Value = { Side };
@@ -191,10 +191,8 @@ impl State {
         ensures done { OnOk result (sides.register self.old name (row_for store.now registration) ≡ Some self.new) }
         ensures unchanged { OnErr result (self.new ≡ self.old) }
     {
-        let mut table = self.table.take()?;
-        let result = table.register_known(is_known, limit, name, registration, store);
-        self.table.put(table);
-        result
+        self.table
+            .register(is_known, limit, name, registration, store)
     }
 
     // Takes the name out.

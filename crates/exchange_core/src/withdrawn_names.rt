@@ -1,13 +1,13 @@
 //! Lists of withdrawn names, made from any names.
 ghost use Rattle.std.specs.Prelude.{◌≡◌, [], None, IfOk, IsTrue};
-ghost use Rattle.numbered.specs.Answers.{ReturnsOrRunsOut};
+ghost use Rattle.refusals.specs.Answers.{ReturnsOrRunsOut};
 ghost use Rattle.exchange_core.specs.Repeats.{list_fault_number, list_fault_place, first_again, names_due};
 ghost use Rattle.exchange_core.specs.declared.withdrawn_names.ListFault.TheVariants.{OutOfMemory};
 
 use crate::messages::Withdrawals;
 use clash_record::{Name, SideId};
-use numbered::{Numbered, OUT_OF_MEMORY, Place, words_of};
 use partition_table::NameLimit;
+use refusals::{Numbered, OUT_OF_MEMORY, Place, words_of};
 use std::alloc::{AllocError, Global};
 use std::collections::BTreeSet;
 use std::sync::Arc;

@@ -1,6 +1,6 @@
 -- The words of the contracts, passed on so that a caller names this crate alone.
-pub use Rattle.numbered.specs.Answers
-pub use Rattle.numbered.specs.Texts as RefusalTexts
+pub use Rattle.refusals.specs.Answers
+pub use Rattle.refusals.specs.Texts as RefusalTexts
 pub use Rattle.clash_record.specs.Name
 pub use Rattle.clash_record.specs.Orders
 pub use Rattle.clash_record.specs.Record
@@ -15,22 +15,22 @@ pub use Rattle.partition_table.specs.Faults as TableFaults
 pub use Rattle.partition_table.specs.Judged
 pub use Rattle.partition_table.specs.Rulings
 pub use Rattle.partition_table.specs.Tables
-pub use Rattle.exchange_core.specs.Calls
+pub use Rattle.exchange_law.specs.Calls
 pub use Rattle.exchange_core.specs.Faults as SideFaults
 pub use Rattle.exchange_core.specs.Finished
 pub use Rattle.exchange_core.specs.Halves
-pub use Rattle.exchange_core.specs.History
+pub use Rattle.exchange_law.specs.History
 pub use Rattle.exchange_core.specs.Journal
 pub use Rattle.exchange_core.specs.Limits
-pub use Rattle.exchange_core.specs.Lists
+pub use Rattle.exchange_law.specs.Lists
 pub use Rattle.exchange_core.specs.Refusals as SideRefusals
 pub use Rattle.exchange_core.specs.Repeats
 pub use Rattle.exchange_core.specs.Rows
 pub use Rattle.exchange_core.specs.Settling
 pub use Rattle.exchange_core.specs.Shown
-pub use Rattle.exchange_core.specs.Sides
-pub use Rattle.exchange_core.specs.Steps
-pub use Rattle.exchange_core.specs.Worlds
+pub use Rattle.exchange_law.specs.Sides
+pub use Rattle.exchange_law.specs.Steps
+pub use Rattle.exchange_law.specs.Worlds
 pub use Rattle.exchange_codec.specs.Faults as MessageFaults
 pub use Rattle.exchange_codec.specs.Offers as OfferMessages
 pub use Rattle.exchange_codec.specs.Peeking
@@ -51,7 +51,7 @@ pub use Rattle.insn_codec.specs.Faults as CodecFaults
 pub use Rattle.verifier.specs.Refusals as VerifyFaults
 pub use Rattle.verifier.specs.Stores
 pub use Rattle.verifier.specs.Structure
-pub use Rattle.program.specs.Programs
+pub use Rattle.verifier.specs.Programs
 pub use Rattle.assembler_text.specs.Faults as LineFaults
 pub use Rattle.assembler_text.specs.Grammar
 pub use Rattle.assembler_text.specs.Refusals as TextRefusals

@@ -13,7 +13,7 @@
 //! | keep uploaded programs | `UploadStore`, `Uploaded`, `UploadFault` | `upload_store` |
 //! | name and register | `name`, `Name`, `Owner`, `Registration`, `ResolverId`, `SideId`, `Withdrawal` | `clash_record` |
 //! | notify owners | `notices`, `Notice`, `Notices`, `Verdict3`, `decide` | `builtin_resolvers` |
-//! | report refusals | `Numbered`, `NumberedRefusal`, `Place`, `refusal_of`, `words_of`, `REFUSALS` | `numbered` |
+//! | report refusals | `Numbered`, `NumberedRefusal`, `Place`, `refusal_of`, `words_of`, `REFUSALS` | `refusals` |
 //! | read, write and run programs | the module `programs` | `program` and those below it |
 //! | replicate a half, and keep a log | the module `replicas` | `replica`, `replica_codec` |
 //! | judge with several threads | the module `boards` | `verdict_board`, `judge_pool`, `registry_lock` |
@@ -44,12 +44,12 @@ pub use exchange_core::{
     Withdrawals, history_theorem, one_round_theorem, two_halves_theorem,
 };
 pub use judge_pool::{Gate, OpenGate};
-pub use numbered::{
-    Numbered, NumberedRefusal, OUT_OF_MEMORY, Place, REFUSALS, refusal_of, words_of,
-};
 pub use partition_table::{
     Agreement, Clash, ClashList, MAX_NAMES, NameLimit, Rows, RowsAfter, Ruling, Table,
     TableBuilder, TableFault, Verdict, clashes, clashes_within, fit, fit_within, merge, word,
+};
+pub use refusals::{
+    Numbered, NumberedRefusal, OUT_OF_MEMORY, Place, REFUSALS, refusal_of, words_of,
 };
 pub use registry_lock::MeetFault;
 pub use upload_store::{MAX_PROGRAMS, UploadFault, UploadStore, Uploaded};

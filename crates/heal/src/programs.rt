@@ -14,5 +14,4 @@ pub use clash_record::{ClashRecord, Facts, RECORD_LEN, record, record_of};
 pub use insn_codec::{CodecFault, LengthFault, SlotFault, decode, encode};
 pub use instruction_set::{Code, Insn, MAX_SLOTS};
 pub use interpreter::{Ended, Scratch, run, run_in, run_written};
-pub use program::{ProgramFault, read_program};
-pub use verifier::{Refusal, Rule, Verified, VerifyFault};
+pub use verifier::{ProgramFault, Refusal, Rule, Verified, VerifyFault, read_program};

@@ -5,11 +5,10 @@ use crate::registry::Fault;
 use clash_record::{RECORD_LEN, record_of, set_word};
 use insn_codec::decode;
 use interpreter::{Scratch, run, run_written};
-use program::{Profile, read_program};
 use std::alloc::Global;
 use std::fmt;
 use std::time::Instant;
-use verifier::{Verified, verify};
+use verifier::{Profile, Verified, read_program, verify};
 
 /// The count of times that a program is decoded and verified.
 const LOADS: u32 = 2000;

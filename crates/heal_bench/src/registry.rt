@@ -8,12 +8,11 @@ use fixtures::FixtureFault;
 use hex::FromHexError;
 use insn_codec::CodecFault;
 use partition_table::TableFault;
-use program::ProgramFault;
 use std::alloc::AllocError;
 use std::io;
 use thiserror::Error;
 use upload_store::UploadFault;
-use verifier::VerifyFault;
+use verifier::{ProgramFault, VerifyFault};
 
 /// The reason why nothing was measured.
 #[derive(Debug, Drop, Error)]

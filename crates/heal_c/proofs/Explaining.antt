@@ -1,8 +1,8 @@
 -- The fault that is written, by the result of decoding.
 use Rattle.std.proofs.Common.{◌≡◌, ◌⊎◌, List, ℕ, inl, inr, refl, ap, arith}
 use Rattle.std.specs.Prelude.{Result, Ok, Err, IfOk, IfErr}
-use Rattle.numbered.specs.Answers.{HasCause, ReturnsOrRunsOut, RanOut, out_of_memory}
-use Rattle.exchange_core.specs.Sides as sides
+use Rattle.refusals.specs.Answers.{HasCause, ReturnsOrRunsOut, RanOut, out_of_memory}
+use Rattle.exchange_law.specs.Sides as sides
 use Rattle.exchange_codec.specs.declared.fault.FieldFault.{FieldFault}
 use Rattle.exchange_codec.specs.declared.fault.FieldFault.TheVariants as field
 use Rattle.exchange_codec.specs.declared.fault.ItemFault.{ItemFault}

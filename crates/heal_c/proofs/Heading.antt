@@ -1,7 +1,7 @@
 -- The head that is written, by the result of reading it.
 use Rattle.std.proofs.Common.{◌≡◌, inl, inr, refl, ap, ◌∙◌}
 use Rattle.std.specs.Prelude.{ℕ, Result, Ok, Err}
-use Rattle.numbered.specs.Answers.{ReturnsOrRunsOut}
+use Rattle.refusals.specs.Answers.{ReturnsOrRunsOut}
 use Rattle.exchange_codec.specs.declared.fault.MessageFault.{MessageFault}
 use Rattle.exchange_codec.specs.declared.head.MessageHead.{MessageHead}
 use Rattle.exchange_codec.specs.Faults.{message_fault_number}

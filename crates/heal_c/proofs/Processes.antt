@@ -8,15 +8,15 @@ use Rattle.partition_table.specs.Faults.{table_fault_number}
 use Rattle.exchange_core.specs.declared.fault.SideFault.{SideFault}
 use Rattle.exchange_core.specs.declared.fault.SideFault.TheVariants as fault
 use Rattle.exchange_core.specs.Faults.{side_fault_number}
-use Rattle.exchange_core.specs.Sides.{Offer, Withdrawals, Exchange, Side, rested, abandon}
-use Rattle.exchange_core.specs.Calls.{Call, Register, Unregister, Begin, Hear, Withdraw, Close_list, Hear_list, Finish, Abandon, carried_out}
-use Rattle.exchange_core.specs.Worlds.{Past, World, Does, Hears, Hears_list, side_of, with_side, called_if, past_after, offer_of, list_of}
+use Rattle.exchange_law.specs.Sides.{Offer, Withdrawals, Exchange, Side, rested, abandon}
+use Rattle.exchange_law.specs.Calls.{Call, Register, Unregister, Begin, Hear, Withdraw, Close_list, Hear_list, Finish, Abandon, carried_out}
+use Rattle.exchange_law.specs.Worlds.{Past, World, Does, Hears, Hears_list, side_of, with_side, called_if, past_after, offer_of, list_of}
 use Rattle.exchange_core.specs.Finished.{Finished, finished_from}
 use Rattle.exchange_core.specs.Settling.{settled, the_round}
 use Rattle.exchange_core.specs.Refusals.{message_fault}
 use Rattle.exchange_core.specs.Shown.{shown, is_full}
 use Rattle.exchange_core.specs.Halves.{Act, Happens, Settles, after_act, halves_after, FinishesWith}
-use Rattle.exchange_core.specs.laws.Carried.{when}
+use Rattle.exchange_law.specs.laws.Carried.{when}
 use Rattle.exchange_codec.specs.declared.fault.FieldFault.{FieldFault}
 use Rattle.exchange_codec.specs.declared.fault.FieldFault.TheVariants as field
 use Rattle.exchange_codec.specs.declared.fault.ItemFault.{ItemFault}

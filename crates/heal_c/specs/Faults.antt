@@ -1,8 +1,8 @@
 -- Faults of messages in full: the number, the place, and for a program its own refusal.
 use Rattle.std.specs.Prelude.{◌≡◌, ◌⊎◌, ℕ, List, length, Result, Ok, Err}
-use Rattle.numbered.specs.Answers.{out_of_memory}
-use Rattle.program.specs.Programs.{program_fault_number, program_fault_place}
-use Rattle.exchange_core.specs.Sides as sides
+use Rattle.refusals.specs.Answers.{out_of_memory}
+use Rattle.verifier.specs.Programs.{program_fault_number, program_fault_place}
+use Rattle.exchange_law.specs.Sides as sides
 use Rattle.exchange_codec.specs.declared.fault.ItemFault.{ItemFault}
 use Rattle.exchange_codec.specs.declared.fault.ItemFault.TheVariants as item
 use Rattle.exchange_codec.specs.declared.fault.MessageFault.{MessageFault}

@@ -2,7 +2,7 @@
 use Rattle.std.specs.Prelude.{ℕ, ◌==◌, nat_le, if◌then◌else◌, List, [], ◌∷◌, ◌++◌, length, drop, codes}
 use Rattle.std.specs.List.{find}
 use Rattle.std.specs.Option.{option_map_or}
-use Rattle.numbered.specs.declared.table.TheConstants.{REFUSALS}
+use Rattle.refusals.specs.declared.table.TheConstants.{REFUSALS}
 
 -- a table of numbers and texts, each text as its bytes
 abbrev pub as_bytes : {X : Type 0} → (X → List ℕ) → List (ℕ × X) → List (ℕ × List ℕ)

@@ -6,7 +6,7 @@ ghost use Rattle.heal_c.specs.Faults.{IsOfferRead, IsListRead};
 
 use c_calls::slot_of;
 use exchange_codec::{ItemFault, MessageFault, decode_offer, decode_withdrawals};
-use numbered::Numbered;
+use refusals::Numbered;
 use std::alloc::Global;
 
 /// A refusal in full. `place` is 0 for none, 1 for the byte and 2 for the row or the name with the index `at`. For 81 `reason` is

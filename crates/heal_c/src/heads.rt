@@ -5,7 +5,7 @@ ghost use Rattle.heal_c.specs.Heads as spec;
 
 use c_calls::side_code;
 use exchange_codec::{MessageHead, MessageKind, peek};
-use numbered::Numbered;
+use refusals::Numbered;
 
 /// The first fields of a message. `kind` is 1 for an offer and 2 for a list; `seed` is 0 for a list.
 #[repr(C)]

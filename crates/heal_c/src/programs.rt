@@ -7,7 +7,7 @@ use crate::program_handle::HealProgram;
 use c_calls::{EMPTY_HANDLE, HealEnded, load, slot_of};
 use clash_record::{ProgramId, record_of};
 use interpreter::run;
-use numbered::Numbered;
+use refusals::Numbered;
 use std::alloc::Global;
 
 /// Reads bytes as a verified program, and puts it into the handle. `slot` receives the slot of the refusal, or 0.

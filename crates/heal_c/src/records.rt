@@ -3,11 +3,11 @@ ghost use Rattle.std.specs.Prelude.{◌≡◌, length};
 ghost use Rattle.c_calls.specs.Answers.{Gives};
 ghost use Rattle.heal_c.specs.Records as spec;
 ghost use Rattle.heal_c.specs.Words.{as_bytes, words_in, words_of, copied};
-ghost use Rattle.numbered.specs.declared.table.TheConstants.{REFUSALS};
+ghost use Rattle.refusals.specs.declared.table.TheConstants.{REFUSALS};
 
 use c_calls::{HealFacts, HealRegistration, facts_of, name_of, registration_of};
 use clash_record::{ClashRecord, record};
-use numbered::{REFUSALS, words_in};
+use refusals::{REFUSALS, words_in};
 
 /// Writes the record of a clash of two registrations of a name at a word.
 ///
@@ -76,11 +76,11 @@ pub extern "C" fn heal_refusal_words(number: u32, words: &mut [u8]) -> usize
 fn words_of(number: u32) -> &'static str
     ensures { result.now ≡ words_of number }
 {
-    words_for(refusals(), number)
+    words_for(all_refusals(), number)
 }
 
 // Returns the table of refusals.
-fn refusals() -> &'static [(u32, &'static str)]
+fn all_refusals() -> &'static [(u32, &'static str)]
     ensures { as_bytes (λ text. text.now) result.now ≡ as_bytes (λ text. text.now) REFUSALS }
 {
     &REFUSALS

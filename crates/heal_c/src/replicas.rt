@@ -1,6 +1,6 @@
 //! Replicas: they start, follow one another, and are read.
 ghost use Rattle.std.specs.Prelude.{◌≡◌, ◌⊎◌, Some, None, IfOk};
-ghost use Rattle.numbered.specs.Answers.{out_of_memory};
+ghost use Rattle.refusals.specs.Answers.{out_of_memory};
 ghost use Rattle.replica.specs.Replicas.{new_replica};
 ghost use Rattle.c_calls.specs.Answers.{Gives, OnHandle, Reads};
 ghost use Rattle.c_calls.specs.Rows.{found_in, row_in, row_in_after};
@@ -17,7 +17,7 @@ use c_replicas::{
     HealLife, HealLogFront, HealPosition, HealReplicaState, apply, change, follow, lead, life_of,
     log_front, side, snapshot, state,
 };
-use numbered::OUT_OF_MEMORY;
+use refusals::OUT_OF_MEMORY;
 use replica::Replica;
 use std::alloc::{AllocError, Global};
 

@@ -1,9 +1,9 @@
 //! Programs for contexts of any length: they are loaded, run, and are freed.
 ghost use Rattle.std.specs.Prelude.{◌≡◌, ◌⊎◌, List, Err, IsOk, IfOk, IfErr, None};
-ghost use Rattle.numbered.specs.Answers.{HasCause, RanOut};
+ghost use Rattle.refusals.specs.Answers.{HasCause, RanOut};
 ghost use Rattle.instruction_set.specs.declared.insn.Insn.{Insn};
-ghost use Rattle.program.specs.Programs.{program_fault_number};
-ghost use Rattle.program.specs.declared.fault.ProgramFault.{ProgramFault};
+ghost use Rattle.verifier.specs.Programs.{program_fault_number};
+ghost use Rattle.verifier.specs.declared.program_fault.ProgramFault.{ProgramFault};
 ghost use Rattle.bpf.specs.Loading.{IsLoadable, IsLoadFault};
 ghost use Rattle.c_calls.specs.Answers.{Reads};
 ghost use Rattle.heal_c.specs.Sandboxes.{IsLoadedFor, IsLoadFor, IsLoadWithin, Runs};
@@ -11,7 +11,7 @@ ghost use Rattle.heal_c.specs.Sandboxes.{IsLoadedFor, IsLoadFor, IsLoadWithin, R
 use crate::sandbox_handle::HealSandbox;
 use bpf::{LoadFault, Sandbox, load_sandbox};
 use c_calls::{EMPTY_HANDLE, HealEnded, INDEX_OUT_OF_RANGE, OTHER_LENGTH, slot_of};
-use numbered::Numbered;
+use refusals::Numbered;
 use std::alloc::Global;
 use verifier::VerifyFault;
 

@@ -1,7 +1,7 @@
 //! Sides: they are created, keep programs and names, and are freed.
 ghost use Rattle.std.specs.Prelude.{◌≡◌, ◌⊎◌, None, IsSomeAnd, length};
 ghost use Rattle.std.specs.FinMap.{len};
-ghost use Rattle.numbered.specs.Answers.{out_of_memory};
+ghost use Rattle.refusals.specs.Answers.{out_of_memory};
 ghost use Rattle.partition_table.specs.Tables.{max_names};
 ghost use Rattle.exchange_core.specs.Shown.{shown, calls};
 ghost use Rattle.c_calls.specs.Answers.{Gives, IsAnswer, OnHandle, Reads};
@@ -12,8 +12,8 @@ use crate::half_handle::HealSide;
 use crate::message_handle::HealBytes;
 use c_calls::{EMPTY_HANDLE, Half, HealRegistration, HealRow, INDEX_OUT_OF_RANGE, give, side_id};
 use clash_record::SideId;
-use numbered::OUT_OF_MEMORY;
 use partition_table::NameLimit;
+use refusals::OUT_OF_MEMORY;
 use std::alloc::Global;
 
 /// Creates an idle side without names: side A for 0, side B for 1.

@@ -2,14 +2,14 @@
 use Rattle.std.proofs.Common.{◌≡◌, ◌∙◌, ◌⊎◌, inl, inr, ℕ, List, ◌++◌, length, take, Option, Some, None, refl, sym, subst}
 use Rattle.std.proofs.Math.Seq.{take-length}
 use Rattle.std.specs.Io.KnownBytes.{Appends, Keeps}
-use Rattle.output.specs.Sending.{AppendsFront}
-use Rattle.task.specs.declared.Question.{Question}
-use Rattle.task.specs.declared.Task.{Task}
-use Rattle.task.specs.declared.Task.TheVariants as task
-use Rattle.answers.specs.declared.printing.Answer.{Answer}
-use Rattle.answers.specs.Lines.{IsDigitsReply, IsListing, IsReply, IsStarved, IsTerse, Prints, by_digits, no_memory, no_room, replied, starved, terse, without}
-use Rattle.script_machine.specs.Replies as said
-use Rattle.script_engine.specs.Runs.{IsScriptRun, Ending, Writes}
+use Rattle.device.specs.Sending.{AppendsFront}
+use Rattle.questions.specs.declared.question.Question.{Question}
+use Rattle.command_line.specs.declared.task.Task.{Task}
+use Rattle.command_line.specs.declared.task.Task.TheVariants as task
+use Rattle.questions.specs.declared.printing.Answer.{Answer}
+use Rattle.questions.specs.Lines.{IsDigitsReply, IsListing, IsReply, IsStarved, IsTerse, Prints, by_digits, no_memory, no_room, replied, starved, terse, without}
+use Rattle.scripts.specs.Replies as said
+use Rattle.scripts.specs.Runs.{IsScriptRun, Ending, Writes}
 use Rattle.heal_main.specs.Obeying.{Obeys, RunsFile, ran, unopened}
 
 appends_kept : (a b c : Option (List ℕ)) (text : List ℕ) → Appends a b text → Keeps b c → Appends a c text

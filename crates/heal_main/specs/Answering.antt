@@ -2,7 +2,7 @@
 use Rattle.std.specs.Prelude.{◌≡◌, ◌≢◌, ◌⊎◌, ℕ, List, Option}
 use Rattle.std.specs.declared.io.ErrorKind.{ErrorKind}
 use Rattle.std.specs.declared.io.ErrorKind.TheVariants as of_io
-use Rattle.task.specs.declared.Task.{Task}
+use Rattle.command_line.specs.declared.task.Task.{Task}
 use Rattle.command_line.specs.Asked.{Asked, Asks, asked_by}
 use Rattle.heal_main.specs.Obeying.{Obeys}
 

@@ -1,10 +1,10 @@
 -- The effect of a task.
 use Rattle.std.specs.Prelude.{◌≡◌, ◌⊎◌, ℕ, List, codes, Option}
-use Rattle.output.specs.Sending.{AppendsFront}
-use Rattle.task.specs.declared.Task.{Task}
-use Rattle.task.specs.declared.Task.TheVariants.{Answer, Run, Version, Refusals}
-use Rattle.answers.specs.Lines.{IsListing, IsReply, Prints, version_line}
-use Rattle.script_engine.specs.Runs.{IsScriptRun}
+use Rattle.device.specs.Sending.{AppendsFront}
+use Rattle.command_line.specs.declared.task.Task.{Task}
+use Rattle.command_line.specs.declared.task.Task.TheVariants.{Answer, Run, Version, Refusals}
+use Rattle.questions.specs.Lines.{IsListing, IsReply, Prints, version_line}
+use Rattle.scripts.specs.Runs.{IsScriptRun}
 
 -- a file could not be opened, as the device failed or memory ran out
 abbrev pub TellsUnopened : Option (List ℕ) → Option (List ℕ) → Type 0

@@ -1,8 +1,8 @@
 -- The words about a refused line.
 use Rattle.std.specs.Prelude.{ℕ, List, ◌++◌, codes}
 use Rattle.std.specs.Fmt.{decimal}
-use Rattle.numbered.specs.Texts.{at_place}
-use Rattle.numbered.specs.declared.NumberedRefusal.{NumberedRefusal}
+use Rattle.refusals.specs.Texts.{at_place}
+use Rattle.refusals.specs.declared.NumberedRefusal.{NumberedRefusal}
 
 -- the refusal of the line with this number, and its words
 abbrev pub refusal_words : ℕ → NumberedRefusal → List ℕ → List ℕ

@@ -7,7 +7,7 @@ ghost use Rattle.heal_main.specs.Answering.{IsAnswered, IsUnread};
 
 use crate::obeying::obey;
 use command_line::{CommandFault, command};
-use script_engine::Narrator;
+use scripts::Narrator;
 use std::convert::AsStr;
 use std::io;
 use std::io::{Input, Write};

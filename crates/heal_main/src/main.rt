@@ -9,10 +9,9 @@ mod person;
 
 use answering::answer;
 use cluster::Healing;
-use numbered::{NumberedRefusal, words_of};
 use person::{code_details, print_refusal_words};
-use script_engine::Narrator;
-use script_machine::Machine;
+use refusals::{NumberedRefusal, words_of};
+use scripts::{Machine, Narrator};
 use std::io;
 use std::io::{BufWriter, ErrorKind, Write};
 use std::process::ExitCode;

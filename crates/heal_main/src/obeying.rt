@@ -1,20 +1,20 @@
 //! Carries out a task.
 ghost use Rattle.std.specs.Prelude.{◌≡◌};
-ghost use Rattle.output.specs.Sending.{AppendsFront};
+ghost use Rattle.device.specs.Sending.{AppendsFront};
 ghost use Rattle.heal_main.specs.Obeying.{Obeys, RunsFile, TellsUnopened};
 
 use crate::person::Listener;
-use answers::{print_refusals, print_version, reply_to};
+use command_line::{Names, Task, Workers};
+use device::send;
 use judge_pool::OpenGate;
-use output::send;
 use partition_table::NameLimit;
-use script_engine::{Narrator, run_narrated};
+use questions::{is_standard_input, print_refusals, print_version, reply_to};
+use scripts::{Narrator, run_narrated};
 use std::fs;
 use std::io::{ErrorKind, Input, Read, Write};
 use std::rt::Files;
 use std::sync::Wait;
 use std::thread::Threads;
-use task::{Names, Task, Workers, is_standard_input};
 
 /// Carries out a task, and returns the program's status: 0, or 2 if it or a line of a script was refused, or 3 if memory
 /// ran out, a file couldn't be read, or the writer failed. Flushes the writer at the end.

@@ -1,20 +1,19 @@
 //! Words about a script for the person at standard error.
 ghost use Rattle.std.specs.Prelude.{◌≡◌, ◌++◌, codes};
-ghost use Rattle.output.specs.Sending.{SendsOn};
+ghost use Rattle.device.specs.Sending.{SendsOn};
 ghost use Rattle.heal_main.specs.Words.{refusal_words};
 
 use cluster::Healing;
 use code_file::digits_in;
+use device::{DeviceFault, send_after};
 use explanation::explain_at;
 use insn_codec::decode;
-use numbered::{NumberedRefusal, Place};
-use output::{DeviceFault, send_after};
-use program::Profile;
-use script_engine::Narrator;
-use script_machine::Machine;
+use refusals::{NumberedRefusal, Place};
 use script_text::{print_at_place, print_number};
+use scripts::{Machine, Narrator};
 use std::io::Write;
 use std::rt::Files;
+use verifier::Profile;
 
 /// Prints the refusal of a line with its words.
 pub(crate) fn print_refusal_words<W: Write>(

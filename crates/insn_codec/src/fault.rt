@@ -2,7 +2,7 @@
 ghost use Rattle.std.specs.Prelude.{◌≡◌};
 ghost use Rattle.insn_codec.specs.Faults.{length_fault_number, slot_fault_number, fault_number, fault_place};
 
-use numbered::{Numbered, OUT_OF_MEMORY, Place, words_of};
+use refusals::{Numbered, OUT_OF_MEMORY, Place, words_of};
 use thiserror::Error;
 
 /// A fault of the number of bytes.

@@ -7,7 +7,7 @@ ghost use Rattle.clash_record.specs.Record.{clash_bytes, with_word};
 ghost use Rattle.instruction_set.specs.Machine.{record_len};
 
 use clash_record::{ClashRecord, Facts, Name, RECORD_LEN, Registration, set_word, write_record};
-use execution::MEMORY_LEN;
+use one_step::MEMORY_LEN;
 use std::marker::Model;
 
 /// The memory of a run: the record and the stack. One scratch memory serves any number of runs, one after another.
@@ -20,7 +20,7 @@ pub struct Scratch {
 
 impl Model for Scratch {
     ghost use Rattle.std.specs.Prelude.{ℕ, List};
-    ghost use Rattle.execution.specs.Flat.{record_in};
+    ghost use Rattle.one_step.specs.Flat.{record_in};
 
     ghost Value = { List ℕ };
 

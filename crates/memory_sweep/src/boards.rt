@@ -1,9 +1,11 @@
 //! Calls of a board.
 
 use crate::callers::Caller;
+use crate::comparing::is_same_option;
+use crate::fault::Fault;
 use crate::rows::clashing;
+use crate::sweeping::{Call, Subject, sweep};
 use partition_table::ClashList;
-use refused_calls::{Call, Fault, Subject, is_same_option, sweep};
 use std::alloc::{AllocError, Global};
 
 /// A caller of a board, and what a call answered.

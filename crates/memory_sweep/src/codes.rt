@@ -1,11 +1,11 @@
 //! Calls on the bytes, the text and the code of a program.
 
+use crate::fault::Fault;
+use crate::sweeping::{Call, Subject, sweep};
 use assembler_text::{assemble, disassemble};
 use insn_codec::{Code, decode, encode};
-use program::{Profile, read_program};
-use refused_calls::{Call, Fault, Subject, sweep};
 use std::alloc::Global;
-use verifier::{Verified, verify, verify_peak};
+use verifier::{Profile, Verified, read_program, verify, verify_peak};
 
 /// By the first stamp and the second one: the later keeps the name. States of two slots wait at once.
 const TEXT: &'static str =

@@ -1,12 +1,14 @@
 //! An exchange of two sides, as far as it has come.
 
+use crate::comparing::is_same_option;
+use crate::fault::Fault;
+use crate::sweeping::Subject;
 use clash_record::{ProgramId, Registration, ResolverId, SideId};
 use exchange_core::{Finished, Offer, Side, Withdrawals};
 use fixtures::{
     BY_WORD, exit_registration, numbered_name, numbered_side, registration, ruling_of, stored,
 };
 use partition_table::clashes;
-use refused_calls::{Fault, Subject, is_same_option};
 use std::alloc::Global;
 use upload_store::UploadStore;
 

@@ -5,14 +5,17 @@
 mod boards;
 mod callers;
 mod codes;
+mod comparing;
 mod exchange;
+mod fault;
 mod merging;
 mod rows;
 mod sides;
+mod sweeping;
 mod tables;
 mod without_memory;
 
-use refused_calls::Fault;
+use crate::fault::Fault;
 
 fn main(rt: HostRuntime) -> Result<(), Fault> {
     codes::sweep_codes(&rt)?;

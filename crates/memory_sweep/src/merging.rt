@@ -2,11 +2,13 @@
 ghost use Rattle.std.specs.Prelude.{◌≡◌, length};
 ghost use Rattle.partition_table.specs.Tables.{clash_names};
 
+use crate::comparing::is_same_table;
+use crate::fault::Fault;
+use crate::sweeping::{Call, Subject, sweep};
 use builtin_resolvers::Verdict3;
 use clash_record::{Name, ResolverId};
 use fixtures::{BY_WORD, numbered_name, numbered_table, stored};
 use partition_table::{Table, clashes, merge};
-use refused_calls::{Call, Fault, Subject, is_same_table, sweep};
 use std::alloc::Global;
 
 /// Two tables, and one answer for each of their clashes.

@@ -1,9 +1,9 @@
 //! Clashes that a program judges.
 
+use crate::fault::Fault;
 use clash_record::ResolverId;
 use fixtures::{BY_WORD, numbered_clashes, stored};
 use partition_table::ClashList;
-use refused_calls::Fault;
 use std::alloc::Global;
 
 /// Returns `names` clashes of owners on two nodes, each judged by a program.

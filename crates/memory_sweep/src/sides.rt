@@ -1,7 +1,8 @@
 //! Calls of a side.
 
 use crate::exchange::{Exchange, Step};
-use refused_calls::{Call, Fault, sweep};
+use crate::fault::Fault;
+use crate::sweeping::{Call, sweep};
 use std::alloc::Global;
 
 /// How many names a side has before the call. A node of its table holds 15, so that a further name needs another node.

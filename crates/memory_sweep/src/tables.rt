@@ -1,12 +1,14 @@
 //! Calls of a store and of tables.
 
+use crate::comparing::{is_same_option, is_same_program, is_same_table};
+use crate::fault::Fault;
 use crate::merging::sweep_merging;
+use crate::sweeping::{Call, Subject, sweep};
 use clash_record::{ProgramId, Registration, ResolverId};
 use fixtures::{
     BY_WORD, FIRST, exit_registration, numbered_name, numbered_table, registration, stored,
 };
 use partition_table::{Clash, ClashList, Table, clashes};
-use refused_calls::{Call, Fault, Subject, is_same_option, is_same_program, is_same_table, sweep};
 use std::alloc::Global;
 use upload_store::UploadStore;
 

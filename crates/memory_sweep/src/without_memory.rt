@@ -2,10 +2,11 @@
 
 use crate::callers::{Caller, SEATS};
 use crate::exchange::{Exchange, NUMBER, SEED, WHOLE};
+use crate::fault::Fault;
 use crate::rows::clashing;
+use crate::sweeping::{Starved, Subject};
 use crate::tables::is_same_list;
 use abstract_value::{Both, Domain, Interval};
-use answers::judge_one;
 use builtin_resolvers::{Notice, Verdict3, decide, notices};
 use clash_record::{
     Builtin, Facts, Name, RECORD_LEN, Registration, ResolverId, SideId, name, record, record_of,
@@ -16,10 +17,10 @@ use instruction_set::{AluOp, EndKind, Size, Test, Width, alu, end, movsx, neg, t
 use interpreter::{Ended, run};
 use judge_pool::judge;
 use partition_table::{ClashList, Table, Verdict, word};
-use program::read_program;
-use refused_calls::{Fault, Starved, Subject};
+use questions::judge_one;
 use upload_store::UploadStore;
 use verdict_board::{Draw, open};
+use verifier::read_program;
 
 /// The word of the record that programs are run on. It is odd.
 const WORD: u64 = 7;

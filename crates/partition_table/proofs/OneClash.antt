@@ -1,5 +1,5 @@
 -- The clash of one name.
-use Rattle.std.proofs.Common.{◌≡◌, ℕ, ◌≤◌, ◌+◌, suc, Bool, true, false, cond, not, filter, Option, Some, None, List, [], ◌∷◌, ◌++◌, length, map, refl, ap, sym, ◌∙◌, arith, append-nil}
+use Rattle.std.proofs.Common.{◌≡◌, ℕ, ◌≤◌, ◌+◌, suc, Bool, true, false, cond, not, filter, Option, Some, None, List, [], ◌∷◌, ◌++◌, length, map, refl, ap, sym, ◌∙◌, arith, append-nil, append_assoc}
 use Rattle.std.specs.Option.{option_map}
 use Rattle.std.specs.List.{filter_map, cons_option}
 use Rattle.std.specs.FinMap.{len, keys, contains_key, entries, len-entries}
@@ -45,6 +45,13 @@ pub all_found : {Y : Type 0} (by_name : Name → Option Y) (found : List Y)
     → found ≡ filter_map by_name names
 all_found by_name found left names told none =
     sym (append-nil found) ∙ sym (ap (λ items. found ++ filter_map by_name (map (λ item. item.0) items)) none) ∙ told
+
+-- one more that is appended is one more that is found
+pub one_more_found : {Y : Type 0} (found after rest : List Y) (o : Option Y) (y : Y) → o ≡ Some y
+    → after ≡ found ++ y ∷ [] → after ++ rest ≡ found ++ cons_option o rest
+one_more_found found after rest o y is appended =
+    ap (λ items. items ++ rest) appended ∙ append_assoc found (y ∷ []) rest
+    ∙ ap (λ o. found ++ cons_option o rest) (sym is)
 
 module _ (of_a of_b : Facts) (name : Name) (mine other : Registration) where
   pub alike_clash : (ra sb : Option Row) → option_map (λ row. row.registration) ra ≡ Some mine

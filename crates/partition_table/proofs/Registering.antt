@@ -14,7 +14,7 @@ use Rattle.partition_table.specs.declared.fault.TableFault.TheVariants.{NameTake
 use Rattle.clash_record.specs.Name.{Name}
 use Rattle.clash_record.specs.Orders.{name_cmp}
 use Rattle.partition_table.specs.Tables.{Row, Table, agrees_with, row_for}
-use Rattle.numbered.specs.Answers.{IsAnswered, out_of_memory}
+use Rattle.refusals.specs.Answers.{IsAnswered, out_of_memory}
 use Rattle.partition_table.specs.Faults.{is_known, register_fault, table_fault_number}
 use Rattle.partition_table.specs.model.Keeping.{IsHeld, has_room_for}
 use Rattle.partition_table.specs.Views.{table_by}

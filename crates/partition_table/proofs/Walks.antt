@@ -11,11 +11,11 @@ use Rattle.std.specs.FinMap.{get, entries, keys, entries_sorted, get-entries}
 use Rattle.std.specs.FinMap.Entries.{find, is_sorted, below_all}
 use Rattle.clash_record.specs.declared.registrations.Registration.{Registration}
 use Rattle.clash_record.specs.Orders.{name_cmp}
-use Rattle.clash_record.specs.laws.Orders.{names_total}
+use Rattle.clash_record.specs.laws.Orders.{names_total, names_exact}
 use Rattle.clash_record.specs.Name.{Name}
 use Rattle.partition_table.specs.Tables.{Row, Table, rows_of}
 use Rattle.partition_table.specs.Views.{mapped}
-use Rattle.partition_table.specs.model.Walking.{drop_before, first_at, walk, IsAhead, IsPaired, IsPast}
+use Rattle.partition_table.specs.model.Walking.{drop_before, drop_through, first_at, walk, IsAhead, IsPaired, IsPast}
 use Rattle.upload_store.specs.laws.Mapped.{to_true}
 
 -- the test of the order, read
@@ -54,42 +54,46 @@ module _ {Y : Type 0} where
 
   -- names before a name aren't found after it
   found_behind : (n q : Name) (es : List (Name × Y)) → name_cmp n q ≡ Less
-      → find name_cmp q (drop_before n es) ≡ find name_cmp q es
+      → find name_cmp q (drop_through n es) ≡ find name_cmp q es
   found_behind n q [] less = refl
   found_behind n q (e ∷ es) less = by (found_behind n q es less) (name_cmp e.0 n) refl
     where
-      by : find name_cmp q (drop_before n es) ≡ find name_cmp q es → (o : Ordering) → name_cmp e.0 n ≡ o
-          → find name_cmp q (if is_lt (name_cmp e.0 n) then drop_before n es else e ∷ es)
+      by : find name_cmp q (drop_through n es) ≡ find name_cmp q es → (o : Ordering) → name_cmp e.0 n ≡ o
+          → find name_cmp q (if is_lt (name_cmp e.0 n) then drop_through n es
+          else (if is_eq (name_cmp e.0 n) then es else e ∷ es))
           ≡ cond (eq_by_cmp name_cmp q e.0) (Some e.1) (find name_cmp q es)
       by rest Less is =
           let turned = flipped e.0 q Less (names_total.trans e.0 n q is less) in rw (is, turned) rest
-      by rest Equal is = rw is refl
+      by rest Equal is =
+          let turned = ap (λ k. name_cmp q k) (names_exact e.0 n is) ∙ flipped n q Less less in rw (is, turned) refl
       by rest Greater is = rw is refl
 
   sorted_behind : (n : Name) (es : List (Name × Y)) → is_sorted name_cmp es ≡ true
-      → is_sorted name_cmp (drop_before n es) ≡ true
+      → is_sorted name_cmp (drop_through n es) ≡ true
   sorted_behind n [] h = refl
-  sorted_behind n (e ∷ es) h = by (sorted_behind n es (and_parts _ _ h).1) (is_lt (name_cmp e.0 n))
+  sorted_behind n (e ∷ es) h =
+      by (sorted_behind n es (and_parts _ _ h).1) (is_lt (name_cmp e.0 n)) (is_eq (name_cmp e.0 n))
     where
-      by : is_sorted name_cmp (drop_before n es) ≡ true → (b : Bool)
-          → is_sorted name_cmp (if b then drop_before n es else e ∷ es) ≡ true
-      by rest true = rest
-      by rest false = h
+      by : is_sorted name_cmp (drop_through n es) ≡ true → (less equal : Bool)
+          → is_sorted name_cmp (if less then drop_through n es else (if equal then es else e ∷ es)) ≡ true
+      by rest true equal = rest
+      by rest false true = (and_parts _ _ h).1
+      by rest false false = h
 
 module _ {X Y : Type 0} where
   -- each name of the first list is met
   pub walk_names : (xs : List (Name × X)) (ys : List (Name × Y)) → map (λ item. item.0) (walk xs ys) ≡ map (λ e. e.0) xs
   walk_names [] ys = refl
-  walk_names (x ∷ xs) ys = ap (λ ns. x.0 ∷ ns) (walk_names xs (drop_before x.0 ys))
+  walk_names (x ∷ xs) ys = ap (λ ns. x.0 ∷ ns) (walk_names xs (drop_through x.0 ys))
 
   behind_all : (n : Name) (xs : List (Name × X)) (ys zs : List (Name × Y)) → below_all name_cmp n xs ≡ true
-      → AllByRecursion (λ item. find name_cmp item.0 (drop_before n zs) ≡ item.2) (walk xs ys)
+      → AllByRecursion (λ item. find name_cmp item.0 (drop_through n zs) ≡ item.2) (walk xs ys)
       → AllByRecursion (λ item. find name_cmp item.0 zs ≡ item.2) (walk xs ys)
   behind_all n [] ys zs h all = tt
   behind_all n (x ∷ xs) ys zs h all =
       let both = and_parts _ _ h in (
         sym (found_behind n x.0 zs (is_less (name_cmp n x.0) both.0)) ∙ all.0,
-        behind_all n xs (drop_before x.0 ys) zs both.1 all.1,
+        behind_all n xs (drop_through x.0 ys) zs both.1 all.1,
       )
 
   -- with what the second list has there
@@ -100,8 +104,8 @@ module _ {X Y : Type 0} where
   walk_finds (x ∷ xs) ys h k =
       let both = and_parts _ _ h in (
         sym (first_found x.0 ys k),
-        behind_all x.0 xs (drop_before x.0 ys) ys both.0
-            (walk_finds xs (drop_before x.0 ys) both.1 (sorted_behind x.0 ys k)),
+        behind_all x.0 xs (drop_through x.0 ys) ys both.0
+            (walk_finds xs (drop_through x.0 ys) both.1 (sorted_behind x.0 ys k)),
       )
 
   own_behind : (n : Name) (y : X) (xs zs : List (Name × X)) (ys : List (Name × Y)) → below_all name_cmp n xs ≡ true
@@ -112,7 +116,7 @@ module _ {X Y : Type 0} where
       let both = and_parts _ _ h in
       let turned = flipped n x.0 Less (is_less (name_cmp n x.0) both.0) in (
         ap (λ b. cond b (Some y) (find name_cmp x.0 zs)) (ap is_eq turned) ∙ all.0,
-        own_behind n y xs zs (drop_before x.0 ys) both.1 all.1,
+        own_behind n y xs zs (drop_through x.0 ys) both.1 all.1,
       )
 
   -- and with its own
@@ -122,7 +126,7 @@ module _ {X Y : Type 0} where
   walk_owns (x ∷ xs) ys h =
       let both = and_parts _ _ h in (
         ap (λ b. cond b (Some x.1) (find name_cmp x.0 xs)) (ap is_eq (tied_itself names_total x.0)),
-        own_behind x.0 x.1 xs xs (drop_before x.0 ys) both.0 (walk_owns xs (drop_before x.0 ys) both.1),
+        own_behind x.0 x.1 xs xs (drop_through x.0 ys) both.0 (walk_owns xs (drop_through x.0 ys) both.1),
       )
 
 find_shown : (es : List (Name × Row)) (q : Name) → find name_cmp q (mapped (λ row. row.registration) es)
@@ -194,7 +198,7 @@ found_ahead table last n ahead h past = first_found n ahead h.sorted ∙ h.all n
 
 -- and then that name is the last one
 pub still_ahead : (table : Table) (last : Option Name) (n : Name) (ahead : List (Name × Registration))
-    → IsAhead table last ahead → IsPast last n → IsAhead table (Some n) (drop_before n ahead)
+    → IsAhead table last ahead → IsPast last n → IsAhead table (Some n) (drop_through n ahead)
 still_ahead table last n ahead h past =
     record {
       sorted = sorted_behind n ahead h.sorted;

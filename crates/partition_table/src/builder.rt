@@ -65,23 +65,22 @@ impl TableBuilder {
     /// the program has this code.
     ///
     /// Fails only when out of memory, and then leaves the rows as they are.
+    #[inline]
     pub fn push(
         &mut self,
-        name: Name,
-        registration: Registration,
+        name: &Name,
+        registration: &Registration,
         program: Option<&Arc<Verified>>,
     ) -> Result<(), AllocError>
-        requires { IsNewRow self.old name
-            record { registration = registration; code = option_map (λ p. arc_value p.now) program } }
-        ensures pushed { OnOk result (self.new ≡ map.insert self.old name
-            record { registration = registration; code = option_map (λ p. arc_value p.now) program.entry }) }
+        requires { IsNewRow self.old name.now
+            record { registration = registration.now; code = option_map (λ p. arc_value p.now) program } }
+        ensures pushed { OnOk result (self.new ≡ map.insert self.old name.now
+            record { registration = registration.now; code = option_map (λ p. arc_value p.now) program.entry }) }
         ensures unchanged { OnErr result (self.new ≡ self.old) }
     {
         self.rows.reserve(1)?;
         hold_program(&mut self.programs, registration.resolver, program)?;
-        let Ok(()) = self.rows.push((name, registration)) else {
-            unreachable!()
-        };
+        self.rows.push_reserved((*name, *registration));
         Ok(())
     }
 

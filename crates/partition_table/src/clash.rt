@@ -65,33 +65,33 @@ impl Model for Clash {
 }
 
 impl Clash {
-    // Returns the clash of this name; the first registration precedes the second. Allocates one more owner of the
-    // program.
+    // Returns the clash of this name; the first registration precedes the second.
+    #[inline]
     pub(crate) fn new(
         name: Name,
         first: Registration,
         second: Registration,
         of_first: Facts,
         of_second: Facts,
-        program: Option<&Arc<Verified>>,
-    ) -> Result<Clash, AllocError>
-        ensures { IfOk result (λ clash. clash ≡ record {
+        program: Option<Arc<Verified>>,
+    ) -> Clash
+        ensures { result ≡ record {
           name = name;
           first = first;
           second = second;
           of_first = of_first;
           of_second = of_second;
-          code = option_map (λ p. arc_value p.now) program.entry;
-        }) }
+          code = option_map arc_value program;
+        } }
     {
-        Ok(Clash {
+        Clash {
             name,
             first,
             second,
             of_first,
             of_second,
-            program: one_more_owner(program)?,
-        })
+            program,
+        }
     }
 
     /// Returns the name.
@@ -262,7 +262,9 @@ impl ClashList {
 }
 
 // Adds an owner of the program, if there is one.
-fn one_more_owner(program: Option<&Arc<Verified>>) -> Result<Option<Arc<Verified>>, AllocError>
+pub(crate) fn one_more_owner(
+    program: Option<&Arc<Verified>>,
+) -> Result<Option<Arc<Verified>>, AllocError>
     ensures { IfOk result (λ owned. option_map arc_value owned ≡ option_map (λ p. arc_value p.now) program.entry) }
 {
     match program {

@@ -1,14 +1,17 @@
 //! The clashes of two tables.
-ghost use Rattle.std.specs.Prelude.{◌≡◌, Some, IfOk, length};
+ghost use Rattle.std.specs.Prelude.{◌≡◌, ◌++◌, ◌∷◌, List, Some, IfOk, OnOk, length};
+ghost use Rattle.std.specs.List.{filter_map};
 ghost use Rattle.std.specs.Option.{option_map};
 ghost use Rattle.std.specs.FinMap as map;
-ghost use Rattle.numbered.specs.Answers.{IsAnswered};
+ghost use Rattle.refusals.specs.Answers.{IsAnswered};
+ghost use Rattle.clash_record.specs.Name.{Name};
 ghost use Rattle.partition_table.specs.Faults.{fit_fault, table_fault_number};
-ghost use Rattle.partition_table.specs.Tables.{IsTable, facts_of, clash_at, clashes, clash_names};
+ghost use Rattle.partition_table.specs.Tables.{IsTable, facts_of, clashes, clash_names};
+ghost use Rattle.partition_table.specs.model.Judging.{clash_by_name};
 ghost use Rattle.partition_table.specs.model.Merging.{names_without};
 
 use crate::both::BothPrograms;
-use crate::clash::{Clash, ClashList};
+use crate::clash::{Clash, ClashList, one_more_owner};
 use crate::fault::TableFault;
 use crate::fitting::fit_within;
 use crate::limit::NameLimit;
@@ -123,40 +126,45 @@ fn walk(
             alone += 1;
             continue;
         };
-        if let Some(clash) = clash_of(name, mine, half_a, other, half_b)? {
-            found.push(clash)?;
-        }
+        push_clash(&mut found, name, mine, half_a, other, half_b)?;
     }
+    found.shrink_to_fit();
     Ok(Walked {
         clashes: found,
         alone,
     })
 }
 
-// Returns the clash of a name that both halves have, unless the registrations are equal.
-fn clash_of(
+// Appends the clash of a name that both halves have, unless the registrations are equal.
+fn push_clash(
+    found: &mut Vec<Clash>,
     name: &Name,
     mine: &Registration,
     half_a: Half<'_>,
     other: &Registration,
     half_b: Half<'_>,
-) -> Result<Option<Clash>, AllocError>
+) -> Result<(), AllocError>
     requires mine { option_map (λ row. row.registration) (map.get half_a.table.now name.now) ≡ Some mine.now }
     requires other { option_map (λ row. row.registration) (map.get half_b.table.now name.now) ≡ Some other.now }
-    ensures { IfOk result (λ clash. clash ≡ clash_at half_a.entry.facts half_b.entry.facts name.now
-        (map.get half_a.entry.table.now name.now) (map.get half_b.entry.table.now name.now)) }
+    ensures found { OnOk result ((names : List Name)
+        → let by_name = clash_by_name half_a.entry.facts half_a.entry.table.now half_b.entry.facts half_b.entry.table.now in
+        found.new.items ++ filter_map by_name names ≡ found.old.items ++ filter_map by_name (name.now ∷ names)) }
 {
+    found.reserve(1)?;
     match order(mine, other) {
         Ordering::Less => {
             let program = half_a.table.program_for(mine.resolver);
-            let clash = Clash::new(*name, *mine, *other, half_a.facts, half_b.facts, program)?;
-            Ok(Some(clash))
+            let program = one_more_owner(program)?;
+            let clash = Clash::new(*name, *mine, *other, half_a.facts, half_b.facts, program);
+            found.push_reserved(clash);
         }
-        Ordering::Equal => Ok(None),
+        Ordering::Equal => {}
         Ordering::Greater => {
             let program = half_b.table.program_for(other.resolver);
-            let clash = Clash::new(*name, *other, *mine, half_b.facts, half_a.facts, program)?;
-            Ok(Some(clash))
+            let program = one_more_owner(program)?;
+            let clash = Clash::new(*name, *other, *mine, half_b.facts, half_a.facts, program);
+            found.push_reserved(clash);
         }
     }
+    Ok(())
 }

@@ -1,17 +1,16 @@
 //! Equality of tables, of clashes and of their lists.
-ghost use Rattle.std.specs.Prelude.{◌≡◌, ◌↔◌, Some, IsTrue};
+ghost use Rattle.std.specs.Prelude.{◌≡◌, IsTrue};
 ghost use Rattle.std.specs.Option.{option_map};
 ghost use Rattle.std.specs.Arc.{arc_value};
 ghost use Rattle.std.specs.Cmp.{partial_equiv_from_equiv};
 ghost use Rattle.std.specs.Cmp.Lexicographic.{pointwise};
-ghost use Rattle.partition_table.specs.Tables.{IsTable, is_name, same_code, same_registration, same_table, same_clash};
+ghost use Rattle.partition_table.specs.Tables.{IsTable, is_name, rows_of, same_code, same_registration, same_table, same_clash};
 ghost use Rattle.partition_table.specs.laws.Sameness.{tables_equivalent, clashes_equivalent, lists_equivalent};
 ghost use Rattle.partition_table.specs.model.Coding.{IdsDecide, IsDecided};
-ghost use Rattle.partition_table.specs.model.Walking.{IsWithin};
+ghost use Rattle.partition_table.specs.model.Walking.{is_row};
 
 use crate::clash::{Clash, ClashList};
 use crate::order::order;
-use crate::paired::Paired;
 use crate::table::Table;
 use clash_record::{Name, Registration};
 use std::sync::Arc;
@@ -23,7 +22,7 @@ impl PartialEq for Table {
     ghost laws = { partial_equiv_from_equiv tables_equivalent };
 
     fn eq(&self, other: &Table) -> bool {
-        is_within(self, other) && is_within(other, self) && self.agrees_with(other)
+        same_rows(self, other) && self.agrees_with(other)
     }
 }
 
@@ -99,27 +98,21 @@ fn has_same_code(a: &Clash, b: &Clash, id_decides: bool) -> bool
     id_decides || same_program(a.program(), b.program())
 }
 
-// Checks that the other table has each name of this one with the same registration.
-fn is_within(table: &Table, other_table: &Table) -> bool
-    ensures within { IsTrue result ↔ IsWithin table.now other_table.now }
+// Checks whether two tables have the same names with the same registrations. Walks both once.
+fn same_rows(table: &Table, other_table: &Table) -> bool
+    ensures same { result ≡ pointwise is_row (rows_of table.now) (rows_of other_table.now) }
     ensures tables { IsTable table.now × IsTable other_table.now }
 {
-    for (_, mine, other) in Paired::new(table, other_table) {
-        if !is_registered_so(other, mine) {
+    let mut rest = other_table.rows();
+    for (name, registration) in table.rows() {
+        let Some((other_name, other)) = rest.next() else {
+            return false;
+        };
+        if !same_name(name, other_name) || !same_registration(registration, other) {
             return false;
         }
     }
-    true
-}
-
-// Checks whether it is this registration.
-fn is_registered_so(held: Option<&Registration>, registration: &Registration) -> bool
-    ensures { IsTrue result ↔ (option_map (λ r. r.now) held.entry ≡ Some registration.now) }
-{
-    match held {
-        Some(held) => same_registration(held, registration),
-        None => false,
-    }
+    rest.next().is_none()
 }
 
 fn same_name(a: &Name, b: &Name) -> bool

@@ -3,7 +3,7 @@ ghost use Rattle.std.specs.Prelude.{◌≡◌, None};
 ghost use Rattle.partition_table.specs.declared.fault.TableFault.TheVariants.{OutOfMemory};
 ghost use Rattle.partition_table.specs.Faults.{table_fault_number};
 
-use numbered::{Numbered, Place, words_of};
+use refusals::{Numbered, Place, words_of};
 use std::alloc::AllocError;
 use thiserror::Error;
 

@@ -9,7 +9,7 @@ ghost use Rattle.clash_record.specs.Orders.{name_cmp};
 ghost use Rattle.clash_record.specs.Name.{Name};
 ghost use Rattle.partition_table.specs.Tables.{IsTable, Row, max_names, most_names, tables_agree, differ, fit_together, clash_names, is_in};
 ghost use Rattle.partition_table.specs.Tables.{merged_at, unless_gone, with_row, merge};
-ghost use Rattle.numbered.specs.Answers.{IsAnswered};
+ghost use Rattle.refusals.specs.Answers.{IsAnswered};
 ghost use Rattle.partition_table.specs.Faults.{fit_fault, table_fault_number};
 ghost use Rattle.partition_table.specs.model.Merging.{IsRowOf, IsReady, holds_as, first_answer, answers_left};
 ghost use Rattle.partition_table.specs.model.Merging.{settled, put_all, names_without, each_kept, kept_with};
@@ -176,7 +176,7 @@ impl<'a> Parents<'a> {
         if self.is_withdrawn(name, kept) {
             return Ok(());
         }
-        merged.push(*name, *kept, self.program_for(kept.resolver))
+        merged.push(name, kept, self.program_for(kept.resolver))
     }
 
     // Checks whether a side that holds the registration under the name withdrew it.

@@ -4,7 +4,7 @@ ghost use Rattle.std.specs.List.{AllByRecursion};
 ghost use Rattle.std.specs.FinMap.{keys};
 ghost use Rattle.std.specs.Option.{option_map};
 ghost use Rattle.partition_table.specs.Tables.{IsTable, rows_of};
-ghost use Rattle.partition_table.specs.model.Walking.{drop_before, first_at, rows_ahead, pairs_left, IsPaired};
+ghost use Rattle.partition_table.specs.model.Walking.{drop_before, drop_through, first_at, rows_ahead, pairs_left, IsPaired};
 
 use crate::table::{Rows, Table};
 use clash_record::{Name, Registration};
@@ -29,15 +29,18 @@ impl<'a> Ahead<'a> {
         }
     }
 
-    // What the name is registered with. Leaves what is before the name.
+    // What the name is registered with. Leaves what is before the name, and the name itself.
     pub(crate) fn find(&mut self, name: &Name) -> Option<&'a Registration>
-        ensures left { rows_ahead self.new ≡ drop_before name.now (rows_ahead self.old) }
-        ensures found { option_map (λ r. r.now) result ≡ first_at name.now (rows_ahead self.new) }
+        ensures left { rows_ahead self.new ≡ drop_through name.now (rows_ahead self.old) }
+        ensures found { option_map (λ r. r.now) result ≡ first_at name.now (drop_before name.now (rows_ahead self.old)) }
     {
         while let Some((ahead, registration)) = self.next {
             match ahead.cmp(name) {
                 Ordering::Less => self.next = self.rest.next(),
-                Ordering::Equal => return Some(registration),
+                Ordering::Equal => {
+                    self.next = self.rest.next();
+                    return Some(registration);
+                }
                 Ordering::Greater => return None,
             }
         }

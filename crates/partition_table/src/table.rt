@@ -12,7 +12,7 @@ ghost use Rattle.partition_table.specs.model.Keeping.{kept_code, IsKept, IsKeptF
 ghost use Rattle.partition_table.specs.Views.{table_by};
 ghost use Rattle.partition_table.specs.declared.fault.TableFault.TheVariants.{NameTaken};
 ghost use Rattle.upload_store.specs.Programs.{programs_by};
-ghost use Rattle.numbered.specs.Answers.{IsAnswered};
+ghost use Rattle.refusals.specs.Answers.{IsAnswered};
 ghost use Rattle.partition_table.specs.Faults.{register_fault, table_fault_number, unregister_answer};
 
 use crate::fault::TableFault;

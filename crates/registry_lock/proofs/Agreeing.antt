@@ -10,7 +10,7 @@ use native.Mathlib.Decide.{ℕ_discrete}
 use Rattle.clash_record.specs.Name.{Name}
 use Rattle.partition_table.specs.Tables.{Row, Table, merge, clashes, clash_at, facts_of}
 use Rattle.partition_table.specs.declared.judged.Judged.{Judged}
-use Rattle.exchange_core.specs.Sides.{answer_in}
+use Rattle.exchange_law.specs.Sides.{answer_in}
 use Rattle.partition_table.specs.Rulings.{Ruling}
 use Rattle.exchange_core.specs.Finished.{Finished, IsFinished, clashes_merged}
 use Rattle.verdict_board.specs.Boards.{Pass, seen, LooksAt}

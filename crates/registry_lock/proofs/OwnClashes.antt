@@ -5,9 +5,9 @@ use Rattle.partition_table.specs.Rulings.{Ruling}
 use Rattle.partition_table.specs.Tables.{Clash, same_clash}
 use Rattle.partition_table.specs.laws.Sameness.{clash_decides}
 use Rattle.exchange_core.specs.declared.side.Side.{Side}
-use Rattle.exchange_core.specs.Sides.{Judged, Heard, Exchange, is_lawful, clashes_heard, clashes_of, heard_clashes, has_clash, put_ruling, take_heard, take_in}
-use Rattle.exchange_core.specs.Sides as sides
-use Rattle.exchange_core.specs.Calls.{Take, carried_out}
+use Rattle.exchange_law.specs.Sides.{Judged, Heard, Exchange, is_lawful, clashes_heard, clashes_of, heard_clashes, has_clash, put_ruling, take_heard, take_in}
+use Rattle.exchange_law.specs.Sides as sides
+use Rattle.exchange_law.specs.Calls.{Take, carried_out}
 use Rattle.exchange_core.specs.Shown.{shown}
 use Rattle.verdict_board.specs.Boards.{Pass}
 use Rattle.registry_lock.specs.Telling.{all_carried_out, takes_of, HasSeen, IsTold}

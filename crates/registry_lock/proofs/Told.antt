@@ -8,8 +8,8 @@ use Rattle.std.specs.declared.result.Result.{Result}
 use Rattle.std.specs.declared.result.Result.TheVariants.{Ok, Err}
 use Rattle.exchange_core.specs.declared.fault.SideFault.{SideFault}
 use Rattle.exchange_core.specs.declared.side.Side.{Side}
-use Rattle.exchange_core.specs.Sides as sides
-use Rattle.exchange_core.specs.Calls.{Call, Take, carried_out}
+use Rattle.exchange_law.specs.Sides as sides
+use Rattle.exchange_law.specs.Calls.{Call, Take, carried_out}
 use Rattle.partition_table.specs.Rulings.{Ruling, ruling_of}
 use Rattle.exchange_core.specs.Shown.{shown, calls, IsDone, IsUntouched}
 use Rattle.partition_table.specs.Tables.{Clash}

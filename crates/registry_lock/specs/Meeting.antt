@@ -4,7 +4,7 @@ use Rattle.std.specs.Option.{option_map}
 use Rattle.builtin_resolvers.specs.declared.verdicts.Verdict3.{Verdict3}
 use Rattle.partition_table.specs.Tables.{Table, merge}
 use Rattle.partition_table.specs.declared.judged.Judged.{Judged}
-use Rattle.exchange_core.specs.Sides.{answer_in}
+use Rattle.exchange_law.specs.Sides.{answer_in}
 use Rattle.partition_table.specs.Rulings.{Ruling}
 use Rattle.exchange_core.specs.Finished.{Finished, IsFinished, Half, clashes_merged}
 use Rattle.verdict_board.specs.Boards.{Place, Pass, seen}

@@ -3,9 +3,9 @@ use Rattle.std.specs.Prelude.{◌≡◌, ℕ, ◌≤◌, List, [], ◌∷◌, �
 use Rattle.std.specs.Option.{option_and_then}
 use Rattle.partition_table.specs.Rulings.{Ruling}
 use Rattle.exchange_core.specs.declared.side.Side.{Side}
-use Rattle.exchange_core.specs.Sides as sides
-use Rattle.exchange_core.specs.Calls.{Call, Take, carried_out}
-use Rattle.exchange_core.specs.Worlds.{clashes_between}
+use Rattle.exchange_law.specs.Sides as sides
+use Rattle.exchange_law.specs.Calls.{Call, Take, carried_out}
+use Rattle.exchange_law.specs.Worlds.{clashes_between}
 use Rattle.exchange_core.specs.Shown.{shown, calls, limit_of}
 use Rattle.verdict_board.specs.Boards.{Place, Pass, seen}
 

@@ -2,7 +2,7 @@
 ghost use Rattle.std.specs.Prelude.{◌≡◌, None};
 ghost use Rattle.registry_lock.specs.Faults.{meet_fault_number};
 
-use numbered::{Numbered, Place, words_of};
+use refusals::{Numbered, Place, words_of};
 use thiserror::Error;
 
 /// The reason why two finished sides don't meet.

@@ -1,6 +1,6 @@
 //! The rulings that a side receives during a round.
 ghost use Rattle.std.specs.Prelude.{◌≡◌, Some, IsTrue, length};
-ghost use Rattle.exchange_core.specs.Sides.{heard_clashes};
+ghost use Rattle.exchange_law.specs.Sides.{heard_clashes};
 ghost use Rattle.exchange_core.specs.Shown.{shown};
 ghost use Rattle.registry_lock.specs.Meeting.{Keeps};
 ghost use Rattle.registry_lock.specs.Telling.{IsTold};

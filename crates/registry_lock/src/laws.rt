@@ -1,8 +1,8 @@
 //! The law of what a pass sees.
 ghost use Rattle.std.specs.Prelude.{◌≡◌, ℕ, ◌<◌, Some, IsTrue, slice_get};
 ghost use Rattle.partition_table.specs.Rulings.{Ruling, is_lawful};
-ghost use Rattle.exchange_core.specs.Sides.{Offer};
-ghost use Rattle.exchange_core.specs.Worlds.{clashes_between, ruling_on};
+ghost use Rattle.exchange_law.specs.Sides.{Offer};
+ghost use Rattle.exchange_law.specs.Worlds.{clashes_between, ruling_on};
 ghost use Rattle.verdict_board.specs.Boards.{Pass, seen};
 ghost use Rattle.registry_lock.specs.Telling.{IsBoardOf};
 

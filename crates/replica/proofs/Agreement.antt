@@ -2,8 +2,8 @@
 use Rattle.std.proofs.Common.{◌≡◌, ℕ, if◌then◌else◌, List, [], ◌∷◌, ◌++◌, Option, Some, None, is_none, slice_get, refl, sym, ap, ◌∙◌, subst}
 use Rattle.partition_table.specs.Tables.{Table}
 use Rattle.clash_record.specs.declared.side_id.SideId.{SideId}
-use Rattle.exchange_core.specs.Worlds as exchange
-use Rattle.exchange_core.specs.History.{FinishedWith, IsLawfulMerge}
+use Rattle.exchange_law.specs.Worlds as exchange
+use Rattle.exchange_law.specs.History.{FinishedWith, IsLawfulMerge}
 use Rattle.replica_law.specs.Worlds as law
 use Rattle.replica_law.specs.declared.position.Life.{Life}
 use Rattle.replica_law.specs.Worlds.{Entry, Snapshot, next}

@@ -7,7 +7,7 @@ use Rattle.partition_table.specs.Faults.{register_fault}
 use Rattle.partition_table.specs.declared.fault.TableFault.TheVariants.{Full, NoSuchName}
 use Rattle.upload_store.specs.Programs.{Programs}
 use Rattle.upload_store.specs.Uploads.{keep_fault}
-use Rattle.exchange_core.specs.Sides.{is_above}
+use Rattle.exchange_law.specs.Sides.{is_above}
 use Rattle.replica_law.specs.Worlds.{Machine}
 use Rattle.replica.specs.declared.fault.ReplicaFault.{ReplicaFault}
 use Rattle.replica.specs.declared.fault.ReplicaFault.TheVariants as of

@@ -3,8 +3,8 @@ use Rattle.std.specs.Prelude.{◌≡◌, ℕ, suc, List, [], ◌∷◌, ◌++◌
 use Rattle.std.specs.Option.{option_map}
 use Rattle.partition_table.specs.Tables.{Table}
 use Rattle.clash_record.specs.declared.side_id.SideId.{SideId}
-use Rattle.exchange_core.specs.Worlds as exchange
-use Rattle.exchange_core.specs.History.{FinishedWith, IsLawfulMerge}
+use Rattle.exchange_law.specs.Worlds as exchange
+use Rattle.exchange_law.specs.History.{FinishedWith, IsLawfulMerge}
 use Rattle.replica_law.specs.declared.position.Life.{Life}
 use Rattle.replica_law.specs.declared.position.View.{View}
 use Rattle.replica_law.specs.declared.position.Position.{Position}

@@ -3,8 +3,8 @@ ghost use Rattle.std.specs.Prelude.{◌≡◌, None};
 ghost use Rattle.replica.specs.declared.fault.ReplicaFault.TheVariants as of;
 ghost use Rattle.replica.specs.Faults.{replica_fault_number};
 
-use numbered::{Numbered, Place, words_of};
 use partition_table::TableFault;
+use refusals::{Numbered, Place, words_of};
 use std::alloc::AllocError;
 use thiserror::Error;
 use upload_store::UploadFault;

@@ -2,8 +2,8 @@
 ghost use Rattle.std.specs.Prelude.{◌≡◌, ◌≤◌, ◌+◌, if◌then◌else◌, nat_le, Some, None, IfOk, OnOk, OnErr, length};
 ghost use Rattle.std.specs.Arc.{arc_value};
 ghost use Rattle.std.specs.FinMap.{len};
-ghost use Rattle.numbered.specs.Answers.{IsAnswered};
-ghost use Rattle.exchange_core.specs.Sides.{is_above};
+ghost use Rattle.refusals.specs.Answers.{IsAnswered};
+ghost use Rattle.exchange_law.specs.Sides.{is_above};
 ghost use Rattle.exchange_core.specs.Shown.{shown, calls, limit_of};
 ghost use Rattle.partition_table.specs.declared.fault.TableFault.TheVariants.{Full};
 ghost use Rattle.replica.specs.declared.fault.ReplicaFault.TheVariants as of;

@@ -1,7 +1,7 @@
 //! Replicas and their calls.
 ghost use Rattle.std.specs.Prelude.{◌≡◌, ◌<◌, ◌≤◌, ◌+◌, if◌then◌else◌, nat_le, Some, None, IfOk, OnOk, OnErr, length};
 ghost use Rattle.std.specs.FinMap.{len};
-ghost use Rattle.numbered.specs.Answers.{IsAnswered};
+ghost use Rattle.refusals.specs.Answers.{IsAnswered};
 ghost use Rattle.exchange_core.specs.Shown.{shown, calls, limit_of};
 ghost use Rattle.partition_table.specs.declared.fault.TableFault.TheVariants.{Full};
 ghost use Rattle.replica.specs.declared.fault.ReplicaFault.TheVariants as of;

@@ -1,6 +1,6 @@
 //! The agreement of replicas over every history.
 ghost use Rattle.std.specs.Prelude.{List};
-ghost use Rattle.exchange_core.specs.Worlds as exchange;
+ghost use Rattle.exchange_law.specs.Worlds as exchange;
 ghost use Rattle.replica.specs.Halves as half;
 ghost use Rattle.replica.specs.Worlds.{Event};
 ghost use Rattle.replica.specs.Histories.{AreCalls, CallsHappen, EditsLead, HasOneEdit, HaveOneHalf, HoldTheMerge, HoldsSnapshots, LivesStart, LogsRestore, RefusalsChangeNothing, TakesEntries};

@@ -2,11 +2,11 @@
 use Rattle.std.proofs.Common.{◌≡◌, ℕ, List, ◌<◌, ◌≤◌, Result, Ok, Err, refl, sym, ap, subst, ◌∙◌, inl, inr}
 use Rattle.std.specs.Prelude.{◌⊎◌, IfOk, IfErr}
 use Rattle.std.specs.List.{flat_map}
-use Rattle.numbered.specs.Answers.{out_of_memory, HasCause, ReturnsOrRunsOut}
+use Rattle.refusals.specs.Answers.{out_of_memory, HasCause, ReturnsOrRunsOut}
 use Rattle.instruction_set.specs.declared.insn.Insn.{Insn}
 use Rattle.insn_codec.specs.Encoding.{insn_bytes}
-use Rattle.program.specs.declared.fault.ProgramFault.{ProgramFault}
-use Rattle.program.specs.Programs.{IsAccepted, IsProgramFault}
+use Rattle.verifier.specs.declared.program_fault.ProgramFault.{ProgramFault}
+use Rattle.verifier.specs.Programs.{IsAccepted, IsProgramFault}
 use Rattle.upload_store.specs.Programs.{IsProgram, id_of}
 use Rattle.upload_store.specs.Programs as store
 use Rattle.clash_record.specs.declared.registrations.ProgramId.{ProgramId}

@@ -4,7 +4,7 @@ use Rattle.std.specs.Prelude.{◌⊎◌}
 use Rattle.std.specs.Int.{w64, to_le_bytes}
 use Rattle.std.proofs.lemmas.Bool.{lt-ltb}
 use Rattle.std.proofs.lemmas.List.{length-append}
-use Rattle.numbered.specs.Answers.{out_of_memory, ReturnsOrRunsOut}
+use Rattle.refusals.specs.Answers.{out_of_memory, ReturnsOrRunsOut}
 use Rattle.exchange_codec.specs.declared.fault.Fault.{Fault}
 use Rattle.exchange_codec.specs.declared.fault.FieldFault.TheVariants as wrongs
 use Rattle.exchange_codec.specs.declared.fault.MessageFault.TheVariants as message

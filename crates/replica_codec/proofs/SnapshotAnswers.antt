@@ -7,10 +7,10 @@ use Rattle.std.specs.Ordering.{is_lt}
 use Rattle.std.specs.FinMap.{entries, entries_sorted}
 use Rattle.std.specs.FinMap.Entries.{is_sorted, below_all}
 use Rattle.std.proofs.lemmas.Bool.{and_parts, and_from, lt-ltb, le-leb}
-use Rattle.numbered.specs.Answers.{out_of_memory, HasCause, ReturnsOrRunsOut}
+use Rattle.refusals.specs.Answers.{out_of_memory, HasCause, ReturnsOrRunsOut}
 use Rattle.instruction_set.specs.declared.insn.Insn.{Insn}
 use Rattle.insn_codec.specs.Encoding.{insn_bytes}
-use Rattle.program.specs.Programs.{IsAccepted}
+use Rattle.verifier.specs.Programs.{IsAccepted}
 use Rattle.clash_record.specs.declared.registrations.ProgramId.{ProgramId}
 use Rattle.clash_record.specs.Orders.{id_cmp}
 use Rattle.upload_store.specs.Programs.{Programs, IsProgram, id_of, max_programs}

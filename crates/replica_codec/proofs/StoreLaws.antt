@@ -15,7 +15,7 @@ use lib.Dec.{T}
 use Rattle.std.specs.Borrow.{Bor}
 use Rattle.std.proofs.lemmas.List.{nil_from_length, take_all}
 use Rattle.replica_codec.specs.SnapshotsText.{codes_view}
-use Rattle.numbered.specs.Answers.{HasCause}
+use Rattle.refusals.specs.Answers.{HasCause}
 use Rattle.instruction_set.specs.declared.insn.Insn.{Insn}
 use Rattle.insn_codec.specs.Encoding.{insn_bytes}
 use Rattle.clash_record.specs.declared.registrations.ProgramId.{ProgramId}

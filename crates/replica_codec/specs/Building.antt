@@ -1,10 +1,10 @@
 -- The entry of a text.
 use Rattle.std.specs.Prelude.{◌≡◌, ℕ, ◌==◌, if◌then◌else◌, List}
 use Rattle.std.specs.List.{flat_map}
-use Rattle.numbered.specs.Answers.{out_of_memory}
+use Rattle.refusals.specs.Answers.{out_of_memory}
 use Rattle.insn_codec.specs.Encoding.{insn_bytes}
-use Rattle.program.specs.declared.fault.ProgramFault.{ProgramFault}
-use Rattle.program.specs.Programs.{IsProgramFault, program_fault_number}
+use Rattle.verifier.specs.declared.program_fault.ProgramFault.{ProgramFault}
+use Rattle.verifier.specs.Programs.{IsProgramFault, program_fault_number}
 use Rattle.upload_store.specs.Programs.{Upload, IsProgram}
 use Rattle.exchange_codec.specs.declared.fault.ItemFault.TheVariants as item
 use Rattle.exchange_codec.specs.declared.fault.MessageFault.TheVariants as message

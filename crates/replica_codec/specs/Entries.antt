@@ -3,8 +3,8 @@ use Rattle.std.specs.Prelude.{◌≡◌, ℕ, zero, suc, ◌-◌, ◌<◌, ◌�
 use Rattle.std.specs.List.{flat_map}
 use Rattle.std.specs.Int.{w32, w64, to_le_bytes}
 use Rattle.insn_codec.specs.Encoding.{insn_bytes}
-use Rattle.program.specs.declared.fault.ProgramFault.{ProgramFault}
-use Rattle.program.specs.Programs.{IsProgramFault}
+use Rattle.verifier.specs.declared.program_fault.ProgramFault.{ProgramFault}
+use Rattle.verifier.specs.Programs.{IsProgramFault}
 use Rattle.clash_record.specs.Name.{Name, is_name}
 use Rattle.clash_record.specs.declared.registrations.Registration.{Registration}
 use Rattle.clash_record.specs.declared.registrations.ResolverId.{ResolverId}

@@ -1,6 +1,6 @@
 -- The numbers and the places of the faults of entries and snapshots.
 use Rattle.std.specs.Prelude.{ℕ, Option, None}
-use Rattle.numbered.specs.declared.place.Place.{Place}
+use Rattle.refusals.specs.declared.place.Place.{Place}
 use Rattle.exchange_codec.specs.Faults.{message_fault_number, message_fault_place}
 use Rattle.replica_codec.specs.declared.fault.ReplicaMessageFault.{ReplicaMessageFault}
 use Rattle.replica_codec.specs.declared.fault.ReplicaMessageFault.TheVariants.{Message, Checksum}

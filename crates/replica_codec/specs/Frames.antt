@@ -2,7 +2,7 @@
 use Rattle.std.specs.Prelude.{◌≡◌, ℕ, ◌-◌, ◌==◌, if◌then◌else◌, ◌⊎◌, List, ◌++◌, length, take, replicate, Result, Ok, Err}
 use Rattle.std.specs.Int.{w64, to_le_bytes}
 use Rattle.std.specs.Hash.DefaultHasher as sip
-use Rattle.numbered.specs.Answers.{out_of_memory}
+use Rattle.refusals.specs.Answers.{out_of_memory}
 use Rattle.exchange_codec.specs.declared.fault.Fault.{Fault}
 use Rattle.exchange_codec.specs.Placing.{placed}
 use Rattle.exchange_codec.specs.Reading.{◌>>=◌, number_at, bytes_at, header_at, ended}

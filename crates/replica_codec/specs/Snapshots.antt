@@ -6,7 +6,7 @@ use Rattle.std.specs.Int.{w32, w64, to_le_bytes}
 use Rattle.std.specs.FinMap.{entries}
 use Rattle.instruction_set.specs.declared.insn.Insn.{Insn}
 use Rattle.insn_codec.specs.Encoding.{insn_bytes}
-use Rattle.program.specs.Programs.{IsAccepted, IsProgramFault}
+use Rattle.verifier.specs.Programs.{IsAccepted, IsProgramFault}
 use Rattle.clash_record.specs.declared.registrations.ProgramId.{ProgramId}
 use Rattle.clash_record.specs.Orders.{id_cmp}
 use Rattle.upload_store.specs.Programs.{Programs, IsProgram, id_of, max_programs}

@@ -1,7 +1,7 @@
 //! The entry of a text.
 ghost use Rattle.std.specs.Prelude.{◌≡◌, ◌&&◌, nat_lt, nat_le, IsTrue, IfOk, IfErr};
 ghost use Rattle.partition_table.specs.Tables.{most_names};
-ghost use Rattle.numbered.specs.Answers.{HasCause};
+ghost use Rattle.refusals.specs.Answers.{HasCause};
 ghost use Rattle.replica_codec.specs.Building.{IsCodeFault, IsEntryOf, IsUploadOf, program_fault_of};
 ghost use Rattle.replica_codec.specs.Entries.{IsEditText, IsTextFault};
 ghost use Rattle.replica_codec.specs.EntriesText.{edit_view, entry_view};
@@ -10,12 +10,12 @@ ghost use Rattle.replica_codec.specs.Faults.{replica_message_fault_number};
 use crate::fault::ReplicaMessageFault;
 use crate::texts::{EditText, EntryText};
 use exchange_codec::{ItemFault, MessageFault};
-use numbered::{Numbered, OUT_OF_MEMORY};
 use partition_table::NameLimit;
-use program::{ProgramFault, read_program};
+use refusals::{Numbered, OUT_OF_MEMORY};
 use replica::{Edit, Entry};
 use std::alloc::Global;
 use upload_store::Upload;
+use verifier::{ProgramFault, read_program};
 
 /// Returns the entry of the text. An upload's code is verified, and its id computed.
 pub(crate) fn entry_by(alloc: Global, text: &EntryText<'_>) -> Result<Entry, ReplicaMessageFault>

@@ -1,6 +1,6 @@
 //! Entries as bytes.
 ghost use Rattle.std.specs.Prelude.{Ok, Err, IfOk, IfErr};
-ghost use Rattle.numbered.specs.Answers.{HasCause, ReturnsOrRunsOut};
+ghost use Rattle.refusals.specs.Answers.{HasCause, ReturnsOrRunsOut};
 ghost use Rattle.replica.specs.declared.messages.Entry.{Entry};
 ghost use Rattle.replica_codec.specs.declared.fault.ReplicaMessageFault.{ReplicaMessageFault};
 ghost use Rattle.replica_codec.specs.Entries.{SpellsEntry, IsEntryFault};
@@ -12,10 +12,9 @@ use crate::fault::ReplicaMessageFault;
 use crate::frames::{ENTRY, framed, started};
 use crate::texts::entry_of;
 use insn_codec::one_reading_theorem;
-use program::Profile;
 use replica::Entry;
 use std::alloc::{AllocError, Global};
-use verifier::one_verdict_theorem;
+use verifier::{Profile, one_verdict_theorem};
 
 // The most bytes in the body of an entry without code: a position, and a registration by a program.
 const ROOM: usize = 28 + 1 + 33 + 40 + 33;

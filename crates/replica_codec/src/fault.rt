@@ -5,7 +5,7 @@ ghost use Rattle.replica_codec.specs.declared.fault.ReplicaMessageFault.TheVaria
 ghost use Rattle.replica_codec.specs.Faults.{replica_message_fault_number, replica_message_fault_place};
 
 use exchange_codec::MessageFault;
-use numbered::{Numbered, Place, words_of};
+use refusals::{Numbered, Place, words_of};
 use std::alloc::AllocError;
 use thiserror::Error;
 

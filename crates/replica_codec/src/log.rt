@@ -1,6 +1,6 @@
 //! Logs: snapshots and entries, one after the other.
 ghost use Rattle.std.specs.Prelude.{◌≡◌, ◌<◌, ◌++◌, List, ℕ, Ok, Err, length};
-ghost use Rattle.numbered.specs.Answers.{ReturnsOrRunsOut};
+ghost use Rattle.refusals.specs.Answers.{ReturnsOrRunsOut};
 ghost use Rattle.exchange_codec.specs.Reading.{Gives};
 ghost use Rattle.replica.specs.declared.messages.Entry as entries;
 ghost use Rattle.replica_codec.specs.declared.fault.ReplicaMessageFault.TheVariants.{Checksum};

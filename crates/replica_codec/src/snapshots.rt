@@ -1,6 +1,6 @@
 //! Snapshots as bytes.
 ghost use Rattle.std.specs.Prelude.{◌≡◌, ◌≤◌, ◌<◌, ◌+◌, ◌^◌, ◌++◌, ◌&&◌, nat_lt, nat_le, IsTrue, Ok, Err, IfOk, IfErr, IfSome, OnOk, length};
-ghost use Rattle.numbered.specs.Answers.{HasCause, ReturnsOrRunsOut};
+ghost use Rattle.refusals.specs.Answers.{HasCause, ReturnsOrRunsOut};
 ghost use Rattle.upload_store.specs.Programs.{max_programs};
 ghost use Rattle.partition_table.specs.Tables.{most_names};
 ghost use Rattle.replica_law.specs.Worlds as law;
@@ -21,10 +21,9 @@ use exchange_codec::{
     MessageFault, decode_table, one_table_theorem, push_table, push_u32, push_u64,
 };
 use insn_codec::one_reading_theorem;
-use program::Profile;
 use replica::{Half, Snapshot};
 use std::alloc::{AllocError, Global};
-use verifier::one_verdict_theorem;
+use verifier::{Profile, one_verdict_theorem};
 
 // The bytes of a row with a name of 22 bytes and a built-in resolver: the room that a row gets before it is written.
 const ROW: usize = 64;

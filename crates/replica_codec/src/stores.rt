@@ -2,7 +2,7 @@
 ghost use Rattle.std.specs.Prelude.{◌≡◌, ◌≤◌, ◌<◌, ◌++◌, IfOk, IfErr, OnOk, length};
 ghost use Rattle.std.specs.List.{flat_map, AllByRecursion};
 ghost use Rattle.std.specs.FinMap.{entries, len};
-ghost use Rattle.numbered.specs.Answers.{HasCause};
+ghost use Rattle.refusals.specs.Answers.{HasCause};
 ghost use Rattle.upload_store.specs.Programs.{max_programs};
 ghost use Rattle.exchange_codec.specs.Rows.{max_code};
 ghost use Rattle.replica_codec.specs.Entries.{sized_code};

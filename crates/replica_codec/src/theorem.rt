@@ -9,8 +9,7 @@ ghost use Rattle.replica_codec.specs.Snapshots.{SpellsSnapshot, IsSnapshotFault}
 
 use exchange_codec::one_table_theorem;
 use insn_codec::one_reading_theorem;
-use program::Profile;
-use verifier::one_verdict_theorem;
+use verifier::{Profile, one_verdict_theorem};
 
 /// States that bytes spell at most one entry, that bytes that spell one have no fault, that bytes have at most one fault, and
 /// that an entry has one spelling. Does nothing at run time.

@@ -1,8 +1,8 @@
 -- The lines that scripts print.
 use Rattle.std.specs.Prelude.{ℕ, List, ◌++◌, codes, Option}
 use Rattle.std.specs.Fmt.{decimal}
-use Rattle.numbered.specs.declared.place.Place.{Place}
-use Rattle.numbered.specs.Texts.{at_place}
+use Rattle.refusals.specs.declared.place.Place.{Place}
+use Rattle.refusals.specs.Texts.{at_place}
 use Rattle.clash_record.specs.declared.registrations.Owner.{Owner}
 use Rattle.clash_record.specs.declared.registrations.Registration.{Registration}
 use Rattle.builtin_resolvers.specs.declared.notice.Notice.{Notice}

@@ -4,7 +4,7 @@ ghost use Rattle.script_text.specs.declared.fault.LineFault.TheVariants.{NoName,
 ghost use Rattle.script_text.specs.Faults.{line_fault_number};
 
 use clash_record::BadName;
-use numbered::{Numbered, Place, words_of};
+use refusals::{Numbered, Place, words_of};
 use std::alloc::AllocError;
 use thiserror::Error;
 

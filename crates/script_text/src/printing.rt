@@ -1,8 +1,8 @@
 //! The lines that scripts print.
 ghost use Rattle.std.specs.Prelude.{◌≡◌, ◌+◌, ◌≤◌, ◌∷◌, ◌++◌, length, drop, codes};
 ghost use Rattle.std.specs.Fmt.{decimal};
-ghost use Rattle.output.specs.Sending.{SendsOn};
-ghost use Rattle.numbered.specs.Texts.{at_place, place_text};
+ghost use Rattle.device.specs.Sending.{SendsOn};
+ghost use Rattle.refusals.specs.Texts.{at_place, place_text};
 ghost use Rattle.clash_record.specs.Texts.{owner_text, side_text};
 ghost use Rattle.builtin_resolvers.specs.Texts.{notice_text};
 ghost use Rattle.builtin_resolvers.specs.Verdicts.{verdict_text};
@@ -11,9 +11,9 @@ ghost use Rattle.script_text.specs.Printed.{withdrawal_line, healed_line, refusa
 
 use builtin_resolvers::{Notice, Verdict3};
 use clash_record::{Name, Owner, Registration, SideId};
+use device::{DeviceFault, send_after};
 use itoa::{Buffer, write_digits};
-use numbered::{NumberedRefusal, Place};
-use output::{DeviceFault, send_after};
+use refusals::{NumberedRefusal, Place};
 use std::io::Write;
 
 // The maximum length of an owner in bytes, for numbers of 64 bits.

@@ -4,6 +4,6 @@
 #[cfg(test)]
 mod contexts;
 #[cfg(test)]
-mod refusals;
+mod refused_codes;
 #[cfg(test)]
 mod sample_codes;

@@ -1,6 +1,6 @@
 //! Faults, each with its number and place.
 use crate::messages::{Kind, again, small};
-use numbered::{NumberedRefusal, Place};
+use refusals::{NumberedRefusal, Place};
 use std::alloc::Global;
 use std::test::*;
 

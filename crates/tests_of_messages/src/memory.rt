@@ -1,6 +1,6 @@
 //! Messages while one allocation fails.
 use crate::messages::{DOCUMENTED, Kind, again, is_same_again};
-use numbered::OUT_OF_MEMORY;
+use refusals::OUT_OF_MEMORY;
 use std::alloc::Global;
 use std::test::*;
 

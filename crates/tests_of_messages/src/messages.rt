@@ -5,7 +5,7 @@ use exchange_codec::{
 };
 use exchange_core::Side;
 use fixtures::{EXIT, FIRST, FixtureFault, answering, register_rows, registration};
-use numbered::{NumberedRefusal, refusal_of};
+use refusals::{NumberedRefusal, refusal_of};
 use std::alloc::Global;
 use upload_store::UploadStore;
 

@@ -1,8 +1,8 @@
 //! Untrusted bytes: small messages with one byte replaced, cut short, or changed at random.
 use crate::messages::{Kind, again, small};
-use numbered::OUT_OF_MEMORY;
 use rand_core::utils::NextWord;
 use rand_pcg::Pcg32;
+use refusals::OUT_OF_MEMORY;
 use std::alloc::{AllocError, Global};
 use std::test::*;
 

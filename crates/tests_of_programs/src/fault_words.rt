@@ -1,12 +1,11 @@
 //! Tests of the words, the numbers and the places of refusals.
 use assembler_text::{Fault, LineFault};
 use insn_codec::{CodecFault, LengthFault, SlotFault};
-use numbered::{Numbered, Place};
-use program::{ProgramFault, read_program};
+use refusals::{Numbered, Place};
 use std::alloc::Global;
 use std::fmt::Display;
 use std::test::Fail;
-use verifier::Rule;
+use verifier::{ProgramFault, Rule, read_program};
 
 // Returns whether the fault is displayed as these words.
 fn is_displayed_as<F: Display>(alloc: Global, fault: &F, words: &str) -> Result<bool, Fail> {

@@ -1,7 +1,7 @@
 //! Tests of the assembler and the disassembler.
 use assembler_text::{Listing, assemble, disassemble};
 use instruction_set::Insn;
-use numbered::{Numbered, Place};
+use refusals::{Numbered, Place};
 use std::alloc::Global;
 use std::test::Fail;
 

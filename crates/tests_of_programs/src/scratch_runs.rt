@@ -1,10 +1,9 @@
 //! Tests of runs in one scratch memory.
 use clash_record::{ClashRecord, RECORD_LEN, record_of};
 use interpreter::{Ended, Scratch, run, run_in, run_written};
-use program::read_program;
 use std::alloc::Global;
 use std::test::Fail;
-use verifier::Verified;
+use verifier::{Verified, read_program};
 
 // Code that answers the word of the record, by way of the stack.
 const BY_STACK: [u8; 32] = [

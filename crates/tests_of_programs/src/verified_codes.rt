@@ -2,10 +2,9 @@
 use crate::sample_codes::{GREATER, longest_code};
 use abstract_value::{Both, Domain, Interval};
 use insn_codec::decode;
-use program::read_program;
 use std::alloc::Global;
 use std::test::Fail;
-use verifier::{Refusal, Rule, VerifyFault, verify, verify_peak, wider_theorem};
+use verifier::{Refusal, Rule, VerifyFault, read_program, verify, verify_peak, wider_theorem};
 
 // Returns the number of slots and the peak number of states of accepted code.
 fn slots_and_peak<D: Domain>(alloc: Global, bytes: &[u8]) -> Result<(usize, u32), Fail> {

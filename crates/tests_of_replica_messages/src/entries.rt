@@ -1,14 +1,14 @@
 //! Entries by hand, encoded and decoded.
 use crate::rows::{BEGIN, ENTRIES, LIMIT, REGISTER, REGISTER_BY_PROGRAM, UNREGISTER, UPLOAD};
 use clash_record::{Builtin, Name, Owner, ProgramId, Registration, ResolverId, name};
-use numbered::{NumberedRefusal, OUT_OF_MEMORY, refusal_of};
 use partition_table::NameLimit;
-use program::read_program;
+use refusals::{NumberedRefusal, OUT_OF_MEMORY, refusal_of};
 use replica::{Edit, Entry, Life, Position, View};
 use replica_codec::{decode_entry, encode_entry};
 use std::alloc::Global;
 use std::test::Fail;
 use upload_store::Upload;
+use verifier::read_program;
 
 /// The position of the rows: view 2 of node 7 in its first life, operation 3.
 pub(crate) const AT: Position = Position {

@@ -1,7 +1,7 @@
 //! Faults of entries, each with its number and place, and changed and cut bytes.
 use crate::entries::again;
 use crate::rows::{BEGIN, ENTRIES, LIMIT, REGISTER, UNREGISTER, UPLOAD};
-use numbered::{NumberedRefusal, OUT_OF_MEMORY, Place};
+use refusals::{NumberedRefusal, OUT_OF_MEMORY, Place};
 use std::alloc::Global;
 use std::hash::{DefaultHasher, Hasher};
 use std::test::Fail;

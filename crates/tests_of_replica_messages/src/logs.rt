@@ -1,10 +1,10 @@
 //! Logs that end within an entry, and histories that go through a log.
 use crate::rows::ENTRIES;
 use clash_record::{Builtin, Owner, Registration, ResolverId, name};
-use numbered::{NumberedRefusal, Place, refusal_of};
 use partition_table::NameLimit;
 use rand_core::utils::NextWord;
 use rand_pcg::Pcg32;
+use refusals::{NumberedRefusal, Place, refusal_of};
 use replica::{Edit, Entry, Life, Replica};
 use replica_codec::{
     LogFront, decode_entry, decode_snapshot, encode_entry, encode_snapshot, read_front,

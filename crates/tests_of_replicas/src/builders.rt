@@ -1,6 +1,6 @@
 //! Edits, lives and refusals as numbers.
 use clash_record::{BadName, Builtin, Name, Owner, Registration, ResolverId, name};
-use numbered::Numbered;
+use refusals::Numbered;
 use replica::{Edit, Life, Replica, ReplicaFault};
 use std::alloc::Global;
 use std::test::Fail;

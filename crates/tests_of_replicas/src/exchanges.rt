@@ -2,44 +2,77 @@
 use crate::builders::{carry, life, pair, refusal, register, serial_of};
 use exchange_core::{Finished, Side, SideId};
 use partition_table::NameLimit;
-use replica::{Edit, Replica};
+use replica::{Edit, Replica, Snapshot};
 use std::alloc::Global;
 use std::test::Fail;
 
-// Exchanges the tables under this number, and returns what A finished with.
-fn exchange(alloc: Global, number: u64, a: &mut Side, b: &mut Side) -> Result<Finished, Fail> {
+// Begins the number on both sides, and lets each hear the other's offer.
+fn trade_offers(alloc: Global, number: u64, a: &mut Side, b: &mut Side) -> Result<(), Fail> {
     let of_a = a.begin(alloc, number, 0, 0)?;
     let of_b = b.begin(alloc, number, 0, 0)?;
     a.hear(alloc, &of_b)?;
     b.hear(alloc, &of_a)?;
+    Ok(())
+}
+
+// Closes the lists of both sides, and lets each hear the other's.
+fn trade_lists(alloc: Global, a: &mut Side, b: &mut Side) -> Result<(), Fail> {
+    let of_a = a.close_list(alloc)?;
+    let of_b = b.close_list(alloc)?;
+    a.hear_list(&of_b)?;
+    b.hear_list(&of_a)?;
+    Ok(())
+}
+
+// Exchanges the tables under this number, and returns what A finished with.
+fn exchange(alloc: Global, number: u64, a: &mut Side, b: &mut Side) -> Result<Finished, Fail> {
+    trade_offers(alloc, number, a, b)?;
     a.settle()?;
     b.settle()?;
-    let list_a = a.close_list(alloc)?;
-    let list_b = b.close_list(alloc)?;
-    a.hear_list(&list_b)?;
-    b.hear_list(&list_a)?;
-    let finished = a.finish(alloc)?;
+    trade_lists(alloc, a, b)?;
     b.finish(alloc)?;
-    Ok(finished)
+    Ok(a.finish(alloc)?)
+}
+
+// A primary and its backup, on nodes of these numbers, which register the letter and then `c`.
+fn part(alloc: Global, first: u32, byte: u8, serial: u32) -> Result<(Replica, Replica), Fail> {
+    let (mut primary, mut backup) = pair(alloc, first, first.wrapping_add(1))?;
+    carry(&mut primary, &mut backup, register(byte, serial)?)?;
+    carry(&mut primary, &mut backup, register(b'c', 3)?)?;
+    Ok((primary, backup))
+}
+
+// Has both primaries record the number of their exchange, which their backups apply.
+fn record_number(
+    number: u64,
+    (one, two): (&mut Replica, &mut Replica),
+    (three, four): (&mut Replica, &mut Replica),
+) -> Result<(), Fail> {
+    carry(one, two, Edit::Begin(number))?;
+    carry(three, four, Edit::Begin(number))
+}
+
+// The primaries of two parts heal their split, and the first keeps the outcome and returns its snapshot.
+fn heal(
+    alloc: Global,
+    (one, two): (&mut Replica, &mut Replica),
+    (three, four): (&mut Replica, &mut Replica),
+) -> Result<Snapshot, Fail> {
+    let mut a = one.side(alloc, SideId::A)?;
+    let mut b = three.side(alloc, SideId::B)?;
+    record_number(8, (one, two), (three, four))?;
+    let from = one.position();
+    let finished = exchange(alloc, 8, &mut a, &mut b)?;
+    one.change(alloc, from, finished.table(), Some(finished.number()))?;
+    Ok(one.snapshot()?)
 }
 
 // Each of four nodes in two parts registers what its primary does; then the primaries heal the split, and the nodes of
 // both parts follow the first.
 fn healed(alloc: Global) -> Result<[[u32; 3]; 4], Fail> {
-    let (mut one, mut two) = pair(alloc, 1, 2)?;
-    let (mut three, mut four) = pair(alloc, 3, 4)?;
-    carry(&mut one, &mut two, register(b'a', 1)?)?;
-    carry(&mut three, &mut four, register(b'b', 2)?)?;
-    carry(&mut one, &mut two, register(b'c', 3)?)?;
-    carry(&mut three, &mut four, register(b'c', 3)?)?;
-    let mut a = one.side(alloc, SideId::A)?;
-    let mut b = three.side(alloc, SideId::B)?;
-    carry(&mut one, &mut two, Edit::Begin(8))?;
-    carry(&mut three, &mut four, Edit::Begin(8))?;
-    let from = one.position();
-    let finished = exchange(alloc, 8, &mut a, &mut b)?;
-    one.change(alloc, from, finished.table(), Some(finished.number()))?;
-    let snapshot = one.snapshot()?;
+    let (mut one, mut two) = part(alloc, 1, b'a', 1)?;
+    let (mut three, mut four) = part(alloc, 3, b'b', 2)?;
+    let snapshot = heal(alloc, (&mut one, &mut two), (&mut three, &mut four))?;
     two.follow(&snapshot)?;
     three.follow(&snapshot)?;
     four.follow(&snapshot)?;

@@ -3,11 +3,11 @@ use crate::builders::{
     carry, letter, life, pair, refusal, register, registration, serial_of, unregister,
 };
 use clash_record::ResolverId;
-use program::read_program;
 use replica::{Applied, Edit, Life, Position, Replica, View};
 use std::alloc::Global;
 use std::test::Fail;
 use upload_store::Upload;
+use verifier::read_program;
 
 // The position of this node's first life in its view of this number.
 fn at(node: u32, number: u64, op: u64) -> Position {

@@ -3,7 +3,7 @@ ghost use Rattle.std.specs.Prelude.{Some};
 
 use judge_pool::OpenGate;
 use partition_table::NameLimit;
-use script_engine::run_script;
+use scripts::run_script;
 use std::io;
 use std::io::{ErrorKind, Read, Write};
 use std::rt::Files;

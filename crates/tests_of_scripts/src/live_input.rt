@@ -3,7 +3,7 @@ ghost use Rattle.std.specs.Prelude.{None, Some};
 
 use judge_pool::OpenGate;
 use partition_table::NameLimit;
-use script_engine::run_script;
+use scripts::run_script;
 use std::alloc::Global;
 use std::cell::Cell;
 use std::io;

@@ -3,7 +3,7 @@ ghost use Rattle.std.specs.Prelude.{◌<◌, ◌≤◌};
 
 use fixtures::Together;
 use partition_table::NameLimit;
-use script_engine::run_script;
+use scripts::run_script;
 use std::alloc::Global;
 use std::io::Write;
 use std::rt::Files;

@@ -2,8 +2,8 @@
 use clash_record::{SideId, name};
 use exchange_core::{MAX_EVENTS, Side, SideFault};
 use fixtures::{EXIT, begin_both, exit_registration, numbered_name, register_numbered};
-use numbered::Numbered;
 use partition_table::{MAX_NAMES, NameLimit, Table};
+use refusals::Numbered;
 use std::alloc::Global;
 use std::test::Fail;
 use upload_store::UploadStore;

@@ -2,10 +2,10 @@
 use builtin_resolvers::Verdict3;
 use clash_record::{Name, name};
 use fixtures::{EXIT, Row, exit_registration, numbered_name, numbered_table, table_of};
-use numbered::Numbered;
 use partition_table::{
     MAX_NAMES, Table, TableFault, clashes, clashes_theorem, fit, merge, merge_theorem,
 };
+use refusals::Numbered;
 use std::alloc::Global;
 use std::test::Fail;
 use upload_store::UploadStore;

@@ -4,7 +4,7 @@ use clash_record::{
     order_theorem, record, record_of,
 };
 use fixtures::EXIT;
-use numbered::{NumberedRefusal, refusal_of};
+use refusals::{NumberedRefusal, refusal_of};
 use std::test::Fail;
 
 // The facts of an unknown half.

@@ -1,8 +1,8 @@
 //! Tables: rows in the order of names, refusals, clones, and failed allocations.
 use clash_record::{Name, Registration, ResolverId, name};
 use fixtures::{Row, UNKNOWN, exit_registration, reading, registration, table_of};
-use numbered::{Numbered, NumberedRefusal, refusal_of};
 use partition_table::{Table, TableFault};
+use refusals::{Numbered, NumberedRefusal, refusal_of};
 use std::alloc::Global;
 use std::test::Fail;
 use upload_store::UploadStore;

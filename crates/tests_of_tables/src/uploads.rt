@@ -1,7 +1,7 @@
 //! Programs kept under ids from outside, refusals in words, a full store, and uploads that get no memory.
 use clash_record::ProgramId;
 use fixtures::{FIRST, answering};
-use numbered::{Numbered, NumberedRefusal, OUT_OF_MEMORY, Place, refusal_of};
+use refusals::{Numbered, NumberedRefusal, OUT_OF_MEMORY, Place, refusal_of};
 use sha2::{Digest, Sha256};
 use std::alloc::Global;
 use std::test::Fail;

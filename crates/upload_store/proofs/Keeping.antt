@@ -3,7 +3,7 @@ use Rattle.std.proofs.Common.{◌≡◌, ◌⊎◌, ℕ, ◌<◌, ◌≤◌, nat
 use Rattle.std.proofs.lemmas.Bool.{lt-ltb}
 use Rattle.std.specs.Cmp.Lexicographic.{pointwise}
 use Rattle.std.specs.FinMap as map
-use Rattle.numbered.specs.Answers.{HasCause, out_of_memory}
+use Rattle.refusals.specs.Answers.{HasCause, out_of_memory}
 use Rattle.instruction_set.specs.declared.insn.Insn.{Insn}
 use Rattle.instruction_set.specs.contracts.insn.InsnPartialEq.TheImpl as insn_eq
 use Rattle.instruction_set.specs.laws.SameInsn.{same_code}

@@ -4,16 +4,16 @@ use Rattle.std.specs.FinMap as map
 use Rattle.std.specs.Result.{IsErr, IsErrAnd}
 use Rattle.std.specs.Ordering.{is_eq}
 use Rattle.std.specs.Cmp.{tied_itself}
-use Rattle.numbered.specs.Answers.{out_of_memory, HasCause, RanOut, ReturnsOrRunsOut}
+use Rattle.refusals.specs.Answers.{out_of_memory, HasCause, RanOut, ReturnsOrRunsOut}
 use Rattle.instruction_set.specs.declared.insn.Insn.{Insn}
 use Rattle.instruction_set.specs.Machine.{IsSafe}
 use Rattle.insn_codec.specs.declared.fault.CodecFault.{CodecFault}
 use Rattle.insn_codec.specs.Encoding.{Spells}
 use Rattle.insn_codec.specs.Faults.{IsFirstFault}
 use Rattle.verifier.specs.declared.refusal.VerifyFault.TheVariants as verify
-use Rattle.program.specs.Programs.{program_fault_number, IsAccepted, IsProgramFault}
-use Rattle.program.specs.declared.fault.ProgramFault.{ProgramFault}
-use Rattle.program.specs.declared.fault.ProgramFault.TheVariants.{Codec, Verify}
+use Rattle.verifier.specs.Programs.{program_fault_number, IsAccepted, IsProgramFault}
+use Rattle.verifier.specs.declared.program_fault.ProgramFault.{ProgramFault}
+use Rattle.verifier.specs.declared.program_fault.ProgramFault.TheVariants.{Codec, Verify}
 use Rattle.clash_record.specs.declared.registrations.ProgramId.{ProgramId}
 use Rattle.clash_record.specs.laws.Orders.{ids_total}
 use Rattle.upload_store.specs.declared.fault.UploadFault.{UploadFault}

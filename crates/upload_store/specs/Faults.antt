@@ -1,8 +1,8 @@
 -- The numbers and the places of upload faults.
 use Rattle.std.specs.Prelude.{ℕ, Option, None}
-use Rattle.numbered.specs.Answers.{out_of_memory}
-use Rattle.numbered.specs.declared.Place.{Place}
-use Rattle.program.specs.Programs.{program_fault_number, program_fault_place}
+use Rattle.refusals.specs.Answers.{out_of_memory}
+use Rattle.refusals.specs.declared.Place.{Place}
+use Rattle.verifier.specs.Programs.{program_fault_number, program_fault_place}
 use Rattle.upload_store.specs.declared.fault.UploadFault.{UploadFault}
 use Rattle.upload_store.specs.declared.fault.UploadFault.TheVariants.{Program, DigestClash, StoreFull, OutOfMemory}
 

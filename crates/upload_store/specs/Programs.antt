@@ -8,7 +8,7 @@ use Rattle.instruction_set.specs.declared.insn.Insn.{Insn}
 use Rattle.instruction_set.specs.contracts.insn.Insn.{the_row}
 use Rattle.instruction_set.specs.Machine.{IsSafe}
 use Rattle.insn_codec.specs.Encoding.{Spells}
-use Rattle.program.specs.Programs.{IsAccepted}
+use Rattle.verifier.specs.Programs.{IsAccepted}
 use Rattle.clash_record.specs.declared.registrations.ProgramId.{ProgramId}
 use Rattle.clash_record.specs.Orders.{id_cmp}
 use Rattle.clash_record.specs.laws.Codings.{coded_id}

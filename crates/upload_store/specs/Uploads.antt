@@ -3,14 +3,14 @@ use Rattle.std.specs.Prelude.{◌≡◌, ◌≢◌, ℕ, ◌<◌, nat_lt, if◌t
 use Rattle.std.specs.Cmp.Lexicographic.{pointwise}
 use Rattle.std.specs.FinMap as map
 use Rattle.instruction_set.specs.contracts.insn.InsnPartialEq.TheImpl as insn_eq
-use Rattle.numbered.specs.Answers.{RanOut}
+use Rattle.refusals.specs.Answers.{RanOut}
 use Rattle.instruction_set.specs.declared.insn.Insn.{Insn}
 use Rattle.instruction_set.specs.Machine.{IsSafe}
 use Rattle.insn_codec.specs.Encoding.{Spells}
 use Rattle.verifier.specs.declared.refusal.Refusal.{Refusal}
 use Rattle.verifier.specs.declared.refusal.VerifyFault.TheVariants.{Refused}
-use Rattle.program.specs.Programs.{IsAccepted, IsProgramFault}
-use Rattle.program.specs.declared.fault.ProgramFault.TheVariants.{Verify}
+use Rattle.verifier.specs.Programs.{IsAccepted, IsProgramFault}
+use Rattle.verifier.specs.declared.program_fault.ProgramFault.TheVariants.{Verify}
 use Rattle.clash_record.specs.declared.registrations.ProgramId.{ProgramId}
 use Rattle.upload_store.specs.declared.fault.UploadFault.{UploadFault}
 use Rattle.upload_store.specs.declared.fault.UploadFault.TheVariants.{Program, DigestClash, StoreFull, OutOfMemory}

@@ -1,7 +1,7 @@
 //! Accepted programs with their ids.
 ghost use Rattle.std.specs.Prelude.{◌≡◌, IfOk};
 ghost use Rattle.std.specs.Arc.{arc_value};
-ghost use Rattle.program.specs.Programs.{IsAccepted};
+ghost use Rattle.verifier.specs.Programs.{IsAccepted};
 ghost use Rattle.upload_store.specs.Programs.{IsProgram, id_of};
 
 use clash_record::ProgramId;

@@ -3,9 +3,9 @@ ghost use Rattle.std.specs.Prelude.{◌≡◌};
 ghost use Rattle.upload_store.specs.Faults.{upload_fault_number, upload_fault_place};
 ghost use Rattle.upload_store.specs.declared.fault.UploadFault.TheVariants.{Program};
 
-use numbered::{Numbered, OUT_OF_MEMORY, Place, words_of};
-use program::ProgramFault;
+use refusals::{Numbered, OUT_OF_MEMORY, Place, words_of};
 use thiserror::Error;
+use verifier::ProgramFault;
 
 /// The reason why a store did not take bytes.
 #[derive(Clone, Copy, Debug, PartialEq, Eq, Error)]

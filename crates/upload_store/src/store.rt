@@ -3,7 +3,7 @@ ghost use Rattle.std.specs.Prelude.{◌≡◌, ◌≤◌, ◌↔◌, IsTrue, Ok,
 ghost use Rattle.std.specs.Option.{option_map};
 ghost use Rattle.std.specs.Arc.{arc_value};
 ghost use Rattle.std.specs.FinMap as map;
-ghost use Rattle.numbered.specs.Answers.{HasCause, IsAnswered, ReturnsOrRunsOut};
+ghost use Rattle.refusals.specs.Answers.{HasCause, IsAnswered, ReturnsOrRunsOut};
 ghost use Rattle.upload_store.specs.declared.fault.UploadFault.{UploadFault};
 ghost use Rattle.upload_store.specs.Programs.{IsProgram, id_of, mapped};
 ghost use Rattle.upload_store.specs.Uploads.{uploaded_as, keep_fault, Fits, HasPlace, IsKept, IsRejection, IsUnaccepted, IsUploadFault, IsUploaded};
@@ -14,13 +14,12 @@ use crate::accepted::Upload;
 use crate::fault::UploadFault;
 use clash_record::ProgramId;
 use insn_codec::one_reading_theorem;
-use program::read_program;
 use sha2::{Digest, Sha256};
 use std::alloc::{AllocError, Global};
 use std::collections::{BTreeMap, btree_map};
 use std::marker::Model;
 use std::sync::Arc;
-use verifier::Verified;
+use verifier::{Verified, read_program};
 
 /// The most programs that a store holds.
 pub const MAX_PROGRAMS: usize = 256;

@@ -18,3 +18,4 @@ pub mod OneVerdict
 pub mod LongerRecords
 pub mod Lifted
 pub mod StatesBefore
+pub mod Outcomes

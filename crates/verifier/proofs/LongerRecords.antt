@@ -1,4 +1,4 @@
--- Facts about a record hold for a longer one.
+-- Facts about a context hold for a longer one.
 use Rattle.std.proofs.Common.{◌≡◌, ℕ, zero, suc, ◌+◌, ◌-◌, ◌*◌, ◌/◌, ◌%◌, ◌^◌, ◌<◌, ◌≤◌, Bool, true, false, cond, ◌==◌, ◌&&◌, ◌⊎◌, inl, inr, refl, ap, ◌∙◌, sym, subst, arith, List, length, take, Option, Some, None, ℤ}
 use Rattle.std.specs.Prelude.{IsTrue, nat_le, nat_lt, slice_index, slice_set}
 use Rattle.std.proofs.lemmas.Bool.Decides.{nat_tests}
@@ -13,7 +13,7 @@ use Rattle.instruction_set.specs.declared.insn.AluOp.TheVariants.{Mov}
 use Rattle.instruction_set.specs.declared.insn.Insn.{Insn}
 use Rattle.instruction_set.specs.declared.insn.Insn.TheVariants.{Alu, Neg, MovSx, End, LoadWide, Load, LoadSx, Store, StoreImm, Jump, JumpLong, JumpIf, Exit}
 use Rattle.instruction_set.specs.Slots.{IsCode}
-use Rattle.instruction_set.specs.Machine.{Memory, Placement, IsPlacementFor, State, ◌>>=◌, insn_at, entry_for, read_bytes, written, bytes_of, address_of, word_in, operand, target, go_to, store_at, set_register, stack_len, record_len, after, step, steps, EndsWithFor, IsRecordOf}
+use Rattle.instruction_set.specs.Machine.{Memory, Placement, IsPlacementFor, State, ◌>>=◌, insn_at, entry_for, read_bytes, written, bytes_of, address_of, word_in, operand, target, go_to, store_at, set_register, stack_len, after, step, steps, EndsWithFor, IsRecordOf}
 use Rattle.abstract_value.specs.Domain.{Ops, Laws}
 use Rattle.abstract_value.specs.States.{View}
 use Rattle.abstract_value.specs.declared.states.RegState.{RegState}
@@ -22,7 +22,7 @@ use Rattle.verifier.specs.declared.rule.Rule.TheVariants.{OutsideRecord}
 use Rattle.verifier.specs.Structure.{IsStructured}
 use Rattle.verifier.specs.Rules.{Access, access_of, of_access, inside_record, PassesFor}
 use Rattle.verifier.specs.Assignments.{IsTypableFor}
-use Rattle.verifier.specs.LongerRecords.{shorter_len, EndsAlike}
+use Rattle.verifier.specs.LongerRecords.{EndsAlikeFor}
 use Rattle.verifier.proofs.Onward.{bind}
 use Rattle.verifier.proofs.Safe.{safe}
 
@@ -248,7 +248,7 @@ too_steps zero stack_at code s m h = λ t e. let f : s ≡ t = cc in
 too_steps (suc n) stack_at code s m h = too_more n stack_at code s m h (too_steps n stack_at code)
     (step stack_at code s) refl
 
--- ---- a longer record
+-- ---- a longer context
 
 placed_too : (short long : ℕ) (p : Placement) → short ≤ long → IsPlacementFor long p → IsPlacementFor short p
 placed_too short long p h placed =
@@ -284,18 +284,17 @@ ends_too short long code bytes p v n h e =
     (entry_within short long p bytes h) e.last e.reached in
     record { last = with_memory e.last q.0; counted = e.counted; reached = q.1; at_exit = e.at_exit; answer = e.answer }
 
-pub ends_alike : {D : Type 0} {o : Ops D} (laws : Laws o) (code : List Insn) (bytes : List ℕ) → IsCode code
-    → IsStructured code → IsTypableFor shorter_len o code → IsRecordOf record_len bytes → EndsAlike code bytes
-ends_alike laws code bytes is_code structured typable whole =
-    let long : length bytes ≡ record_len = whole.0 in
-    let front : IsRecordOf shorter_len (take shorter_len bytes) =
-    (length-take-le shorter_len bytes (omega arith), All-take (λ byte. byte < 256) shorter_len bytes whole.1) in
-    let q = safe laws shorter_len code is_code structured typable (take shorter_len bytes) front in
+pub ends_alike : {D : Type 0} {o : Ops D} (laws : Laws o) (short long : ℕ) (code : List Insn) (bytes : List ℕ) → short ≤ long
+    → IsCode code → IsStructured code → IsTypableFor short o code → IsRecordOf long bytes → EndsAlikeFor short long code bytes
+ends_alike laws short long code bytes h is_code structured typable whole =
+    let size : length bytes ≡ long = whole.0 in
+    let front : IsRecordOf short (take short bytes) =
+    (length-take-le short bytes (omega arith), All-take (λ byte. byte < 256) short bytes whole.1) in
+    let q = safe laws short code is_code structured typable (take short bytes) front in
     record {
       value = q.0;
       steps = q.1;
       few = q.2;
       shorter = q.3;
-      longer = λ p placed. ends_too shorter_len record_len code bytes p q.0 q.1 (omega arith)
-          (q.3 p (placed_too shorter_len record_len p (omega arith) placed));
+      longer = λ p placed. ends_too short long code bytes p q.0 q.1 h (q.3 p (placed_too short long p h placed));
     }

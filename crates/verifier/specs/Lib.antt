@@ -7,4 +7,5 @@ pub mod Stores
 pub mod Width
 pub mod Peak
 pub mod LongerRecords
+pub mod Programs
 pub mod model

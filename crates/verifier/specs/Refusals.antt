@@ -1,8 +1,8 @@
 -- The refusals of code.
 use Rattle.std.specs.Prelude.{ℕ, ◌+◌, List, Option, Some, None}
-use Rattle.numbered.specs.Answers.{out_of_memory}
-use Rattle.numbered.specs.declared.Place.{Place}
-use Rattle.numbered.specs.declared.Place.TheVariants.{Slot}
+use Rattle.refusals.specs.Answers.{out_of_memory}
+use Rattle.refusals.specs.declared.Place.{Place}
+use Rattle.refusals.specs.declared.Place.TheVariants.{Slot}
 use Rattle.instruction_set.specs.Machine.{record_len}
 use Rattle.instruction_set.specs.declared.insn.Insn.{Insn}
 use Rattle.abstract_value.specs.Domain.{Ops}

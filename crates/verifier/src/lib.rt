@@ -1,4 +1,5 @@
-//! Accepts safe code by one forward pass over an abstract domain, or returns the first rule that fails.
+//! Accepts safe code by one forward pass over an abstract domain, or returns the first rule that fails; reads untrusted bytes as such
+//! code.
 #![tactic(auto)]
 
 mod before;
@@ -7,6 +8,8 @@ mod kinds;
 mod longer_records;
 mod memory_access;
 mod pointer_moves;
+mod program_fault;
+mod reading;
 mod refusal;
 mod rule;
 mod structure;
@@ -16,7 +19,9 @@ mod verify_code;
 mod wider;
 
 pub use before::{state_before, state_before_for};
-pub use longer_records::{SHORTER_RECORD_LEN, longer_record_theorem};
+pub use longer_records::{SHORTER_RECORD_LEN, longer_context_theorem, longer_record_theorem};
+pub use program_fault::ProgramFault;
+pub use reading::{Profile, read_program, read_program_over};
 pub use refusal::{Refusal, VerifyFault};
 pub use rule::Rule;
 pub use verified::{Verified, VerifiedFor};

@@ -3,7 +3,7 @@ ghost use Rattle.std.specs.Prelude.{◌≡◌};
 ghost use Rattle.verifier.specs.Refusals.{verify_fault_number, verify_fault_place};
 
 use crate::rule::Rule;
-use numbered::{Numbered, OUT_OF_MEMORY, Place, words_of};
+use refusals::{Numbered, OUT_OF_MEMORY, Place, words_of};
 use thiserror::Error;
 
 /// A failing instruction, by its first slot, and the rule.

@@ -2,7 +2,7 @@
 ghost use Rattle.std.specs.Prelude.{◌≡◌};
 ghost use Rattle.verifier.specs.Structure.{rule_number};
 
-use numbered::words_of;
+use refusals::words_of;
 use thiserror::Error;
 
 /// The rules of the verifier.

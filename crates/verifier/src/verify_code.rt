@@ -14,7 +14,7 @@ ghost use Rattle.verifier.specs.Width.{widest};
 ghost use Rattle.verifier.specs.Peak.{IsPeak, IsPeakFor, IsPeakAtFault, IsPeakAtFaultFor};
 ghost use Rattle.verifier.specs.model.Flow.{flow, flow_edge};
 ghost use Rattle.verifier.specs.model.Pending.{IsPending};
-ghost use Rattle.numbered.specs.Answers.{HasCause};
+ghost use Rattle.refusals.specs.Answers.{HasCause};
 ghost use Rattle.verifier.specs.Refusals.{verify_fault_number, IsUnfulfilledFor, IsRefused, IsRefusedFor, IsRefusedAt, IsRefusedAtFor};
 ghost use Rattle.verifier.specs.declared.refusal.Refusal.{Refusal};
 

@@ -1,11 +1,11 @@
 -- Loads, by the results of reading a program.
 use Rattle.std.proofs.Common.{◌≡◌, ◌⊎◌, inl, inr, refl, ap, sym, subst, true≢false}
 use Rattle.std.specs.Prelude.{ℕ, List, Option, Result, Ok, Err, IsOk, IfErr}
-use Rattle.numbered.specs.Answers.{HasCause, RanOut, out_of_memory}
-use Rattle.numbered.specs.declared.place.Place.{Place}
+use Rattle.refusals.specs.Answers.{HasCause, RanOut, out_of_memory}
+use Rattle.refusals.specs.declared.place.Place.{Place}
 use Rattle.instruction_set.specs.declared.insn.Insn.{Insn}
-use Rattle.program.specs.Programs.{IsAccepted, IsProgramFault, program_fault_number, program_fault_place}
-use Rattle.program.specs.declared.fault.ProgramFault.{ProgramFault}
+use Rattle.verifier.specs.Programs.{IsAccepted, IsProgramFault, program_fault_number, program_fault_place}
+use Rattle.verifier.specs.declared.program_fault.ProgramFault.{ProgramFault}
 use Rattle.upload_store.specs.Programs.{Upload}
 use Rattle.c_calls.specs.Answers.{slot_of}
 use Rattle.c_calls.specs.Programs as load

@@ -1,7 +1,7 @@
 -- Calls that read bytes, by the results of reading.
 use Rattle.std.proofs.Common.{◌≡◌, ◌⊎◌, ℕ, inl, inr, sym, subst, ◌∙◌}
 use Rattle.std.specs.Prelude.{List, Result, Ok, Err, IfOk, IfErr, IsOkAnd}
-use Rattle.numbered.specs.Answers.{HasCause, ReturnsOrRunsOut, out_of_memory}
+use Rattle.refusals.specs.Answers.{HasCause, ReturnsOrRunsOut, out_of_memory}
 use Rattle.c_calls.specs.Answers.{IsAnswer, Rejects, Takes}
 
 -- a value that was read is taken

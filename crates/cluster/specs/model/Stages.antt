@@ -4,7 +4,7 @@ use Rattle.std.specs.FinMap.{len}
 use Rattle.exchange_core.specs.declared.side.Side as code
 use Rattle.clash_record.specs.declared.side_id.SideId.{SideId}
 use Rattle.clash_record.specs.declared.side_id.SideId.TheVariants.{A, B}
-use Rattle.exchange_core.specs.Sides.{Side, Exchange, Heard, Offer, shown_table}
+use Rattle.exchange_law.specs.Sides.{Side, Exchange, Heard, Offer, shown_table}
 use Rattle.exchange_core.specs.Finished.{Finished, IsFinished}
 use Rattle.exchange_core.specs.Shown.{calls, limit_of}
 use Rattle.partition_table.specs.declared.judged.Judged.{Judged}

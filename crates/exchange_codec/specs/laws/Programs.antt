@@ -9,9 +9,9 @@ use Rattle.verifier.specs.Assignments.{IsTypable}
 use Rattle.verifier.specs.Refusals.{IsRefusedAt}
 use Rattle.verifier.specs.declared.refusal.Refusal.{Refusal}
 use Rattle.verifier.specs.declared.refusal.VerifyFault.TheVariants as verify
-use Rattle.program.specs.declared.fault.ProgramFault.{ProgramFault}
-use Rattle.program.specs.declared.fault.ProgramFault.TheVariants.{Codec, Verify}
-use Rattle.program.specs.Programs.{IsAccepted, IsProgramFault, profile}
+use Rattle.verifier.specs.declared.program_fault.ProgramFault.{ProgramFault}
+use Rattle.verifier.specs.declared.program_fault.ProgramFault.TheVariants.{Codec, Verify}
+use Rattle.verifier.specs.Programs.{IsAccepted, IsProgramFault, profile}
 
 -- what is known of code
 pub record Readings : Type 0 where

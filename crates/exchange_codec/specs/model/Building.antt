@@ -4,10 +4,10 @@ use Rattle.std.specs.List.{AllByRecursion}
 use Rattle.std.specs.Arc.{arc_value}
 use Rattle.std.specs.BTreeMap.{BTreeMap, get}
 use Rattle.std.specs.FinMap.{entries}
-use Rattle.numbered.specs.Answers.{out_of_memory}
+use Rattle.refusals.specs.Answers.{out_of_memory}
 use Rattle.instruction_set.specs.declared.insn.Insn.{Insn}
-use Rattle.program.specs.declared.fault.ProgramFault.{ProgramFault}
-use Rattle.program.specs.Programs.{IsProgramFault, program_fault_number}
+use Rattle.verifier.specs.declared.program_fault.ProgramFault.{ProgramFault}
+use Rattle.verifier.specs.Programs.{IsProgramFault, program_fault_number}
 use Rattle.clash_record.specs.Name.{Name}
 use Rattle.clash_record.specs.Orders.{id_cmp}
 use Rattle.clash_record.specs.declared.registrations.ProgramId.{ProgramId}
@@ -15,7 +15,7 @@ use Rattle.clash_record.specs.declared.registrations.ResolverId.{ResolverId}
 use Rattle.clash_record.specs.declared.registrations.ResolverId.TheVariants.{Builtin, Program}
 use Rattle.upload_store.specs.Programs.{IsProgram}
 use Rattle.partition_table.specs.Tables.{Row, Table, IsTable}
-use Rattle.exchange_core.specs.Sides.{Offer}
+use Rattle.exchange_law.specs.Sides.{Offer}
 use Rattle.exchange_codec.specs.declared.building.Known.{Known}
 use Rattle.exchange_codec.specs.declared.rows.RowText as declared
 use Rattle.exchange_codec.specs.declared.fault.ItemFault.{ItemFault}

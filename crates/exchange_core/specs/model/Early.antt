@@ -7,7 +7,7 @@ use Rattle.exchange_core.specs.declared.fault.SideFault.{SideFault}
 use Rattle.exchange_core.specs.declared.fault.SideFault.TheVariants.{Healing, NotHealing, SeedDiffers, JournalFull}
 use Rattle.exchange_core.specs.declared.fault.SideFault.TheVariants as of
 use Rattle.partition_table.specs.declared.fault.TableFault.TheVariants.{NameTaken, Full, TooManyNames}
-use Rattle.exchange_core.specs.Sides.{Offer, Exchange, Side}
+use Rattle.exchange_law.specs.Sides.{Offer, Exchange, Side}
 use Rattle.exchange_core.specs.Refusals.{union_for, is_first_offer, sent_fault}
 
 -- of a registration, on a side with an open exchange or a full journal

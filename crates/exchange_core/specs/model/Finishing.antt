@@ -4,7 +4,7 @@ use Rattle.std.specs.List.{list_all}
 use Rattle.clash_record.specs.Name.{Name}
 use Rattle.partition_table.specs.Tables.{Table}
 use Rattle.clash_record.specs.declared.side_id.SideId.{SideId}
-use Rattle.exchange_core.specs.Sides.{Judged, Heard, Exchange, clashes_for, fit_for, is_lawful, merge_for, answer_in}
+use Rattle.exchange_law.specs.Sides.{Judged, Heard, Exchange, clashes_for, fit_for, is_lawful, merge_for, answer_in}
 use Rattle.exchange_core.specs.Finished.{all_held}
 
 -- the exchange of a side with this table can be finished

@@ -2,7 +2,7 @@
 use Rattle.std.specs.Prelude.{Bool, false, List, [], is_some}
 use Rattle.std.specs.Option.{option_map_or}
 use Rattle.partition_table.specs.Tables.{Clash}
-use Rattle.exchange_core.specs.Sides.{Offer, Side, clashes_for}
+use Rattle.exchange_law.specs.Sides.{Offer, Side, clashes_for}
 
 -- the other side's offer was heard in the open exchange
 abbrev pub has_heard : Side → Bool

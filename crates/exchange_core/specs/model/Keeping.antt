@@ -3,7 +3,7 @@ use Rattle.std.specs.Prelude.{◌≡◌}
 use Rattle.std.specs.Option.{option_map}
 use Rattle.std.specs.Arc.{arc_value}
 use Rattle.exchange_core.specs.declared.state.State.TheInside.{Inside}
-use Rattle.exchange_core.specs.Sides.{heard_clashes}
+use Rattle.exchange_law.specs.Sides.{heard_clashes}
 use Rattle.exchange_core.specs.Views.{state_seen}
 
 -- the clashes kept are those of the open exchange

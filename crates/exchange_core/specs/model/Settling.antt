@@ -2,8 +2,8 @@
 use Rattle.std.specs.Prelude.{◌≡◌, ℕ, List, length, map, Some}
 use Rattle.partition_table.specs.Tables.{Clash}
 use Rattle.exchange_core.specs.declared.settling.Course.{Course}
-use Rattle.exchange_core.specs.Sides.{Judged, Heard, Exchange, Side, clashes_of}
-use Rattle.exchange_core.specs.Calls.{Call, Take}
+use Rattle.exchange_law.specs.Sides.{Judged, Heard, Exchange, Side, clashes_of}
+use Rattle.exchange_law.specs.Calls.{Call, Take}
 use Rattle.exchange_core.specs.Settling.{judged_in}
 
 -- there is one place for each of these clashes, once the offer is heard

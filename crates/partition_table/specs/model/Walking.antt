@@ -1,5 +1,5 @@
 -- Two tables walked side by side, as lists of entries in the order of names.
-use Rattle.std.specs.Prelude.{◌≡◌, true, if◌then◌else◌, Option, Some, None, List, [], ◌∷◌}
+use Rattle.std.specs.Prelude.{◌≡◌, Bool, true, ◌&&◌, if◌then◌else◌, Option, Some, None, List, [], ◌∷◌}
 use Rattle.std.specs.Borrow.{Bor}
 use Rattle.std.specs.Option.{option_map}
 use Rattle.std.specs.declared.cmp.Ordering.TheVariants.{Less}
@@ -10,7 +10,7 @@ use Rattle.std.specs.Map.Iter.{deref_pair}
 use Rattle.clash_record.specs.declared.registrations.Registration.{Registration}
 use Rattle.clash_record.specs.Orders.{name_cmp}
 use Rattle.clash_record.specs.Name.{Name}
-use Rattle.partition_table.specs.Tables.{Row, Table}
+use Rattle.partition_table.specs.Tables.{Table, is_name, same_registration}
 use Rattle.partition_table.specs.declared.paired.Ahead.{Ahead}
 use Rattle.partition_table.specs.declared.paired.Paired.{Paired}
 
@@ -19,6 +19,13 @@ module _ {Y : Type 0} where
   abbrev pub drop_before : Name → List (Name × Y) → List (Name × Y)
   drop_before name [] = []
   drop_before name (e ∷ es) = if is_lt (name_cmp e.0 name) then drop_before name es else e ∷ es
+
+  -- the entries after the name
+  abbrev pub drop_through : Name → List (Name × Y) → List (Name × Y)
+  drop_through name [] = []
+  drop_through name (e ∷ es) =
+      if is_lt (name_cmp e.0 name) then drop_through name es
+      else (if is_eq (name_cmp e.0 name) then es else e ∷ es)
 
   -- what the first entry has, if it has the name
   abbrev pub first_at : Name → List (Name × Y) → Option Y
@@ -29,7 +36,7 @@ module _ {X Y : Type 0} where
   -- each entry of the first list with what the second has under its name
   abbrev pub walk : List (Name × X) → List (Name × Y) → List (Name × X × Option Y)
   walk [] ys = []
-  walk (x ∷ xs) ys = (x.0, x.1, first_at x.0 (drop_before x.0 ys)) ∷ walk xs (drop_before x.0 ys)
+  walk (x ∷ xs) ys = (x.0, x.1, first_at x.0 (drop_before x.0 ys)) ∷ walk xs (drop_through x.0 ys)
 
 -- the next row and the rest; empty at the end
 abbrev pub from_next : Option (Bor Name × Bor Registration) → List (Name × Registration) → List (Name × Registration)
@@ -55,11 +62,9 @@ IsPaired a b item =
     (option_map (λ row. row.registration) (get a item.0) ≡ Some item.1)
     × (option_map (λ row. row.registration) (get b item.0) ≡ item.2)
 
--- the second table has each name of the first, with the same registration
-abbrev pub IsWithin : Table → Table → Type 0
-IsWithin a b =
-    (name : Name) (row : Row) → get a name ≡ Some row
-    → option_map (λ row. row.registration) (get b name) ≡ Some row.registration
+-- a name and its registration are those of another row
+abbrev pub is_row : Name × Registration → Name × Registration → Bool
+is_row e f = is_name e.0 f.0 && same_registration e.1 f.1
 
 -- the name comes after the last one, if there is one
 abbrev pub IsPast : Option Name → Name → Type 0

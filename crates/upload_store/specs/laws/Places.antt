@@ -8,7 +8,7 @@ use Rattle.verifier.specs.Structure.{rule_number}
 use Rattle.verifier.specs.declared.rule.Rule.{Rule}
 use Rattle.verifier.specs.declared.rule.Rule.TheVariants as rule
 use Rattle.verifier.specs.declared.refusal.VerifyFault.TheVariants as verify
-use Rattle.program.specs.declared.fault.ProgramFault.TheVariants.{Codec, Verify}
+use Rattle.verifier.specs.declared.program_fault.ProgramFault.TheVariants.{Codec, Verify}
 use Rattle.upload_store.specs.Faults.{upload_fault_number, upload_fault_place}
 use Rattle.upload_store.specs.declared.fault.UploadFault.{UploadFault}
 use Rattle.upload_store.specs.declared.fault.UploadFault.TheVariants.{Program, DigestClash, StoreFull, OutOfMemory}

@@ -2,7 +2,7 @@ use Rattle.std.proofs.Common.{◌≡◌, ℕ, ◌<◌, ◌+◌, arith, length, d
 use Rattle.std.specs.Prelude.{sum_by}
 use Rattle.std.proofs.lemmas.Bool.Decides.{nat_tests}
 use Rattle.std.proofs.lemmas.Result.{err_from_is_err_and}
-use Rattle.numbered.specs.Answers.{HasCause, ReturnsOrRunsOut}
+use Rattle.refusals.specs.Answers.{HasCause, ReturnsOrRunsOut}
 use Rattle.instruction_set.specs.Machine.{slots_of}
 use Rattle.assembler_text.specs.Faults.{line_fault_number}
 use Rattle.assembler_text.specs.declared.lexer.Class.TheVariants as class

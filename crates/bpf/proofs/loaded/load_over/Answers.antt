@@ -1,11 +1,11 @@
 use Rattle.std.proofs.Common.{◌≡◌, sym, subst, Ok, Err, List}
-use Rattle.numbered.specs.Answers.{ReturnsOrRunsOut}
+use Rattle.refusals.specs.Answers.{ReturnsOrRunsOut}
 use Rattle.instruction_set.specs.declared.insn.Insn.{Insn}
 use Rattle.instruction_set.specs.Machine.{IsSafeFor}
 use Rattle.insn_codec.specs.Encoding.{Spells}
 use Rattle.verifier.specs.Stores.{code_for}
-use Rattle.program.specs.Programs.{program_fault_number}
-use Rattle.program.specs.declared.fault.ProgramFault.TheVariants.{Codec, Verify}
+use Rattle.verifier.specs.Programs.{program_fault_number}
+use Rattle.verifier.specs.declared.program_fault.ProgramFault.TheVariants.{Codec, Verify}
 use Rattle.bpf.proofs.Outcomes.{converted, codec_taken, codec_told, refused_taken, refused_told, accepted_told}
 use Rattle.bpf.proofs.loaded.load_over.Goals as goal
 

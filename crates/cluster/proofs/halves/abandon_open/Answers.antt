@@ -1,4 +1,4 @@
-use Rattle.exchange_core.specs.Calls.{Abandon}
+use Rattle.exchange_law.specs.Calls.{Abandon}
 use Rattle.cluster.proofs.Answered.{answer_grows}
 use Rattle.cluster.proofs.halves.abandon_open.Goals as goal
 

@@ -5,7 +5,7 @@ use Rattle.clap.specs.Words.{Text, HasKind, IsAmong, fault_of, is_simple_and_fre
 use Rattle.clap.specs.declared.error.Error.{Error}
 use Rattle.command_line.specs.declared.faults.CommandFault.TheVariants.{Parse}
 use Rattle.clap.proofs.OnLiterals.{clap_on_literals}
-use Rattle.task.specs.declared.Task.{Task}
+use Rattle.command_line.specs.declared.task.Task.{Task}
 use Rattle.command_line.specs.declared.faults.CommandFault.{CommandFault}
 use Rattle.command_line.specs.Asked.{Asked, Asks, IsForMemory, asked_by, asked_of, asks_refusals, asks_version, heal_app}
 use Rattle.command_line.proofs.reading.command.Goals as goal

@@ -1,5 +1,5 @@
 use Rattle.std.proofs.Common.{◌∙◌, ap, sym, Bor, List, ℕ, Option, option_map}
-use Rattle.task.specs.Names.{names_if}
+use Rattle.command_line.specs.Names.{names_if}
 use Rattle.command_line.specs.Asked.{names_named}
 use Rattle.command_line.proofs.Counts.{named, unnamed, names_short}
 use Rattle.command_line.proofs.reading.names_of.Goals as goal

@@ -1,5 +1,5 @@
 use Rattle.std.proofs.Common.{◌∙◌, ap, sym, Bor, List, ℕ, Option, option_map}
-use Rattle.task.specs.Workers.{workers_if}
+use Rattle.command_line.specs.Workers.{workers_if}
 use Rattle.command_line.specs.Asked.{workers_named}
 use Rattle.command_line.proofs.Counts.{named, unnamed, workers_short}
 use Rattle.command_line.proofs.reading.workers_of.Goals as goal

@@ -2,7 +2,7 @@ use Rattle.std.proofs.Common.{◌≡◌, true, is_some, None, ap, sym, ◌∙◌
 use Rattle.std.specs.Arc.{arc_value}
 use Rattle.std.specs.BTreeMap.{get}
 use Rattle.instruction_set.specs.Machine.{IsSafe}
-use Rattle.program.specs.Programs.{IsAccepted}
+use Rattle.verifier.specs.Programs.{IsAccepted}
 use Rattle.clash_record.specs.Orders.{id_cmp}
 use Rattle.clash_record.specs.declared.registrations.ProgramId.{ProgramId}
 use Rattle.upload_store.specs.Programs.{id_of}

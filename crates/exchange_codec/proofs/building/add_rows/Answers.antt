@@ -1,5 +1,5 @@
 use Rattle.std.proofs.Common.{inl, arith}
-use Rattle.numbered.specs.Answers.{HasCause}
+use Rattle.refusals.specs.Answers.{HasCause}
 use Rattle.exchange_codec.specs.Faults.{message_fault_number}
 use Rattle.exchange_codec.specs.model.Building.{IsRowsFault}
 use Rattle.exchange_codec.specs.RowsText.{row_view, rows_view}

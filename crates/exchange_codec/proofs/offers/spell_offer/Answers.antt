@@ -1,6 +1,6 @@
 use Rattle.std.proofs.Common.{List, ℕ, ◌++◌, ap, ◌∙◌, refl}
 use Rattle.std.specs.Int.{w64, to_le_bytes}
-use Rattle.exchange_core.specs.Sides.{Offer}
+use Rattle.exchange_law.specs.Sides.{Offer}
 use Rattle.exchange_codec.specs.Offers.{offers_header}
 use Rattle.exchange_codec.proofs.TableLaws.{offer_written, offer_spelled}
 use Rattle.exchange_codec.proofs.offers.spell_offer.Goals as goal

@@ -3,7 +3,7 @@ use Rattle.std.specs.Prelude.{IfOk, IfErr}
 use Rattle.partition_table.specs.Tables.{most_names}
 use Rattle.exchange_codec.specs.declared.rows.RowText as lent
 use Rattle.exchange_codec.specs.model.Building.{IsTableOf, IsRowsFault}
-use Rattle.numbered.specs.Answers.{HasCause}
+use Rattle.refusals.specs.Answers.{HasCause}
 use Rattle.exchange_codec.specs.Faults.{message_fault_number}
 use Rattle.exchange_codec.specs.RowsText.{rows_view}
 use Rattle.exchange_codec.specs.Tables.{IsTableFault}

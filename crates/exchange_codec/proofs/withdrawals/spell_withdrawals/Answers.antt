@@ -1,6 +1,6 @@
 use Rattle.std.proofs.Common.{rules, List, ℕ, ◌++◌, refl, ap, ◌∙◌}
 use Rattle.std.specs.Int.{w64, to_le_bytes}
-use Rattle.exchange_core.specs.Sides.{Withdrawals}
+use Rattle.exchange_law.specs.Sides.{Withdrawals}
 use Rattle.exchange_codec.specs.Withdrawals.{withdrawals_header}
 use Rattle.exchange_codec.proofs.WithdrawalLaws.{list_written, names_spelled, spelled_names}
 use Rattle.exchange_codec.proofs.withdrawals.spell_withdrawals.Goals as goal

@@ -1,5 +1,5 @@
 use Rattle.std.proofs.Common.{◌≡◌, ◌++◌, map, drop}
-use Rattle.exchange_core.specs.Sides.{Judged}
+use Rattle.exchange_law.specs.Sides.{Judged}
 use Rattle.exchange_core.proofs.finishing.answers_of.Given as goal
 
 -- the answers so far and those of what is left are all

@@ -3,7 +3,7 @@ use Rattle.std.specs.Arc.{arc_value}
 use Rattle.std.specs.Option.{option_map}
 use Rattle.clash_record.specs.Name.{Name}
 use Rattle.partition_table.specs.Tables.{Table}
-use Rattle.exchange_core.specs.Sides.{Exchange}
+use Rattle.exchange_law.specs.Sides.{Exchange}
 use Rattle.exchange_core.specs.Finished.{IsFinished, finished_by}
 use Rattle.exchange_core.specs.Codings.{names_of}
 use Rattle.exchange_core.specs.model.Finishing.{IsMergeable, IsMergeOf}

@@ -1,9 +1,9 @@
 use Rattle.std.proofs.Common.{◌≡◌, ℕ, length, true, refl, ap, sym, subst, ◌∙◌}
-use Rattle.std.specs.Option.{option_map}
+use Rattle.std.specs.Option.{option_map, option_map_or}
 use Rattle.clash_record.specs.declared.side_id.SideId.{SideId}
 use Rattle.clash_record.specs.declared.side_id.SideId.TheVariants.{A, B}
 use Rattle.partition_table.specs.Tables.{Table, most_names, fit_within, fit_together, clash_names}
-use Rattle.exchange_core.specs.Sides.{Exchange, fit_for, merge_for}
+use Rattle.exchange_law.specs.Sides.{Exchange, fit_for, merge_for}
 use Rattle.exchange_core.specs.Finished.{all_held}
 use Rattle.exchange_core.specs.model.Pairing.{clash_names_for}
 use Rattle.exchange_core.specs.Codings.{names_of}
@@ -47,6 +47,6 @@ returns c =
     let gone = c.names.ensures ∙ c.withdrawn.ensures in
     let sent = c.deref-4.ensures.value ∙ (λ i. (c.deref-3.ensures i).items) in
     merged_so c.requires c.in-Some-Some.heard (names_of c.in-Some-Some.theirs) heard theirs
-    c.in_ok-rulings.rulings.items c.in_ok-table.table held
+    c.in_ok-rulings.rulings.items (option_map_or (λ table. table) c.in_ok-table.table c.args.own.now) held
     (c.in_ok-table.ensures c.args.id
     ∙ (λ i. merge_for c.args.id c.args.own.now (c.table.ensures i) (said i) (gone i) (sent i)))

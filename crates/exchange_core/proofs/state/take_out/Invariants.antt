@@ -1,5 +1,5 @@
 use Rattle.std.proofs.Common.{◌≡◌, drop}
-use Rattle.exchange_core.specs.Sides.{without}
+use Rattle.exchange_law.specs.Sides.{without}
 use Rattle.exchange_core.proofs.state.take_out.Given as goal
 
 -- what is left of the names has still to go

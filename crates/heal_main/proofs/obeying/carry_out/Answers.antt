@@ -1,5 +1,5 @@
 use Rattle.std.proofs.Common.{sym, subst}
-use Rattle.task.specs.declared.Task.{Task}
+use Rattle.command_line.specs.declared.task.Task.{Task}
 use Rattle.heal_main.specs.Obeying.{Obeys, RunsFile}
 use Rattle.heal_main.proofs.obeying.carry_out.Goals as goal
 

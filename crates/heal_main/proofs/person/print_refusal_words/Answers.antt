@@ -1,7 +1,7 @@
 use Rattle.std.proofs.Common.{◌++◌, codes, List, ℕ}
 use Rattle.std.specs.Fmt.{decimal}
-use Rattle.numbered.specs.Texts.{at_place}
-use Rattle.script_machine.proofs.Pieces.{then_sent}
+use Rattle.refusals.specs.Texts.{at_place}
+use Rattle.scripts.proofs.Pieces.{then_sent}
 use Rattle.heal_main.proofs.person.print_refusal_words.Goals as goal
 
 pub returns : goal.returns

@@ -5,7 +5,7 @@ use Rattle.partition_table.specs.Tables.{facts_of, clashes}
 use Rattle.partition_table.specs.model.Judging.{clash_by_name}
 use Rattle.partition_table.specs.model.Walking.{pairs_left}
 use Rattle.partition_table.proofs.OneClash.{all_found, alone_few, none_alone}
-use Rattle.partition_table.proofs.clashing.walk.Goals.{In-None}
+use Rattle.partition_table.proofs.clashing.walk.Goals.{After-shrink_to_fit}
 use Rattle.partition_table.proofs.clashing.walk.Goals as goal
 
 pub overflow_add-alone : goal.overflow_add-alone
@@ -13,7 +13,7 @@ overflow_add-alone c =
     omega (arith, c.loop-name.invariant.counted, alone_few c.args.b.now c.args.a.now c.len.ensures.kept)
 
 -- where nothing is left, all is found
-listed : (c : In-None) → c.loop-name.found.items ≡ clashes c.args.a.now c.args.uptime_a c.args.b.now c.args.uptime_b
+listed : (c : After-shrink_to_fit) → c.loop-name.found.items ≡ clashes c.args.a.now c.args.uptime_a c.args.b.now c.args.uptime_b
 unfolding clashes
 listed c =
     let a = c.args.a.now in
@@ -24,7 +24,7 @@ listed c =
     ∙ ap (λ facts. filter_map (clash_by_name (facts_of a c.args.uptime_a) a facts b) (keys a)) c.new-half_b.ensures.facts
 
 pub returns-clause-clashes : goal.returns-clause-clashes
-returns-clause-clashes c = listed c
+returns-clause-clashes c = c.shrink_to_fit.ensures.items ∙ listed c
 
 pub returns-clause-alone : goal.returns-clause-alone
 returns-clause-alone c =

@@ -1,5 +1,5 @@
 use Rattle.std.proofs.Common.{Err, arith}
-use Rattle.numbered.specs.Answers.{HasCause}
+use Rattle.refusals.specs.Answers.{HasCause}
 use Rattle.replica_codec.specs.Entries.{IsEntryFault}
 use Rattle.replica_codec.specs.EntriesText.{entry_view}
 use Rattle.replica_codec.specs.Faults.{replica_message_fault_number}

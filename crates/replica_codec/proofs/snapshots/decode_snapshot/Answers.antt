@@ -1,5 +1,5 @@
 use Rattle.std.proofs.Common.{ℕ, ◌-◌, length, Err, arith, ap, ◌∙◌}
-use Rattle.numbered.specs.Answers.{HasCause}
+use Rattle.refusals.specs.Answers.{HasCause}
 use Rattle.exchange_codec.specs.laws.Programs.{readings}
 use Rattle.replica_codec.specs.Faults.{replica_message_fault_number}
 use Rattle.replica_codec.specs.Snapshots.{IsSnapshotFault}

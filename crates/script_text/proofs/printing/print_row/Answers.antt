@@ -1,5 +1,5 @@
 use Rattle.std.proofs.Common.{◌++◌, codes, subst}
-use Rattle.output.specs.Sending.{Sends}
+use Rattle.device.specs.Sending.{Sends}
 use Rattle.clash_record.specs.Texts.{owner_text}
 use Rattle.script_text.specs.Printed.{numbers_text}
 use Rattle.script_text.proofs.Pieces.{row_pieces}

@@ -8,5 +8,5 @@ pub returns : goal.returns
 returns g c =
     record {
       typable = λ code. typable_still g.D.Domain.ops shorter_len record_len code (omega arith);
-      alike = ends_alike g.met.D.Domain.laws;
+      alike = λ code bytes. ends_alike g.met.D.Domain.laws shorter_len record_len code bytes (omega arith);
     }

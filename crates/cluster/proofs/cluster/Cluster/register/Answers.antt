@@ -1,6 +1,6 @@
 use Rattle.std.proofs.Common.{sym, ap}
 use Rattle.partition_table.specs.Tables.{row_for}
-use Rattle.exchange_core.specs.Calls.{Register}
+use Rattle.exchange_law.specs.Calls.{Register}
 use Rattle.cluster.specs.Clusters.{standing_of, cluster_of, at, with_standing}
 use Rattle.cluster.proofs.Called.{called}
 use Rattle.cluster.proofs.cluster.Cluster.register.Goals as goal

@@ -1,5 +1,5 @@
 use Rattle.std.proofs.Common.{sym, ap}
-use Rattle.exchange_core.specs.Calls.{Unregister}
+use Rattle.exchange_law.specs.Calls.{Unregister}
 use Rattle.cluster.specs.Clusters.{standing_of, cluster_of, at, with_standing}
 use Rattle.cluster.proofs.Called.{called}
 use Rattle.cluster.proofs.cluster.Cluster.unregister.Goals as goal

@@ -1,6 +1,6 @@
 use Rattle.std.proofs.Common.{rules, ◌≡◌, false, is_some}
 use Rattle.exchange_core.specs.Shown.{shown}
-use Rattle.exchange_core.specs.Calls.{Finish}
+use Rattle.exchange_law.specs.Calls.{Finish}
 use Rattle.cluster.proofs.Answered.{done_grows}
 use Rattle.cluster.proofs.Rounds.{finished_one}
 use Rattle.cluster.proofs.finishing.Finishing.try_finish.Goals as goal

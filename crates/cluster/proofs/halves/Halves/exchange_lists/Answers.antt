@@ -1,7 +1,7 @@
 use Rattle.std.proofs.Common.{◌≡◌}
 use Rattle.clash_record.specs.declared.side_id.SideId.TheVariants.{A, B}
 use Rattle.exchange_core.specs.Shown.{shown}
-use Rattle.exchange_core.specs.Worlds.{list_of}
+use Rattle.exchange_law.specs.Worlds.{list_of}
 use Rattle.cluster.specs.Healing.{gone_of_side}
 use Rattle.cluster.specs.model.Stages.{no_ruling}
 use Rattle.cluster.proofs.Answered.{ok_has}

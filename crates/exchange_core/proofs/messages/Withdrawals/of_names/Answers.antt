@@ -1,5 +1,5 @@
 use Rattle.std.proofs.Common.{◌≡◌, rules, sym, subst}
-use Rattle.exchange_core.specs.Lists.{IsNameList}
+use Rattle.exchange_law.specs.Lists.{IsNameList}
 use Rattle.exchange_core.specs.Codings.{names_of}
 use Rattle.exchange_core.proofs.Repeated.{is_list}
 use Rattle.exchange_core.proofs.messages.Withdrawals.of_names.Goals as goal

@@ -1,6 +1,6 @@
 use Rattle.std.proofs.Common.{sym, ◌∙◌}
 use Rattle.exchange_core.proofs.Due.{room_abandon}
-use Rattle.exchange_core.specs.Calls as call
+use Rattle.exchange_law.specs.Calls as call
 use Rattle.exchange_core.specs.Shown.{calls}
 use Rattle.exchange_core.proofs.Journaled.{has_room, has_place, kept_by}
 use Rattle.exchange_core.proofs.side.Side.abandon.Goals as goal

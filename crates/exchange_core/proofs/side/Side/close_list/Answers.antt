@@ -1,10 +1,10 @@
 use Rattle.std.proofs.Common.{sym, subst, ◌∙◌}
-use Rattle.exchange_core.specs.Sides.{Withdrawals}
-use Rattle.exchange_core.specs.Lists.{AreNamesOf}
+use Rattle.exchange_law.specs.Sides.{Withdrawals}
+use Rattle.exchange_law.specs.Lists.{AreNamesOf}
 use Rattle.exchange_core.proofs.Due.{room_close_list}
 use Rattle.exchange_core.proofs.Listed.{replayed_list}
-use Rattle.exchange_core.proofs.Replays.{replayed_names}
-use Rattle.exchange_core.specs.Calls as call
+use Rattle.exchange_law.specs.laws.Replays.{replayed_names}
+use Rattle.exchange_law.specs.Calls as call
 use Rattle.exchange_core.specs.Shown.{calls}
 use Rattle.exchange_core.proofs.Journaled.{has_room, has_place, kept_by}
 use Rattle.exchange_core.proofs.side.Side.close_list.Goals as goal

@@ -1,9 +1,9 @@
 use Rattle.std.proofs.Common.{sym, subst, ◌∙◌}
-use Rattle.exchange_core.specs.Sides.{Side}
+use Rattle.exchange_law.specs.Sides.{Side}
 use Rattle.exchange_core.proofs.Due.{room_finish}
 use Rattle.exchange_core.proofs.Ready.{ready_to_finish, open_to_finish}
-use Rattle.exchange_core.proofs.Replays.{Holds, replay_holds}
-use Rattle.exchange_core.specs.Calls as call
+use Rattle.exchange_law.specs.laws.Replays.{Holds, replay_holds}
+use Rattle.exchange_law.specs.Calls as call
 use Rattle.exchange_core.specs.Shown.{calls}
 use Rattle.exchange_core.proofs.Journaled.{has_room, has_place, kept_by}
 use Rattle.exchange_core.proofs.side.Side.finish.Goals as goal

@@ -1,6 +1,6 @@
-use Rattle.std.proofs.Common.{refl, sym, ap, subst, ◌∙◌}
+use Rattle.std.proofs.Common.{sym, ap, subst}
 use Rattle.exchange_core.specs.Limits.{IsWithin}
-use Rattle.exchange_core.specs.Sides.{Side}
+use Rattle.exchange_law.specs.Sides.{Side}
 use Rattle.exchange_core.proofs.Bounded.{rested_within}
 use Rattle.exchange_core.proofs.Journaled.{renewed_kept}
 use Rattle.exchange_core.proofs.side.Side.give_up.Goals as goal

@@ -2,7 +2,7 @@ use Rattle.std.proofs.Common.{false, ap, inl, ◌∷◌, sym, ◌∙◌}
 use Rattle.exchange_core.proofs.Due.{room_hear, early_due, heard_room}
 use Rattle.exchange_core.specs.Refusals.{hear_fault}
 use Rattle.exchange_core.specs.model.Early.{early_hear_fault}
-use Rattle.exchange_core.specs.Calls as call
+use Rattle.exchange_law.specs.Calls as call
 use Rattle.exchange_core.specs.Shown.{calls}
 use Rattle.exchange_core.proofs.Journaled.{has_room, has_place, kept_by}
 use Rattle.exchange_core.proofs.side.Side.hear.Goals as goal

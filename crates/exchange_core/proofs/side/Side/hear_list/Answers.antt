@@ -1,6 +1,6 @@
 use Rattle.std.proofs.Common.{ap, ◌∷◌, sym, ◌∙◌}
 use Rattle.exchange_core.proofs.Due.{room_hear_list}
-use Rattle.exchange_core.specs.Calls as call
+use Rattle.exchange_law.specs.Calls as call
 use Rattle.exchange_core.specs.Shown.{calls}
 use Rattle.exchange_core.proofs.Journaled.{has_room, has_place, kept_by}
 use Rattle.exchange_core.proofs.side.Side.hear_list.Goals as goal

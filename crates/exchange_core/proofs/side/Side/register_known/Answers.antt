@@ -2,7 +2,7 @@ use Rattle.std.proofs.Common.{◌≡◌, List, Option, ◌∷◌, ap, ◌∙◌,
 use Rattle.std.specs.FinMap.{get}
 use Rattle.instruction_set.specs.declared.insn.Insn.{Insn}
 use Rattle.partition_table.specs.Tables.{Row, Table, row_for}
-use Rattle.exchange_core.specs.Calls.{Register}
+use Rattle.exchange_law.specs.Calls.{Register}
 use Rattle.exchange_core.specs.Journal.{calls_of}
 use Rattle.exchange_core.specs.Shown.{calls}
 use Rattle.exchange_core.proofs.Journaled.{has_room, has_place, kept_by}

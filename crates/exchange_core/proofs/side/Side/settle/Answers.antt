@@ -1,13 +1,13 @@
 use Rattle.std.proofs.Common.{◌≡◌, List, subst, sym, ◌∙◌, arith}
-use Rattle.exchange_core.specs.Calls.{Call}
-use Rattle.exchange_core.specs.Journal.{IsJournal}
+use Rattle.exchange_law.specs.Calls.{Call}
+use Rattle.exchange_law.specs.Calls.{IsJournal}
 use Rattle.exchange_core.specs.Limits.{IsWithin}
 use Rattle.exchange_core.specs.Settling.{the_round}
 use Rattle.exchange_core.specs.Shown.{calls}
-use Rattle.exchange_core.specs.Sides.{Side, rulings_of}
+use Rattle.exchange_law.specs.Sides.{Side, rulings_of}
 use Rattle.exchange_core.specs.Refusals.{count_lacking}
 use Rattle.exchange_core.proofs.Bounded.{settled_within}
-use Rattle.exchange_core.proofs.Replays.{Holds, replay_holds}
+use Rattle.exchange_law.specs.laws.Replays.{Holds, replay_holds}
 use Rattle.exchange_core.proofs.Settled.{settled_journal, settled_few, settled_whole, has_places, few_lacking, can_settle}
 use Rattle.exchange_core.proofs.side.Side.settle.Goals as goal
 

@@ -1,8 +1,8 @@
 use Rattle.std.proofs.Common.{◌≡◌, ℕ, true, is_some, sym, subst, ◌∙◌}
-use Rattle.exchange_core.specs.Sides.{take}
+use Rattle.exchange_law.specs.Sides.{take}
 use Rattle.exchange_core.proofs.Taking.{takeable}
 use Rattle.exchange_core.proofs.Due.{room_take}
-use Rattle.exchange_core.specs.Calls as call
+use Rattle.exchange_law.specs.Calls as call
 use Rattle.exchange_core.specs.Shown.{calls}
 use Rattle.exchange_core.proofs.Journaled.{has_room, has_place, kept_by}
 use Rattle.exchange_core.proofs.side.Side.take_if.Goals as goal

@@ -1,5 +1,3 @@
-use Rattle.std.proofs.Common.{[], refl, sym, ap, ◌∙◌}
-use Rattle.exchange_core.specs.Sides.{Side}
 use Rattle.exchange_core.proofs.Journaled.{new_kept}
 use Rattle.exchange_core.proofs.side.Side.with_limit.Goals as goal
 

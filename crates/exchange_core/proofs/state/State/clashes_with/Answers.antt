@@ -1,8 +1,8 @@
 use Rattle.std.proofs.Common.{subst}
-use Rattle.numbered.specs.Answers.{IsAnswered}
+use Rattle.refusals.specs.Answers.{IsAnswered}
 use Rattle.partition_table.specs.Faults.{table_fault_number}
 use Rattle.partition_table.specs.Tables.{Table}
-use Rattle.exchange_core.specs.Sides.{Side}
+use Rattle.exchange_law.specs.Sides.{Side}
 use Rattle.exchange_core.specs.model.Pairing.{fit_fault_for}
 use Rattle.exchange_core.proofs.state.State.clashes_with.Goals as goal
 

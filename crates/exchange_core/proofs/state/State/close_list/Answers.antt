@@ -1,7 +1,7 @@
 use Rattle.std.proofs.Common.{◌≡◌, Some, sym, subst}
 use Rattle.partition_table.specs.Tables.{Table, IsTable}
-use Rattle.exchange_core.specs.Lists.{IsNameList, AreNamesOf}
-use Rattle.exchange_core.specs.Sides.{Exchange, Side}
+use Rattle.exchange_law.specs.Lists.{IsNameList, AreNamesOf}
+use Rattle.exchange_law.specs.Sides.{Exchange, Side}
 use Rattle.exchange_core.proofs.Listed.{listed}
 use Rattle.exchange_core.proofs.state.State.close_list.Goals as goal
 

@@ -1,9 +1,9 @@
 use Rattle.std.proofs.Common.{◌≡◌, ◌∷◌, ap, ◌∙◌, subst, option_and_then}
 use Rattle.std.specs.FinMap.{get}
 use Rattle.partition_table.specs.Tables.{Row, Table, IsTable, rows_of}
-use Rattle.exchange_core.specs.Calls.{Register}
+use Rattle.exchange_law.specs.Calls.{Register}
 use Rattle.exchange_core.specs.Journal.{calls_of}
-use Rattle.exchange_core.specs.Sides.{Side}
+use Rattle.exchange_law.specs.Sides.{Side}
 use Rattle.exchange_core.specs.model.Renewing.{number_calls}
 use Rattle.exchange_core.proofs.Renewed.{begun_calls, renewing_on, renewing_room, renewed}
 use Rattle.exchange_core.proofs.state.State.fresh_journal.Goals.{In-Some}

@@ -1,7 +1,7 @@
 use Rattle.std.proofs.Common.{◌≡◌, not, nat_le, subst}
 use Rattle.partition_table.specs.Tables.{Table}
 use Rattle.exchange_core.specs.Refusals.{union_for}
-use Rattle.exchange_core.specs.Sides.{Side}
+use Rattle.exchange_law.specs.Sides.{Side}
 use Rattle.exchange_core.proofs.state.State.has_too_many.Goals as goal
 
 pub returns : goal.returns

@@ -1,7 +1,7 @@
 use Rattle.std.proofs.Common.{List, [], ap, sym, ◌∙◌}
 use Rattle.clash_record.specs.Name.{Name}
 use Rattle.partition_table.specs.Tables.{rows_of}
-use Rattle.exchange_core.specs.Sides.{Side, shown_table}
+use Rattle.exchange_law.specs.Sides.{Side, shown_table}
 use Rattle.exchange_core.specs.Rows.{not_withdrawn}
 use Rattle.exchange_core.specs.Views.{state_seen}
 use Rattle.exchange_core.proofs.Showing.{shown_open, shown_idle, rows_without, all_shown}

@@ -2,7 +2,7 @@ use Rattle.std.proofs.Common.{ap, sym, ◌∙◌}
 use Rattle.std.specs.Option.{option_map}
 use Rattle.std.specs.FinMap.{get}
 use Rattle.partition_table.specs.Tables.{Row, Table}
-use Rattle.exchange_core.specs.Sides.{Side, shown_table}
+use Rattle.exchange_law.specs.Sides.{Side, shown_table}
 use Rattle.exchange_core.specs.Views.{state_seen}
 use Rattle.exchange_core.proofs.Showing.{shown_open, shown_idle, gone, still_there}
 use Rattle.exchange_core.proofs.state.State.whereis.Goals as goal

@@ -2,7 +2,7 @@ use Rattle.std.proofs.Common.{◌≡◌, ◌++◌, ◌∙◌, drop, ap, arith}
 use Rattle.std.proofs.lemmas.List.{take_at, length-take-le}
 use Rattle.instruction_set.specs.Machine.{record_len}
 use Rattle.clash_record.specs.Record.{with_word}
-use Rattle.execution.specs.Flat.{record_in}
+use Rattle.one_step.specs.Flat.{record_in}
 use Rattle.interpreter.proofs.scratch.Scratch.set_word.Goals as goal
 
 -- the array begins with the record that was written

@@ -2,7 +2,7 @@ use Rattle.std.proofs.Common.{Some, sym, subst, ap, ◌∙◌}
 use Rattle.std.specs.Option.{option_map}
 use Rattle.std.specs.FinMap.{get}
 use Rattle.partition_table.specs.Tables.{Row, Table}
-use Rattle.partition_table.specs.model.Walking.{IsAhead, first_at, rows_ahead}
+use Rattle.partition_table.specs.model.Walking.{IsAhead, rows_ahead}
 use Rattle.partition_table.proofs.Walks.{found_ahead, still_ahead}
 use Rattle.partition_table.proofs.finder.Finder.find.Goals as goal
 
@@ -16,7 +16,7 @@ invariant_of-self c =
 pub returns-clause-found : goal.returns-clause-found
 returns-clause-found c =
     let past = c.is_past.ensures.0 c.if-not-is_past.false in
-    c.find-found.ensures.found ∙ ap (first_at c.args.name.now) c.find-found.ensures.left
+    c.find-found.ensures.found
     ∙ found_ahead c.self.inside.table.now c.self.inside.last c.args.name.now (rows_ahead c.self.inside.ahead)
     c.self.invariant past
     ∙ ap (λ (table : Table). option_map (λ (row : Row). row.registration) (get table c.args.name.now)) c.self.view_is

@@ -8,7 +8,7 @@ use Rattle.partition_table.specs.Views.{table_by}
 use Rattle.upload_store.specs.Programs.{programs_by}
 use Rattle.partition_table.proofs.Held.{held_now, has_name, room_from_agrees}
 use Rattle.clash_record.specs.laws.Orders.{names_total, names_exact}
-use Rattle.numbered.specs.Answers.{IsAnswered}
+use Rattle.refusals.specs.Answers.{IsAnswered}
 use Rattle.partition_table.specs.Faults.{table_fault_number}
 use Rattle.upload_store.specs.laws.Mapped.{made_same}
 use Rattle.partition_table.proofs.Registering.{handed_on, if_err, taken_if, new_name}

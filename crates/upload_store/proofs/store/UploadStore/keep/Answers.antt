@@ -1,7 +1,7 @@
 use Rattle.std.proofs.Common.{◌≤◌, IfErr, subst}
 use Rattle.std.specs.Arc.{arc_value}
 use Rattle.std.specs.FinMap as map
-use Rattle.numbered.specs.Answers.{HasCause}
+use Rattle.refusals.specs.Answers.{HasCause}
 use Rattle.upload_store.specs.Faults.{upload_fault_number}
 use Rattle.upload_store.specs.Programs.{max_programs}
 use Rattle.upload_store.specs.Uploads.{HasPlace}

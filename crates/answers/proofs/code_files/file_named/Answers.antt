@@ -1,9 +1,0 @@
-use Rattle.std.proofs.Common.{arith}
-use Rattle.std.proofs.lemmas.Str.Pattern.{strip_prefix_char}
-use Rattle.answers.proofs.CodeWords.{named}
-use Rattle.answers.proofs.code_files.file_named.Goals as goal
-
-pub returns : goal.returns
-returns c =
-    named c.args.word.now c.strip_prefix.result
-    (strip_prefix_char 64 c.args.word.now c.strip_prefix.result c.strip_prefix.ensures.cases (omega arith))

@@ -1,0 +1,12 @@
+pub mod Carried
+pub mod Rulings
+pub mod Words
+pub mod Kept
+pub mod Fits
+pub mod Sent
+pub mod Steps
+pub mod Places
+pub mod Merges
+pub mod Calling
+pub mod Told
+pub mod Replays

@@ -1,9 +1,0 @@
-use Rattle.script_text.specs.Reading.{left}
-use Rattle.script_machine.specs.Machines.{machine_of}
-use Rattle.script_engine.specs.model.Progress.{Progress}
-use Rattle.script_engine.proofs.running.run_lines.Given as goal
-
-abbrev pub invariant-loop-before : goal.invariant-loop-before
-invariant-loop-before g l =
-    Progress (machine_of l.fn.machine) (g.R.Read.remaining l.fn.reader) (left l.buffer (g.R.Read.remaining l.reader))
-    (g.W.Write.contents l.fn.writer) (g.W.Write.contents l.writer) (machine_of l.machine) l.before l.status

@@ -1,7 +1,0 @@
-use Rattle.std.proofs.Common.{[]}
-use Rattle.std.proofs.KnownBytes.{Appends-nil}
-use Rattle.script_engine.proofs.Endings.{starved}
-use Rattle.script_engine.proofs.running.run_narrated.Goals as goal
-
-pub returns-in_default : goal.returns-in_default
-returns-in_default g c = starved _ _ _ _ c.send_after.result (c.send_after.ensures _ [] (Appends-nil _))

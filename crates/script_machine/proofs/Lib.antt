@@ -1,5 +1,0 @@
-pub mod Rows
-pub mod Uploads
-pub mod Words
-pub mod Judged
-pub mod Pieces

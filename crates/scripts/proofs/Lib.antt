@@ -1,0 +1,10 @@
+pub mod Rows
+pub mod Uploads
+pub mod Words
+pub mod Judged
+pub mod Pieces
+pub mod LineLists
+pub mod LongerRuns
+pub mod Endings
+pub mod LatestNumbers
+pub mod Saying

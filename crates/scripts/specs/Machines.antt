@@ -1,0 +1,69 @@
+-- The state of a script between its lines.
+use Rattle.std.specs.Prelude.{ℕ, Bool, List, [], if◌then◌else◌, codes, Option, Some, None}
+use Rattle.std.specs.Option.{option_map}
+use Rattle.std.specs.Ordering.{is_eq}
+use Rattle.std.specs.List.{find}
+use Rattle.std.specs.Str.{bytes_eq}
+use Rattle.std.specs.FinMap.{empty}
+use Rattle.clash_record.specs.Orders.{id_cmp}
+use Rattle.clash_record.specs.declared.registrations.Builtin.TheVariants.{Exit, Notify, NotifyAll}
+use Rattle.clash_record.specs.declared.registrations.ProgramId.{ProgramId}
+use Rattle.clash_record.specs.declared.registrations.ResolverId.{ResolverId}
+use Rattle.clash_record.specs.declared.registrations.ResolverId.TheVariants.{Builtin, Program}
+use Rattle.upload_store.specs.Programs.{Programs}
+use Rattle.cluster.specs.Clusters.{Cluster, cluster_of, new_cluster}
+use Rattle.scripts.specs.declared.labels.Label.{Label}
+use Rattle.scripts.specs.declared.machine.Machine as code
+
+-- the labels in the order in which they were given, the programs, the two halves, and the number of the latest exchange
+pub record Machine : Type 0 where
+  pub labels : List Label
+  pub programs : Programs
+  pub cluster : Cluster
+  pub latest : ℕ
+
+abbrev pub machine_of : code.Machine → Machine
+machine_of m = record {
+  labels = m.labels.items;
+  programs = m.store;
+  cluster = cluster_of m.cluster;
+  latest = m.latest;
+}
+
+-- one whose halves may have this many names
+abbrev pub new_machine : ℕ → Machine
+new_machine limit = record { labels = []; programs = empty; cluster = new_cluster limit; latest = 0 }
+
+-- ---- labels, and the words for resolvers
+
+abbrev pub labelled : List ℕ → Label → Bool
+labelled word label = bytes_eq label.text word
+
+-- what the words for the resolvers that are built in mean
+abbrev pub builtin_of : List ℕ → Option ResolverId
+builtin_of word =
+    if bytes_eq word (codes "exit") then Some (Builtin Exit)
+    else (if bytes_eq word (codes "notify") then Some (Builtin Notify)
+    else (if bytes_eq word (codes "notify-all") then Some (Builtin NotifyAll) else None))
+
+abbrev pub or_label : Option ResolverId → Option Label → Option ResolverId
+or_label (Some resolver) found = Some resolver
+or_label None found = option_map (λ label. Program label.program) found
+
+-- the resolver that a word names
+abbrev pub resolver_of : List Label → List ℕ → Option ResolverId
+resolver_of labels word = or_label (builtin_of word) (find (labelled word) labels)
+
+abbrev pub is_program : ProgramId → Label → Bool
+is_program id label = is_eq (id_cmp label.program id)
+
+abbrev pub label_text : Option Label → List ℕ
+label_text (Some label) = label.text
+label_text None = []
+
+-- how a resolver is called: a program by its first label
+abbrev pub resolver_text : List Label → ResolverId → List ℕ
+resolver_text labels (Builtin Exit) = codes "exit"
+resolver_text labels (Builtin Notify) = codes "notify"
+resolver_text labels (Builtin NotifyAll) = codes "notify-all"
+resolver_text labels (Program id) = label_text (find (is_program id) labels)

@@ -1,0 +1,240 @@
+//! A line and its answer.
+ghost use Rattle.std.specs.Prelude.{◌≡◌, ◌<◌, ◌-◌, ◌^◌, ℕ, List, Option, IfOk};
+ghost use Rattle.device.specs.Sending.{FlushesOn, Sends};
+ghost use Rattle.script_text.specs.Reading.{seen_line};
+ghost use Rattle.script_text.specs.Commands.{asked};
+ghost use Rattle.script_text.specs.Asking.{Heal, Upload};
+ghost use Rattle.scripts.specs.Machines.{machine_of};
+ghost use Rattle.scripts.specs.Replies.{reply_text, reply_status};
+ghost use Rattle.scripts.specs.model.Progress.{SendsNext, Serves, ServesLine, ServesAsked};
+
+use crate::crew::Crew;
+use crate::healed::print_healing;
+use crate::long_line::LineTooLong;
+use crate::machine::Machine;
+use crate::narrator::Narrator;
+use crate::reply::{Reply, print_reply};
+use clash_record::{Uptimes, Withdrawal};
+use cluster::Healing;
+use device::{DeviceFault, flush_after};
+use judge_pool::Gate;
+use script_text::{Command, LineBuffer, command_of};
+use std::io::Write;
+use std::rt::Files;
+use std::sync::Wait;
+use std::thread::Threads;
+
+// Carries out the line of this number and writes its answer. Returns the status of the line.
+pub(crate) fn serve<
+    T: Files + Threads + Wait + Sync + AllocGlobal,
+    G: Gate + Sync,
+    N: Narrator,
+    W: Write,
+>(
+    crew: &Crew<'_, T, G, N>,
+    machine: &mut Machine,
+    writer: &mut W,
+    number: u64,
+    line: &LineBuffer,
+    is_long: bool,
+) -> Result<u8, DeviceFault>
+    requires { (machine_of machine.old).latest < 2 ^ 64 - 1 }
+    ensures { Serves (machine_of machine.old) (machine_of machine.new) (seen_line is_long line.now) number
+        (W.contents writer.old) (W.contents writer.new) result }
+{
+    machine.renew_long();
+    answer(crew, machine, writer, number, line, is_long)
+}
+
+// Carries out a line on a machine whose long journals are renewed, and writes its answer.
+fn answer<T: Files + Threads + Wait + Sync + AllocGlobal, G: Gate + Sync, N: Narrator, W: Write>(
+    crew: &Crew<'_, T, G, N>,
+    machine: &mut Machine,
+    writer: &mut W,
+    number: u64,
+    line: &LineBuffer,
+    is_long: bool,
+) -> Result<u8, DeviceFault>
+    requires { (machine_of machine.old).latest < 2 ^ 64 - 1 }
+    ensures { ServesLine (machine_of machine.old) (machine_of machine.new) (seen_line is_long line.now) number
+        (W.contents writer.old) (W.contents writer.new) result }
+{
+    if is_long {
+        return say(crew.narrator, writer, number, &Reply::refused(&LineTooLong));
+    }
+    match command_of(crew.rt.alloc(), line.as_slice()) {
+        Err(fault) => say(crew.narrator, writer, number, &Reply::refused(&fault)),
+        Ok(None) => say(crew.narrator, writer, number, &Reply::Silent),
+        Ok(Some(command)) => obey(crew, machine, writer, number, &command),
+    }
+}
+
+// Carries out a command and writes its answer.
+fn obey<T: Files + Threads + Wait + Sync + AllocGlobal, G: Gate + Sync, N: Narrator, W: Write>(
+    crew: &Crew<'_, T, G, N>,
+    machine: &mut Machine,
+    writer: &mut W,
+    number: u64,
+    command: &Command<'_>,
+) -> Result<u8, DeviceFault>
+    requires { (machine_of machine.old).latest < 2 ^ 64 - 1 }
+    ensures { ServesAsked (machine_of machine.old) (machine_of machine.new) (asked command.now) number
+        (W.contents writer.old) (W.contents writer.new) result }
+{
+    match command {
+        Command::Upload { label, code } => upload(crew, machine, writer, number, label, code),
+        Command::Register {
+            side,
+            name,
+            terms,
+            resolver,
+        } => say(
+            crew.narrator,
+            writer,
+            number,
+            &machine.register(*side, *name, *terms, resolver),
+        ),
+        Command::Unregister { side, name } => say(
+            crew.narrator,
+            writer,
+            number,
+            &machine.unregister(*side, name),
+        ),
+        Command::Whereis { side, name } => say(
+            crew.narrator,
+            writer,
+            number,
+            &machine.whereis(*side, name),
+        ),
+        Command::Show { side } => with_status(machine.print_rows(Ok(()), writer, *side), 0),
+        Command::Heal {
+            seed,
+            uptimes,
+            gone,
+        } => heal(crew, machine, writer, number, *seed, *uptimes, gone),
+    }
+}
+
+// Stores a program and writes the answer. Tells the narrator of refused code.
+fn upload<T: Files + Threads + Wait + Sync + AllocGlobal, G: Gate + Sync, N: Narrator, W: Write>(
+    crew: &Crew<'_, T, G, N>,
+    machine: &mut Machine,
+    writer: &mut W,
+    number: u64,
+    label: &[u8],
+    code: &[u8],
+) -> Result<u8, DeviceFault>
+    ensures { ServesAsked (machine_of machine.old) (machine_of machine.new) (Upload label.now code.now) number
+        (W.contents writer.old) (W.contents writer.new) result }
+{
+    let reply = machine.upload_word(crew.rt, label, code);
+    let said = say(crew.narrator, writer, number, &reply);
+    tell_code(crew.narrator, code, &reply);
+    said
+}
+
+// Heals the split and writes the outcome.
+fn heal<T: Files + Threads + Wait + Sync + AllocGlobal, G: Gate + Sync, N: Narrator, W: Write>(
+    crew: &Crew<'_, T, G, N>,
+    machine: &mut Machine,
+    writer: &mut W,
+    number: u64,
+    seed: u64,
+    uptimes: Uptimes,
+    gone: &[Withdrawal],
+) -> Result<u8, DeviceFault>
+    requires { (machine_of machine.old).latest < 2 ^ 64 - 1 }
+    ensures { ServesAsked (machine_of machine.old) (machine_of machine.new) (Heal seed uptimes gone.now) number
+        (W.contents writer.old) (W.contents writer.new) result }
+{
+    let healed = machine.heal(
+        crew.rt,
+        crew.rt.alloc(),
+        crew.gate,
+        crew.workers,
+        seed,
+        uptimes,
+        gone,
+    );
+    match healed {
+        Ok(healing) => {
+            let sent = print_healing(Ok(()), writer, &healing);
+            with_status(
+                tell_healing(crew.narrator, sent, writer, machine, &healing),
+                0,
+            )
+        }
+        Err(refusal) => say(crew.narrator, writer, number, &Reply::Refused(refusal)),
+    }
+}
+
+// Says a reply, and tells the narrator of a refusal. Answers its status.
+fn say<N: Narrator, W: Write>(
+    narrator: &N,
+    writer: &mut W,
+    number: u64,
+    reply: &Reply,
+) -> Result<u8, DeviceFault>
+    ensures sends { SendsNext (W.contents writer.old) (W.contents writer.new) (reply_text number reply.now) result }
+    ensures status { IfOk result (λ status. status ≡ reply_status reply.now) }
+{
+    let sent = print_reply(Ok(()), writer, number, reply);
+    with_status(
+        tell_reply(narrator, sent, writer, number, reply),
+        reply.status(),
+    )
+}
+
+// Tells the narrator of a refusal, once the answer is flushed.
+fn tell_reply<N: Narrator, W: Write>(
+    narrator: &N,
+    sent: Result<(), DeviceFault>,
+    writer: &mut W,
+    number: u64,
+    reply: &Reply,
+) -> Result<(), DeviceFault>
+    ensures { FlushesOn sent (W.contents writer.old) (W.contents writer.new) result }
+{
+    match reply {
+        Reply::Refused(refusal) if narrator.listens() => {
+            let sent = flush_after(sent, writer);
+            narrator.hear_refusal(number, *refusal);
+            sent
+        }
+        _ => sent,
+    }
+}
+
+// Tells the narrator of refused code.
+fn tell_code<N: Narrator>(narrator: &N, word: &[u8], reply: &Reply) {
+    match reply {
+        Reply::Refused(refusal) if narrator.listens() => narrator.hear_code(word, *refusal),
+        _ => {}
+    }
+}
+
+// Tells the narrator of a healing, once the answer is flushed.
+fn tell_healing<N: Narrator, W: Write>(
+    narrator: &N,
+    sent: Result<(), DeviceFault>,
+    writer: &mut W,
+    machine: &Machine,
+    healing: &Healing,
+) -> Result<(), DeviceFault>
+    ensures { FlushesOn sent (W.contents writer.old) (W.contents writer.new) result }
+{
+    if !narrator.listens() {
+        return sent;
+    }
+    let sent = flush_after(sent, writer);
+    narrator.hear_healing(machine, healing);
+    sent
+}
+
+// What was sent, with a status.
+fn with_status(sent: Result<(), DeviceFault>, status: u8) -> Result<u8, DeviceFault>
+    ensures sent { (old new : Option (List ℕ)) (text : List ℕ) → Sends old new text sent → Sends old new text result }
+    ensures status { IfOk result (λ answered. answered ≡ status) }
+{
+    sent.map(|()| status)
+}

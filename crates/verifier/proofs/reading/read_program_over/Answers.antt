@@ -1,0 +1,59 @@
+use Rattle.std.proofs.Common.{◌≡◌, sym, subst, Ok, Err, List}
+use Rattle.refusals.specs.Answers.{ReturnsOrRunsOut}
+use Rattle.instruction_set.specs.declared.insn.Insn.{Insn}
+use Rattle.insn_codec.specs.Encoding.{Spells}
+use Rattle.verifier.specs.Programs.{program_fault_number}
+use Rattle.verifier.specs.declared.program_fault.ProgramFault.TheVariants.{Codec, Verify}
+use Rattle.verifier.proofs.Outcomes.{converted, codec_taken, codec_told, refused_taken, refused_told, accepted_told}
+use Rattle.verifier.proofs.reading.read_program_over.Goals as goal
+
+pub returns-in_err-code-clause-taken : goal.returns-in_err-code-clause-taken
+returns-in_err-code-clause-taken g c = λ code h.
+    subst (λ r. ReturnsOrRunsOut program_fault_number r (Ok code)) (sym (converted c.from_residual.result
+    (Codec c.in_err-code.field-0.0) c.from_residual.ensures))
+    (codec_taken c.in_err-code.field-0.0 code (c.in_err-code.ensures.read code h.spelled))
+
+pub returns-in_err-code-clause-told : goal.returns-in_err-code-clause-told
+returns-in_err-code-clause-told g c = λ fault h.
+    subst (λ r. ReturnsOrRunsOut program_fault_number r (Err fault)) (sym (converted c.from_residual.result
+    (Codec c.in_err-code.field-0.0) c.from_residual.ensures))
+    (codec_told c.in_err-code.field-0.0 g.D.Domain.ops c.args.bytes.now c.in_err-code.ensures.read
+    c.in_err-code.ensures.told fault h)
+
+pub returns-in_err-program-clause-taken : goal.returns-in_err-program-clause-taken
+returns-in_err-program-clause-taken g c = λ code h.
+    let bytes = c.args.bytes.now in
+    let spelled = c.in_ok-code.ensures.spelled in
+    let one : (other : List Insn) → Spells bytes other → other ≡ c.in_ok-code.code =
+    λ other s. c.one_reading_theorem.ensures.one_code bytes other c.in_ok-code.code s spelled in
+    subst (λ r. ReturnsOrRunsOut program_fault_number r (Ok code)) (sym (converted c.from_residual-in_err-program.result
+    (Verify c.in_err-program.field-0.0) c.from_residual-in_err-program.ensures))
+    (refused_taken g.D.Domain.ops bytes c.in_ok-code.code spelled (c.one_reading_theorem.ensures.either bytes) one
+    (c.one_verdict_theorem.ensures.either c.in_ok-code.code)
+    (c.one_verdict_theorem.ensures.one_refusal c.in_ok-code.code)
+    c.in_err-program.field-0.0 c.in_err-program.ensures.refused code h)
+
+pub returns-in_err-program-clause-told : goal.returns-in_err-program-clause-told
+returns-in_err-program-clause-told g c = λ fault h.
+    let bytes = c.args.bytes.now in
+    let spelled = c.in_ok-code.ensures.spelled in
+    let one : (other : List Insn) → Spells bytes other → other ≡ c.in_ok-code.code =
+    λ other s. c.one_reading_theorem.ensures.one_code bytes other c.in_ok-code.code s spelled in
+    subst (λ r. ReturnsOrRunsOut program_fault_number r (Err fault)) (sym (converted
+    c.from_residual-in_err-program.result (Verify c.in_err-program.field-0.0) c.from_residual-in_err-program.ensures))
+    (refused_told g.D.Domain.ops bytes c.in_ok-code.code spelled (c.one_reading_theorem.ensures.either bytes) one
+    (c.one_verdict_theorem.ensures.either c.in_ok-code.code)
+    (c.one_verdict_theorem.ensures.one_refusal c.in_ok-code.code)
+    c.in_err-program.field-0.0 c.in_err-program.ensures.refused fault h)
+
+pub returns-clause-told : goal.returns-clause-told
+returns-clause-told g c = λ fault h.
+    let bytes = c.args.bytes.now in
+    let spelled = c.in_ok-code.ensures.spelled in
+    let one : (other : List Insn) → Spells bytes other → other ≡ c.in_ok-code.code =
+    λ other s. c.one_reading_theorem.ensures.one_code bytes other c.in_ok-code.code s spelled in
+    subst (λ code. ReturnsOrRunsOut program_fault_number (Ok code) (Err fault)) (sym c.in_ok-program.ensures.accepted)
+    (accepted_told g.D.Domain.ops bytes c.in_ok-code.code spelled (c.one_reading_theorem.ensures.either bytes) one
+    (c.one_verdict_theorem.ensures.either c.in_ok-code.code)
+    (c.one_verdict_theorem.ensures.one_refusal c.in_ok-code.code)
+    c.in_ok-program.ensures.structured c.in_ok-program.ensures.typable fault h)
