@@ -34,7 +34,7 @@ def read(*path):
 
 def refusals():
     """The number, the name and the words of each refusal that a call of the library returns."""
-    table = read(TOP, "crates", "numbered", "src", "table.rt").split("pub const REFUSALS", 1)[1].split("\n];", 1)[0]
+    table = read(TOP, "crates", "refusals", "src", "table.rt").split("pub const REFUSALS", 1)[1].split("\n];", 1)[0]
     words = {int(number): text for number, text in re.findall(r'\(\s*(\d+),\s*"([^"]*)",?\s*\)', table)}
     page = re.findall(r"^\| (\d+) \| (\w*)", read(TOP, "docs", "REFUSALS.md"), re.MULTILINE)
     names = {int(number): name for number, name in page if name} | NAMES

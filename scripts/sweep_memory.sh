@@ -88,8 +88,8 @@ is_right_script() {
 # ones it does without. A call is wrong if it reports a fault, if it was refused though no request was, if it answers though a
 # request was refused, if its last window refused a request, if it allocates and shouldn't, and if it should and was never
 # refused. A merge, and so a finish, collects its rows into a map: if the room for all rows is refused, it allocates row by row. A list
-# of clashes that can't be cut to its length keeps its room. On
-# what this sweep makes some calls need no memory: unregistering copies a shared table alone; hearing a list adds an owner.
+# of clashes that can't be cut to its length keeps its room. On what this sweep makes some calls need no memory: unregistering copies
+# a shared table alone; hearing a list adds an owner.
 read_sweep() {
     awk -v asks_again='^(merge|clashes|Side::(hear|take|finish))$' \
         -v needs_none='^Side::(unregister|hear_list)$' '
