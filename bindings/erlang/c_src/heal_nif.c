@@ -343,7 +343,8 @@ static term owner_term(ErlNifEnv *env, heal_owner owner)
     return enif_make_tuple2(env, enif_make_uint(env, owner.node), enif_make_uint(env, owner.serial));
 }
 
-static term resolver_term(ErlNifEnv *env, const heal_registration *from)
+/* `exit`, `notify`, `notify_all` or `program`. */
+static term resolver_kind(const heal_registration *from)
 {
     switch (from->resolver) {
     case HEAL_EXIT:
@@ -353,8 +354,14 @@ static term resolver_term(ErlNifEnv *env, const heal_registration *from)
     case HEAL_NOTIFY_ALL:
         return atom_notify_all;
     default:
-        return enif_make_tuple2(env, atom_program, copy_of(env, from->program, ID_LEN));
+        return atom_program;
     }
+}
+
+static term resolver_term(ErlNifEnv *env, const heal_registration *from)
+{
+    term kind = resolver_kind(from);
+    return kind == atom_program ? enif_make_tuple2(env, kind, copy_of(env, from->program, ID_LEN)) : kind;
 }
 
 static term map_of(ErlNifEnv *env, term keys[], term values[], size_t count)
@@ -535,6 +542,41 @@ static term register_name_body(ErlNifEnv *env, resource *held, const term argv[]
 }
 IN_TURN(register_name, side_type)
 
+/* Reads {Name, Registration}. */
+static bool get_row(ErlNifEnv *env, term from, ErlNifBinary *name, heal_registration *to)
+{
+    int arity;
+    const term *words;
+    return enif_get_tuple(env, from, &arity, &words) && arity == 2 && get_bytes(env, words[0], name)
+        && get_registration(env, words[1], to);
+}
+
+static bool are_rows(ErlNifEnv *env, term rows)
+{
+    term head;
+    ErlNifBinary name;
+    heal_registration registration;
+    while (enif_get_list_cell(env, rows, &head, &rows))
+        if (!get_row(env, head, &name, &registration))
+            return false;
+    return enif_is_empty_list(env, rows);
+}
+
+/* Registers many names in one call. */
+static term register_all_body(ErlNifEnv *env, resource *held, const term argv[])
+{
+    term head, rest = argv[1];
+    ErlNifBinary name;
+    heal_registration registration;
+    uint32_t number = 0;
+    if (!are_rows(env, rest))
+        return enif_make_badarg(env);
+    while (number == 0 && enif_get_list_cell(env, rest, &head, &rest) && get_row(env, head, &name, &registration))
+        number = heal_side_register(&held->handle.side, name.data, name.size, &registration);
+    return done(env, number);
+}
+IN_TURN(register_all, side_type)
+
 static term unregister_name_body(ErlNifEnv *env, resource *held, const term argv[])
 {
     ErlNifBinary name;
@@ -598,6 +640,51 @@ static term owners_body(ErlNifEnv *env, resource *held, const term argv[])
     return enif_is_empty_list(env, rest) ? ok(env, owners) : enif_make_badarg(env);
 }
 WITH_READERS(owners, side_type)
+
+/* What a caller knows of a name: its registration, or nothing. */
+typedef struct {
+    term key;
+    ErlNifBinary name;
+    bool is_known;
+    heal_registration registration;
+} known_row;
+
+/* Reads {Name, Registration}, or the name alone. */
+static bool get_known(ErlNifEnv *env, term from, known_row *to)
+{
+    int arity;
+    const term *words;
+    to->is_known = enif_get_tuple(env, from, &arity, &words);
+    if (!to->is_known) {
+        to->key = from;
+        return get_bytes(env, from, &to->name);
+    }
+    if (arity != 2)
+        return false;
+    to->key = words[0];
+    return get_bytes(env, words[0], &to->name) && get_registration(env, words[1], &to->registration);
+}
+
+/* Compares the table with what the caller knows, in one call. */
+static term differing_body(ErlNifEnv *env, resource *held, const term argv[])
+{
+    term head, rest = argv[1], rows = enif_make_list(env, 0), lacking = rows;
+    known_row known;
+    heal_registration found;
+    while (enif_get_list_cell(env, rest, &head, &rest)) {
+        if (!get_known(env, head, &known))
+            return enif_make_badarg(env);
+        uint32_t number = heal_side_whereis(&held->handle.side, known.name.data, known.name.size, &found);
+        if (number != 0 && number != NO_SUCH_NAME)
+            return refused(env, number);
+        if (number != 0)
+            lacking = enif_make_list_cell(env, known.key, lacking);
+        else if (!known.is_known || memcmp(&known.registration, &found, sizeof found) != 0)
+            rows = enif_make_list_cell(env, enif_make_tuple2(env, known.key, registration_term(env, &found)), rows);
+    }
+    return enif_is_empty_list(env, rest) ? enif_make_tuple3(env, atom_ok, rows, lacking) : enif_make_badarg(env);
+}
+WITH_READERS(differing, side_type)
 
 static term begin_body(ErlNifEnv *env, resource *held, const term argv[])
 {
@@ -819,6 +906,25 @@ static term clashes_body(ErlNifEnv *env, resource *held, const term argv[])
     return number == 0 ? ok(env, clashes) : refused(env, number);
 }
 READING(clashes, outcome_type)
+
+/* The clashes in short: {Name, First, Second, FirstHalf, Verdict, Resolver}. */
+static term rulings_body(ErlNifEnv *env, resource *held, const term argv[])
+{
+    size_t count = 0;
+    heal_clash read;
+    term rulings = enif_make_list(env, 0);
+    (void)argv;
+    uint32_t number = heal_outcome_clashes(&held->handle.outcome, &count);
+    while (number == 0 && count > 0) {
+        number = heal_outcome_clash(&held->handle.outcome, --count, &read);
+        if (number == 0)
+            rulings = enif_make_list_cell(env, enif_make_tuple6(env, name_term(env, &read.name), owner_term(env, read.first.owner),
+                owner_term(env, read.second.owner), read.first_half == HEAL_A ? atom_a : atom_b, verdict_term(read.verdict),
+                resolver_kind(&read.first)), rulings);
+    }
+    return number == 0 ? ok(env, rulings) : refused(env, number);
+}
+READING(rulings, outcome_type)
 
 /* ---- Replicas ---- */
 
@@ -1072,11 +1178,13 @@ static ErlNifFunc functions[] = {
     {"query_in_turn", 1, query, DIRTY},
     {"upload_in_turn", 2, upload, DIRTY},
     {"register_in_turn", 3, register_name, 0},
+    {"register_all_in_turn", 2, register_all, DIRTY},
     {"unregister_in_turn", 2, unregister_name, 0},
     {"whereis_in_turn", 2, whereis_name, 0},
     {"count_in_turn", 1, count, 0},
     {"rows_in_turn", 1, rows, DIRTY},
     {"owners_in_turn", 2, owners, DIRTY},
+    {"differing_in_turn", 2, differing, DIRTY},
     {"begin_exchange_in_turn", 4, begin, DIRTY},
     {"hear_in_turn", 2, hear, DIRTY},
     {"settle_in_turn", 1, settle, DIRTY},
@@ -1107,6 +1215,7 @@ static ErlNifFunc functions[] = {
     {"number", 1, outcome_number, 0},
     {"merged", 1, merged, 0},
     {"clashes", 1, clashes, DIRTY},
+    {"rulings", 1, rulings, DIRTY},
 };
 
 ERL_NIF_INIT(heal, functions, on_load, NULL, on_upgrade, NULL)

@@ -16,15 +16,16 @@
 -module(heal).
 
 -export([load/1, judge/2, program_id/1, record/6, refusal_words/1, peek/1]).
--export([side/1, side/2, upload/2, forget/2, programs/1, code/2, register/3, unregister/2, whereis/2, count/1, rows/1, owners/2]).
+-export([side/1, side/2, upload/2, forget/2, programs/1, code/2, register/3, register_all/2, unregister/2, whereis/2]).
+-export([count/1, rows/1, owners/2, differing/2]).
 -export([query/1, events/1, renew/1, give_up/1]).
 -export([begin_exchange/4, hear/2, settle/1, withdraw/2, close_list/1, hear_list/2, finish/1, abandon/1]).
--export([number/1, merged/1, clashes/1]).
+-export([number/1, merged/1, clashes/1, rulings/1]).
 -export([replica/2, replica_query/1, replica_register/3, replica_unregister/2, replica_upload/2, replica_limit/2, replica_begin/2]).
 -export([replica_lead/1, replica_snapshot/1, replica_follow/2, replica_apply/2, replica_whereis/2, replica_rows/1]).
 -export([replica_side/2, replica_change/3, log_front/1]).
 -export([serials/0]).
--export_type([program/0, side/0, outcome/0, name/0, owner/0, resolver/0, registration/0, facts/0, clash/0, notice/0]).
+-export_type([program/0, side/0, outcome/0, name/0, owner/0, resolver/0, registration/0, facts/0, clash/0, notice/0, ruling/0]).
 -export_type([state/0, head/0, refusal/0, replica/0, position/0, replica_state/0]).
 
 -on_load(init/0).
@@ -61,6 +62,9 @@
     notices := [notice()]
 }.
 %% `keeps' is the verdict, or `neither' if the winner was withdrawn; then there are no notices. `first_half' registered `first'.
+-type ruling() :: {name(), First :: owner(), Second :: owner(), FirstHalf :: a | b, Verdict :: first | second | neither,
+                   OfFirst :: exit | notify | notify_all | program}.
+%% A clash in short.
 -type state() :: #{
     side := a | b,
     open := word() | none,
@@ -152,6 +156,10 @@ code(Side, Id) -> turn(fun() -> code_in_turn(Side, Id) end).
 -spec register(side(), name(), registration()) -> result().
 register(Side, Name, Registration) -> turn(fun() -> register_in_turn(Side, Name, Registration) end).
 
+%% @doc Registers names on an idle side, one after the other. A refusal ends that, and the names before it stay.
+-spec register_all(side(), [{name(), registration()}]) -> result().
+register_all(Side, Rows) -> turn(fun() -> register_all_in_turn(Side, Rows) end).
+
 %% @doc Unregisters a name on an idle side.
 -spec unregister(side(), name()) -> result().
 unregister(Side, Name) -> turn(fun() -> unregister_in_turn(Side, Name) end).
@@ -171,6 +179,12 @@ rows(Side) -> turn(fun() -> rows_in_turn(Side) end).
 %% @doc Returns those of the names that are registered, each with its owner, in no order.
 -spec owners(side(), [name()]) -> result([{name(), owner()}]).
 owners(Side, Names) -> turn(fun() -> owners_in_turn(Side, Names) end).
+
+%% @doc Compares the side with known rows, and with names whose rows aren't known. Returns the rows of these names that differ, and
+%% the names that the side lacks, both in no order.
+-spec differing(side(), [{name(), registration()} | name()]) ->
+    {ok, [{name(), registration()}], Lacking :: [name()]} | {error, refusal()}.
+differing(Side, Known) -> turn(fun() -> differing_in_turn(Side, Known) end).
 
 %% @doc Opens an exchange and returns the offer for the other half. Both halves use the same number and seed.
 -spec begin_exchange(side(), Number :: word(), Seed :: word(), Uptime :: word()) -> result(Offer :: binary()).
@@ -231,6 +245,10 @@ merged(_Outcome) -> missing().
 %% @doc Returns the clashes in the order of names, each with its verdict and its notices.
 -spec clashes(outcome()) -> result([clash()]).
 clashes(_Outcome) -> missing().
+
+%% @doc Returns the clashes in the order of names, in short.
+-spec rulings(outcome()) -> result([ruling()]).
+rulings(_Outcome) -> missing().
 
 %% @doc Starts a life of a node: a replica with an empty half, as the primary of its first view. No two lives of a node may share an
 %% incarnation.
@@ -322,11 +340,13 @@ programs_in_turn(_Side) -> missing().
 code_in_turn(_Side, _Id) -> missing().
 query_in_turn(_Side) -> missing().
 register_in_turn(_Side, _Name, _Registration) -> missing().
+register_all_in_turn(_Side, _Rows) -> missing().
 unregister_in_turn(_Side, _Name) -> missing().
 whereis_in_turn(_Side, _Name) -> missing().
 count_in_turn(_Side) -> missing().
 rows_in_turn(_Side) -> missing().
 owners_in_turn(_Side, _Names) -> missing().
+differing_in_turn(_Side, _Known) -> missing().
 begin_exchange_in_turn(_Side, _Number, _Seed, _Uptime) -> missing().
 hear_in_turn(_Side, _Offer) -> missing().
 settle_in_turn(_Side) -> missing().

@@ -56,8 +56,22 @@ resume(Part = #part{waiting = []}) ->
 resume(Part = #part{waiting = Waiting}) ->
     case waits(Part) of
         true -> Part;
-        false -> lists:foldr(fun edit/2, Part#part{waiting = []}, Waiting)
+        false ->
+            {Now, Later} = lists:splitwith(resumes(Part), lists:reverse(Waiting)),
+            lists:foldl(fun edit/2, Part#part{waiting = lists:reverse(Later)}, Now)
     end.
+
+%% Registrations are made before the view is settled. Other edits may be of names that are restored by then, and those that follow
+%% keep their order.
+resumes(Part) ->
+    case heal_view:is_settling(Part) of
+        true -> fun is_registration/1;
+        false -> fun(_Call) -> true end
+    end.
+
+is_registration(#call{edit = {register, _, _}}) -> true;
+is_registration(#call{edit = {adopt, _, _, _, _, _}}) -> true;
+is_registration(_Call) -> false.
 
 %% A process that this node answers for has ended: its name is withdrawn in an open exchange, and unregistered.
 -spec died(heal:name(), heal:owner(), #part{}) -> #part{}.

@@ -1,69 +1,64 @@
 %% @private An exchange by libheal, for heal_meeting: a side that is made for it, and what else a part reads of its node.
 %%
-%% heal_meeting calls each function at most once for each exchange and in this order: `open', `hear', `withdraw' any number of
-%% times, `close', `finish'. A side is dropped when its exchange is over or abandoned.
+%% heal_meeting calls each function at most once for each exchange and in this order: `prepare', `open', `hear', `withdraw' any
+%% number of times, `close', `finish'. A side is dropped when its exchange is over or abandoned.
 -module(heal_exchange).
 
 -include("heal_replica.hrl").
 
--export([open/6, hear/2, withdraw/2, close/1, finish/3, registration/2, seed/0, serial/0, is_alive/1]).
--export_type([process/0]).
+-export([prepare/4, open/3, hear/2, withdraw/2, close/1, finish/3, seed/0, serial/0, is_alive/1]).
+-export_type([process/0, handle/0]).
 
 -type process() :: {heal:owner(), pid(), Term :: term(), Home :: heal_replica:life()}.
 -type refused() :: {error, pos_integer()}.
+%% A side, and the rows that it was made of.
+-opaque handle() :: {heal:side(), [{heal:name(), heal:registration()}]}.
 
-%% Makes a side of these names, which may have as many names as the limit, and returns its offer. The leader is side a.
--spec open(a | b, Number :: pos_integer(), Seed :: non_neg_integer(), #{heal:name() => #row{}}, #{binary() => binary()},
-           Limit :: pos_integer()) -> {ok, Offer :: binary(), heal:side()} | refused().
-open(Id, Number, Seed, Names, Programs, Limit) ->
+%% Makes a side of these names, which may have as many names as the limit. The leader is side a.
+-spec prepare(a | b, #{heal:name() => #row{}}, #{binary() => binary()}, Limit :: pos_integer()) -> {ok, handle()} | refused().
+prepare(Id, Names, Programs, Limit) ->
     {ok, Side} = heal:side(Id, Limit),
+    Rows = [{Name, Registration} || {Name, #row{registration = Registration}} <- maps:to_list(Names)],
     Calls = [fun() -> plain(heal:upload(Side, Code)) end || Code <- maps:values(Programs)]
-        ++ [fun() -> heal:register(Side, Name, Registration) end
-            || {Name, #row{registration = Registration}} <- maps:to_list(Names)],
-    case all(Calls ++ [fun() -> heal:renew(Side) end]) of
-        ok -> with(Side, heal:begin_exchange(Side, Number, Seed, heal_names:uptime()));
-        Refused -> Refused
-    end.
+        ++ [fun() -> heal:register_all(Side, Rows) end, fun() -> heal:renew(Side) end],
+    with({Side, Rows}, all(Calls)).
+
+%% Begins the exchange, and returns the offer.
+-spec open(Number :: pos_integer(), Seed :: non_neg_integer(), handle()) -> {ok, Offer :: binary(), handle()} | refused().
+open(Number, Seed, Handle = {Side, _}) ->
+    with(Handle, heal:begin_exchange(Side, Number, Seed, heal_names:uptime())).
 
 %% Hears the other's offer and judges every clash.
--spec hear(Offer :: binary(), heal:side()) -> {ok, heal:side()} | refused().
-hear(Offer, Side) ->
-    case all([fun() -> heal:hear(Side, Offer) end, fun() -> heal:settle(Side) end]) of
-        ok -> {ok, Side};
-        Refused -> Refused
-    end.
+-spec hear(Offer :: binary(), handle()) -> {ok, handle()} | refused().
+hear(Offer, Handle = {Side, _}) ->
+    with(Handle, all([fun() -> heal:hear(Side, Offer) end, fun() -> heal:settle(Side) end])).
 
 %% Withdraws a name whose process is gone. `late' means that the list is closed.
--spec withdraw(heal:name(), heal:side()) -> {ok, heal:side()} | late.
-withdraw(Name, Side) ->
+-spec withdraw(heal:name(), handle()) -> {ok, handle()} | late.
+withdraw(Name, Handle = {Side, _}) ->
     case heal:withdraw(Side, Name) of
-        ok -> {ok, Side};
+        ok -> {ok, Handle};
         {error, _} -> late
     end.
 
 %% Closes the list of withdrawn names, and returns it.
--spec close(heal:side()) -> {ok, List :: binary(), heal:side()} | refused().
-close(Side) ->
-    with(Side, heal:close_list(Side)).
+-spec close(handle()) -> {ok, List :: binary(), handle()} | refused().
+close(Handle = {Side, _}) ->
+    with(Handle, heal:close_list(Side)).
 
-%% Hears the other's list. Returns the owners of the merge, for those of these names that it has, and the clashes.
--spec finish(List :: binary(), [heal:name()], heal:side()) ->
-    {ok, [{heal:name(), heal:owner()}], [heal:clash()], heal:side()} | refused().
-finish(List, Names, Side) ->
+%% Hears the other's list. Returns the registrations of the merge that this side didn't have, of its own names and of these
+%% others; which of all these names the merge lacks; and the clashes.
+-spec finish(List :: binary(), Others :: [heal:name()], handle()) ->
+    {ok, [{heal:name(), heal:registration()}], Lacking :: [heal:name()], [heal:ruling()]} | refused().
+finish(List, Others, {Side, Rows}) ->
     case all([fun() -> heal:hear_list(Side, List) end, fun() -> heal:finish(Side) end]) of
         {ok, Outcome} ->
-            {ok, Clashes} = heal:clashes(Outcome),
-            {ok, Owners} = heal:owners(Side, Names),
-            {ok, Owners, Clashes, Side};
+            {ok, Rulings} = heal:rulings(Outcome),
+            {ok, Changed, Lacking} = heal:differing(Side, Others ++ Rows),
+            {ok, Changed, Lacking, Rulings};
         Refused ->
             Refused
     end.
-
-%% Returns the registration of a name after `finish'.
--spec registration(heal:name(), heal:side()) -> heal:registration().
-registration(Name, Side) ->
-    {ok, Registration} = heal:whereis(Side, Name),
-    Registration.
 
 %% Returns a random seed.
 -spec seed() -> non_neg_integer().
@@ -88,5 +83,7 @@ all([Call | Rest]) ->
 plain({ok, _}) -> ok;
 plain(Refused) -> Refused.
 
-with(Side, {ok, Message}) -> {ok, Message, Side};
-with(_Side, {error, {Number, _}}) -> {error, Number}.
+with(Handle, ok) -> {ok, Handle};
+with(Handle, {ok, Message}) -> {ok, Message, Handle};
+with(_Handle, {error, Number}) when is_integer(Number) -> {error, Number};
+with(_Handle, {error, {Number, _}}) -> {error, Number}.

@@ -25,7 +25,9 @@ claim(_Name, _Row, Part) ->
 %% Keeps registrations that the table lacks, so that a registry that starts again has them.
 -spec missing([heal:name()], #part{}) -> #part{}.
 missing(Names, Part = #part{own = Own}) ->
-    Rows = [{Name, Row} || Name <- Names, #{Name := #own{row = Row}} <- [Own]],
+    kept([{Name, Row} || Name <- Names, #{Name := #own{row = Row}} <- [Own]], Part).
+
+kept(Rows, Part) ->
     lists:foldl(fun({Name, Row}, Sum) -> heal_state:add({keep, {own, Name}, Row}, Sum) end, Part, Rows).
 
 %% A registration that this node answers for is changed.
@@ -62,11 +64,13 @@ waiting(#part{own = Own}) ->
 
 %% Returns the names of this node that a half has given to another process, except those that an exchange decided.
 -spec conflicts([loser()], #half{}, #part{}) -> [heal:name()].
-conflicts(Losers, #half{names = Names}, #part{own = Own}) ->
-    Lost = maps:from_list([{{Name, Owner}, lost} || {Name, Owner, _} <- Losers]),
-    [Name || {Name, #own{row = Row}} <- maps:to_list(Own),
-             #{Name := Other} <- [Names],
-             is_rival(Row, Other), not is_map_key({Name, owner(Row)}, Lost)].
+conflicts(Losers, #half{names = Names}, Part = #part{own = Own}) ->
+    case [Name || {Name, #own{row = Row}} <- maps:to_list(Own), is_rival(Row, maps:get(Name, Names, Row))] of
+        [] -> [];
+        Rivals ->
+            Lost = maps:from_keys([Name || {Name, Owner, _} <- Losers, is_own(Name, Owner, Part)], lost),
+            [Name || Name <- Rivals, not is_map_key(Name, Lost)]
+    end.
 
 is_rival(#row{pid = Pid}, #row{pid = Pid}) -> false;
 is_rival(Row, Other) -> owner(Row) =/= owner(Other).
@@ -74,34 +78,28 @@ is_rival(Row, Other) -> owner(Row) =/= owner(Other).
 %% Notes which registrations an exchange has taken names from.
 -spec flag([loser()], #part{}) -> #part{}.
 flag(Losers, Part = #part{own = Own}) ->
-    Free = maps:map(fun(_, Entry) -> Entry#own{lost = none} end, Own),
-    Flag = fun({Name, Owner, Loss}, Sum) ->
-        case Sum of
-            #{Name := Entry = #own{row = #row{registration = #{owner := Owner}}}} -> Sum#{Name := Entry#own{lost = Loss}};
-            _ -> Sum
-        end
-    end,
-    Part#part{own = lists:foldl(Flag, Free, Losers)}.
+    Free = [{Name, Entry#own{lost = none}} || {Name, Entry = #own{lost = {_, _}}} <- maps:to_list(Own)],
+    Lost = [{Name, (map_get(Name, Own))#own{lost = Loss}} || {Name, Owner, Loss} <- Losers, is_own(Name, Owner, Part)],
+    Part#part{own = maps:merge(Own, maps:from_list(Free ++ Lost))}.
 
 %% Replaces the table that processes read by that of the replica. Names of processes that ended are hidden already.
 -spec swap(Old :: #half{}, #part{}) -> #part{}.
 swap(#half{names = Old}, Part = #part{own = Own, programs = Programs}) ->
     #half{names = New, programs = Known} = heal_state:half(Part),
-    Life = heal_state:life(Part),
-    Put = [Entry || Entry = {Name, Row} <- maps:to_list(New), differs(Name, Row, Old)],
-    Dead = [Name || {Name, Row = #row{home = Home}} <- maps:to_list(New), Home =:= Life, not is_own(Name, owner(Row), Part)],
-    Drop = maps:keys(maps:without(maps:keys(New), Old)),
-    Taken = [Name || {Name, #own{row = Row}} <- maps:to_list(Own), #{Name := Other} <- [New], is_moved(Row, Other)],
+    Rows = maps:to_list(New),
+    Put = [Entry || Entry = {Name, Row} <- Rows, not (is_map_key(Name, Old) andalso map_get(Name, Old) =:= Row)],
+    Drop = [Name || Name <- maps:keys(Old), not is_map_key(Name, New)],
+    Taken = [Name || {Name, #own{row = Row}} <- maps:to_list(Own), is_moved(Row, maps:get(Name, New, Row))],
     Swapped = lists:foldl(fun disown/2, Part#part{programs = maps:merge(Programs, Known)}, Taken),
-    Missing = maps:keys(maps:without(maps:keys(New), Swapped#part.own)) ++ [Name || {Name, _, _} <- waiting(Swapped)],
-    Kept = heal_state:add({keep, programs, maps:merge(Programs, Known)}, heal_state:add({rows, Put, Drop}, missing(Missing, Swapped))),
-    lists:foldl(fun(Name, Sum) -> heal_state:add({hide, Name}, Sum) end, Kept, Dead).
+    Missing = [{Name, Row} || {Name, #own{row = Row, lost = Lost}} <- maps:to_list(Swapped#part.own),
+                              Lost =/= none orelse not is_map_key(Name, New)],
+    Kept = heal_state:add({keep, programs, maps:merge(Programs, Known)}, heal_state:add({rows, Put, Drop}, kept(Missing, Swapped))),
+    lists:foldl(fun({Name, _}, Sum) -> heal_state:add({hide, Name}, Sum) end, Kept, strange(Rows, Part)).
 
-differs(Name, Row, Old) ->
-    case Old of
-        #{Name := Row} -> false;
-        _ -> true
-    end.
+%% The rows that this node answered for and does no more.
+strange(Rows, Part) ->
+    Life = heal_state:life(Part),
+    [Entry || Entry = {Name, Row = #row{home = Home}} <- Rows, Home =:= Life, not is_own(Name, owner(Row), Part)].
 
 %% Another node answers for the same process under this name.
 is_moved(Row = #row{pid = Pid}, Other = #row{pid = Pid}) -> owner(Row) =/= owner(Other);
@@ -112,14 +110,12 @@ is_moved(_Row, _Other) -> false.
 -spec differences(#part{}) -> [heal_edits:edit()].
 differences(Part = #part{own = Own, programs = Programs}) ->
     #half{names = Names, programs = Known} = heal_state:half(Part),
-    Life = heal_state:life(Part),
-    Lacking = maps:without(maps:keys(Names), Own),
-    Restored = [{register, Name, Row} || {Name, #own{row = Row, lost = none}} <- maps:to_list(Lacking)],
-    Dropped = [{unregister, Name, owner(Row)} || {Name, Row = #row{home = Home}} <- maps:to_list(Names), Home =:= Life,
-                                                 not is_own(Name, owner(Row), Part)],
+    Rows = [{Name, Row} || {Name, #own{row = Row, lost = none}} <- maps:to_list(Own)],
+    Restored = [{register, Name, Row} || {Name, Row} <- Rows, not is_map_key(Name, Names)],
+    Dropped = [{unregister, Name, owner(Row)} || {Name, Row} <- strange(maps:to_list(Names), Part)],
     Changed = [{change, Name, owner(Row), maps:remove(owner, Registration)}
-               || {Name, #own{row = Row = #row{registration = Registration}, lost = none}} <- maps:to_list(Own),
-                  #{Name := Other} <- [Names], Other =/= Row, owner(Other) =:= owner(Row)],
+               || {Name, Row = #row{registration = Registration}} <- Rows, is_map_key(Name, Names),
+                  map_get(Name, Names) =/= Row, owner(map_get(Name, Names)) =:= owner(Row)],
     Room = max(0, ?MAX_PROGRAMS - map_size(Known)),
     Uploads = lists:sublist([{upload, Id, Code} || {Id, Code} <- maps:to_list(maps:without(maps:keys(Known), Programs))], Room),
     Dropped ++ Uploads ++ Restored ++ Changed.
@@ -142,16 +138,13 @@ restrict(Homes, Part) ->
     Half = #half{names = Names} = heal_state:half(Part),
     Half#half{names = maps:filter(fun(_, #row{home = Home}) -> lists:member(Home, Homes) end, Names)}.
 
-%% Returns the losers of an exchange. A rival that was withdrawn leaves no loser, and neither does a process that is its own.
--spec losers([heal:clash()], Withdrawn :: [heal:name()], #{heal:name() => pid()}, #{heal:name() => pid()}) -> [loser()].
-losers(Clashes, Withdrawn, OfA, OfB) ->
-    Gone = maps:from_keys(Withdrawn, withdrawn),
-    [{Name, Owner, {Notice, Rival}}
-     || Clash = #{name := Name, first_half := Half} <- Clashes,
-        not is_map_key(Name, Gone),
-        #{Name := PidA} <- [OfA], #{Name := PidB} <- [OfB], PidA =/= PidB,
-        Notice = {_, Position} <- heal_names:notices(Clash),
-        {#{owner := Owner}, Rival} <- [loser(Position, Clash, case Half of a -> {PidA, PidB}; b -> {PidB, PidA} end)]].
+%% Returns the losers of a clash of two processes, that of this side and that of the other one.
+-spec losers(heal:ruling(), a | b, pid(), pid()) -> [loser()].
+losers(Ruling = {_, _, _, Side, _, _}, Side, OfOwn, OfOther) -> losers(Ruling, OfOwn, OfOther);
+losers(Ruling, _Side, OfOwn, OfOther) -> losers(Ruling, OfOther, OfOwn).
 
-loser(first, #{first := First}, {_, Rival}) -> {First, Rival};
-loser(second, #{second := Second}, {Rival, _}) -> {Second, Rival}.
+losers({Name, First, Second, _, Verdict, Resolver}, OfFirst, OfSecond) ->
+    [case Position of
+         first -> {Name, First, {Notice, OfSecond}};
+         second -> {Name, Second, {Notice, OfFirst}}
+     end || Notice = {_, Position} <- heal_names:notices(Verdict, Resolver)].

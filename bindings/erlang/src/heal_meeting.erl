@@ -7,7 +7,7 @@
 
 -include("heal_part.hrl").
 
--export([meet/1, message/3, broken/1, failed_with/2, expired/1, withdraw/2, is_idle/1, name/1]).
+-export([meet/1, message/3, continue/2, broken/1, failed_with/2, expired/1, withdraw/2, is_idle/1, name/1]).
 -export_type([member/0]).
 
 -type member() :: {heal_replica:life(), Number :: non_neg_integer()}.
@@ -18,6 +18,8 @@
 
 %% A primary queries the smallest greater one that is connected, unless the last attempt has just failed.
 -spec meet(#part{}) -> #part{}.
+meet(Part = #part{heal = idle, prepared = #prepared{}}) ->
+    meet(Part#part{prepared = none});
 meet(Part = #part{heal = idle, settle_by = none, limbo = none}) ->
     case heal_state:is_primary(Part) of
         true -> meet_one(overdue(Part));
@@ -91,13 +93,29 @@ message(Node, {offer, Number, _Seed, Offer, none},
     hear(Offer, Open, Part, fun close/1);
 message(Node, {list, Number, List}, Part = #part{heal = Open = #open{node = Node, number = Number, side = a, stage = listed}}) ->
     finish(List, Open, Part);
-message(Node, {list, Number, List}, Part = #part{heal = Open = #open{node = Node, number = Number, side = b, stage = offered}}) ->
-    finish_after(List, close(Part), Open);
+message(Node, {list, Number, List}, Part = #part{heal = Open = #open{node = Node, number = Number, side = b, stage = offered}})
+        when Open#open.others =/= none ->
+    %% The other node goes on with the list, and both compute the merge at the same time.
+    heal_state:continue({finish, Number, List}, close(Part));
 message(Node, {finished, Number, View}, Part = #part{heal = Open = #open{node = Node, number = Number, stage = {done, _, _}}}) ->
     follow(View, Open, Part);
 message(Node, {abandon, Number, Refusal}, Part = #part{heal = #open{node = Node, number = Number}}) ->
     failed(Refusal, Part);
 message(_Node, _Stale, Part) ->
+    Part.
+
+%% Goes on after the actions before are done.
+-spec continue(heal_part:step(), #part{}) -> #part{}.
+continue({prepare, Reference, Members}, Part = #part{heal = {engaged, #asking{reference = Reference}}}) ->
+    case prepare(b, Members, Part) of
+        {ok, Prepared} -> Part#part{prepared = Prepared};
+        _Refused -> Part
+    end;
+continue({hear, Number, Offer}, Part = #part{heal = Open = #open{number = Number, side = b, others = none}}) ->
+    hear(Offer, Open, Part, fun(Heard) -> Heard end);
+continue({finish, Number, List}, Part = #part{heal = Open = #open{number = Number, side = b, stage = listed}}) ->
+    finish(List, Open, Part);
+continue(_Step, Part) ->
     Part.
 
 %% A smaller primary queries this one. It answers if it leads no exchange itself.
@@ -119,9 +137,11 @@ cancel(Part = #part{heal = {asking, #asking{node = Node, reference = Reference}}
 cancel(Part) ->
     Part#part{heal = idle}.
 
-engage(Node, Reference, _Members, Part = #part{now = Now, exchange_timeout = Timeout, greatest = Greatest}) ->
+%% It makes its offer ready meanwhile.
+engage(Node, Reference, Members, Part = #part{now = Now, exchange_timeout = Timeout, greatest = Greatest}) ->
     Engaged = #asking{node = Node, reference = Reference, deadline = Now + Timeout div 2 + 1},
-    heal_state:send(Node, {hello, Reference, Greatest, members(Part)}, Part#part{heal = {engaged, Engaged}}).
+    Answered = heal_state:send(Node, {hello, Reference, Greatest, members(Part)}, Part#part{heal = {engaged, Engaged}}),
+    heal_state:continue({prepare, Reference, Members}, Answered).
 
 %% ---- The exchange ----
 
@@ -130,7 +150,7 @@ propose(Node, Number, Members, Part = #part{world = World}) ->
     case clashing_numbers(members(Part) ++ Members) of
         false ->
             Seed = World:seed(),
-            opened(open(Node, a, Number, Seed, (heal_state:half(Part))#half.names, Members, Part), Seed, Node, Part);
+            opened(open(Node, a, Number, Seed, Members, Part), Seed, Node, Part);
         true ->
             heal_peers:retry(Node, numbers, Part#part.exchange_timeout, Part)
     end.
@@ -148,31 +168,61 @@ opened({error, Refusal}, _Seed, Node, Part) ->
     heal_peers:retry(Node, Refusal, Part#part.exchange_timeout, Part).
 
 begun(Open = #open{number = Number}, Part) ->
-    heal_state:add({keep, greatest, Number}, Part#part{heal = Open, greatest = Number}).
+    heal_state:add({keep, greatest, Number}, Part#part{heal = Open, greatest = Number, prepared = none}).
 
-open(Node, Side, Number, Seed, Names, Members, Part) ->
-    #part{world = World, replica = Replica, now = Now, exchange_timeout = Timeout} = Part,
-    #half{programs = Programs} = heal_state:half(Part),
-    case World:open(Side, Number, Seed, Names, Programs, heal_replica:limit(Replica)) of
-        {ok, Bytes, Handle} ->
-            Processes = maps:map(fun(_, Row) -> process(Row) end, Names),
-            Open = #open{node = Node, number = Number, side = Side, from = heal_state:at(Part), handle = Handle, own = Names,
+open(Node, Side, Number, Seed, Members, Part = #part{now = Now, exchange_timeout = Timeout}) ->
+    case begin_with(ready(Side, Members, Part), Number, Seed, Part) of
+        {ok, Bytes, Handle, #prepared{at = At, names = Names, processes = Processes}} ->
+            Open = #open{node = Node, number = Number, side = Side, from = At, handle = Handle, own = Names,
                          members = Members, begun = Now, deadline = Now + Timeout},
-            {ok, {Bytes, Processes, Programs, members(Part)}, Open};
+            {ok, {Bytes, Processes, (heal_state:half(Part))#half.programs, members(Part)}, Open};
         Refused ->
             Refused
     end.
 
+begin_with({ok, Prepared = #prepared{handle = Handle}}, Number, Seed, #part{world = World}) ->
+    case World:open(Number, Seed, Handle) of
+        {ok, Bytes, Begun} -> {ok, Bytes, Begun, Prepared};
+        Refused -> Refused
+    end;
+begin_with(Refused, _Number, _Seed, _Part) ->
+    Refused.
+
+%% What was prepared, unless the half has changed since.
+ready(Side, Members, Part = #part{prepared = Prepared}) ->
+    case {Side, heal_state:at(Part), Prepared} of
+        {b, At, #prepared{at = At, members = Members}} -> {ok, Prepared};
+        _ -> prepare(Side, Members, Part)
+    end.
+
+prepare(Side, Members, Part = #part{world = World, replica = Replica}) ->
+    #half{programs = Programs} = heal_state:half(Part),
+    Names = offered_names(Side, Members, Part),
+    case World:prepare(Side, Names, Programs, heal_replica:limit(Replica)) of
+        {ok, Handle} ->
+            Processes = maps:map(fun(_, Row) -> process(Row) end, Names),
+            {ok, #prepared{at = heal_state:at(Part), members = Members, names = Names, processes = Processes, handle = Handle}};
+        Refused ->
+            Refused
+    end.
+
+%% Nodes that both parts claim count as the leader's.
+offered_names(a, _Members, Part) ->
+    (heal_state:half(Part))#half.names;
+offered_names(b, Members, Part) ->
+    Theirs = maps:from_keys([Life || {Life, _} <- Members], member),
+    #half{names = Names} = heal_state:half(Part),
+    maps:without([Name || {Name, #row{home = Home}} <- maps:to_list(Names), is_map_key(Home, Theirs)], Names).
+
 process(#row{registration = #{owner := Owner}, pid = Pid, term = Term, home = Home}) -> {Owner, Pid, Term, Home}.
 
-%% The other node answers with its offer: step 2. Nodes that both parts claim count as the leader's.
+%% The other node answers with its offer: step 2.
 offered(Node, Number, Seed, Offer = {_, _, _, Members}, Part) ->
-    Theirs = maps:from_keys([Life || {Life, _} <- Members], member),
-    Names = maps:filter(fun(_, #row{home = Home}) -> not is_map_key(Home, Theirs) end, (heal_state:half(Part))#half.names),
-    case Number > Part#part.greatest andalso open(Node, b, Number, Seed, Names, Members, Part) of
+    case Number > Part#part.greatest andalso open(Node, b, Number, Seed, Members, Part) of
         {ok, Own, Open} ->
-            Answer = fun(Heard) -> heal_state:send(Node, {offer, Number, Seed, Own, none}, Heard) end,
-            hear(Offer, Open, begun(Open, Part), Answer);
+            %% Both nodes judge at the same time.
+            Sent = heal_state:send(Node, {offer, Number, Seed, Own, none}, begun(Open, Part)),
+            heal_state:continue({hear, Number, Offer}, Sent);
         {error, Refusal} ->
             heal_peers:retry(Node, Refusal, Part#part.exchange_timeout, heal_state:send(Node, {abandon, Number, Refusal}, Part));
         false ->
@@ -200,54 +250,54 @@ close(Part = #part{world = World, heal = Open = #open{node = Node, number = Numb
             refused(Refusal, Part)
     end.
 
-finish_after(List, Part = #part{heal = Open = #open{}}, _Open) -> finish(List, Open, Part);
-finish_after(_List, Part, _Open) -> Part.
-
 %% Computes the merge: the other node keeps it until it hears of the leader's view.
 finish({List, Withdrawn}, Open = #open{handle = Handle, own = Own, others = Others, side = Side}, Part = #part{world = World}) ->
-    case World:finish(List, maps:keys(maps:merge(Own, Others)), Handle) of
-        {ok, Owners, Clashes, Finished} ->
-            Half = merged(Owners, Open#open{handle = Finished}, Part),
-            Losers = losers(Clashes, Withdrawn ++ Open#open.withdrawn, Open),
-            done(Side, Half, Losers, extended(Open, Part), healed(length(Clashes), Half, Open, Part));
+    case World:finish(List, [Name || Name <- maps:keys(Others), not is_map_key(Name, Own)], Handle) of
+        {ok, Changed, Lacking, Rulings} ->
+            Half = merged(Changed, Lacking, Open, Part),
+            Losers = losers(Rulings, Withdrawn ++ Open#open.withdrawn, Open),
+            done(Side, Half, Losers, extended(Open, Part), healed(length(Rulings), Half, Open, Part));
         {error, Refusal} ->
             refused(Refusal, Part)
     end.
 
-losers(Clashes, Withdrawn, #open{side = Side, own = Own, others = Others}) ->
-    Names = [Name || #{name := Name} <- Clashes],
-    OfOwn = maps:map(fun(_, #row{pid = Pid}) -> Pid end, maps:with(Names, Own)),
-    OfOthers = maps:map(fun(_, {_, Pid, _, _}) -> Pid end, maps:with(Names, Others)),
-    case Side of
-        a -> heal_home:losers(Clashes, Withdrawn, OfOwn, OfOthers);
-        b -> heal_home:losers(Clashes, Withdrawn, OfOthers, OfOwn)
+losers(Rulings, Withdrawn, Open) ->
+    Gone = maps:from_keys(Withdrawn, withdrawn),
+    [Loser || Ruling <- Rulings, not is_map_key(element(1, Ruling), Gone), Loser <- losers(Ruling, Open)].
+
+%% A process that clashes with itself loses nothing.
+losers(Ruling = {Name, _, _, _, _, _}, #open{side = Side, own = Own, others = Others}) ->
+    case {Own, Others} of
+        {#{Name := #row{pid = Pid}}, #{Name := {_, Pid, _, _}}} -> [];
+        {#{Name := #row{pid = OfOwn}}, #{Name := {_, OfOther, _, _}}} -> heal_home:losers(Ruling, Side, OfOwn, OfOther);
+        _ -> []
     end.
 
 healed(Clashes, #half{names = Names}, #open{node = Node, number = Number, begun = Begun}, Part = #part{now = Now}) ->
     Facts = #{with => Node, number => Number, clashes => Clashes, names => map_size(Names), milliseconds => Now - Begun},
     heal_state:add({healed, Facts}, Part).
 
-merged(Owners, Open = #open{number = Number, side = Side, programs = Theirs}, Part = #part{world = World}) ->
+merged(Changed, Lacking, Open, Part) ->
+    #open{number = Number, side = Side, own = Own, programs = Theirs, members = Members} = Open,
     #half{programs = Ours} = heal_state:half(Part),
     Programs = case Side of a -> united(Ours, Theirs); b -> united(Theirs, Ours) end,
-    #half{names = maps:from_list([{Name, row(Name, Owner, Open, World)} || {Name, Owner} <- Owners]), programs = Programs,
-          latest = Number}.
+    Homes = [Life || {Life, _} <- Members],
+    Rows = maps:from_list([{Name, heal_replica:compact(Name, row(Name, Registration, Open), Homes)}
+                           || {Name, Registration} <- Changed]),
+    #half{names = maps:merge(maps:without(Lacking, Own), Rows), programs = Programs, latest = Number}.
 
 %% The programs of the leader, and as many of the other part as there is room for.
 united(OfA, OfB) ->
     More = lists:sort(maps:to_list(maps:without(maps:keys(OfA), OfB))),
     maps:merge(OfA, maps:from_list(lists:sublist(More, ?MAX_PROGRAMS - map_size(OfA)))).
 
-row(Name, Owner, #open{own = Own, others = Others, handle = Handle}, World) ->
-    case {Own, Others} of
-        %% Both parts have the registration, perhaps one of them before a change.
-        {#{Name := Row = #row{registration = #{owner := Owner}}}, #{Name := {Owner, _, _, _}}} ->
-            Row#row{registration = World:registration(Name, Handle)};
-        {#{Name := Row = #row{registration = #{owner := Owner}}}, _} ->
-            Row;
+row(Name, Registration = #{owner := Owner}, #open{own = Own, others = Others}) ->
+    case Own of
+        %% Both parts have the registration, one of them before a change.
+        #{Name := Row = #row{registration = #{owner := Owner}}} -> Row#row{registration = Registration};
         _ ->
             #{Name := {Owner, Pid, Term, Home}} = Others,
-            #row{registration = World:registration(Name, Handle), pid = Pid, term = Term, home = Home}
+            #row{registration = Registration, pid = Pid, term = Term, home = Home}
     end.
 
 done(b, Half, Losers, Open, Part) ->

@@ -2,7 +2,7 @@
 -module(heal_names).
 
 -export([bytes/1, name/1, is_name/1, is_same/2, options/1, are_options/1, registration/3, serial/0, seed/0, uptime/0]).
--export([notices/1, deliver/3]).
+-export([notices/1, notices/2, deliver/3]).
 -export_type([notice/0]).
 
 -type notice() :: {exit | conflict | conflict_with, first | second}.
@@ -118,16 +118,17 @@ uptime() ->
 %% so the verdict gives the positions. libheal has no notices for a program's verdict, whose losers are notified as by `notify'
 %% and `notify_all', nor for a loser whose rival was withdrawn, which heal_losers registers again.
 -spec notices(heal:clash()) -> [notice()].
-notices(Clash = #{verdict := Verdict}) ->
-    [{kind(Clash), Position} || Position <- losers(Verdict)].
+notices(#{verdict := Verdict, first := #{resolver := Resolver}}) ->
+    notices(Verdict, Resolver).
 
-losers(first) -> [second];
-losers(second) -> [first];
-losers(neither) -> [first, second].
+%% The same for the first registration's resolver.
+-spec notices(Verdict :: first | second | neither, Resolver :: term()) -> [notice()].
+notices(first, Resolver) -> [{kind(Resolver), second}];
+notices(second, Resolver) -> [{kind(Resolver), first}];
+notices(neither, _Resolver) -> [{conflict_with, first}, {conflict_with, second}].
 
-kind(#{verdict := neither}) -> conflict_with;
-kind(#{first := #{resolver := exit}}) -> exit;
-kind(_ByNotifyOrProgram) -> conflict.
+kind(exit) -> exit;
+kind(_NotifyOrProgram) -> conflict.
 
 %% Delivers a notice as the resolvers of `global' do. A process that is `undefined' isn't notified.
 -spec deliver(Name :: term(), notice(), {First :: pid() | undefined, Second :: pid() | undefined}) -> ok.

@@ -13,8 +13,8 @@
 
 -include("heal_part.hrl").
 
--export([new/1, handle/3, upgrade/1, status/1, position/1, tick/1]).
--export_type([part/0, event/0, action/0, settings/0, status/0]).
+-export([new/1, handle/3, upgrade/1, status/1, position/1, count/1, tick/1]).
+-export_type([part/0, event/0, action/0, step/0, settings/0, status/0]).
 
 -opaque part() :: #part{}.
 -type settings() :: #{
@@ -50,7 +50,12 @@
     | {sync, From :: term()}
     | {died, heal:name(), heal:owner()}
     | {disk, Stored :: [Id :: binary()], Lacking :: [Id :: binary()], Problem :: none | term()}
+    %% All actions of the event before are done.
+    | {continue, step()}
     | tick.
+-type step() :: {hear | finish, Number :: pos_integer(), Message :: term()}
+    | {prepare, Reference :: term(), [heal_meeting:member()]}
+    | settle.
 -type action() ::
     {send, node(), Body :: term()}
     | {reply, From :: term(), Answer :: term()}
@@ -63,6 +68,8 @@
     | {keep, Key :: term(), Value :: term()}
     | {problems, heal_peers:problems()}
     | {healed, #{atom() => term()}}
+    %% After the other actions, and before any other event.
+    | {continue, step()}
     | {view, heal_replica:view(), [node()]}.
 -type status() :: #{atom() => term()}.
 
@@ -98,11 +105,12 @@ taken(Part = #part{out = Out}) ->
 %% Takes the state of an earlier version over: the fields that it lacks are the last ones.
 -spec upgrade(Earlier :: part()) -> part().
 upgrade(Earlier) ->
-    Part = later(Earlier, record_info(size, part), [none, none, []]),
+    Part = later(Earlier, record_info(size, part), [none, none, [], none]),
     #part{waiting = Waiting, requested = Requested, unreleased = Unreleased, adopting = Adopting} = Part,
-    #part{arriving = Arriving, leaving = Leaving, storing = Storing} = Part,
+    #part{arriving = Arriving, leaving = Leaving, storing = Storing, heal = Heal} = Part,
     Each = fun(_, Call) -> call(Call) end,
     Part#part{
+        heal = exchange(Heal),
         waiting = [call(Call) || Call <- Waiting],
         requested = maps:map(Each, Requested),
         unreleased = maps:map(Each, Unreleased),
@@ -113,6 +121,10 @@ upgrade(Earlier) ->
     }.
 
 call(Earlier) -> later(Earlier, record_info(size, call), [false]).
+
+%% An exchange of a version before goes no further: its handle was a side alone.
+exchange(#open{handle = Side}) when is_reference(Side) -> idle;
+exchange(Heal) -> Heal.
 
 later(Record, Size, Last) ->
     list_to_tuple(tuple_to_list(Record) ++ lists:nthtail(length(Last) - (Size - tuple_size(Record)), Last)).
@@ -134,6 +146,10 @@ event({sync, From}, Part = #part{syncing = Syncing}) ->
     settled(Part#part{syncing = [From | Syncing]});
 event({disk, Ids, Lacking, Problem}, Part) ->
     settled(heal_storing:reported(Ids, Lacking, Problem, Part));
+event({continue, settle}, Part) ->
+    act(heal_view:continue(Part));
+event({continue, Step}, Part) ->
+    act(heal_meeting:continue(Step, Part));
 event(tick, Part) ->
     act(heal_meeting:expired(heal_edits:expired(heal_peers:pulse(Part))));
 event({Kind, Node}, Part) when Kind =:= connecting; Kind =:= attempted ->
@@ -188,6 +204,11 @@ tick(Part) ->
 position(#part{replica = Replica}) ->
     #half{latest = Latest} = heal_replica:half(Replica),
     {heal_replica:position(Replica), heal_replica:led(Replica), Latest}.
+
+%% Returns the number of names.
+-spec count(part()) -> non_neg_integer().
+count(Part) ->
+    map_size((heal_state:half(Part))#half.names).
 
 %% Returns what `heal_registry:status/0' shows, apart from the table.
 -spec status(part()) -> status().

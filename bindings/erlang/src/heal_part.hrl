@@ -73,6 +73,16 @@
     deadline :: integer()
 }).
 
+%% What this node offers to the leader that it has answered: its half at this position, without the names of these members of the
+%% leader's part.
+-record(prepared, {
+    at :: heal_replica:position(),
+    members :: [heal_meeting:member()],
+    names :: #{heal:name() => #row{}},
+    processes :: #{heal:name() => heal_exchange:process()},
+    handle :: term()
+}).
+
 -record(part, {
     node :: node(),
     number :: 0..16#ffffffff,
@@ -128,5 +138,6 @@
     %% The programs on this node's disk, or `none' without a disk; why it can't be written; uploads that wait for it.
     stored = none :: none | #{Id :: binary() => stored},
     unwritable = none :: none | term(),
-    storing = [] :: [{Id :: binary(), #call{}}]
+    storing = [] :: [{Id :: binary(), #call{}}],
+    prepared = none :: none | #prepared{}
 }).

@@ -8,7 +8,7 @@
 -include("heal_replica.hrl").
 
 -export([start/1, resume/4, within/2, limit/1, life/1, position/1, half/1, led/1, is_primary/1]).
--export([lead/1, change/3, edit/2, snapshot/1, follow/2, apply/2]).
+-export([lead/1, change/3, edit/2, snapshot/1, follow/2, apply/2, compact/1, compact/3]).
 -export_type([replica/0, life/0, view/0, position/0, half/0, row/0, edit/0, changes/0, entry/0, snapshot/0, refusal/0]).
 
 -define(USUAL_LIMIT, 4096).
@@ -120,10 +120,8 @@ snapshot(#replica{at = At, half = Half}) -> {At, Half}.
 -spec follow(snapshot(), replica()) -> {ok, replica()} | {error, 98}.
 follow({{{Life, Led}, _}, _}, #replica{life = Life, led = Led}) ->
     {error, 98};
-follow({At, Half = #half{names = Names}}, Replica) ->
-    Homes = lists:usort([Home || #row{home = Home} <- maps:values(Names)]),
-    Compact = maps:map(fun(Name, Row) -> compact(Name, Row, Homes) end, Names),
-    {ok, Replica#replica{at = At, half = Half#half{names = Compact}}}.
+follow({At, Half}, Replica) ->
+    {ok, Replica#replica{at = At, half = Half}}.
 
 %% Applies an entry: 96 if it is of another view, 97 if an earlier one is missing. A repeated one changes nothing.
 -spec apply(entry(), replica()) -> {ok, now | already, replica()} | {error, refusal()}.
@@ -175,10 +173,17 @@ with_program(_Name, #row{registration = #{resolver := {program, Id}}}, #half{pro
 with_program(Name, Row, Half = #half{names = Names}) ->
     {ok, Half#half{names = Names#{Name => Row}}}.
 
-%% Returns the same edit or row with less memory: one that another node sent has copies of what all rows share.
 compact({register, Name, Row}, Homes) -> {register, Name, compact(Name, Row, Homes)};
 compact(Edit, _Homes) -> Edit.
 
+%% Returns the same snapshot with less memory: one that another node sent has copies of what all rows share.
+-spec compact(snapshot()) -> snapshot().
+compact({At, Half = #half{names = Names}}) ->
+    Homes = lists:usort([Home || #row{home = Home} <- maps:values(Names)]),
+    {At, Half#half{names = maps:map(fun(Name, Row) -> compact(Name, Row, Homes) end, Names)}}.
+
+%% Returns the same row of a name with less memory. It shares its home with these.
+-spec compact(heal:name(), row(), [life()]) -> row().
 compact(Name, Row = #row{registration = Sent, term = Term, home = Home}, Homes) ->
     #{owner := Owner, stamp := Stamp, weight := Weight, extra := Extra, resolver := Resolver} = Sent,
     %% The keys of a map that is written like this are a literal of the module.

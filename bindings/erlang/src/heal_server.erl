@@ -42,6 +42,9 @@
     log = none :: none | {pid(), Monitor :: reference()}
 }).
 
+%% Words of heap during an exchange: for each name, and at most.
+-define(ROOM_FOR_NAME, 170).
+-define(ROOM, 4000000).
 %% Milliseconds until another attempt to start the process that writes.
 -define(AGAIN, 1000).
 %% How often to look for a registry that has failed, and the milliseconds in between.
@@ -206,6 +209,7 @@ handle_cast(_Message, State) ->
 %% @private
 handle_info(tick, State = #server{part = Part}) ->
     _ = erlang:send_after(heal_part:tick(Part), self(), tick),
+    _ = process_flag(min_heap_size, element(2, erlang:system_info(min_heap_size))),
     {noreply, event(tick, State)};
 handle_info({nodeup, Node, #{node_type := Type}}, State) ->
     {noreply, up(Node, Type, State)};
@@ -255,6 +259,10 @@ heard(Node, {adopt, Number, Edit}, State) ->
     event({message, Node, {adopt, Number, valid(Edit)}}, released(Edit, State));
 heard(Node, Body = {here, _}, State) ->
     event({message, Node, Body}, watched(Node, State));
+heard(Node, Body = {offer, _, _, {_, Processes, _, _}, _}, State = #server{part = Part}) ->
+    %% An exchange makes much garbage. With more room fewer collections copy the rows. The next tick takes the room back.
+    _ = process_flag(min_heap_size, min(?ROOM, ?ROOM_FOR_NAME * max(heal_part:count(Part), map_size(Processes)))),
+    event({message, Node, Body}, release_dead(State));
 heard(Node, Body, State) when element(1, Body) =:= edit; element(1, Body) =:= answer ->
     event({message, Node, Body}, State);
 heard(Node, Body, State) ->
@@ -337,7 +345,10 @@ perform([], State) ->
     State;
 perform(Actions, State = #server{subscribers = Subscribers}) ->
     ok = heal_events:report(Actions, Subscribers),
-    positioned(lists:foldl(fun act/2, State, Actions)).
+    continued(Actions, positioned(lists:foldl(fun act/2, State, Actions))).
+
+continued(Actions, State) ->
+    lists:foldl(fun event/2, State, [Step || Step = {continue, _} <- Actions]).
 
 %% Keeps the position of the replica after the rows that it has.
 positioned(State = #server{part = Part, view = View, operation = Last}) ->

@@ -7,7 +7,7 @@
 
 -include("heal_part.hrl").
 
--export([resume/1, act/1, members/1, lead_alone/1, follow/4, start/5]).
+-export([resume/1, act/1, continue/1, is_settling/1, members/1, lead_alone/1, follow/4, start/5]).
 -export([snapshot/3, wanted/3, joined/3, settled/3, broadcast/2]).
 
 %% ---- Starting ----
@@ -112,17 +112,28 @@ drop_strangers(Part = #part{members = Members}) ->
     Strange = [Name || {Name, #row{home = Home}} <- maps:to_list(Names), not is_map_key(Home, Homes)],
     heal_orders:make_all([{unregister, Name} || Name <- Strange], Part).
 
-%% All have joined.
-settle(Part = #part{settle_by = none}) ->
-    Part;
-settle(Part = #part{members = Members}) ->
-    case [pending || #member{is_joined = false} <- maps:values(Members)] of
-        [] ->
+%% All have joined, and the view is settled next: callers don't wait for the notices.
+settle(Part) ->
+    case is_settling(Part) of
+        true -> heal_state:continue(settle, Part);
+        false -> Part
+    end.
+
+%% Returns whether the view of this primary is settled next.
+-spec is_settling(#part{}) -> boolean().
+is_settling(#part{settle_by = SettleBy, members = Members}) ->
+    SettleBy =/= none andalso [] =:= [pending || #member{is_joined = false} <- maps:values(Members)].
+
+%% Settles the view.
+-spec continue(#part{}) -> #part{}.
+continue(Part = #part{members = Members}) ->
+    case is_settling(Part) andalso heal_state:is_primary(Part) of
+        true ->
             Dropped = drop_strangers(Part),
             Sent = heal_state:send_all(maps:keys(Members), {settled, heal_state:at(Dropped)}, Dropped),
             {Edits, Settled} = heal_home:settle(Sent#part{settle_by = none, losers = []}),
             heal_orders:make_each(Edits, element(2, heal_state:at(Settled)), Settled);
-        _ ->
+        false ->
             Part
     end.
 
@@ -301,7 +312,7 @@ snapshot(Node, {Snapshot = {{{Life, _}, _} = At, _}, Losers}, Part = #part{peers
     case Peers of
         #{Node := #peer{life = Life}} ->
             case {heal_state:is_primary(Part), is_next(Node, At, Part), heal_state:at(Part)} of
-                {false, true, _} -> follow(Snapshot, Losers, Node, Part);
+                {false, true, _} -> follow(heal_replica:compact(Snapshot), Losers, Node, Part);
                 {false, false, {View, _}} when View =:= element(1, At) -> join_with(heal_home:differences(Part), Part);
                 _ -> Part
             end;

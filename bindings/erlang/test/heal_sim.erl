@@ -202,7 +202,8 @@ handled(Name, Node = #node{part = Part, offset = Offset, rate = Rate}, Event, Si
     end,
     {Actions, Next} = heal_part:handle(Event, Offset + trunc(Now * Rate), Part),
     Acted = heal_sim_acts:positioned(Name, heal_sim_acts:actions(Name, Actions, Traced#sim{nodes = Nodes#{Name := Node#node{part = Next}}})),
-    case Next#part.replica =:= Part#part.replica of
+    Checked = case Next#part.replica =:= Part#part.replica of
         true -> Acted;
         false -> heal_sim_calls:check_position(Name, Acted)
-    end.
+    end,
+    lists:foldl(fun(Step, Sum) -> event(Name, Step, Sum) end, Checked, [Step || Step = {continue, _} <- Actions]).

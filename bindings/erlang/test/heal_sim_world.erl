@@ -6,9 +6,9 @@
 -module(heal_sim_world).
 
 -export([start/1, end_process/1]).
--export([open/6, hear/2, withdraw/2, close/1, finish/3, registration/2, seed/0, serial/0, is_alive/1]).
+-export([prepare/4, open/3, hear/2, withdraw/2, close/1, finish/3, seed/0, serial/0, is_alive/1]).
 
--record(handle, {side, seed, names, other = none, withdrawn = [], is_closed = false, merged = #{}}).
+-record(handle, {side, seed = none, names, other = none, withdrawn = [], is_closed = false}).
 
 start(Fault) ->
     put({?MODULE, fault}, Fault),
@@ -27,9 +27,11 @@ serial() ->
 seed() ->
     rand:uniform(1 bsl 32).
 
-open(Side, _Number, Seed, Names, _Programs, _Limit) ->
-    Registrations = maps:map(fun(_, Row) -> element(2, Row) end, Names),
-    {ok, {Side, Seed, Registrations}, #handle{side = Side, seed = Seed, names = Registrations}}.
+prepare(Side, Names, _Programs, _Limit) ->
+    {ok, #handle{side = Side, names = maps:map(fun(_, Row) -> element(2, Row) end, Names)}}.
+
+open(_Number, Seed, Handle = #handle{side = Side, names = Names}) ->
+    {ok, {Side, Seed, Names}, Handle#handle{seed = Seed}}.
 
 hear({Side, Seed, Names}, Handle = #handle{side = Own, seed = Seed}) when Side =/= Own ->
     {ok, Handle#handle{other = Names}}.
@@ -40,15 +42,25 @@ withdraw(Name, Handle = #handle{withdrawn = Withdrawn}) -> {ok, Handle#handle{wi
 close(Handle = #handle{withdrawn = Withdrawn}) ->
     {ok, Withdrawn, Handle#handle{is_closed = true}}.
 
-%% Returns the owners of the merge and the clashes. A winner that is withdrawn leaves the name without an owner.
-finish(Heard, _Names, Handle = #handle{side = Side, names = Own, other = Other, withdrawn = Ours, seed = Seed}) ->
+%% Returns what the merge changes of the side's names and of these others, and the clashes. A winner that is withdrawn leaves the name
+%% without an owner.
+finish(Heard, Others, #handle{side = Side, names = Own, other = Other, withdrawn = Ours, seed = Seed}) ->
     Theirs = case get({?MODULE, fault}) of deaf -> []; _ -> Heard end,
     {A, B, GoneA, GoneB} = case Side of a -> {Own, Other, Ours, Theirs}; b -> {Other, Own, Theirs, Ours} end,
     Clashes = [clash(Name, One, maps:get(Name, B), {Seed, drawn(Side)}) || {Name, One} <- lists:sort(maps:to_list(A)), is_map_key(Name, B)],
     Alone = maps:merge(maps:without(maps:keys(B) ++ GoneA, A), maps:without(maps:keys(A) ++ GoneB, B)),
     Won = maps:from_list([{Name, Winner} || Clash = #{name := Name} <- Clashes, Winner <- winner(Clash, GoneA, GoneB)]),
-    Merged = maps:merge(Alone, Won),
-    {ok, [{Name, Owner} || {Name, #{owner := Owner}} <- maps:to_list(Merged)], Clashes, Handle#handle{merged = Merged}}.
+    {Changed, Lacking} = differing(maps:merge(maps:from_keys(Others, none), Own), maps:merge(Alone, Won)),
+    {ok, Changed, Lacking, [ruling(Clash) || Clash <- Clashes]}.
+
+differing(Known, Merged) ->
+    {[{Name, Registration} || {Name, Before} <- maps:to_list(Known), #{Name := Registration} <- [Merged], Registration =/= Before],
+     [Name || Name <- maps:keys(Known), not is_map_key(Name, Merged)]}.
+
+ruling(#{name := Name, first := First, second := Second, verdict := Verdict, first_half := Half}) ->
+    #{owner := OfFirst, resolver := Resolver} = First,
+    #{owner := OfSecond} = Second,
+    {Name, OfFirst, OfSecond, Half, Verdict, Resolver}.
 
 drawn(Side) ->
     case get({?MODULE, fault}) of
@@ -80,6 +92,3 @@ winner(#{name := Name, verdict := Verdict, first_half := Half, first := First, s
         true -> [];
         false -> [Winner]
     end.
-
-registration(Name, #handle{merged = Merged}) ->
-    maps:get(Name, Merged).

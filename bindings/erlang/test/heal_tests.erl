@@ -51,6 +51,10 @@ exchange_of_every_resolver_test() ->
                   {<<"notify">>, first, [{conflict, {2, 2}}], 6},
                   {<<"program">>, second, [], 7}],
                  [{Name, Verdict, Notices, Word} || #{name := Name, verdict := Verdict, notices := Notices, word := Word} <- Clashes]),
+    ?assertEqual({ok, [{<<"all">>, {1, 3}, {2, 3}, a, neither, notify_all}, {<<"exit">>, {1, 1}, {2, 1}, a, second, exit},
+                       {<<"notify">>, {1, 2}, {2, 2}, a, first, notify}, {<<"program">>, {1, 6}, {2, 6}, a, second, program}]},
+                 heal:rulings(OfA)),
+    ?assertEqual(heal:rulings(OfA), heal:rulings(OfB)),
     {ok, Rows} = heal:rows(A),
     ?assertEqual({ok, Rows}, heal:rows(B)),
     ?assertEqual([{<<"exit">>, full(registration(2, 1, 9, exit))}, {<<"notify">>, full(registration(1, 2, 5, notify))},
@@ -61,6 +65,52 @@ exchange_of_every_resolver_test() ->
 owners(Side, Names) ->
     {ok, Owners} = heal:owners(Side, Names),
     lists:sort(Owners).
+
+%% The second half may have the first registration, and an outcome no clash.
+rulings_test() ->
+    Row = registration(1, 1, 5, notify_all),
+    {OfA, OfB} = healed(side(a, [{<<"x">>, registration(2, 1, 5, exit)}]), side(b, [{<<"x">>, Row}]), 1, []),
+    ?assertEqual({ok, [{<<"x">>, {1, 1}, {2, 1}, b, neither, notify_all}]}, heal:rulings(OfA)),
+    ?assertEqual(heal:rulings(OfA), heal:rulings(OfB)),
+    {OfNone, _} = healed(side(a, [{<<"x">>, Row}]), side(b, []), 1, []),
+    ?assertEqual({ok, []}, heal:rulings(OfNone)).
+
+%% Names that are registered in one call, up to the one that is refused.
+register_all_test() ->
+    Rows = [{integer_to_binary(N), full(registration(1, N, 1, notify))} || N <- lists:seq(1000, 1999)],
+    Row = full(registration(2, 1, 1, exit)),
+    Side = side(a, []),
+    ?assertEqual(ok, heal:register_all(Side, [])),
+    ?assertEqual(ok, heal:register_all(Side, lists:reverse(Rows))),
+    ?assertEqual({ok, Rows}, heal:rows(Side)),
+    ?assertMatch({error, {30, _}}, heal:register_all(Side, [{<<"x">>, Row}, hd(Rows), {<<"y">>, Row}])),
+    ?assertMatch({error, {44, _}}, heal:register_all(Side, [{<<"a b">>, Row}, {<<"y">>, Row}])),
+    ?assertMatch({error, {41, _}}, heal:register_all(Side, [{<<"y">>, Row#{resolver := {program, <<0:256>>}}}])),
+    ?assertEqual({ok, Rows ++ [{<<"x">>, Row}]}, heal:rows(Side)),
+    {ok, Small} = heal:side(b, 3),
+    ?assertMatch({error, {32, _}}, heal:register_all(Small, Rows)),
+    ?assertEqual({ok, lists:sublist(Rows, 3)}, heal:rows(Small)),
+    {ok, _} = heal:begin_exchange(Side, 1, 1, 0),
+    ?assertMatch({error, {33, _}}, heal:register_all(Side, [{<<"y">>, Row}])).
+
+%% What a side has otherwise than its caller.
+differing_test() ->
+    {ok, Id} = heal:upload(Side = side(a, []), later()),
+    Row = (full(registration(1, 1, 5, notify)))#{weight := 6, extra := <<7:128>>},
+    OfProgram = Row#{owner := {1, 2}, resolver := {program, Id}},
+    ok = heal:register_all(Side, [{<<"x">>, Row}, {<<"y">>, OfProgram}]),
+    ?assertEqual({ok, [], []}, heal:differing(Side, [])),
+    ?assertEqual({ok, [], []}, heal:differing(Side, [{<<"x">>, Row}, {<<"y">>, OfProgram}])),
+    ?assertEqual({ok, [{<<"y">>, OfProgram}], [<<"z">>]}, heal:differing(Side, [{<<"x">>, Row}, <<"y">>, <<"z">>])),
+    ?assertEqual({ok, [], [<<"z">>]}, heal:differing(Side, [{<<"z">>, Row}])),
+    [?assertEqual({ok, [{<<"x">>, Row}], []}, heal:differing(Side, [{<<"x">>, Row#{Key := Value}}]))
+     || {Key, Value} <- [{owner, {1, 9}}, {owner, {9, 1}}, {stamp, 9}, {weight, 9}, {extra, <<9:128>>}, {resolver, exit},
+                         {resolver, {program, Id}}]],
+    ?assertEqual({ok, [{<<"y">>, OfProgram}], []}, heal:differing(Side, [{<<"y">>, OfProgram#{resolver := {program, <<0:256>>}}}])),
+    %% A name that is withdrawn isn't there.
+    {ok, _} = heal:begin_exchange(Side, 1, 1, 0),
+    ok = heal:withdraw(Side, <<"x">>),
+    ?assertEqual({ok, [], [<<"x">>]}, heal:differing(Side, [{<<"x">>, Row}])).
 
 registration_keeps_its_fields_test() ->
     Registration = #{owner => {4294967295, 7}, stamp => 18446744073709551615, weight => 3, extra => <<"sixteen bytes ok">>,
@@ -133,6 +183,15 @@ badarg_test() ->
              {register, [Side, <<"x">>, Row#{stamp := 1 bsl 64}]}, {register, [Side, <<"x">>, Row#{extra => <<1>>}]},
              {register, [Side, <<"x">>, Row#{resolver := later}]}, {register, [Side, <<"x">>, Row#{resolver := {program, <<1>>}}]},
              {begin_exchange, [Side, -1, 0, 0]}, {settle, [x]}, {hear, [Side, "x"]},
+             {register_all, [Side, x]}, {register_all, [Program, []]}, {register_all, [Side, [{<<"x">>, Row} | x]]},
+             {register_all, [Side, [{<<"x">>, Row}, x]]}, {register_all, [Side, [{<<"x">>, Row}, {<<"y">>}]]},
+             {register_all, [Side, [{<<"x">>, Row}, {<<"y">>, Row, Row}]]}, {register_all, [Side, [{<<"x">>, Row}, {y, Row}]]},
+             {register_all, [Side, [{<<"x">>, Row}, {<<"y">>, maps:remove(owner, Row)}]]},
+             {register_all, [Side, [{<<"x">>, Row}, {<<"y">>, Row#{resolver => {program, <<1>>}}}]]},
+             {differing, [Side, x]}, {differing, [Program, []]}, {differing, [Side, [x]]}, {differing, [Side, [<<"x">> | <<"y">>]]},
+             {differing, [Side, [{<<"x">>}]]}, {differing, [Side, [{<<"x">>, Row, Row}]]}, {differing, [Side, [{x, Row}]]},
+             {differing, [Side, [{<<"x">>, []}]]}, {differing, [Side, [{<<"x">>, Row#{stamp := -1}}]]},
+             {rulings, [Side]}, {rulings, [Program]}, {rulings, [x]}, {rulings, [make_ref()]},
              {owners, [Side, x]}, {owners, [Side, [<<"x">> | <<"y">>]]}, {owners, [Side, [x]]}, {refusal_words, [-1]}],
     [?assertError(badarg, apply(heal, Function, Args)) || {Function, Args} <- Calls],
     ?assertEqual({ok, 0}, heal:count(Side)).

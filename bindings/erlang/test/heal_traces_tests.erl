@@ -28,9 +28,7 @@ connect(One, Other, Lost, Parts) ->
     event(One, {up, Other, visible}, Lost, event(Other, {up, One, visible}, Lost, Parts)).
 
 event(Node, Event, Lost, Parts) ->
-    {Actions, Next} = heal_part:handle(Event, 2, maps:get(Node, Parts)),
-    put(done, [{Node, Action} || Action <- Actions] ++ get(done)),
-    one_table_at_a_position(element(1, heal_part:position(Next)), (heal_state:half(Next))#half.names),
+    {Actions, Next} = handled(Node, Event, maps:get(Node, Parts)),
     lists:foldl(fun
         ({send, To, Body}, Sum) when is_map_key(To, Sum) ->
             case Lost(Node, To, Body) of
@@ -39,6 +37,16 @@ event(Node, Event, Lost, Parts) ->
             end;
         (_, Sum) -> Sum
     end, Parts#{Node := Next}, Actions).
+
+%% Handles an event and the steps that follow it.
+handled(Node, Event, Part) ->
+    {Actions, Next} = heal_part:handle(Event, 2, Part),
+    put(done, [{Node, Action} || Action <- Actions] ++ get(done)),
+    one_table_at_a_position(element(1, heal_part:position(Next)), (heal_state:half(Next))#half.names),
+    lists:foldl(fun(Step, {Before, Sum}) ->
+        {More, Last} = handled(Node, Step, Sum),
+        {Before ++ More, Last}
+    end, {Actions, Next}, [Step || Step = {continue, _} <- Actions]).
 
 one_table_at_a_position(At, Names) ->
     ?assertEqual(Names, maps:get(At, get(tables), Names)),
@@ -79,15 +87,50 @@ one_registration_in_two_parts_test() ->
 %% The row that a node takes from an exchange, which ends with the other's list.
 merged(Node, Side, Row = #row{registration = Own}, #row{registration = Of, pid = Pid, home = Home}, Part) ->
     [Peer] = [a, b] -- [Side],
-    {ok, _, Begun} = heal_sim_world:open(Side, 1, 7, #{?NAME => Row}, #{}, 10),
+    {ok, Prepared} = heal_sim_world:prepare(Side, #{?NAME => Row}, #{}, 10),
+    {ok, _, Begun} = heal_sim_world:open(1, 7, Prepared),
     {ok, Heard} = heal_sim_world:hear({Peer, 7, #{?NAME => Of}}, Begun),
     Open = #open{node = Peer, number = 1, side = Side, from = position(Node, #{Node => Part}), handle = Heard, own = #{?NAME => Row},
                  others = #{?NAME => {maps:get(owner, Own), Pid, ?NAME, Home}}, begun = 1, deadline = 9,
                  stage = case Side of a -> listed; b -> offered end},
-    case heal_meeting:message(Peer, {list, 1, {[], []}}, Part#part{heal = Open}) of
+    {_, Finished} = handled(Node, {message, Peer, {list, 1, {[], []}}}, Part#part{heal = Open}),
+    case Finished of
         #part{heal = #open{stage = {done, #half{names = #{?NAME := Merged}}, _}}} -> Merged;
         Led -> maps:get(?NAME, (heal_state:half(Led))#half.names)
     end.
+
+%% The other node has its offer ready when the leader's comes, and sends it before it hears that one. It makes it anew if its half has
+%% changed meanwhile.
+ready_offer_test() ->
+    Unasked = fun(_, _, Body) -> element(1, Body) =:= ask end,
+    #{b := Part} = connect(a, b, Unasked, start([{a, #{}}, {b, #{}}])),
+    Reference = {{a, 1}, 9},
+    Members = [{{a, 1}, erlang:phash2(a, 1000)}],
+    {_, Alone} = heal_part:handle(tick, 900, Part),
+    {[{send, a, {hello, Reference, 0, _}}, Prepare], Engaged} = heal_part:handle({message, a, {ask, Reference, Members}}, 901, Alone),
+    {[], Ready} = heal_part:handle(Prepare, 901, Engaged),
+    Offers = fun(Of) ->
+        Offer = {message, a, {offer, 1, 7, {{a, 7, #{}}, #{}, #{}, Members}, Reference}},
+        {Actions, Open} = heal_part:handle(Offer, 902, Of),
+        [{keep, greatest, 1}, {send, a, {offer, 1, 7, {_, Processes, _, _}, none}}, Hear] = Actions,
+        ?assertMatch({continue, {hear, 1, _}}, Hear),
+        ?assertMatch({_, #part{heal = #open{others = #{}}, prepared = none}}, heal_part:handle(Hear, 902, Open)),
+        {Of#part.prepared, maps:keys(Processes)}
+    end,
+    ?assertMatch({#prepared{}, []}, Offers(Ready)),
+    Options = #{stamp => 1, weight => 0, extra => <<0:128>>, resolver => notify},
+    {_, Changed} = heal_part:handle({call, 1, {adopt, ?NAME, ?NAME, Options, {pid, b, 1}, b}}, 902, Ready),
+    ?assertMatch({#prepared{}, [?NAME]}, Offers(Changed)),
+    %% The leader gives up.
+    ?assertMatch({_, #part{prepared = none}}, heal_part:handle({message, a, {cancel, Reference}}, 902, Ready)).
+
+%% An exchange that an earlier version of the registry began is given up. One of this version goes on.
+upgraded_exchange_test() ->
+    #{a := Part} = start([{a, #{}}]),
+    Open = #open{node = b, number = 1, side = a, from = position(a, #{a => Part}), handle = make_ref(), begun = 1, deadline = 9},
+    ?assertMatch(#part{heal = idle}, heal_part:upgrade(Part#part{heal = Open})),
+    Now = Open#open{handle = {make_ref(), []}},
+    ?assertMatch(#part{heal = Now}, heal_part:upgrade(Part#part{heal = Now})).
 
 %% A change that was sent to a primary which is lost may have been made, so a refusal by the next one means nothing.
 repeated_change_test() ->
