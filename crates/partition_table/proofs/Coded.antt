@@ -21,21 +21,32 @@ use Rattle.partition_table.specs.model.Keeping.{programs_agree}
 
 module _ (a b : Table) (kept_a : IsTable a) (kept_b : IsTable b) (both : BothPrograms)
     (programs : AreProgramsOf a b both) where
+  -- a clash has the code of the row that its first registration comes from
+  found : (row : Row) (clash : Clash) → clash.first ≡ row.registration → clash.code ≡ row.code
+      → IsCodeOf row.registration.resolver row.code
+      → (row.code ≡ code_for (of_a both) row.registration.resolver)
+      ⊎ (row.code ≡ code_for (of_b both) row.registration.resolver) → IsCoded both clash
+  found row clash first code coded among = record {
+    coded = subst (λ r. IsCodeOf r.resolver clash.code) (sym first)
+        (subst (IsCodeOf row.registration.resolver) (sym code) coded);
+    found = by among;
+  }
+    where
+      by : (row.code ≡ code_for (of_a both) row.registration.resolver)
+          ⊎ (row.code ≡ code_for (of_b both) row.registration.resolver)
+          → (clash.code ≡ code_for (of_a both) clash.first.resolver) ⊎ (clash.code ≡ code_for (of_b both) clash.first.resolver)
+      by (inl e) = inl (code ∙ e ∙ ap (λ r. code_for (of_a both) r.resolver) (sym first))
+      by (inr e) = inr (code ∙ e ∙ ap (λ r. code_for (of_b both) r.resolver) (sym first))
+
   from_a : (name : Name) (row : Row) (clash : Clash) → get a name ≡ Some row → clash.first ≡ row.registration
       → clash.code ≡ row.code → IsCoded both clash
-  from_a name row clash there first code = record {
-    coded = subst (λ r. IsCodeOf r.resolver clash.code) (sym first)
-        (subst (IsCodeOf row.registration.resolver) (sym code) (kept_a.coded name row there));
-    found = inl (code ∙ programs.0 name row there ∙ ap (λ r. code_for (of_a both) r.resolver) (sym first));
-  }
+  from_a name row clash there first code =
+      found row clash first code (kept_a.coded name row there) (programs.0 name row there)
 
   from_b : (name : Name) (row : Row) (clash : Clash) → get b name ≡ Some row → clash.first ≡ row.registration
       → clash.code ≡ row.code → IsCoded both clash
-  from_b name row clash there first code = record {
-    coded = subst (λ r. IsCodeOf r.resolver clash.code) (sym first)
-        (subst (IsCodeOf row.registration.resolver) (sym code) (kept_b.coded name row there));
-    found = inr (code ∙ programs.1 name row there ∙ ap (λ r. code_for (of_b both) r.resolver) (sym first));
-  }
+  from_b name row clash there first code =
+      found row clash first code (kept_b.coded name row there) (programs.1 name row there)
 
   coded_at : (of_a of_b : Facts) (name : Name) (ra sb : Option Row) → get a name ≡ ra → get b name ≡ sb
       → (clash : Clash) → clash_at of_a of_b name ra sb ≡ Some clash → IsCoded both clash

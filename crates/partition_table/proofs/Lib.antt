@@ -12,6 +12,7 @@ pub mod Maps
 pub mod MergeLen
 pub mod Merged
 pub mod OneClash
+pub mod Others
 pub mod Registering
 pub mod Removing
 pub mod Resolvers

@@ -22,6 +22,9 @@ use clash_record::{Facts, Name, Registration};
 use std::alloc::{AllocError, Global};
 use std::cmp::Ordering;
 
+// The maximum number of clashes for which a walk has room at its start.
+const FIRST_ROOM: usize = 4096;
+
 // One half: its table and its facts.
 #[derive(Clone, Copy)]
 struct Half<'a> {
@@ -87,7 +90,7 @@ pub fn clashes_within(
         };
         return Err(fault);
     }
-    let programs = BothPrograms::of(a, b)?;
+    let programs = BothPrograms::of_agreeing(alloc, a, b)?;
     let walked = walk(alloc, a, uptime_a, b, uptime_b)?;
     if b.len() + walked.alone > limit.names() {
         return Err(TableFault::TooManyNames);
@@ -114,12 +117,9 @@ fn walk(
     ensures alone { IfOk result (λ walked. walked.alone ≡ length (names_without b.now (map.keys a.now))) }
     ensures kept { IfOk result (λ walked. IsTable a.now × IsTable b.now) }
 {
-    // For the prover: both are tables.
-    a.len();
-    b.len();
     let half_a = Half::new(a, uptime_a);
     let half_b = Half::new(b, uptime_b);
-    let mut found = Vec::new(alloc);
+    let mut found = Vec::with_capacity(alloc, a.len().min(b.len()).min(FIRST_ROOM))?;
     let mut alone = 0;
     for (name, mine, other) in Paired::new(half_a.table, half_b.table) {
         let Some(other) = other else {

@@ -2,17 +2,19 @@
 ghost use Rattle.std.specs.Prelude.{◌≡◌, ◌+◌, ◌-◌, ◌<◌, Some, IfOk, OnOk, OnErr, IfErr, IsTrue, ◌↔◌, false};
 ghost use Rattle.std.specs.Option.{option_map};
 ghost use Rattle.std.specs.Arc.{arc_value};
+ghost use Rattle.std.specs.FinMap.{insert};
 ghost use Rattle.clash_record.specs.declared.registrations.ResolverId.TheVariants.{Program};
 ghost use Rattle.partition_table.specs.declared.fault.TableFault.TheVariants.{UnknownProgram};
 ghost use Rattle.partition_table.specs.Faults.{is_known};
 ghost use Rattle.clash_record.specs.declared.registrations.ProgramId.{ProgramId};
 ghost use Rattle.partition_table.specs.Tables.{IsCodeOf, code_for, most_names};
 ghost use Rattle.partition_table.specs.model.Keeping.{kept_code, rows_kept, is_of, last_of, with_code, without_code, has_room_for, programs_agree};
+ghost use Rattle.partition_table.specs.model.Coding.{AreOthersOf};
 ghost use Rattle.upload_store.specs.Programs.{programs_by};
 
 use crate::fault::TableFault;
 use clash_record::{ProgramId, ResolverId};
-use std::alloc::AllocError;
+use std::alloc::{AllocError, Global};
 use std::collections::BTreeMap;
 use std::sync::Arc;
 use upload_store::UploadStore;
@@ -136,6 +138,37 @@ pub(crate) fn programs_agree(
         }
     }
     true
+}
+
+// Copies the programs whose ids aren't among the known ones. Allocates one more owner of each.
+pub(crate) fn copy_others(
+    alloc: Global,
+    programs: &BTreeMap<ProgramId, Kept>,
+    known: &BTreeMap<ProgramId, Kept>,
+) -> Result<BTreeMap<ProgramId, Kept>, AllocError>
+    ensures { IfOk result (λ others. AreOthersOf programs.now.entries known.now.entries others.entries) }
+{
+    let mut others = BTreeMap::new(alloc);
+    for (id, kept) in programs {
+        if !known.contains_key(id) {
+            keep_copy(&mut others, id, kept)?;
+        }
+    }
+    Ok(others)
+}
+
+// Keeps one more owner of the program under its id.
+fn keep_copy(
+    programs: &mut BTreeMap<ProgramId, Kept>,
+    id: &ProgramId,
+    kept: &Kept,
+) -> Result<(), AllocError>
+    ensures { OnOk result (programs_by kept_code programs.new.entries
+        ≡ insert (programs_by kept_code programs.old.entries) id.now (kept_code kept.now)) }
+{
+    let copy: Kept = kept.clone()?;
+    programs.insert(*id, copy)?;
+    Ok(())
 }
 
 // The program in the store that the resolver names, if it names one; 41 where the store lacks it.

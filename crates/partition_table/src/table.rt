@@ -7,7 +7,7 @@ ghost use Rattle.std.specs.BTreeMap.{IsFromIterResult, Updates, get};
 ghost use Rattle.clash_record.specs.Orders.{name_cmp};
 ghost use Rattle.clash_record.specs.Name.{Name};
 ghost use Rattle.partition_table.specs.Tables.{IsTable, IsCodeOf, agrees_with, max_names, most_names, tables_agree, row_for, rows_above, rows_of, Row};
-ghost use Rattle.partition_table.specs.model.Coding.{HasCodesOf};
+ghost use Rattle.partition_table.specs.model.Coding.{AreKeptFor, HasCodesAmong, HasRoomForRows};
 ghost use Rattle.partition_table.specs.model.Keeping.{kept_code, IsKept, IsKeptFor};
 ghost use Rattle.partition_table.specs.Views.{table_by};
 ghost use Rattle.partition_table.specs.declared.fault.TableFault.TheVariants.{NameTaken};
@@ -18,7 +18,7 @@ ghost use Rattle.partition_table.specs.Faults.{register_fault, table_fault_numbe
 use crate::fault::TableFault;
 use crate::limit::NameLimit;
 use crate::programs::{
-    Kept, find_program, has_room, hold_program, programs_agree, release_program,
+    Kept, copy_others, find_program, has_room, hold_program, programs_agree, release_program,
 };
 use clash_record::{Name, ProgramId, Registration, ResolverId};
 use std::alloc::{AllocError, Global};
@@ -209,10 +209,25 @@ impl Table {
 
     // Copies the programs. Allocates one more owner of each.
     pub(crate) fn copy_programs(&self) -> Result<BTreeMap<ProgramId, Kept>, AllocError>
-        ensures { IfOk result (λ programs. HasCodesOf (programs_by kept_code programs.entries) self.now) }
+        ensures { IfOk result (λ programs. AreKeptFor (programs_by kept_code programs.entries) self.now) }
     {
         let programs = self.programs.clone()?;
         Ok(programs)
+    }
+
+    // Copies the programs whose ids aren't among the known ones. Requires that no row names one of these with other code.
+    // Allocates one more owner of each.
+    pub(crate) fn copy_others(
+        &self,
+        alloc: Global,
+        known: &BTreeMap<ProgramId, Kept>,
+    ) -> Result<BTreeMap<ProgramId, Kept>, AllocError>
+        requires { HasRoomForRows (programs_by kept_code known.now.entries) self.now }
+        ensures { IfOk result (λ others. HasCodesAmong (programs_by kept_code others.entries)
+            (programs_by kept_code known.now.entries) self.now) }
+    {
+        let others = copy_others(alloc, &self.programs, known)?;
+        Ok(others)
     }
 
     // Checks that no program has one code here and another in the other table.

@@ -1,9 +1,10 @@
-use Rattle.std.proofs.Common.{◌≡◌, ap, sym, ◌∙◌}
+use Rattle.std.proofs.Common.{◌≡◌, ap, sym, subst}
 use Rattle.std.specs.FinMap.{from_entries}
-use Rattle.partition_table.specs.Tables.{Row, code_for}
-use Rattle.partition_table.specs.model.Keeping.{kept_code}
+use Rattle.partition_table.specs.model.Coding.{HasCodesOf}
+use Rattle.partition_table.specs.model.Keeping.{IsHeld, kept_code}
 use Rattle.upload_store.specs.Programs.{programs_by}
 use Rattle.partition_table.proofs.Held.{held_now}
+use Rattle.partition_table.proofs.Others.{codes_looked_up}
 use Rattle.partition_table.proofs.Holding.{shared_clone, codes_cloned}
 use Rattle.partition_table.proofs.table.Table.copy_programs.Goals as goal
 
@@ -14,6 +15,8 @@ returns c =
     c.self.invariant.held in
     let same : programs_by kept_code c.in_ok-programs.programs.entries ≡ programs_by kept_code entries =
     ap from_entries (shared_clone kept_code entries c.in_ok-programs.programs.entries
-    (codes_cloned entries c.in_ok-programs.programs.entries c.in_ok-programs.ensures.cases)) in
-    λ name row there. ap (λ (r : Row). r.code) (held.1 name row there)
-    ∙ ap (λ programs. code_for programs row.registration.resolver) (sym same)
+    (codes_cloned entries c.in_ok-programs.programs.entries c.in_ok-programs.ensures.cases)) in (
+      subst (λ programs. IsHeld programs c.args.self.now) (sym same) held.0,
+      subst (λ programs. HasCodesOf programs c.args.self.now) (sym same)
+          (codes_looked_up (programs_by kept_code entries) c.args.self.now held.1),
+    )
