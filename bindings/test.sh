@@ -179,6 +179,8 @@ if command -v python3 > /dev/null; then
     export HEAL_LIBRARY="$HEAL_OUT/libheal.so" PYTHONDONTWRITEBYTECODE=1
     (cd python && python3 -m unittest -q)
     c/nodes.py 30 "$work/node"
+    cc -shared -fPIC -O1 -Wall -Wextra -Werror c/kill_at.c -o "$work/kill_at.so"
+    c/each_write.py "$work/kill_at.so" "$work/node"
     c/nodes.py 10 python3 python/node.py
     python3 python/first.py > "$work/printed"
     cmp "$work/printed" "$work/first.out"

@@ -27,14 +27,14 @@ class Ended(Exception):
 class Node:
     """A process with a replica."""
 
-    def __init__(self, program, top, number, most=resource.RLIM_INFINITY):
+    def __init__(self, program, top, number, most=resource.RLIM_INFINITY, env=None):
         """Starts a node, none of whose files may grow beyond a size."""
         self.number = number
         folder = f"{top}/{number}"
         os.makedirs(folder, exist_ok=True)
         # Python ignores SIGXFSZ, and so does the node then: a write beyond the size of a file fails.
         self.process = subprocess.Popen([*program, folder, str(number)], stdin=subprocess.PIPE, stdout=subprocess.PIPE,
-                                        stderr=subprocess.PIPE, bufsize=0, restore_signals=False,
+                                        stderr=subprocess.PIPE, bufsize=0, restore_signals=False, env=env,
                                         preexec_fn=lambda: resource.setrlimit(resource.RLIMIT_FSIZE, (most, most)))
 
     def read(self, size):
