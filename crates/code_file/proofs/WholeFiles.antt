@@ -1,9 +1,8 @@
 -- From the bytes that were read to those that the reader had.
-use Rattle.std.specs.Prelude.{IfSome, option_map, IfOk, IfErr, string_bytes}
-use Rattle.std.specs.Prelude.{String}
+use Rattle.std.specs.Prelude.{IfSome, option_map, IfOk, IfErr, Vec}
 use Rattle.std.proofs.Common.{◌≡◌, ◌≤◌, ◌+◌, ◌++◌, [], ℕ, List, Option, Some, None, Result, Ok, Err, inl, inr, refl, length, take, subst, arith, length-take, take_all}
 use Rattle.refusals.specs.Answers.{HasCause}
-use Rattle.code_file.specs.Files.{IsReading, IsFileCode, IsFileFault, IsNoFileCode, OfBytes, max_file_len, too_long, no_code, faulty, unread, starved, file_fault_number}
+use Rattle.code_file.specs.Files.{IsReading, HasFileCode, IsFileFault, IsNoFileCode, OfBytes, max_file_len, too_long, no_code, faulty, unread, starved, file_fault_number}
 use Rattle.code_file.specs.CodeFiles.{IsNoCodeFile, fault_number}
 use Rattle.code_file.specs.declared.fault.CodeFileFault.{CodeFileFault}
 use Rattle.code_file.specs.declared.fault.FileFault.{FileFault}
@@ -27,8 +26,8 @@ few_are_all : (all : List ℕ) → length (take (max_file_len + 1) all) ≤ max_
 few_are_all all few = take_all (max_file_len + 1) all (omega (arith, few, length-take (max_file_len + 1) all))
 
 -- what is true of the bytes that were read is true of all
-code_of_all : (all digits : List ℕ) → IsFileCode (take (max_file_len + 1) all) digits → IsFileCode all digits
-code_of_all all digits h = subst (λ b. IsFileCode b digits) (few_are_all all h.few) h
+code_of_all : (all code : List ℕ) → HasFileCode (take (max_file_len + 1) all) code → HasFileCode all code
+code_of_all all code h = subst (λ b. HasFileCode b code) (few_are_all all h.few) h
 
 fault_of_all : (all : List ℕ) (fault : FileFault) → IsFileFault (take (max_file_len + 1) all) fault
     → IsFileFault all fault
@@ -36,10 +35,10 @@ fault_of_all all fault (too_long long same) = too_long (omega (arith, long, leng
 fault_of_all all fault (no_code cause few wrong same) =
     subst (λ b. IsFileFault b fault) (few_are_all all few) (no_code cause few wrong same)
 
-code_read : (known : Option (List ℕ)) (content digits : List ℕ) → IsReading known content
-    → IsFileCode content digits → OfBytes known (λ content. IsFileCode content digits)
-code_read None content digits reading h = (content, h)
-code_read (Some all) content digits reading h = code_of_all all digits (subst (λ b. IsFileCode b digits) reading h)
+code_known : (known : Option (List ℕ)) (content code : List ℕ) → IsReading known content
+    → HasFileCode content code → OfBytes known (λ content. HasFileCode content code)
+code_known None content code reading h = (content, h)
+code_known (Some all) content code reading h = code_of_all all code (subst (λ b. HasFileCode b code) reading h)
 
 fault_read : (known : Option (List ℕ)) (content : List ℕ) (fault : FileFault) → IsReading known content
     → HasCause file_fault_number (IsFileFault content) fault → IsNoFileCode known fault
@@ -66,11 +65,11 @@ no_code_fault content cause few (inr e) = inr e
 
 -- the same of what reading gave
 
-pub digits_read : {A : Type 0} (known : Option (List ℕ)) (content : List ℕ) (found : Result (String A) FileFault)
-    → IsReading known content → IfOk found (λ digits. IsFileCode content (string_bytes digits))
-    → IfOk found (λ digits. OfBytes known (λ content. IsFileCode content (string_bytes digits)))
-digits_read known content (Ok digits) reading h = code_read known content (string_bytes digits) reading h
-digits_read known content (Err fault) reading h = h
+pub code_read : {A : Type 0} (known : Option (List ℕ)) (content : List ℕ) (found : Result (Vec ℕ A) FileFault)
+    → IsReading known content → IfOk found (λ code. HasFileCode content code.items)
+    → IfOk found (λ code. OfBytes known (λ content. HasFileCode content code.items))
+code_read known content (Ok code) reading h = code_known known content code.items reading h
+code_read known content (Err fault) reading h = h
 
 pub refusal_read : {A : Type 0} (known : Option (List ℕ)) (content : List ℕ) (found : Result A FileFault)
     → IsReading known content → IfErr found (HasCause file_fault_number (IsFileFault content))

@@ -42,11 +42,15 @@ pub record IsObjectFault (file : List ℕ) (fault : CodeFileFault) : Type 0 wher
   pub none : (code : List ℕ) → IsObjectCode file code → ⊥
   pub same : fault ≡ Object
 
--- the digits don't come in pairs
-pub record IsHexFault (file : List ℕ) (fault : CodeFileFault) : Type 0 where
+-- some byte is no hex digit, or the digits don't come in pairs
+pub record IsDigitsFault (text : List ℕ) (fault : CodeFileFault) : Type 0 where
   pub error : FromHexError
-  pub digits : decode_of (digits_of file) ≡ Err error
+  pub digits : decode_of text ≡ Err error
   pub same : fault ≡ HexText
+
+-- the digits don't come in pairs
+abbrev pub IsHexFault : List ℕ → CodeFileFault → Type 0
+IsHexFault file fault = IsDigitsFault (digits_of file) fault
 
 -- the file has no code, for this reason
 pub data IsNoCodeFile (file : List ℕ) (fault : CodeFileFault) : Type 0 where

@@ -38,6 +38,11 @@ file_fault_number Unreadable = 58
 abbrev pub file_fault_place : FileFault → Option Place
 file_fault_place fault = None
 
+-- a file of this content has this code; the length is checked first
+pub record HasFileCode (content code : List ℕ) : Type 0 where
+  pub few : length content ≤ max_file_len
+  pub is_code : IsCodeFile content code
+
 -- these are the digits of the code in a file of this content
 pub record IsFileCode (content digits : List ℕ) : Type 0 where
   pub few : length content ≤ max_file_len

@@ -8,9 +8,9 @@ ghost use Rattle.code_file.specs.Objects.{IsObjectCode};
 ghost use Rattle.code_file.specs.declared.fault.CodeFileFault.{CodeFileFault};
 ghost use Rattle.code_file.specs.declared.fault.CodeFileFault.TheVariants.{OutOfMemory};
 
+use crate::digits::{are_digits, decode_digits, decode_pairs};
 use crate::fault::CodeFileFault;
 use crate::object::code_in_object;
-use hex::FromHexError;
 use std::alloc::{AllocError, Global};
 
 // The first bytes of every ELF file.
@@ -47,17 +47,28 @@ fn digits_of(alloc: Global, file: &[u8]) -> Result<Vec<u8>, AllocError>
     Ok(digits)
 }
 
-// Decodes a file of hex digits.
+// Returns the file without white space at its end.
+fn trimmed(file: &[u8]) -> &[u8]
+    ensures { digits_of result.now ≡ digits_of file.now }
+{
+    let mut len = file.len();
+    while len > 0 && file[len - 1].is_ascii_whitespace() {
+        len -= 1;
+    }
+    &file[..len]
+}
+
+// Decodes a file of hex digits. Copies them only if there is white space between them.
 fn decode_hex(alloc: Global, file: &[u8]) -> Result<Vec<u8>, CodeFileFault>
     ensures code { IfOk result (λ code. decode_of (digits_of file.now) ≡ Ok code.items) }
     ensures refused { IfErr result (λ fault. IsHexFault file.now fault ⊎ (fault ≡ OutOfMemory)) }
 {
-    let digits = digits_of(alloc, file)?;
-    match hex::decode(alloc, &digits) {
-        Ok(code) => Ok(code),
-        Err(FromHexError::OutOfMemory) => Err(CodeFileFault::OutOfMemory),
-        Err(_) => Err(CodeFileFault::HexText),
+    let digits = trimmed(file);
+    if are_digits(digits) {
+        return decode_pairs(alloc, digits);
     }
+    let digits = digits_of(alloc, digits)?;
+    decode_digits(alloc, &digits)
 }
 
 // Copies the code of an object file.

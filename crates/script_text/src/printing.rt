@@ -19,6 +19,12 @@ use std::io::Write;
 // The maximum length of an owner in bytes, for numbers of 64 bits.
 const OWNER_LEN: usize = 41;
 
+// The maximum length of an exit notice with its line feed in bytes.
+const EXIT_LEN: usize = 47;
+
+// The maximum length of a verdict and its word with a line feed in bytes.
+const CLASH_LEN: usize = 34;
+
 // The maximum length of the figures of a registration in bytes, for numbers of 64 bits.
 const FIGURES_LEN: usize = 85;
 
@@ -68,6 +74,7 @@ pub fn print_row<W: Write>(
 }
 
 /// Prints the verdict of a clash and its word.
+#[tactic(auto, using(crate::proofs::Pieces::digits_at_most))]
 pub fn print_clash<W: Write>(
     sent: Result<(), DeviceFault>,
     writer: &mut W,
@@ -77,10 +84,11 @@ pub fn print_clash<W: Write>(
 ) -> Result<(), DeviceFault>
     ensures { SendsOn sent (W.contents writer.old) (W.contents writer.new) (clash_line name.now verdict word) result }
 {
-    let mut sent = send_after(sent, writer, name.bytes());
-    sent = send_after(sent, writer, verdict_text(verdict));
-    sent = print_number(sent, writer, word);
-    send_after(sent, writer, b"\n")
+    let mut text = [b'\n'; CLASH_LEN];
+    let number = write_digits(word, &mut text, CLASH_LEN - 1);
+    let start = put_text(&mut text, number, verdict_text(verdict));
+    let sent = send_after(sent, writer, name.bytes());
+    send_after(sent, writer, &text[start..])
 }
 
 /// Prints a notice to an owner on a line.
@@ -91,30 +99,32 @@ pub fn print_notice<W: Write>(
 ) -> Result<(), DeviceFault>
     ensures { SendsOn sent (W.contents writer.old) (W.contents writer.new) (notice_line notice.now) result }
 {
-    let sent = print_notice_text(sent, writer, notice);
-    send_after(sent, writer, b"\n")
-}
-
-// Prints a notice.
-fn print_notice_text<W: Write>(
-    sent: Result<(), DeviceFault>,
-    writer: &mut W,
-    notice: &Notice,
-) -> Result<(), DeviceFault>
-    ensures { SendsOn sent (W.contents writer.old) (W.contents writer.new) (notice_text notice.now) result }
-{
     match notice {
-        Notice::Exit(owner) => {
-            let sent = send_after(sent, writer, b"exit ");
-            print_owner(sent, writer, *owner)
+        Notice::Exit(owner) => print_exit(sent, writer, *owner),
+        Notice::Conflict(name, to) => {
+            let sent = print_conflict(sent, writer, name, *to);
+            send_after(sent, writer, b"\n")
         }
-        Notice::Conflict(name, to) => print_conflict(sent, writer, name, *to),
         Notice::ConflictWith(name, to, other) => {
             let mut sent = print_conflict(sent, writer, name, *to);
             sent = send_after(sent, writer, b" other ");
-            print_owner(sent, writer, *other)
+            print_owner_line(sent, writer, *other)
         }
     }
+}
+
+// Prints an exit notice on a line.
+fn print_exit<W: Write>(
+    sent: Result<(), DeviceFault>,
+    writer: &mut W,
+    owner: Owner,
+) -> Result<(), DeviceFault>
+    ensures { SendsOn sent (W.contents writer.old) (W.contents writer.new) (codes "exit " ++ owner_line owner) result }
+{
+    let mut text = [b'\n'; EXIT_LEN];
+    let node = put_owner(&mut text, EXIT_LEN - 1, owner);
+    let start = put_text(&mut text, node, b"exit ");
+    send_after(sent, writer, &text[start..])
 }
 
 /// Prints that a name was withdrawn on a side.
@@ -245,8 +255,29 @@ fn put_number(text: &mut [u8], end: usize, byte: u8, number: u64) -> usize
     start
 }
 
-/// Prints an owner.
+// Writes an owner, so that it ends at `end`. Returns where it starts.
 #[tactic(auto, using(crate::proofs::Pieces::digits_at_most))]
+fn put_owner(text: &mut [u8], end: usize, owner: Owner) -> usize
+    requires { (41 ≤ end) × (end ≤ length text.old) }
+    ensures bounds { (result ≤ end) × (end ≤ result + 41) }
+    ensures written { drop result text.new ≡ owner_text owner ++ drop end text.old }
+{
+    let serial = put_number(text, end, b'.', u64::from(owner.serial));
+    write_digits(u64::from(owner.node), text, serial)
+}
+
+// Writes a text, so that it ends at `end`. Returns where it starts.
+fn put_text(text: &mut [u8], end: usize, part: &[u8]) -> usize
+    requires { (length part.now ≤ end) × (end ≤ length text.old) }
+    ensures start { result + length part.now ≡ end }
+    ensures written { drop result text.new ≡ part.now ++ drop end text.old }
+{
+    let start = end - part.len();
+    text[start..end].copy_from_slice(part);
+    start
+}
+
+/// Prints an owner.
 pub fn print_owner<W: Write>(
     sent: Result<(), DeviceFault>,
     writer: &mut W,
@@ -255,9 +286,8 @@ pub fn print_owner<W: Write>(
     ensures { SendsOn sent (W.contents writer.old) (W.contents writer.new) (owner_text owner) result }
 {
     let mut text = [0; OWNER_LEN];
-    let serial = put_number(&mut text, OWNER_LEN, b'.', u64::from(owner.serial));
-    let node = write_digits(u64::from(owner.node), &mut text, serial);
-    send_after(sent, writer, &text[node..])
+    let start = put_owner(&mut text, OWNER_LEN, owner);
+    send_after(sent, writer, &text[start..])
 }
 
 /// Prints a number in decimal digits.
@@ -283,7 +313,8 @@ fn side_text(side: SideId) -> &'static [u8]
 
 // Returns the text between the name of a clash and its word.
 fn verdict_text(verdict: Verdict3) -> &'static [u8]
-    ensures { result.now ≡ codes " " ++ verdict_text verdict ++ codes " word " }
+    ensures few { length result.now ≤ 13 }
+    ensures text { result.now ≡ codes " " ++ verdict_text verdict ++ codes " word " }
 {
     match verdict {
         Verdict3::First => b" first word ",

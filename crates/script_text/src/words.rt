@@ -25,7 +25,9 @@ pub fn words_in(alloc: Global, text: &[u8]) -> Result<Vec<&[u8]>, AllocError>
     Ok(words)
 }
 
-// Puts the words of a text into `words` and returns whether it has as many. Allocates nothing.
+// Puts the words of a text into `words` and returns whether it has as many. Allocates nothing. Is kept out of line, so
+// that it stays one loop.
+#[inline(never)]
 pub(crate) fn fill_words<'a>(text: &'a [u8], words: &mut [&'a [u8]]) -> bool
     ensures all { result ≡ true → map (λ word. word.now) words.new ≡ words_of text.now }
     ensures other { result ≡ false → length (words_of text.now) ≢ length words.old }
@@ -42,7 +44,8 @@ pub(crate) fn fill_words<'a>(text: &'a [u8], words: &mut [&'a [u8]]) -> bool
     split_word(rest).is_none()
 }
 
-// The first word and what follows it.
+// The first word and what follows it. Is kept in line, since a call takes longer than most words.
+#[inline(always)]
 pub(crate) fn split_word(text: &[u8]) -> Option<(&[u8], &[u8])>
     ensures parts { MatchOption result (words_of text.now ≡ [])
         (λ r. (words_of text.now ≡ r.0.now ∷ words_of r.1.now) × (0 < length r.0.now)) }
@@ -79,8 +82,22 @@ fn skip_spaces(text: &[u8]) -> &[u8]
     rest
 }
 
-// Where the first space stands, or the end. Skips whole blocks first.
+// Where the first space stands, or the end. Most texts are shorter than a block.
+#[inline(always)]
 fn word_end(text: &[u8]) -> usize
+    ensures bound { result ≤ length text.now }
+    ensures joined { parts_of text.now ≡ joined (take result text.now) (parts_of (drop result text.now)) }
+    ensures space { drop result text.now ≡ [] ⊎ ((more : List ℕ) × (drop result text.now ≡ 32 ∷ more)) }
+{
+    if text.len() < BLOCK {
+        first_space(text)
+    } else {
+        end_by_blocks(text)
+    }
+}
+
+// Like `word_end`. Skips whole blocks first.
+fn end_by_blocks(text: &[u8]) -> usize
     ensures bound { result ≤ length text.now }
     ensures joined { parts_of text.now ≡ joined (take result text.now) (parts_of (drop result text.now)) }
     ensures space { drop result text.now ≡ [] ⊎ ((more : List ℕ) × (drop result text.now ≡ 32 ∷ more)) }

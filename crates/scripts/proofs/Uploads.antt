@@ -1,8 +1,11 @@
 -- The reply to an upload, and its effect.
-use Rattle.std.specs.Prelude.{MatchOption, is_some, not, if◌then◌else◌}
-use Rattle.std.proofs.Common.{◌≡◌, inl, inr, ℕ, Bool, true, false, true≢false, List, Option, Some, None, refl, sym, ap, subst, ◌∙◌}
+use Rattle.std.specs.Prelude.{MatchOption, if◌then◌else◌}
+use Rattle.std.proofs.Common.{◌≡◌, inl, inr, ℕ, Bool, true, false, List, [], Option, Some, None, refl, sym, ap, subst, ◌∙◌}
 use Rattle.refusals.specs.Answers.{HasCause}
-use Rattle.code_file.specs.Files.{IsFileCode, IsNoFileCode, OfBytes, file_named, faulty, unread, starved, file_fault_number, file_fault_place}
+use Rattle.hex.specs.Hex.{IsBytes, encode_lower}
+use Rattle.hex.proofs.HexLemmas.{decode_of-encode_lower}
+use Rattle.std.specs.Option.{unwrap_or}
+use Rattle.code_file.specs.Files.{HasFileCode, IsFileCode, IsNoFileCode, OfBytes, file_named, faulty, unread, starved, file_fault_number, file_fault_place}
 use Rattle.code_file.specs.declared.fault.FileFault.{FileFault}
 use Rattle.upload_store.specs.Uploads.{IsUploadFault}
 use Rattle.upload_store.specs.Faults.{upload_fault_number, upload_fault_place}
@@ -25,19 +28,24 @@ upload_refused old new word bytes fault reply (inr memory) said same =
 
 -- ---- files
 
--- the label is free, by the test of the name that was found for it
-pub free_if : (free none : Bool) (word : List ℕ) (found : Option (List ℕ)) → found ≡ (if free then Some word else None)
-    → is_some found ≡ not none → none ≡ false → free ≡ true
-free_if true none word found e test off = refl
-free_if false none word found e test off =
-    absurd (true≢false (sym (ap is_some (sym e) ∙ test ∙ ap not off)))
+-- the label is free, since a name was found for it
+pub free_if : (free : Bool) (word label : List ℕ) (found : Option (List ℕ)) → found ≡ (if free then Some word else None)
+    → found ≡ Some label → (free ≡ true) × (label ≡ word)
+free_if true word label found e is = (refl, ap (λ name. unwrap_or name []) (sym is ∙ e))
+free_if false word label found e is = absurd (cc)
 
 -- a file is uploaded as its digits are
-pub file_uploaded : (old new : Machine) (label digits : List ℕ) (reply : Reply)
-    → OfBytes None (λ content. IsFileCode content digits) → UnlessMemory (UploadStep old label digits) old reply new
-    → UnlessMemory (UploadsFile old label) old reply new
-file_uploaded old new label digits reply h (inl step) = inl (by_digits h.0 digits h.1 step)
-file_uploaded old new label digits reply h (inr memory) = inr memory
+pub file_uploaded : (old new : Machine) (label code : List ℕ) (reply : Reply) → is_free old.labels label ≡ true
+    → IsBytes code → OfBytes None (λ content. HasFileCode content code)
+    → UnlessMemory (UploadsBytes old label code) old reply new → UnlessMemory (UploadsFile old label) old reply new
+file_uploaded old new label code reply free bytes h (inl uploads) =
+    let digits = encode_lower code in
+    let decoded = decode_of-encode_lower code bytes in
+    let step : UploadStep old label digits reply new = rw (free, decoded) uploads in
+    let of_file : IsFileCode h.0 digits =
+    record { few = h.1.few; code = code; is_code = h.1.is_code; digits_are = refl } in
+    inl (by_digits h.0 digits of_file step)
+file_uploaded old new label code reply free bytes h (inr memory) = inr memory
 
 -- a file has no code, or can't be read
 pub file_refused : (old new : Machine) (label : List ℕ) (fault : FileFault) (reply : Reply)

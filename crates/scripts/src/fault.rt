@@ -11,8 +11,6 @@ use thiserror::Error;
 pub(crate) enum WordFault {
     // 41: neither a built-in resolver nor a label in use.
     NoResolver,
-    // 50: the code isn't hex digits, two for each byte.
-    HexText,
     // 53: the label is in use, is the word of a built-in resolver, or isn't 1 to 32 bytes from 0x21 to 0x7E.
     Label,
     // 90: out of memory.
@@ -27,7 +25,6 @@ impl Numbered for WordFault {
     fn number(&self) -> u32 {
         match self {
             WordFault::NoResolver => 41,
-            WordFault::HexText => 50,
             WordFault::Label => 53,
             WordFault::OutOfMemory => 90,
         }

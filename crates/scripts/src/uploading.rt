@@ -8,7 +8,7 @@ use crate::labels::{Label, free_label};
 use crate::machine::Machine;
 use crate::reply::Reply;
 use clash_record::Name;
-use hex::FromHexError;
+use code_file::decode_digits;
 use std::alloc::Global;
 
 impl Machine {
@@ -27,15 +27,14 @@ impl Machine {
         if self.labels.reserve(1).is_err() {
             return Reply::refused(&WordFault::OutOfMemory);
         }
-        match hex::decode(alloc, code) {
+        match decode_digits(alloc, code) {
             Ok(bytes) => self.keep(alloc, label, &bytes),
-            Err(FromHexError::OutOfMemory) => Reply::refused(&WordFault::OutOfMemory),
-            Err(_) => Reply::refused(&WordFault::HexText),
+            Err(invalid) => Reply::refused(&invalid),
         }
     }
 
     // Keeps the program that these bytes spell, under a label for which there is room.
-    fn keep(&mut self, alloc: Global, label: Name, bytes: &[u8]) -> Reply
+    pub(crate) fn keep(&mut self, alloc: Global, label: Name, bytes: &[u8]) -> Reply
         requires { vec_len self.old.labels < vec_capacity self.old.labels }
         ensures { UnlessMemory (UploadsBytes (machine_of self.old) label bytes.now) (machine_of self.old) result
             (machine_of self.new) }

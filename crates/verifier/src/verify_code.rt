@@ -12,7 +12,7 @@ ghost use Rattle.verifier.specs.Rules.{of_access, inside_stack, fall, jump};
 ghost use Rattle.verifier.specs.Assignments.{FailsLeastFor, IsTypable, IsTypableFor};
 ghost use Rattle.verifier.specs.Width.{widest};
 ghost use Rattle.verifier.specs.Peak.{IsPeak, IsPeakFor, IsPeakAtFault, IsPeakAtFaultFor};
-ghost use Rattle.verifier.specs.model.Flow.{flow, flow_edge};
+ghost use Rattle.verifier.specs.model.Flow.{flow};
 ghost use Rattle.verifier.specs.model.Pending.{IsPending};
 ghost use Rattle.refusals.specs.Answers.{HasCause};
 ghost use Rattle.verifier.specs.Refusals.{verify_fault_number, IsUnfulfilledFor, IsRefused, IsRefusedFor, IsRefusedAt, IsRefusedAtFor};
@@ -95,24 +95,22 @@ fn merge<D: Domain>(
     Ok(())
 }
 
-// Merges a state into the target of an edge, if both exist.
+// Merges a state into the target of a jump, if there is one.
 fn carry_over<D: Domain>(
     alloc: Global,
     pending: &mut Pending<D>,
-    to: Option<usize>,
+    to: usize,
     state: Option<State<D>>,
 ) -> Result<(), AllocError>
-    requires place { (k : ℕ) → to ≡ Some k → k < room pending.old }
+    requires place { to < room pending.old }
     requires few { size pending.old ≤ peak_of pending.old }
-    ensures states { OnOk result (held pending.new ≡ flow_edge D.ops (held pending.old) to (option_map view state)) }
+    ensures states { OnOk result (held pending.new ≡ flow D.ops (held pending.old) to (option_map view state)) }
     ensures room { room pending.new ≡ room pending.old }
     ensures peak { OnOk result (peak_of pending.new ≡ max (peak_of pending.old) (size pending.new)) }
     ensures kept { OnErr result (peak_of pending.new ≡ peak_of pending.old) }
 {
-    if let Some(to) = to {
-        if let Some(state) = state {
-            merge(alloc, pending, to, state)?;
-        }
+    if let Some(state) = state {
+        merge(alloc, pending, to, state)?;
     }
     Ok(())
 }
@@ -149,9 +147,13 @@ pub(crate) fn visit<D: Domain>(
     if let Some(rule) = check(insn, &state, context_len) {
         return Ok(Some(rule));
     }
+    let Some(to) = leads_to(at, &insn) else {
+        carry(pending, at + insn.slots(), falling(insn, state));
+        return Ok(None);
+    };
     let jumping = jumping(insn, &state);
     carry(pending, at + insn.slots(), falling(insn, state));
-    carry_over(alloc, pending, leads_to(at, &insn), jumping)?;
+    carry_over(alloc, pending, to, jumping)?;
     Ok(None)
 }
 

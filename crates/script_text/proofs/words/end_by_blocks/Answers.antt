@@ -1,7 +1,7 @@
 use Rattle.std.proofs.Common.{◌≤◌, ◌≡◌, ◌+◌, ◌-◌, length, sym, arith}
 use Rattle.std.proofs.lemmas.List.{take_rest}
 use Rattle.script_text.proofs.Parts.{joined-nil, block_joined, joined_later}
-use Rattle.script_text.proofs.words.word_end.Goals as goal
+use Rattle.script_text.proofs.words.end_by_blocks.Goals as goal
 
 pub loop-at-init : goal.loop-at-init
 loop-at-init c = (omega arith, sym (joined-nil c.args.text.now))

@@ -1,7 +1,7 @@
 use Rattle.std.proofs.Common.{◌≡◌, ◌≤◌, ◌-◌, take, drop, length}
 use Rattle.script_text.specs.Words.{parts_of}
 use Rattle.script_text.specs.model.Parts.{joined}
-use Rattle.script_text.proofs.words.word_end.Given as goal
+use Rattle.script_text.proofs.words.end_by_blocks.Given as goal
 
 abbrev pub invariant-loop-at : goal.invariant-loop-at
 invariant-loop-at l =

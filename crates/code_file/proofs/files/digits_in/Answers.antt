@@ -1,5 +1,0 @@
-use Rattle.code_file.proofs.WholeFiles.{refusal_of_some}
-use Rattle.code_file.proofs.files.digits_in.Goals as goal
-
-pub returns-clause-refused : goal.returns-clause-refused
-returns-clause-refused g c = refusal_of_some _ c.digits_from.result c.digits_from.ensures.refused
