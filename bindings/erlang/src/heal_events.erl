@@ -51,8 +51,8 @@ events({rows, Put, Drop}) ->
         ++ [Event || {Name, Row} <- Put, Event <- changed(Name, Row)];
 events({hide, Name}) ->
     unregistered(Name);
-events({notify, #row{term = Term, pid = Pid}, {_, Rival}}) ->
-    [{conflict, Term, Pid, Rival}];
+events({lost, Losers}) ->
+    [{conflict, Term, Pid, Rival} || {_, #row{term = Term, pid = Pid}, {_, Rival}} <- Losers];
 events({healed, Facts}) ->
     [{healed, Facts}];
 events({view, {{Primary, _}, _}, Nodes}) ->

@@ -6,14 +6,37 @@
 
 -include("heal_part.hrl").
 
--export([claim/3, change/3, missing/2, is_taken/3, disown/2, is_own/3, waiting/1, conflicts/3, flag/2, losers/4]).
--export([swap/2, differences/1, settle/1, restrict/2]).
--export_type([loss/0, loser/0]).
+-export([claim/3, change/3, missing/2, is_taken/3, disown/2, is_own/3, waiting/1, conflicts/3, losers/5]).
+-export([plan/4, is_current/2, losers/1, conflicts/1, swap/2, differences/1, differences/2, settle/1, restrict/2]).
+-export_type([loss/0, loser/0, changes/0, plan/0]).
 
 -define(MAX_PROGRAMS, 256).
 
 -type loss() :: {heal_names:notice(), Rival :: pid()}.
 -type loser() :: {heal:name(), heal:owner(), loss()}.
+%% The rows of a half that differ from those of the half before, and the names that it lacks.
+-type changes() :: {Put :: [{heal:name(), #row{}}], Drop :: [heal:name()]}.
+
+%% What changes on a node whose part takes another half. It follows from the half and from the first three fields.
+-record(plan, {
+    losers :: [loser()],
+    own :: #{heal:name() => #own{}},
+    before :: #{heal:name() => #row{}},
+    %% Names of this node that the half gives to another process, though no exchange decided so.
+    conflicts :: [heal:name()],
+    changes :: changes(),
+    %% The registrations, with those that an exchange takes names from.
+    flagged :: #{heal:name() => #own{}},
+    %% Names whose process another node answers for.
+    moved :: [heal:name()],
+    %% Registrations that the table lacks.
+    missing :: [{heal:name(), #row{}}],
+    %% Rows of this node that it doesn't answer for.
+    strange :: [{heal:name(), #row{}}],
+    %% What the half lacks of this node's registrations.
+    lacking :: [heal_edits:edit()]
+}).
+-opaque plan() :: #plan{}.
 
 %% Answers for a registration from now on, unless this node answers for another one of the name.
 -spec claim(heal:name(), #row{}, #part{}) -> #part{}.
@@ -27,14 +50,14 @@ claim(_Name, _Row, Part) ->
 missing(Names, Part = #part{own = Own}) ->
     kept([{Name, Row} || Name <- Names, #{Name := #own{row = Row}} <- [Own]], Part).
 
-kept(Rows, Part) ->
-    lists:foldl(fun({Name, Row}, Sum) -> heal_state:add({keep, {own, Name}, Row}, Sum) end, Part, Rows).
+kept([], Part) -> Part;
+kept(Rows, Part) -> heal_state:add({keep_own, Rows}, Part).
 
 %% A registration that this node answers for is changed.
 -spec change(heal:name(), #row{}, #part{}) -> #part{}.
 change(Name, Row, Part = #part{own = Own}) ->
     #{Name := Entry} = Own,
-    heal_state:add({keep, {own, Name}, Row}, Part#part{own = Own#{Name := Entry#own{row = Row}}}).
+    kept([{Name, Row}], Part#part{own = Own#{Name := Entry#own{row = Row}}}).
 
 %% Returns whether this node answers for another registration of the name.
 -spec is_taken(heal:name(), heal:owner(), #part{}) -> boolean().
@@ -75,26 +98,64 @@ conflicts(Losers, #half{names = Names}, Part = #part{own = Own}) ->
 is_rival(#row{pid = Pid}, #row{pid = Pid}) -> false;
 is_rival(Row, Other) -> owner(Row) =/= owner(Other).
 
-%% Notes which registrations an exchange has taken names from.
--spec flag([loser()], #part{}) -> #part{}.
-flag(Losers, Part = #part{own = Own}) ->
-    Free = [{Name, Entry#own{lost = none}} || {Name, Entry = #own{lost = {_, _}}} <- maps:to_list(Own)],
-    Lost = [{Name, (map_get(Name, Own))#own{lost = Loss}} || {Name, Owner, Loss} <- Losers, is_own(Name, Owner, Part)],
-    Part#part{own = maps:merge(Own, maps:from_list(Free ++ Lost))}.
+%% Computes what changes on this node when its part takes this half from an exchange with these losers, or without one. The changes are
+%% those of its rows, unless they aren't known.
+-spec plan([loser()], #half{}, changes() | unknown, #part{}) -> plan().
+plan(Losers, #half{names = New}, Changes, Part = #part{own = Own}) ->
+    #half{names = Old} = heal_state:half(Part),
+    Flagged = flagged(Losers, Own),
+    Found = found(Flagged, New),
+    #plan{
+        losers = Losers,
+        own = Own,
+        before = Old,
+        conflicts = [Name || {Name, #own{row = Row, lost = none}, Other = #row{}} <- Found, is_rival(Row, Other)],
+        changes = case Changes of unknown -> changes(Old, New); _ -> Changes end,
+        flagged = Flagged,
+        moved = [Name || {Name, #own{row = Row}, Other} <- Found, is_moved(Row, Other)],
+        missing = [{Name, Row} || {Name, #own{row = Row, lost = Lost}, Other} <- Found, Lost =/= none orelse Other =:= none,
+                                  not is_moved(Row, Other)],
+        strange = strange(maps:to_list(New), Part),
+        lacking = lacking(Found)
+    }.
 
-%% Replaces the table that processes read by that of the replica. Names of processes that ended are hidden already.
--spec swap(Old :: #half{}, #part{}) -> #part{}.
-swap(#half{names = Old}, Part = #part{own = Own, programs = Programs}) ->
-    #half{names = New, programs = Known} = heal_state:half(Part),
-    Rows = maps:to_list(New),
-    Put = [Entry || Entry = {Name, Row} <- Rows, not (is_map_key(Name, Old) andalso map_get(Name, Old) =:= Row)],
-    Drop = [Name || Name <- maps:keys(Old), not is_map_key(Name, New)],
-    Taken = [Name || {Name, #own{row = Row}} <- maps:to_list(Own), is_moved(Row, maps:get(Name, New, Row))],
-    Swapped = lists:foldl(fun disown/2, Part#part{programs = maps:merge(Programs, Known)}, Taken),
-    Missing = [{Name, Row} || {Name, #own{row = Row, lost = Lost}} <- maps:to_list(Swapped#part.own),
-                              Lost =/= none orelse not is_map_key(Name, New)],
-    Kept = heal_state:add({keep, programs, maps:merge(Programs, Known)}, heal_state:add({rows, Put, Drop}, kept(Missing, Swapped))),
-    lists:foldl(fun({Name, _}, Sum) -> heal_state:add({hide, Name}, Sum) end, Kept, strange(Rows, Part)).
+%% The registrations, each with the row that the table has under its name.
+found(Own, Names) ->
+    [{Name, Entry, maps:get(Name, Names, none)} || {Name, Entry} <- maps:to_list(Own)].
+
+%% Notes which registrations an exchange has taken names from.
+flagged(Losers, Own) ->
+    Free = [{Name, Entry#own{lost = none}} || {Name, Entry = #own{lost = {_, _}}} <- maps:to_list(Own)],
+    Lost = [{Name, Entry#own{lost = Loss}} || {Name, Owner, Loss} <- Losers, #{Name := Entry} <- [Own], owner(Entry#own.row) =:= Owner],
+    maps:merge(Own, maps:from_list(Free ++ Lost)).
+
+changes(Old, New) ->
+    Put = [Entry || Entry = {Name, Row} <- maps:to_list(New), not (is_map_key(Name, Old) andalso map_get(Name, Old) =:= Row)],
+    {Put, [Name || Name <- maps:keys(Old), not is_map_key(Name, New)]}.
+
+%% Returns whether a plan for a half still holds.
+-spec is_current(plan(), #part{}) -> boolean().
+is_current(#plan{own = Own, before = Before}, Part = #part{own = Now}) ->
+    Own =:= Now andalso Before =:= (heal_state:half(Part))#half.names.
+
+%% Returns the losers of a plan.
+-spec losers(plan()) -> [loser()].
+losers(#plan{losers = Losers}) -> Losers.
+
+%% Returns the names of this node that the half of a plan gives to another process, except those that an exchange decided.
+-spec conflicts(plan()) -> [heal:name()].
+conflicts(#plan{conflicts = Conflicts}) -> Conflicts.
+
+%% Replaces the table that processes read by that of the replica, and notes which registrations have lost their names. Names of
+%% processes that ended are hidden already.
+-spec swap(plan(), #part{}) -> #part{}.
+swap(#plan{changes = {Put, Drop}, flagged = Flagged, moved = Moved, missing = Missing, strange = Strange}, Part) ->
+    #half{programs = Known} = heal_state:half(Part),
+    All = maps:merge(Part#part.programs, Known),
+    Flags = Part#part{own = Flagged, programs = All},
+    Shown = heal_state:add({rows, Put, Drop}, kept(Missing, lists:foldl(fun disown/2, Flags, Moved))),
+    Hide = fun({Name, _}, Sum) -> heal_state:add({hide, Name}, Sum) end,
+    lists:foldl(Hide, heal_state:add({keep, programs, All}, Shown), Strange).
 
 %% The rows that this node answered for and does no more.
 strange(Rows, Part) ->
@@ -108,29 +169,48 @@ is_moved(_Row, _Other) -> false.
 %% Returns the edits that the part lacks: registrations and programs of this node, their changes, and names that it answers for no
 %% more.
 -spec differences(#part{}) -> [heal_edits:edit()].
-differences(Part = #part{own = Own, programs = Programs}) ->
-    #half{names = Names, programs = Known} = heal_state:half(Part),
-    Rows = [{Name, Row} || {Name, #own{row = Row, lost = none}} <- maps:to_list(Own)],
-    Restored = [{register, Name, Row} || {Name, Row} <- Rows, not is_map_key(Name, Names)],
-    Dropped = [{unregister, Name, owner(Row)} || {Name, Row} <- strange(maps:to_list(Names), Part)],
+differences(Part = #part{own = Own}) ->
+    #half{names = Names} = heal_state:half(Part),
+    dropped(strange(maps:to_list(Names), Part)) ++ uploads(Part) ++ lacking(found(Own, Names)).
+
+%% The same right after a plan, of which most of it follows.
+-spec differences(plan(), #part{}) -> [heal_edits:edit()].
+differences(#plan{flagged = Own, strange = Strange, lacking = Lacking}, Part = #part{own = Now}) when Own =:= Now ->
+    dropped(Strange) ++ uploads(Part) ++ Lacking;
+differences(_Plan, Part) ->
+    differences(Part).
+
+lacking(Found) ->
+    Restored = [{register, Name, Row} || {Name, #own{row = Row, lost = none}, none} <- Found],
     Changed = [{change, Name, owner(Row), maps:remove(owner, Registration)}
-               || {Name, Row = #row{registration = Registration}} <- Rows, is_map_key(Name, Names),
-                  map_get(Name, Names) =/= Row, owner(map_get(Name, Names)) =:= owner(Row)],
+               || {Name, #own{row = Row = #row{registration = Registration}, lost = none}, Shown = #row{}} <- Found,
+                  Shown =/= Row, owner(Shown) =:= owner(Row)],
+    Restored ++ Changed.
+
+dropped(Strange) ->
+    [{unregister, Name, owner(Row)} || {Name, Row} <- Strange].
+
+uploads(Part = #part{programs = Programs}) ->
+    #half{programs = Known} = heal_state:half(Part),
     Room = max(0, ?MAX_PROGRAMS - map_size(Known)),
-    Uploads = lists:sublist([{upload, Id, Code} || {Id, Code} <- maps:to_list(maps:without(maps:keys(Known), Programs))], Room),
-    Dropped ++ Uploads ++ Restored ++ Changed.
+    lists:sublist([{upload, Id, Code} || {Id, Code} <- maps:to_list(maps:without(maps:keys(Known), Programs))], Room).
 
 %% The view is settled: notifies losers whose name another process has, and returns the edits that restore the others.
 -spec settle(#part{}) -> {[heal_edits:edit()], #part{}}.
 settle(Part = #part{own = Own}) ->
     #half{names = Names} = heal_state:half(Part),
-    Lost = lists:sort([{Name, Entry} || {Name, Entry = #own{lost = {_, _}}} <- maps:to_list(Own)]),
-    lists:foldl(fun({Name, Entry}, Sum) -> settle(Name, Entry, maps:get(Name, Names, none), Sum) end, {[], Part}, Lost).
+    Settled = lists:sort([{Name, Entry} || {Name, Entry = #own{lost = {_, _}}} <- maps:to_list(Own)]),
+    {Free, Taken} = lists:partition(fun({Name, Entry}) -> is_free(Name, Entry, Names) end, Settled),
+    Kept = maps:from_list([{Name, #own{row = Row}} || {Name, #own{row = Row}} <- Free]),
+    Left = Part#part{own = maps:merge(maps:without([Name || {Name, _} <- Taken], Own), Kept)},
+    Losers = [{Name, Row, Loss} || {Name, #own{row = Row, lost = Loss}} <- Taken],
+    {[{register, Name, Row} || {Name, #own{row = Row}} <- Free], lost(Losers, Left)}.
 
-settle(Name, #own{row = Row, lost = {{Kind, _}, _}}, none, {Edits, Part = #part{own = Own}}) when Kind =/= conflict_with ->
-    {[{register, Name, Row} | Edits], Part#part{own = Own#{Name := #own{row = Row}}}};
-settle(Name, #own{row = Row, lost = Loss}, _Row, {Edits, Part}) ->
-    {Edits, heal_state:add({notify, Row, Loss}, disown(Name, Part))}.
+%% Nobody has the name, though one of the two was to keep it.
+is_free(Name, #own{lost = {{Kind, _}, _}}, Names) -> Kind =/= conflict_with andalso not is_map_key(Name, Names).
+
+lost([], Part) -> Part;
+lost(Losers, Part) -> heal_state:add({lost, Losers}, Part).
 
 %% Returns a replica's half with the names of these homes alone.
 -spec restrict([heal_replica:life()], #part{}) -> #half{}.
@@ -138,13 +218,12 @@ restrict(Homes, Part) ->
     Half = #half{names = Names} = heal_state:half(Part),
     Half#half{names = maps:filter(fun(_, #row{home = Home}) -> lists:member(Home, Homes) end, Names)}.
 
-%% Returns the losers of a clash of two processes, that of this side and that of the other one.
--spec losers(heal:ruling(), a | b, pid(), pid()) -> [loser()].
-losers(Ruling = {_, _, _, Side, _, _}, Side, OfOwn, OfOther) -> losers(Ruling, OfOwn, OfOther);
-losers(Ruling, _Side, OfOwn, OfOther) -> losers(Ruling, OfOther, OfOwn).
-
-losers({Name, First, Second, _, Verdict, Resolver}, OfFirst, OfSecond) ->
-    [case Position of
-         first -> {Name, First, {Notice, OfSecond}};
-         second -> {Name, Second, {Notice, OfFirst}}
-     end || Notice = {_, Position} <- heal_names:notices(Verdict, Resolver)].
+%% Adds the losers of a clash of two processes, that of this side and that of the other one.
+-spec losers(heal:ruling(), a | b, pid(), pid(), [loser()]) -> [loser()].
+losers({Name, First, Second, Half, Verdict, Resolver}, Side, OfOwn, OfOther, Others) ->
+    {OfFirst, OfSecond} = case Half of Side -> {OfOwn, OfOther}; _ -> {OfOther, OfOwn} end,
+    case heal_names:notices(Verdict, Resolver) of
+        [Notice = {_, first}] -> [{Name, First, {Notice, OfSecond}} | Others];
+        [Notice = {_, second}] -> [{Name, Second, {Notice, OfFirst}} | Others];
+        [One, Other] -> [{Name, First, {One, OfSecond}}, {Name, Second, {Other, OfFirst}} | Others]
+    end.

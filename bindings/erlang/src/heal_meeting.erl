@@ -8,9 +8,11 @@
 -include("heal_part.hrl").
 
 -export([meet/1, message/3, continue/2, broken/1, failed_with/2, expired/1, withdraw/2, is_idle/1, name/1]).
--export_type([member/0]).
+-export_type([member/0, outcome/0]).
 
 -type member() :: {heal_replica:life(), Number :: non_neg_integer()}.
+%% What an exchange has come to: what heal_exchange:finish/3 returned, and the names that the other node has withdrawn.
+-type outcome() :: {[{heal:name(), heal:registration()}], Lacking :: [heal:name()], [heal:ruling()], Withdrawn :: [heal:name()]}.
 
 -define(MAX_PROGRAMS, 256).
 
@@ -22,11 +24,20 @@ meet(Part = #part{heal = idle, prepared = #prepared{}}) ->
     meet(Part#part{prepared = none});
 meet(Part = #part{heal = idle, settle_by = none, limbo = none}) ->
     case heal_state:is_primary(Part) of
-        true -> meet_one(overdue(Part));
-        false -> Part
+        true -> meet_one(overdue(invite(Part)));
+        false -> Part#part{declined = #{}}
     end;
 meet(Part) ->
     Part.
+
+%% Invites the primaries whose query this one has declined, now that it is ready. If the message is lost, they query again after a tick.
+invite(Part = #part{declined = Declined}) when Declined =:= #{} ->
+    Part;
+invite(Part = #part{declined = Declined, peers = Peers}) ->
+    Left = maps:with(maps:keys(Peers), Declined),
+    Ready = maps:filter(fun(Node, {_, Members}) -> heal_peers:has_met(Members, maps:get(Node, Peers), Part) end, Left),
+    Send = fun(Node, {Reference, _}, Sum) -> heal_state:send(Node, {ready, Reference}, Sum) end,
+    maps:fold(Send, Part#part{declined = maps:without(maps:keys(Ready), Left)}, Ready).
 
 meet_one(Part = #part{node = Self, now = Now}) ->
     case [Node || {Node, Peer = #peer{retry = Retry, members = Members}} <- others(Part), Node > Self, Retry =< Now,
@@ -80,17 +91,27 @@ name(Part) -> case heal_view:members(Part) of [_] -> apart; _ -> joined end.
 message(Node, {ask, Reference, Members}, Part = #part{node = Self, peers = Peers}) when Node < Self, is_map_key(Node, Peers) ->
     asked(Node, Reference, Members, Part);
 message(Node, {hello, Reference, Greatest, Members}, Part = #part{heal = {asking, #asking{node = Node, reference = Reference}}}) ->
-    propose(Node, max(Greatest, Part#part.greatest) + 1, Members, Part#part{heal = idle});
+    propose(Node, Reference, max(Greatest, Part#part.greatest) + 1, Members, Part);
+message(Node, {propose, Number, Seed, Members, Reference},
+        Part = #part{heal = {engaged, #asking{node = Node, reference = Reference}}}) ->
+    accept(Node, Number, Seed, Members, fun(Open) -> Open end, Part#part{heal = idle});
 message(Node, {busy, Reference}, Part = #part{heal = {asking, #asking{node = Node, reference = Reference}}}) ->
     heal_peers:retry(Node, none, heal_state:tick(Part), Part#part{heal = idle});
+message(Node, {ready, _Reference}, Part = #part{node = Self, peers = Peers}) when Self < Node ->
+    case Peers of
+        #{Node := Peer = #peer{failed = none}} -> Part#part{peers = Peers#{Node := Peer#peer{retry = 0}}};
+        _ -> Part
+    end;
 message(Node, {cancel, Reference}, Part = #part{heal = {engaged, #asking{node = Node, reference = Reference}}}) ->
     Part#part{heal = idle};
 message(Node, {offer, Number, Seed, Offer, Reference},
         Part = #part{heal = {engaged, #asking{node = Node, reference = Reference}}}) ->
-    offered(Node, Number, Seed, Offer, Part#part{heal = idle});
-message(Node, {offer, Number, _Seed, Offer, none},
-        Part = #part{heal = Open = #open{node = Node, number = Number, side = a, others = none}}) ->
-    hear(Offer, Open, Part, fun close/1);
+    %% The leader has an earlier version, which makes no proposal. Both nodes judge at the same time.
+    Judge = fun(Open) -> heal_state:continue({hear, Number, Offer}, Open) end,
+    accept(Node, Number, Seed, element(4, Offer), Judge, Part#part{heal = idle});
+message(Node, {offer, Number, _Seed, Offer, _Reference},
+        Part = #part{heal = Open = #open{node = Node, number = Number, side = Side, others = none}}) ->
+    hear(Offer, Open, Part, case Side of a -> fun close/1; b -> fun(Heard) -> Heard end end);
 message(Node, {list, Number, List}, Part = #part{heal = Open = #open{node = Node, number = Number, side = a, stage = listed}}) ->
     finish(List, Open, Part);
 message(Node, {list, Number, List}, Part = #part{heal = Open = #open{node = Node, number = Number, side = b, stage = offered}})
@@ -100,12 +121,14 @@ message(Node, {list, Number, List}, Part = #part{heal = Open = #open{node = Node
 message(Node, {finished, Number, View}, Part = #part{heal = Open = #open{node = Node, number = Number, stage = {done, _, _}}}) ->
     follow(View, Open, Part);
 message(Node, {abandon, Number, Refusal}, Part = #part{heal = #open{node = Node, number = Number}}) ->
-    failed(Refusal, Part);
+    failed(Refusal, Node, Part);
 message(_Node, _Stale, Part) ->
     Part.
 
 %% Goes on after the actions before are done.
 -spec continue(heal_part:step(), #part{}) -> #part{}.
+continue({propose, Reference, Number, Seed, Members}, Part = #part{heal = {asking, #asking{node = Node, reference = Reference}}}) ->
+    opened(open(Node, a, Number, Seed, Members, Part), Reference, Number, Seed, Node, Part#part{heal = idle});
 continue({prepare, Reference, Members}, Part = #part{heal = {engaged, #asking{reference = Reference}}}) ->
     case prepare(b, Members, Part) of
         {ok, Prepared} -> Part#part{prepared = Prepared};
@@ -115,22 +138,25 @@ continue({hear, Number, Offer}, Part = #part{heal = Open = #open{number = Number
     hear(Offer, Open, Part, fun(Heard) -> Heard end);
 continue({finish, Number, List}, Part = #part{heal = Open = #open{number = Number, side = b, stage = listed}}) ->
     finish(List, Open, Part);
+continue({lead, Number, Outcome}, Part = #part{heal = Open = #open{number = Number, side = a, stage = listed}}) ->
+    led(Outcome, Open, Part);
 continue(_Step, Part) ->
     Part.
 
 %% A smaller primary queries this one. It answers if it leads no exchange itself.
 asked(Node, Reference, Members, Part = #part{heal = Heal, settle_by = SettleBy, limbo = Limbo, peers = Peers}) ->
-    HasMet = heal_peers:has_met([Of || {{Of, _}, _} <- Members], maps:get(Node, Peers), Part),
+    Nodes = [Of || {{Of, _}, _} <- Members],
+    HasMet = heal_peers:has_met(Nodes, maps:get(Node, Peers), Part),
     case {Heal, heal_state:is_primary(Part)} of
-        {#open{}, _} -> busy(Node, Reference, Part);
-        {{engaged, #asking{node = Other}}, _} when Other =/= Node -> busy(Node, Reference, Part);
+        {#open{}, _} -> busy(Node, Reference, Nodes, Part);
+        {{engaged, #asking{node = Other}}, _} when Other =/= Node -> busy(Node, Reference, Nodes, Part);
         {_, true} when SettleBy =:= none, Limbo =:= none, HasMet -> engage(Node, Reference, Members, cancel(Part));
-        {_, true} -> busy(Node, Reference, Part);
-        {_, false} -> heal_peers:announce_to(Node, busy(Node, Reference, Part))
+        {_, true} -> busy(Node, Reference, Nodes, Part);
+        {_, false} -> heal_peers:announce_to(Node, busy(Node, Reference, Nodes, Part))
     end.
 
-busy(Node, Reference, Part) ->
-    heal_state:send(Node, {busy, Reference}, Part).
+busy(Node, Reference, Nodes, Part = #part{declined = Declined}) ->
+    heal_state:send(Node, {busy, Reference}, Part#part{declined = Declined#{Node => {Reference, Nodes}}}).
 
 cancel(Part = #part{heal = {asking, #asking{node = Node, reference = Reference}}}) ->
     heal_state:send(Node, {cancel, Reference}, Part#part{heal = idle});
@@ -138,37 +164,39 @@ cancel(Part) ->
     Part#part{heal = idle}.
 
 %% It makes its offer ready meanwhile.
-engage(Node, Reference, Members, Part = #part{now = Now, exchange_timeout = Timeout, greatest = Greatest}) ->
+engage(Node, Reference, Members, Part = #part{now = Now, exchange_timeout = Timeout, greatest = Greatest, declined = Declined}) ->
     Engaged = #asking{node = Node, reference = Reference, deadline = Now + Timeout div 2 + 1},
-    Answered = heal_state:send(Node, {hello, Reference, Greatest, members(Part)}, Part#part{heal = {engaged, Engaged}}),
+    Next = Part#part{heal = {engaged, Engaged}, declined = maps:remove(Node, Declined)},
+    Answered = heal_state:send(Node, {hello, Reference, Greatest, members(Part)}, Next),
     heal_state:continue({prepare, Reference, Members}, Answered).
 
 %% ---- The exchange ----
 
-%% The leader opens it: step 1.
-propose(Node, Number, Members, Part = #part{world = World}) ->
-    case clashing_numbers(members(Part) ++ Members) of
+%% The leader proposes a number and a seed, with which both nodes begin at the same time, and opens the exchange: step 1.
+propose(Node, Reference, Number, Members, Part = #part{world = World, exchange_timeout = Timeout}) ->
+    Own = members(Part),
+    case clashing_numbers(Own ++ Members) of
         false ->
             Seed = World:seed(),
-            opened(open(Node, a, Number, Seed, Members, Part), Seed, Node, Part);
+            Sent = heal_state:send(Node, {propose, Number, Seed, Own, Reference}, counted(Number, Part)),
+            heal_state:continue({propose, Reference, Number, Seed, Members}, Sent);
         true ->
-            heal_peers:retry(Node, numbers, Part#part.exchange_timeout, Part)
+            heal_peers:retry(Node, numbers, Timeout, Part#part{heal = idle})
     end.
+
+%% No later exchange of this node has this number.
+counted(Number, Part) ->
+    heal_state:add({keep, greatest, Number}, Part#part{greatest = Number}).
 
 %% Two nodes of one number can't be in one part.
 clashing_numbers(Members) ->
     Nodes = lists:usort([{Number, Node} || {{Node, _}, Number} <- Members]),
     length(Nodes) =/= length(lists:usort([Number || {Number, _} <- Nodes])).
 
-opened({ok, Offer, Open}, Seed, Node, Part = #part{requests = Last}) ->
-    %% The reference is that of the query, the last request.
-    Reference = {heal_state:life(Part), Last},
-    heal_state:send(Node, {offer, Open#open.number, Seed, Offer, Reference}, begun(Open, Part));
-opened({error, Refusal}, _Seed, Node, Part) ->
-    heal_peers:retry(Node, Refusal, Part#part.exchange_timeout, Part).
-
-begun(Open = #open{number = Number}, Part) ->
-    heal_state:add({keep, greatest, Number}, Part#part{heal = Open, greatest = Number, prepared = none}).
+opened({ok, Offer, Open}, Reference, Number, Seed, Node, Part) ->
+    heal_state:send(Node, {offer, Number, Seed, Offer, Reference}, Part#part{heal = Open, prepared = none});
+opened({error, Refusal}, _Reference, Number, _Seed, Node, Part) ->
+    refused(Refusal, Node, Number, Part).
 
 open(Node, Side, Number, Seed, Members, Part = #part{now = Now, exchange_timeout = Timeout}) ->
     case begin_with(ready(Side, Members, Part), Number, Seed, Part) of
@@ -216,15 +244,14 @@ offered_names(b, Members, Part) ->
 
 process(#row{registration = #{owner := Owner}, pid = Pid, term = Term, home = Home}) -> {Owner, Pid, Term, Home}.
 
-%% The other node answers with its offer: step 2.
-offered(Node, Number, Seed, Offer = {_, _, _, Members}, Part) ->
+%% The other node begins too, and sends its offer.
+accept(Node, Number, Seed, Members, Continue, Part) ->
     case Number > Part#part.greatest andalso open(Node, b, Number, Seed, Members, Part) of
-        {ok, Own, Open} ->
-            %% Both nodes judge at the same time.
-            Sent = heal_state:send(Node, {offer, Number, Seed, Own, none}, begun(Open, Part)),
-            heal_state:continue({hear, Number, Offer}, Sent);
+        {ok, Offer, Open} ->
+            Begun = (counted(Number, Part))#part{heal = Open, prepared = none},
+            Continue(heal_state:send(Node, {offer, Number, Seed, Offer, none}, Begun));
         {error, Refusal} ->
-            heal_peers:retry(Node, Refusal, Part#part.exchange_timeout, heal_state:send(Node, {abandon, Number, Refusal}, Part));
+            refused(Refusal, Node, Number, Part);
         false ->
             Part
     end.
@@ -240,7 +267,7 @@ hear({Bytes, Processes, Programs, Members}, Open = #open{handle = Handle}, Part 
 
 extended(Open, #part{now = Now, exchange_timeout = Timeout}) -> Open#open{deadline = Now + Timeout}.
 
-%% Sends the list of withdrawn names: steps 3 and 4.
+%% Sends the list of withdrawn names: steps 2 and 3.
 close(Part = #part{world = World, heal = Open = #open{node = Node, number = Number, handle = Handle, withdrawn = Withdrawn}}) ->
     case World:close(Handle) of
         {ok, List, Closed} ->
@@ -250,41 +277,65 @@ close(Part = #part{world = World, heal = Open = #open{node = Node, number = Numb
             refused(Refusal, Part)
     end.
 
-%% Computes the merge: the other node keeps it until it hears of the leader's view.
+%% Ends the exchange. The leader names the view that begins with the merge, and both nodes compute the merge at the same time.
 finish({List, Withdrawn}, Open = #open{handle = Handle, own = Own, others = Others, side = Side}, Part = #part{world = World}) ->
     case World:finish(List, [Name || Name <- maps:keys(Others), not is_map_key(Name, Own)], Handle) of
-        {ok, Changed, Lacking, Rulings} ->
-            Half = merged(Changed, Lacking, Open, Part),
-            Losers = losers(Rulings, Withdrawn ++ Open#open.withdrawn, Open),
-            done(Side, Half, Losers, extended(Open, Part), healed(length(Rulings), Half, Open, Part));
+        {ok, Changed, Lacking, Rulings} when Side =:= a -> lead(Open, {Changed, Lacking, Rulings, Withdrawn}, Part);
+        {ok, Changed, Lacking, Rulings} -> keep(Open, merge({Changed, Lacking, Rulings, Withdrawn}, Open, Part), Part);
+        {error, Refusal} -> refused(Refusal, Part)
+    end.
+
+%% A node that fails after this starts another view.
+lead(#open{node = Node, number = Number, from = From}, Outcome, Part = #part{replica = Replica}) ->
+    case heal_replica:change(From, heal_state:half(Part), Replica) of
+        {ok, Led} ->
+            {View = {_, Latest}, 0} = heal_replica:position(Led),
+            Sent = heal_state:send(Node, {finished, Number, View}, heal_state:add({keep, led, Latest}, Part)),
+            heal_state:continue({lead, Number, Outcome}, Sent);
         {error, Refusal} ->
             refused(Refusal, Part)
     end.
 
-losers(Rulings, Withdrawn, Open) ->
+%% The other node keeps the merge until it hears of the leader's view.
+keep(Open, {Half, Plan, Facts}, Part) ->
+    heal_state:add({healed, Facts}, Part#part{heal = extended(Open#open{stage = {done, Half, Plan}}, Part)}).
+
+%% The merge, with what it changes on this node, and what is reported of it.
+merge({Changed, Lacking, Rulings, Withdrawn}, Open, Part) ->
+    {Half, Changes} = merged(Changed, Lacking, Open, Part),
+    Plan = heal_home:plan(losers(Rulings, Withdrawn ++ Open#open.withdrawn, Open), Half, Changes, Part),
+    {Half, Plan, facts(length(Rulings), Half, Open, Part)}.
+
+losers(Rulings, Withdrawn, #open{side = Side, own = Own, others = Others}) ->
     Gone = maps:from_keys(Withdrawn, withdrawn),
-    [Loser || Ruling <- Rulings, not is_map_key(element(1, Ruling), Gone), Loser <- losers(Ruling, Open)].
+    Add = fun(Ruling, Sum) ->
+        Name = element(1, Ruling),
+        case {Own, Others} of
+            _ when is_map_key(Name, Gone) -> Sum;
+            %% A process that clashes with itself loses nothing.
+            {#{Name := #row{pid = Pid}}, #{Name := {_, Pid, _, _}}} -> Sum;
+            {#{Name := #row{pid = OfOwn}}, #{Name := {_, OfOther, _, _}}} -> heal_home:losers(Ruling, Side, OfOwn, OfOther, Sum);
+            _ -> Sum
+        end
+    end,
+    lists:foldr(Add, [], Rulings).
 
-%% A process that clashes with itself loses nothing.
-losers(Ruling = {Name, _, _, _, _, _}, #open{side = Side, own = Own, others = Others}) ->
-    case {Own, Others} of
-        {#{Name := #row{pid = Pid}}, #{Name := {_, Pid, _, _}}} -> [];
-        {#{Name := #row{pid = OfOwn}}, #{Name := {_, OfOther, _, _}}} -> heal_home:losers(Ruling, Side, OfOwn, OfOther);
-        _ -> []
-    end.
+facts(Clashes, #half{names = Names}, #open{node = Node, number = Number, begun = Begun}, #part{now = Now}) ->
+    #{with => Node, number => Number, clashes => Clashes, names => map_size(Names), milliseconds => Now - Begun}.
 
-healed(Clashes, #half{names = Names}, #open{node = Node, number = Number, begun = Begun}, Part = #part{now = Now}) ->
-    Facts = #{with => Node, number => Number, clashes => Clashes, names => map_size(Names), milliseconds => Now - Begun},
-    heal_state:add({healed, Facts}, Part).
-
+%% The merge, and what it changes.
 merged(Changed, Lacking, Open, Part) ->
     #open{number = Number, side = Side, own = Own, programs = Theirs, members = Members} = Open,
-    #half{programs = Ours} = heal_state:half(Part),
+    #half{names = Names, programs = Ours} = heal_state:half(Part),
     Programs = case Side of a -> united(Ours, Theirs); b -> united(Theirs, Ours) end,
     Homes = [Life || {Life, _} <- Members],
-    Rows = maps:from_list([{Name, heal_replica:compact(Name, row(Name, Registration, Open), Homes)}
-                           || {Name, Registration} <- Changed]),
-    #half{names = maps:merge(maps:without(Lacking, Own), Rows), programs = Programs, latest = Number}.
+    Rows = [{Name, heal_replica:compact(Name, row(Name, Registration, Open), Homes)} || {Name, Registration} <- Changed],
+    Merge = maps:merge(maps:without(Lacking, Own), maps:from_list(Rows)),
+    Changes = case Names of
+        Own -> {Rows, [Name || Name <- Lacking, is_map_key(Name, Own)]};
+        _WithClaimed -> unknown
+    end,
+    {#half{names = Merge, programs = Programs, latest = Number}, Changes}.
 
 %% The programs of the leader, and as many of the other part as there is room for.
 united(OfA, OfB) ->
@@ -300,17 +351,11 @@ row(Name, Registration = #{owner := Owner}, #open{own = Own, others = Others}) -
             #row{registration = Registration, pid = Pid, term = Term, home = Home}
     end.
 
-done(b, Half, Losers, Open, Part) ->
-    Part#part{heal = Open#open{stage = {done, Half, Losers}}};
-done(a, Half, Losers, Open = #open{node = Node, number = Number, from = From}, Part = #part{replica = Replica}) ->
-    case heal_replica:change(From, Half, Replica) of
-        {ok, Led} ->
-            Members = united_members(Node, Open, Part),
-            Finished = fun(View) -> {finished, Number, View} end,
-            heal_view:start(Led, Members, {Node, Finished}, Losers, succeeded(Node, Part));
-        {error, Refusal} ->
-            refused(Refusal, Part)
-    end.
+%% The leader starts the view with the merge.
+led(Outcome, Open = #open{node = Node, from = From}, Part = #part{replica = Replica}) ->
+    {Half, Plan, Facts} = merge(Outcome, Open, Part),
+    {ok, Led} = heal_replica:change(From, Half, Replica),
+    heal_view:start(Led, united_members(Node, Open, Part), Node, Plan, heal_state:add({healed, Facts}, succeeded(Node, Part))).
 
 %% The members of the new view are those of both parts.
 united_members(Node, #open{members = Theirs}, Part = #part{members = Members, peers = Peers, node = Self}) ->
@@ -329,9 +374,9 @@ succeeded(Node, Part = #part{peers = Peers}) ->
         _ -> Part#part{heal = idle}
     end.
 
-%% The leader has started its view with the merge.
-follow(View, #open{node = Node, stage = {done, Half, Losers}}, Part) ->
-    heal_view:follow({{View, 0}, Half}, Losers, Node, succeeded(Node, Part)).
+%% The leader starts its view with the merge.
+follow(View, #open{node = Node, stage = {done, Half, Plan}}, Part) ->
+    heal_view:follow_merge(View, Half, Plan, Node, succeeded(Node, Part)).
 
 %% Withdraws a name of this node in the open exchange, while its list isn't closed.
 -spec withdraw(heal:name(), #part{}) -> #part{}.
@@ -347,9 +392,12 @@ withdraw(_Name, Part) ->
 %% ---- Failures ----
 
 refused(Refusal, Part = #part{heal = #open{node = Node, number = Number}}) ->
-    failed(Refusal, heal_state:send(Node, {abandon, Number, Refusal}, Part)).
+    refused(Refusal, Node, Number, Part).
 
-failed(Refusal, Part = #part{heal = #open{node = Node}, exchange_timeout = Timeout}) ->
+refused(Refusal, Node, Number, Part) ->
+    failed(Refusal, Node, heal_state:send(Node, {abandon, Number, Refusal}, Part)).
+
+failed(Refusal, Node, Part = #part{exchange_timeout = Timeout}) ->
     heal_peers:retry(Node, Refusal, Timeout, Part#part{heal = idle}).
 
 %% The other node of an exchange is gone.

@@ -55,6 +55,8 @@
     | tick.
 -type step() :: {hear | finish, Number :: pos_integer(), Message :: term()}
     | {prepare, Reference :: term(), [heal_meeting:member()]}
+    | {propose, Reference :: term(), Number :: pos_integer(), Seed :: non_neg_integer(), [heal_meeting:member()]}
+    | {lead, Number :: pos_integer(), heal_meeting:outcome()}
     | settle.
 -type action() ::
     {send, node(), Body :: term()}
@@ -64,8 +66,11 @@
     | {hide, heal:name()}
     | {own, heal:name(), #row{}}
     | {disown, heal:name(), #row{}}
-    | {notify, #row{}, heal_home:loss()}
+    %% Processes that have lost their names: this node answers for them no more, and notifies them.
+    | {lost, [{heal:name(), #row{}, heal_home:loss()}]}
     | {keep, Key :: term(), Value :: term()}
+    %% Registrations that this node answers for, and that the table lacks.
+    | {keep_own, [{heal:name(), #row{}}]}
     | {problems, heal_peers:problems()}
     | {healed, #{atom() => term()}}
     %% After the other actions, and before any other event.
@@ -105,7 +110,7 @@ taken(Part = #part{out = Out}) ->
 %% Takes the state of an earlier version over: the fields that it lacks are the last ones.
 -spec upgrade(Earlier :: part()) -> part().
 upgrade(Earlier) ->
-    Part = later(Earlier, record_info(size, part), [none, none, [], none]),
+    Part = later(Earlier, record_info(size, part), [none, none, [], none, #{}]),
     #part{waiting = Waiting, requested = Requested, unreleased = Unreleased, adopting = Adopting} = Part,
     #part{arriving = Arriving, leaving = Leaving, storing = Storing, heal = Heal} = Part,
     Each = fun(_, Call) -> call(Call) end,
@@ -122,8 +127,9 @@ upgrade(Earlier) ->
 
 call(Earlier) -> later(Earlier, record_info(size, call), [false]).
 
-%% An exchange of a version before goes no further: its handle was a side alone.
+%% An exchange of a version before goes no further: its handle was a side alone, or it had no plan.
 exchange(#open{handle = Side}) when is_reference(Side) -> idle;
+exchange(#open{stage = {done, _, Losers}}) when is_list(Losers) -> idle;
 exchange(Heal) -> Heal.
 
 later(Record, Size, Last) ->

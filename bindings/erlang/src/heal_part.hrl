@@ -68,7 +68,8 @@
     programs = #{} :: #{binary() => binary()},
     members = [] :: [heal_meeting:member()],
     withdrawn = [] :: [heal:name()],
-    stage = offered :: offered | listed | {done, #half{}, [heal_home:loser()]},
+    %% An exchange of an earlier version has its losers in place of a plan.
+    stage = offered :: offered | listed | {done, #half{}, heal_home:plan() | [heal_home:loser()]},
     begun :: integer(),
     deadline :: integer()
 }).
@@ -139,5 +140,7 @@
     stored = none :: none | #{Id :: binary() => stored},
     unwritable = none :: none | term(),
     storing = [] :: [{Id :: binary(), #call{}}],
-    prepared = none :: none | #prepared{}
+    prepared = none :: none | #prepared{},
+    %% Primaries whose query this one has declined, with the nodes of their parts: it invites them once it is ready.
+    declined = #{} :: #{node() => {Reference :: term(), [node()]}}
 }).

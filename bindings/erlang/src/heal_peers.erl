@@ -239,10 +239,10 @@ retry(Node, Failed, After, Part = #part{peers = Peers, now = Now}) ->
 -spec arrived(#part{}) -> #part{}.
 arrived(Part = #part{awaited = Awaited}) when Awaited =:= #{} ->
     Part;
-arrived(Part = #part{awaited = Awaited, peers = Peers, now = Now}) ->
+arrived(Part = #part{awaited = Awaited, peers = Peers, members = Members, now = Now}) ->
     View = heal_state:view(Part),
     IsAwaited = fun(Node, Until) ->
-        Now < Until andalso case Peers of
+        Now < Until andalso not is_map_key(Node, Members) andalso case Peers of
             #{Node := #peer{at = {View, _}}} -> false;
             #{Node := Peer = #peer{failed = none}} -> is_primary(Peer);
             #{Node := _} -> false;

@@ -45,6 +45,8 @@
 %% Words of heap during an exchange: for each name, and at most.
 -define(ROOM_FOR_NAME, 170).
 -define(ROOM, 4000000).
+%% The heap of the process, and that of the binaries that it refers to.
+-define(HEAPS, [min_heap_size, min_bin_vheap_size]).
 %% Milliseconds until another attempt to start the process that writes.
 -define(AGAIN, 1000).
 %% How often to look for a registry that has failed, and the milliseconds in between.
@@ -209,7 +211,7 @@ handle_cast(_Message, State) ->
 %% @private
 handle_info(tick, State = #server{part = Part}) ->
     _ = erlang:send_after(heal_part:tick(Part), self(), tick),
-    _ = process_flag(min_heap_size, element(2, erlang:system_info(min_heap_size))),
+    [process_flag(Flag, element(2, erlang:system_info(Flag))) || Flag <- ?HEAPS],
     {noreply, event(tick, State)};
 handle_info({nodeup, Node, #{node_type := Type}}, State) ->
     {noreply, up(Node, Type, State)};
@@ -259,14 +261,21 @@ heard(Node, {adopt, Number, Edit}, State) ->
     event({message, Node, {adopt, Number, valid(Edit)}}, released(Edit, State));
 heard(Node, Body = {here, _}, State) ->
     event({message, Node, Body}, watched(Node, State));
-heard(Node, Body = {offer, _, _, {_, Processes, _, _}, _}, State = #server{part = Part}) ->
-    %% An exchange makes much garbage. With more room fewer collections copy the rows. The next tick takes the room back.
-    _ = process_flag(min_heap_size, min(?ROOM, ?ROOM_FOR_NAME * max(heal_part:count(Part), map_size(Processes)))),
-    event({message, Node, Body}, release_dead(State));
+heard(Node, Body, State) when element(1, Body) =:= ask; element(1, Body) =:= hello; element(1, Body) =:= propose ->
+    %% Processes that are gone are looked for when the offers have come.
+    event({message, Node, Body}, roomy(0, State));
+heard(Node, Body = {offer, _, _, {_, Processes, _, _}, _}, State) ->
+    event({message, Node, Body}, release_dead(roomy(map_size(Processes), State)));
 heard(Node, Body, State) when element(1, Body) =:= edit; element(1, Body) =:= answer ->
     event({message, Node, Body}, State);
 heard(Node, Body, State) ->
     event({message, Node, Body}, release_dead(State)).
+
+%% An exchange makes much garbage. With more room fewer collections copy the rows. The next tick takes the room back.
+roomy(Names, State = #server{part = Part}) ->
+    Room = min(?ROOM, ?ROOM_FOR_NAME * max(heal_part:count(Part), Names)),
+    [process_flag(Flag, Room) || Flag <- ?HEAPS],
+    State.
 
 valid(Edit) ->
     case heal_wire:is_edit(Edit) of
@@ -310,7 +319,7 @@ watched(Node, State = #server{watches = Watches}) when is_map_key(Node, Watches)
 watched(Node, State = #server{watches = Watches}) ->
     State#server{watches = Watches#{Node => spawn_link(?MODULE, observe, [self(), Node, 0])}}.
 
-%% @private Watches a registry. One that isn't there is looked for again so many times: it may be starting.
+%% @private Watches a registry. It may be starting, so if it isn't there, this makes up to `Attempts' further attempts.
 observe(Registry, Node, Attempts) ->
     observing(Registry, Node, monitor(process, {?REGISTRY, Node}), Attempts).
 
@@ -377,23 +386,21 @@ act({hide, Name}, State) ->
 act({keep, Key, Value}, State) ->
     ok = heal_table:keep(Key, Value),
     kept(Key, Value, State);
+act({keep_own, Rows}, State) ->
+    ok = heal_table:keep_own(Rows),
+    State;
 act({reply, From, Answer}, State) ->
     reply(From, spelled(Answer)),
     State;
 act({own, Name, Row}, State) ->
     watch(Name, Row, State);
-act({disown, Name, #row{registration = #{owner := Owner}}}, State = #server{monitors = Monitors, owners = Owners}) ->
-    ok = heal_table:disown(Name),
-    case maps:take(Owner, Owners) of
-        {{Monitor, _, _}, Rest} ->
-            demonitor(Monitor, [flush]),
-            State#server{monitors = maps:remove(Monitor, Monitors), owners = Rest};
-        error ->
-            State
-    end;
-act({notify, Row, Loss}, State) ->
-    notify(Row, Loss),
-    State;
+act({disown, Name, Row}, State) ->
+    ok = disown(Name, Row, State),
+    unwatched([Row], State);
+act({lost, Losers}, State) ->
+    %% One after the other, so that a registry which is killed meanwhile has notified those that it answers for no more.
+    lists:foreach(fun({Name, Row, Loss}) -> ok = disown(Name, Row, State), notify(Row, Loss) end, Losers),
+    unwatched([Row || {_, Row, _} <- Losers], State);
 act({problems, Problems}, State) ->
     ok = heal_problems:report(Problems),
     State;
@@ -432,6 +439,19 @@ deliver(#row{pid = Pid, term = Term}, {Notice = {_, Position}, Rival}) ->
 watch(Name, #row{pid = Pid, registration = #{owner := Owner}}, State = #server{monitors = Monitors, owners = Owners}) ->
     Monitor = monitor(process, Pid),
     State#server{monitors = Monitors#{Monitor => {Name, Owner}}, owners = Owners#{Owner => {Monitor, Name, Pid}}}.
+
+%% This node answers for a registration no more.
+disown(Name, #row{registration = #{owner := Owner}}, #server{owners = Owners}) ->
+    ok = heal_table:disown(Name),
+    case Owners of
+        #{Owner := {Monitor, _, _}} -> true = demonitor(Monitor, [flush]), ok;
+        _ -> ok
+    end.
+
+unwatched(Rows, State = #server{monitors = Monitors, owners = Owners}) ->
+    Gone = [Owner || #row{registration = #{owner := Owner}} <- Rows],
+    References = [Monitor || Owner <- Gone, #{Owner := {Monitor, _, _}} <- [Owners]],
+    State#server{monitors = maps:without(References, Monitors), owners = maps:without(Gone, Owners)}.
 
 %% Releases a name whose process, of this node, is gone before its monitor reports so: a supervisor restarts it at once.
 released({adopt, Name, _, _, _, _}, State) ->

@@ -7,7 +7,7 @@
 
 -include("heal_replica.hrl").
 
--export([create/0, give/1, bequeath/1, rows/2, hide/1, disown/1, kept/2, keep/2, keep_position/3, keep_operation/1, restore/1]).
+-export([create/0, give/1, bequeath/1, rows/2, hide/1, disown/1, kept/2, keep/2, keep_own/1, keep_position/3, keep_operation/1, restore/1]).
 -export([is_running/0, find/2, names/0, names/1, count/0, info/2, row/1]).
 
 -define(ROWS, heal_registry).
@@ -131,6 +131,12 @@ keep(Key, Value) ->
     true = ets:insert(?ROWS, #kept{key = Key, value = Value}),
     ok.
 
+%% Keeps registrations that this node answers for.
+-spec keep_own([{heal:name(), #row{}}]) -> ok.
+keep_own(Rows) ->
+    true = ets:insert(?ROWS, [#kept{key = {own, Name}, value = Row} || {Name, Row} <- Rows]),
+    ok.
+
 %% Returns what is kept under a key.
 -spec kept(key(), Usual :: term()) -> term().
 kept(Key, Usual) ->
@@ -150,7 +156,7 @@ restore(Life) ->
         none -> Found;
         {View, Led, Latest} ->
             At = {View, atomics:get(persistent_term:get(?OPERATION), 1)},
-            Found#{replica => heal_replica:resume(Life, At, Led, half(Names, Latest))}
+            Found#{replica => heal_replica:resume(Life, At, max(Led, kept(led, Led)), half(Names, Latest))}
     end.
 
 %% Keeps the position of the replica, the number of its latest view, and that of the exchange before. A registry that is killed in

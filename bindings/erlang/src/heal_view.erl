@@ -7,7 +7,7 @@
 
 -include("heal_part.hrl").
 
--export([resume/1, act/1, continue/1, is_settling/1, members/1, lead_alone/1, follow/4, start/5]).
+-export([resume/1, act/1, continue/1, is_settling/1, members/1, lead_alone/1, follow_merge/5, start/5]).
 -export([snapshot/3, wanted/3, joined/3, settled/3, broadcast/2]).
 
 %% ---- Starting ----
@@ -17,8 +17,10 @@
 resume(Part = #part{replica = Replica, now = Now}) ->
     Half = heal_state:half(Part),
     Homes = homes(Half, Part),
-    case {heal_replica:is_primary(Replica), heal_replica:position(Replica), heal_home:conflicts([], Half, Part)} of
-        {true, {{_, 1}, 0}, _} -> heal_orders:make_each(heal_home:differences(Part), 0, Part);
+    %% It has announced the latest view that it was to lead, perhaps without a position in it.
+    IsPrimary = heal_state:primary(Part) =:= heal_state:life(Part),
+    case {IsPrimary, {heal_replica:position(Replica), heal_replica:led(Replica)}, heal_home:conflicts([], Half, Part)} of
+        {true, {{{_, 1}, 0}, 1}, _} -> heal_orders:make_each(heal_home:differences(Part), 0, Part);
         {true, _, []} -> lead(heal_home:restrict([heal_state:life(Part) | lives(Homes)], Part), Homes, Part);
         %% The notice of an exchange that has given a name away is lost with the registry: another exchange decides.
         {_, _, [_ | _]} -> lead_alone(Part);
@@ -203,28 +205,20 @@ renewed(Node, Before, Part = #part{members = Members}) ->
 %% Starts a view with this half, whose members are to follow it.
 lead(Half, Members, Part = #part{replica = Replica}) ->
     {ok, Led} = heal_replica:change(heal_replica:position(Replica), Half, Replica),
-    start(Led, Members, none, [], Part).
+    start(Led, Members, none, heal_home:plan([], Half, unknown, Part), Part).
 
-%% Starts the view of a replica that leads. Members that are connected get a snapshot; one that has the half already gets a
-%% message that names the view.
--spec start(heal_replica:replica(), #{node() => #member{}}, none | {node(), Body}, [heal_home:loser()], #part{}) -> #part{}
-    when Body :: fun((heal_replica:view()) -> term()).
-start(Led, Members, Merged, Losers, Part = #part{now = Now, peers = Peers}) ->
-    Old = heal_state:half(Part),
+%% Starts the view of a replica that leads. Members that are connected get a snapshot, except the one that has the half already.
+-spec start(heal_replica:replica(), #{node() => #member{}}, Has :: none | node(), heal_home:plan(), #part{}) -> #part{}.
+start(Led, Members, Has, Plan, Part = #part{now = Now, peers = Peers}) ->
     %% A member that hasn't announced itself yet gets the snapshot when it does.
     Pending = maps:map(fun(Node, Member) -> Member#member{is_lagging = not is_map_key(Node, Peers)} end, Members),
-    Moved = Part#part{replica = Led, members = Pending, settle_by = Now + heal_state:patience(Part), losers = Losers,
-                      dropped = #{}, since = 0},
-    Swapped = heal_entries:restart(heal_home:swap(Old, heal_home:flag(Losers, Moved#part{limbo = none}))),
-    Send = fun(Node, Sum) ->
-        case Merged of
-            {Node, Body} -> heal_state:send(Node, Body(heal_state:view(Sum)), Sum);
-            _ -> send_snapshot(Node, Sum)
-        end
-    end,
-    Sent = lists:foldl(Send, Swapped, [Node || Node <- maps:keys(Members), is_map_key(Node, Peers)]),
-    Announced = viewed(heal_peers:announce(Sent)),
-    heal_orders:make_each(heal_home:differences(Announced), 0, Announced).
+    Moved = Part#part{replica = Led, members = Pending, settle_by = Now + heal_state:patience(Part), limbo = none,
+                      losers = heal_home:losers(Plan), dropped = #{}, since = 0},
+    Swapped = heal_entries:restart(heal_home:swap(Plan, Moved)),
+    Lacking = [Node || Node <- maps:keys(Members), Node =/= Has, is_map_key(Node, Peers)],
+    %% A member that heard of the view before its snapshot would take it for another part.
+    Announced = viewed(heal_peers:announce(lists:foldl(fun send_snapshot/2, Swapped, Lacking))),
+    heal_orders:make_each(heal_home:differences(Plan, Announced), 0, Announced).
 
 viewed(Part) ->
     heal_state:add({view, heal_state:view(Part), members(Part)}, Part).
@@ -329,20 +323,34 @@ is_next(Node, {View = {{_, Incarnation}, Number}, Operation}, Part = #part{follo
 
 %% Follows a snapshot, unless it gives a name of this node to another process. Then an exchange is to decide.
 -spec follow(heal_replica:snapshot(), [heal_home:loser()], node(), #part{}) -> #part{}.
-follow(Snapshot = {{View = {{_, Incarnation}, Number}, _}, Half}, Losers, Node, Part = #part{followed = Followed}) ->
-    Noted = Part#part{followed = Followed#{Node => {Incarnation, Number}}},
+follow(Snapshot = {{View, _}, Half}, Losers, Node, Part) ->
     {Lost, Continue} = case heal_state:view(Part) of
         View -> {Losers ++ heal_home:waiting(Part), fun heal_entries:skipped/1};
-        _ -> {Losers, fun(Moved) -> viewed(heal_entries:restart(Moved)) end}
+        _ -> {Losers, fun entered/1}
     end,
-    case heal_home:conflicts(Lost, Half, Part) of
-        [] -> taken(Snapshot, Lost, Continue, Noted);
-        _ -> lead_alone(Noted)
-    end.
+    taken(Snapshot, heal_home:plan(Lost, Half, unknown, Part), Continue, noted(View, Node, Part)).
 
-taken(Snapshot, Losers, Continue, Part = #part{replica = Replica}) ->
-    Old = heal_state:half(Part),
-    {ok, Following} = heal_replica:follow(Snapshot, Replica),
-    Moved = Part#part{replica = Following, members = #{}, settle_by = none, losers = [], limbo = none},
-    Swapped = Continue(heal_home:swap(Old, heal_home:flag(Losers, Moved))),
-    heal_peers:announce(join_with(heal_home:differences(Swapped), Swapped)).
+%% Follows the view of another primary, which begins with the outcome of an exchange.
+-spec follow_merge(heal_replica:view(), #half{}, heal_home:plan(), node(), #part{}) -> #part{}.
+follow_merge(View, Half, Plan, Node, Part) ->
+    Current = case heal_home:is_current(Plan, Part) of
+        true -> Plan;
+        false -> heal_home:plan(heal_home:losers(Plan), Half, unknown, Part)
+    end,
+    taken({{View, 0}, Half}, Current, fun entered/1, noted(View, Node, Part)).
+
+entered(Part) -> viewed(heal_entries:restart(Part)).
+
+noted({{_, Incarnation}, Number}, Node, Part = #part{followed = Followed}) ->
+    Part#part{followed = Followed#{Node => {Incarnation, Number}}}.
+
+taken(Snapshot, Plan, Continue, Part = #part{replica = Replica}) ->
+    case heal_home:conflicts(Plan) of
+        [] ->
+            {ok, Following} = heal_replica:follow(Snapshot, Replica),
+            Moved = Part#part{replica = Following, members = #{}, settle_by = none, losers = [], limbo = none},
+            Swapped = Continue(heal_home:swap(Plan, Moved)),
+            heal_peers:announce(join_with(heal_home:differences(Plan, Swapped), Swapped));
+        _ ->
+            lead_alone(Part)
+    end.

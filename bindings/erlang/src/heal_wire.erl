@@ -51,7 +51,9 @@ is_valid({released, Number, Owner}) -> is_count(Number) andalso is_owner(Owner);
 is_valid({ask, Reference, Members}) -> is_reference_of(Reference) andalso all(fun is_member/1, Members);
 is_valid({hello, Reference, Greatest, Members}) ->
     is_reference_of(Reference) andalso is_count(Greatest) andalso all(fun is_member/1, Members);
-is_valid({Kind, Reference}) when Kind =:= busy; Kind =:= cancel -> is_reference_of(Reference);
+is_valid({Kind, Reference}) when Kind =:= busy; Kind =:= ready; Kind =:= cancel -> is_reference_of(Reference);
+is_valid({propose, Number, Seed, Members, Reference}) ->
+    is_count(Number) andalso is_long(Seed) andalso all(fun is_member/1, Members) andalso is_reference_of(Reference);
 is_valid({offer, Number, Seed, Offer, Reference}) ->
     is_count(Number) andalso is_long(Seed) andalso is_offer(Offer) andalso (Reference =:= none orelse is_reference_of(Reference));
 is_valid({list, Number, {List, Names}}) -> is_count(Number) andalso is_binary(List) andalso all(fun is_name/1, Names);

@@ -88,7 +88,7 @@ bad_messages(A, B) ->
               {finished, x}, {finished, 1, x}, {finished, 1, x, 2, []}, {edit, 1, 2, 3, 4}, {edit, {{Life, 1}, 1}, [x], none, ok},
               {edit, {{Life, 1}, 1}, [{register, <<"x">>, y} | z], none, ok}, {request, x, y, z}, {answer, 1, x, ok},
               {snapshot, x}, {snapshot, {{{{Life, 1}, 1}, x}, []}}, {want, x}, {settled, x}, {adopt, x, y}, {adopted, x, y},
-              {released, 1, x}, {busy, x}, {cancel, x}, [a | b], 7],
+              {released, 1, x}, {busy, x}, {ready, x}, {cancel, x}, [a | b], 7],
     Send = fun(From, To, Body) ->
         Message = {heal_registry, 3, heal_cluster:node_of(From), Body},
         heal_cluster:call(From, erlang, send, [{heal_registry, heal_cluster:node_of(To)}, Message])

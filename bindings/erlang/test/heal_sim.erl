@@ -93,7 +93,7 @@ start_registry(Name, Sim = #sim{nodes = Nodes, count = Count, now = Now}) ->
         #{position := {At, Led, Latest}} ->
             Programs = maps:merge(maps:get(programs, Common, #{}), maps:get(programs, Kept, #{})),
             Half = #half{names = maps:map(fun(_, {Row, _}) -> Row end, Table), programs = #{}, latest = Latest},
-            Common#{replica => heal_replica:resume(Life, At, Led, Half), own => Own, programs => Programs,
+            Common#{replica => heal_replica:resume(Life, At, max(Led, maps:get(led, Kept, Led)), Half), own => Own, programs => Programs,
                     greatest => max(maps:get(greatest, Common, 0), maps:get(greatest, Kept, 0))};
         _ ->
             Common
@@ -206,4 +206,13 @@ handled(Name, Node = #node{part = Part, offset = Offset, rate = Rate}, Event, Si
         true -> Acted;
         false -> heal_sim_calls:check_position(Name, Acted)
     end,
-    lists:foldl(fun(Step, Sum) -> event(Name, Step, Sum) end, Checked, [Step || Step = {continue, _} <- Actions]).
+    steps(Name, [Step || Step = {continue, _} <- Actions], Checked).
+
+%% A registry may fail between two steps.
+steps(_Name, [], Sim) ->
+    Sim;
+steps(Name, [Step | Later], Sim) ->
+    case not Sim#sim.is_quiet andalso rand:uniform(?STEPS) =:= 1 of
+        true -> heal_sim_net:crash(Name, Sim);
+        false -> steps(Name, Later, event(Name, Step, Sim))
+    end.

@@ -11,6 +11,8 @@
 -define(QUIET, 60000).
 %% How often to look whether the nodes are one part.
 -define(LOOK, 600).
+%% A registry fails after one step of this many.
+-define(STEPS, 20).
 %% How many calls are made then.
 -define(CALM, 20).
 -define(TRACE, 60).

@@ -40,7 +40,21 @@ action({disown, Term, #row{pid = Pid}}, Name, Sim) ->
         true -> process(Pid, fun heal_sim_calls:doubtful/1, Rest);
         false -> Rest
     end;
-action({notify, #row{pid = Pid, term = Term}, {{Kind, _}, _Rival}}, Name, Sim = #sim{processes = Processes}) ->
+action({lost, Losers}, Name, Sim) ->
+    [_ | _] = Losers,
+    lists:foldl(fun({Term, Row, Loss}, Sum) -> notified(Row, Loss, Name, action({disown, Term, Row}, Name, Sum)) end, Sim, Losers);
+action({keep_own, Rows}, Name, Sim) ->
+    [_ | _] = Rows,
+    Keep = fun({Term, Row}, Own) -> Own#{Term := Row} end,
+    update(Name, fun(Node = #node{own = Own}) -> Node#node{own = lists:foldl(Keep, Own, Rows)} end, Sim);
+action({keep, Key, Value}, Name, Sim) ->
+    heal_sim_disk:kept(Key, Value, Name, update(Name, fun(Node = #node{kept = Kept}) -> Node#node{kept = Kept#{Key => Value}} end, Sim));
+action({view, View, Members}, Name, Sim) ->
+    heal_sim_trace:trace("~p is in view ~p of ~p", [Name, View, Members], Sim);
+action(_Reported, _Name, Sim) ->
+    Sim.
+
+notified(#row{pid = Pid, term = Term}, {{Kind, _}, _Rival}, Name, Sim = #sim{processes = Processes}) ->
     #{Pid := Process = #process{notices = Notices, node = On}} = Processes,
     Traced = heal_sim_trace:trace("~p notifies ~p of ~p by ~p", [Name, Pid, Term, Kind], Sim),
     Notices =:= 0 orelse heal_sim_trace:broken(one_notice, {Pid, Term}, Traced),
@@ -49,15 +63,7 @@ action({notify, #row{pid = Pid, term = Term}, {{Kind, _}, _Rival}}, Name, Sim = 
     case Kind of
         exit -> heal_sim_net:ended(Pid, Told);
         _ -> Told
-    end;
-action({keep, {own, Term}, Row}, Name, Sim) ->
-    update(Name, fun(Node = #node{own = Own}) -> Node#node{own = Own#{Term := Row}} end, Sim);
-action({keep, Key, Value}, Name, Sim) ->
-    heal_sim_disk:kept(Key, Value, Name, update(Name, fun(Node = #node{kept = Kept}) -> Node#node{kept = Kept#{Key => Value}} end, Sim));
-action({view, View, Members}, Name, Sim) ->
-    heal_sim_trace:trace("~p is in view ~p of ~p", [Name, View, Members], Sim);
-action(_Reported, _Name, Sim) ->
-    Sim.
+    end.
 
 positioned(Name, Sim) ->
     update(Name, fun(Node = #node{part = Part, kept = Kept}) -> Node#node{kept = Kept#{position => heal_part:position(Part)}} end, Sim).

@@ -3,7 +3,7 @@
 
 -include("heal_sim.hrl").
 
--export([any/1, ended/2, fault/2, names/1, pair/2, receive_message/5, restore/3, resume/2, send/4]).
+-export([any/1, crash/2, ended/2, fault/2, names/1, pair/2, receive_message/5, restore/3, resume/2, send/4]).
 
 pair(A, B) when A < B -> {A, B};
 pair(A, B) -> {B, A}.

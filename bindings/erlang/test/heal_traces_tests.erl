@@ -17,7 +17,8 @@ row(Node, Serial, Home, Weight) ->
 half(Row) ->
     #half{names = #{?NAME => Row}}.
 
-%% A cluster: its parts, and what each of them did last. Messages arrive at once, but for those that `Lost' chooses.
+%% A cluster: its parts, and what each of them did last. Messages arrive in the order in which they were sent, but for those that `Lost'
+%% chooses.
 start(Nodes) ->
     heal_sim_world:start(none),
     put(done, []),
@@ -28,15 +29,14 @@ connect(One, Other, Lost, Parts) ->
     event(One, {up, Other, visible}, Lost, event(Other, {up, One, visible}, Lost, Parts)).
 
 event(Node, Event, Lost, Parts) ->
+    events([{Node, Event}], Lost, Parts).
+
+events([], _Lost, Parts) ->
+    Parts;
+events([{Node, Event} | Later], Lost, Parts) ->
     {Actions, Next} = handled(Node, Event, maps:get(Node, Parts)),
-    lists:foldl(fun
-        ({send, To, Body}, Sum) when is_map_key(To, Sum) ->
-            case Lost(Node, To, Body) of
-                true -> Sum;
-                false -> event(To, {message, Node, Body}, Lost, Sum)
-            end;
-        (_, Sum) -> Sum
-    end, Parts#{Node := Next}, Actions).
+    Sent = [{To, {message, Node, Body}} || {send, To, Body} <- Actions, is_map_key(To, Parts), not Lost(Node, To, Body)],
+    events(Later ++ Sent, Lost, Parts#{Node := Next}).
 
 %% Handles an event and the steps that follow it.
 handled(Node, Event, Part) ->
@@ -123,6 +123,29 @@ ready_offer_test() ->
     ?assertMatch({#prepared{}, [?NAME]}, Offers(Changed)),
     %% The leader gives up.
     ?assertMatch({_, #part{prepared = none}}, heal_part:handle({message, a, {cancel, Reference}}, 902, Ready)).
+
+%% A primary declines the query of a part that it isn't fully connected with. Once it is, the parts heal without another tick. An earlier
+%% version sends no invitation.
+declined_query_test() ->
+    Pair = connect(a, c, fun none_lost/3, start([{a, #{}}, {b, #{}}, {c, #{}}])),
+    Views = fun(Parts) -> lists:usort([element(1, position(Node, Parts)) || Node <- [a, b, c]]) end,
+    Declined = connect(a, b, fun none_lost/3, Pair),
+    ?assertMatch([_], [Busy || Busy = {send, a, {busy, _}} <- done(b)]),
+    ?assertMatch([_, _], Views(Declined)),
+    ?assertMatch([{{a, 1}, _}], Views(connect(b, c, fun none_lost/3, Declined))),
+    Earlier = fun(_, _, Body) -> element(1, Body) =:= ready end,
+    ?assertMatch([_, _], Views(connect(b, c, Earlier, Declined))).
+
+%% An earlier version proposes nothing and ignores proposals, so the other node begins when it hears the offer. Otherwise it begins
+%% before.
+proposal_test() ->
+    Begins = fun(Lost) ->
+        Parts = connect(a, b, Lost, start([{a, #{}}, {b, #{}}])),
+        ?assertEqual(position(a, Parts), position(b, Parts)),
+        [Step || {continue, {hear, 1, _} = Step} <- done(b)]
+    end,
+    ?assertMatch([{hear, 1, _}], Begins(fun(_, _, Body) -> element(1, Body) =:= propose end)),
+    ?assertEqual([], Begins(fun none_lost/3)).
 
 %% An exchange that an earlier version of the registry began is given up. One of this version goes on.
 upgraded_exchange_test() ->
