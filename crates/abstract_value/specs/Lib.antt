@@ -1,6 +1,7 @@
 pub mod laws
 pub mod model
 pub mod Domain
+pub mod Offsets
 pub mod Ranges
 pub mod SignedWords
 pub mod Boths

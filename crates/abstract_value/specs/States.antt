@@ -1,7 +1,8 @@
 -- Abstract states, over a domain's operations.
-use Rattle.std.specs.Prelude.{ℕ, Bool, true, false, ◌&&◌, ◌==◌, int_le, if◌then◌else◌, ℤ, pos, negsuc, IsTrue, slice_index_or}
+use Rattle.std.specs.Prelude.{ℕ, Bool, true, false, ◌&&◌, ◌==◌, int_le, if◌then◌else◌, ℤ, pos, IsTrue, slice_index_or}
 use Rattle.std.specs.Int.{int_min, int_max}
 use Rattle.abstract_value.specs.Domain.{Ops}
+use Rattle.abstract_value.specs.Offsets.{least_offset, greatest_offset}
 use Rattle.abstract_value.specs.StackBytes.{is_written}
 use Rattle.abstract_value.specs.laws.Ends.{span_ordered, span_near_below, span_near_above}
 use Rattle.abstract_value.specs.declared.states.RegState.{RegState}
@@ -15,9 +16,9 @@ put f i v k = if k == i then v else f k
 
 -- ---- spans of offsets
 
--- the nearest offset from -65,536 to 65,536
+-- the nearest offset
 abbrev pub near : ℤ → ℤ
-near z = int_max (negsuc 65535) (int_min z (pos 65536))
+near z = int_max least_offset (int_min z greatest_offset)
 
 -- the offsets from lo to hi, if these are in order and in range
 abbrev pub make_span : ℤ → ℤ → Span

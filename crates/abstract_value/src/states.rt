@@ -1,5 +1,6 @@
 //! Abstract states: the possible contents of each register, and the written stack bytes.
-ghost use Rattle.std.specs.Prelude.{◌≡◌, ◌≤ℤ◌, pos, negsuc, length};
+ghost use Rattle.std.specs.Prelude.{◌≡◌, ◌≤ℤ◌, length};
+ghost use Rattle.abstract_value.specs.Offsets.{least_offset, greatest_offset};
 
 mod ops;
 
@@ -15,8 +16,8 @@ pub struct Span {
     /// The greatest offset.
     pub hi: i32,
     ghost ordered: { lo ≤ℤ hi },
-    ghost near_below: { negsuc 65535 ≤ℤ lo },
-    ghost near_above: { hi ≤ℤ pos 65536 },
+    ghost near_below: { least_offset ≤ℤ lo },
+    ghost near_above: { hi ≤ℤ greatest_offset },
 }
 
 /// The possible contents of a register.

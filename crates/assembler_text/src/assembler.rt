@@ -83,7 +83,7 @@ pub fn assemble(alloc: Global, text: &str) -> Result<Code, LineFault>
     ensures complete { (code : List Insn) → IsTextOf text.now code → ReturnsOrRunsOut line_fault_number result (Ok code) }
     ensures refused { IfErr result (HasCause line_fault_number (IsFirstFault text.now)) }
     // The first fault is returned, unless memory runs out.
-    ensures told { (fault : LineFault) → IsFirstFault text.now fault
+    ensures reported { (fault : LineFault) → IsFirstFault text.now fault
         → ReturnsOrRunsOut line_fault_number result (Err fault) }
 {
     read_lines(alloc, text)

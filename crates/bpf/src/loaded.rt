@@ -111,7 +111,7 @@ fn load_over<D: Domain>(
     ensures taken { (code : List Insn) → IsLoadableOver D.ops context_len bytes.now code
         → ReturnsOrRunsOut program_fault_number result (Ok (code_for code context_len)) }
     ensures refused { IfErr result (HasCause program_fault_number (IsLoadFaultOver D.ops context_len bytes.now)) }
-    ensures told { (fault : ProgramFault) → IsLoadFaultOver D.ops context_len bytes.now fault
+    ensures reported { (fault : ProgramFault) → IsLoadFaultOver D.ops context_len bytes.now fault
         → ReturnsOrRunsOut program_fault_number result (Err fault) }
 {
     // For the proof: bytes have one reading, and code has one verdict.
@@ -138,7 +138,7 @@ pub fn load(alloc: Global, bytes: &[u8], context_len: u16) -> Result<Loaded, Pro
         → ReturnsOrRunsOut program_fault_number result (Ok (code_for code context_len)) }
     ensures refused { IfErr result (HasCause program_fault_number (IsLoadFault context_len bytes.now)) }
     // The fault of the bytes is returned, unless memory runs out; bytes have at most one.
-    ensures told { (fault : ProgramFault) → IsLoadFault context_len bytes.now fault
+    ensures reported { (fault : ProgramFault) → IsLoadFault context_len bytes.now fault
         → ReturnsOrRunsOut program_fault_number result (Err fault) }
 {
     load_over::<Profile>(alloc, bytes, context_len)

@@ -89,7 +89,7 @@ pub fn load_sandbox(alloc: Global, bytes: &[u8], context_len: u16) -> Result<San
         → ReturnsOrRunsOut program_fault_number result (Ok (code_for code context_len)) }
     ensures refused { IfErr result (HasCause program_fault_number (IsLoadFault context_len bytes.now)) }
     // The fault of the bytes is returned, unless memory runs out; bytes have at most one.
-    ensures told { (fault : ProgramFault) → IsLoadFault context_len bytes.now fault
+    ensures reported { (fault : ProgramFault) → IsLoadFault context_len bytes.now fault
         → ReturnsOrRunsOut program_fault_number result (Err fault) }
 {
     let loaded = load(alloc, bytes, context_len)?;

@@ -54,7 +54,7 @@ upload_refused bytes old after id r f e unchanged refused taken told =
     record {
       answer = inr (refusal_of cause, stays);
       taken = λ fits. inr (no_return (Ok (id_of bytes)) refl (returned f (Ok (id_of bytes)) r e (taken fits)), stays);
-      told = λ fault is. (upload_numbered f fault (Err fault) refl (returned f (Err fault) r e (told fault is)), stays);
+      reported = λ fault is. (upload_numbered f fault (Err fault) refl (returned f (Err fault) r e (told fault is)), stays);
     }
   where
     refusal_of : HasCause upload_fault_number (IsUploadFault old.store bytes) f
@@ -80,7 +80,7 @@ upload_kept bytes old after id (Ok made) kept e is told =
       no_refusal = refl;
       no_slot = refl;
     } in
-    record { answer = inl keeps; taken = λ _. inl keeps; told = λ fault due. absurd (no_fault (told fault due)) }
+    record { answer = inl keeps; taken = λ _. inl keeps; reported = λ fault due. absurd (no_fault (told fault due)) }
   where
     no_fault : {fault : UploadFault} → ReturnsOrRunsOut upload_fault_number (Ok made) (Err fault) → ⊥
     no_fault (inl wrong) = cc

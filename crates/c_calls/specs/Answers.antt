@@ -78,4 +78,4 @@ pub record Takes (V F : Type 0) (Spells : V → Type 0) (IsFault : F → Type 0)
   -- the value that the bytes spell is taken
   pub taken : (value : V) → Spells value → takes value
   -- a fault of the bytes is returned
-  pub told : (fault : F) → IsFault fault → Rejects number fault stays n
+  pub reported : (fault : F) → IsFault fault → Rejects number fault stays n

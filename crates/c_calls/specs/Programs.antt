@@ -42,7 +42,7 @@ pub record IsLoadOf {V : Type 0} (HasCode : List Insn → Type 0) (IsFault : Pro
   -- accepted code is loaded, unless memory runs out
   pub taken : (code : List Insn) → HasCode code → Loads IsLoaded new n slot ⊎ (RanOut n slot × (new ≡ old))
   -- a fault of the bytes is returned, unless memory runs out
-  pub told : (fault : ProgramFault) → IsFault fault → (IsNumbered fault n slot ⊎ RanOut n slot) × (new ≡ old)
+  pub reported : (fault : ProgramFault) → IsFault fault → (IsNumbered fault n slot ⊎ RanOut n slot) × (new ≡ old)
 
 -- what loading bytes as a resolver returns and leaves
 abbrev pub IsLoad : List ℕ → Option Upload → Option Upload → ℕ → ℕ → Type 0

@@ -162,5 +162,5 @@ pub record IsUpload (bytes : List ℕ) (old new : Half) (id id' : List ℕ) (n s
   -- accepted code that has a place is kept, unless memory runs out
   pub taken : Fits old.store bytes → Keeps bytes old new id' n slot ⊎ (RanOut n slot × AllStays old new id id')
   -- a cause of a refusal is returned, unless memory runs out
-  pub told : (fault : UploadFault) → IsUploadFault old.store bytes fault →
+  pub reported : (fault : UploadFault) → IsUploadFault old.store bytes fault →
       (IsNumbered fault n slot ⊎ RanOut n slot) × AllStays old new id id'

@@ -19,7 +19,7 @@ pub fn load(alloc: Global, bytes: &[u8]) -> Result<Box<Upload>, ProgramFault>
     ensures loaded { IfOk result (λ program. IsLoaded bytes.now program.value) }
     ensures taken { (code : List Insn) → IsAccepted bytes.now code → IsOk result ⊎ RanOut program_fault_number result }
     ensures refused { IfErr result (HasCause program_fault_number (IsProgramFault bytes.now)) }
-    ensures told { (fault : ProgramFault) → IsProgramFault bytes.now fault
+    ensures reported { (fault : ProgramFault) → IsProgramFault bytes.now fault
         → (result ≡ Err fault) ⊎ RanOut program_fault_number result }
 {
     let program = read_program(alloc, bytes)?;

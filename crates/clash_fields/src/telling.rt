@@ -1,6 +1,7 @@
 //! The fields of a record in words.
 ghost use Rattle.std.specs.Prelude.{◌≡◌, ◌+◌, ◌≤◌, length, take, drop, IfOk, string_bytes};
 ghost use Rattle.hex.specs.Hex.{encode_lower};
+ghost use Rattle.instruction_set.specs.Machine.{record_len};
 ghost use Rattle.clash_fields.specs.Texts.{facts_text, half_text, registration_text, name_text, number_at, record_text};
 
 use byteorder::{ByteOrder, LittleEndian};
@@ -34,7 +35,7 @@ fn extra_text(alloc: Global, bytes: &[u8], at: usize) -> Result<String, AllocErr
 // Returns the name in a record, or all its bytes in hex digits if they have none.
 #[tactic(auto, unfolding(crate::specs::Texts::name_text))]
 fn name_text(alloc: Global, bytes: &[u8]) -> Result<String, AllocError>
-    requires { length bytes.now ≡ 160 }
+    requires { length bytes.now ≡ record_len }
     ensures { IfOk result (λ text. string_bytes text ≡ name_text bytes.now) }
 {
     let len = (word_at(bytes, 0) as usize).min(32);
@@ -48,7 +49,7 @@ fn name_text(alloc: Global, bytes: &[u8]) -> Result<String, AllocError>
 #[tactic(auto, unfolding(crate::specs::Texts::registration_text))]
 fn registration_text(alloc: Global, bytes: &[u8], place: usize) -> Result<String, AllocError>
     requires place { place + 24 ≤ length bytes.now }
-    requires few { length bytes.now ≡ 160 }
+    requires few { length bytes.now ≡ record_len }
     ensures { IfOk result (λ text. string_bytes text ≡ registration_text place bytes.now) }
 {
     let (node, serial) = (word_at(bytes, place), word_at(bytes, place + 4));
@@ -60,7 +61,7 @@ fn registration_text(alloc: Global, bytes: &[u8], place: usize) -> Result<String
 #[tactic(auto, unfolding(crate::specs::Texts::facts_text))]
 fn facts_text(alloc: Global, bytes: &[u8], place: usize) -> Result<String, AllocError>
     requires place { place + 16 ≤ length bytes.now }
-    requires few { length bytes.now ≡ 160 }
+    requires few { length bytes.now ≡ record_len }
     ensures { IfOk result (λ text. string_bytes text ≡ facts_text place bytes.now) }
 {
     let (size, uptime) = (long_at(bytes, place), long_at(bytes, place + 8));
@@ -78,7 +79,7 @@ fn half_text(
 ) -> Result<String, AllocError>
     requires place { place + 40 ≤ length bytes.now }
     requires facts { facts + 16 ≤ length bytes.now }
-    requires few { length bytes.now ≡ 160 }
+    requires few { length bytes.now ≡ record_len }
     ensures { IfOk result (λ text. string_bytes text ≡ half_text which.now place facts bytes.now) }
 {
     let registration = registration_text(alloc, bytes, place)?;

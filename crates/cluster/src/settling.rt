@@ -1,5 +1,6 @@
 //! The rounds of an exchange, and the meeting of the two halves.
-ghost use Rattle.std.specs.Prelude.{◌≡◌, ◌<◌, ◌≤◌, [], All, Some, OnErr, IfOk, IfErr, length, vec_capacity};
+ghost use Rattle.std.specs.Prelude.{◌≡◌, ◌<◌, [], All, Some, OnErr, IfOk, IfErr, length, vec_capacity};
+ghost use Rattle.verdict_board.specs.Draws.{rounds};
 ghost use Rattle.registry_lock.specs.Meeting as meeting;
 ghost use Rattle.registry_lock.specs.Telling.{IsTold};
 ghost use Rattle.cluster.specs.Clusters as shown_as;
@@ -18,7 +19,7 @@ use crate::halves::Halves;
 use crate::healing::Healing;
 use crate::plan::Plan;
 use exchange_core::{Finished, Judged};
-use judge_pool::Gate;
+use judge_pool::{Gate, Workers};
 use partition_table::ClashList;
 use registry_lock::{meet, tell_round_by};
 use std::alloc::{AllocError, Global};
@@ -38,16 +39,15 @@ impl Cluster {
     /// missing; 40 if a journal is full; 90 when out of memory. A half that finished alone stays merged. The contract
     /// doesn't promise that 39, 40 and 90 come only for these reasons.
     ///
-    /// Requires 1 to 16 workers, and waits for them.
+    /// Waits for the workers.
     pub fn heal<G: Gate + Sync, R: Threads + Wait + Sync>(
         &mut self,
         rt: &R,
         alloc: Global,
         plan: &Plan<'_>,
-        workers: u32,
+        workers: Workers,
         gate: &G,
     ) -> Result<Healing, HealFault>
-        requires { (0 < workers) × (workers ≤ 16) }
         // Both halves have one table: the lawful merge of the two that they showed.
         ensures healed { IfOk result (λ healing. IsHealed (plan_of plan.entry.now) (cluster_of self.old)
             (cluster_of self.new) (healing_of healing)) }
@@ -67,10 +67,9 @@ impl Halves {
         rt: &R,
         alloc: Global,
         plan: &Plan<'_>,
-        workers: u32,
+        workers: Workers,
         gate: &G,
     ) -> Result<Healing, HealFault>
-        requires { (0 < workers) × (workers ≤ 16) }
         ensures healed { IfOk result (λ healing. AreSides (halves_of self.old)
             → IsHealed (plan_of plan.entry.now) (halves_of self.old) (halves_of self.new) (healing_of healing)) }
         ensures failed { OnErr result (AreSides (halves_of self.old)
@@ -105,10 +104,9 @@ impl Halves {
         rt: &R,
         alloc: Global,
         plan: &Plan<'_>,
-        workers: u32,
+        workers: Workers,
         gate: &G,
     ) -> Result<Healing, HealFault>
-        requires { (0 < workers) × (workers ≤ 16) }
         ensures healed { IfOk result (λ healing. (was : shown_as.Cluster) → AreSides was
             → AreRested was (halves_of self.old)
             → IsHealed (plan_of plan.entry.now) was (halves_of self.new) (healing_of healing)) }
@@ -137,10 +135,9 @@ impl Halves {
         alloc: Global,
         plan: &Plan<'_>,
         clashes: &ClashList,
-        workers: u32,
+        workers: Workers,
         gate: &G,
     ) -> Result<(Vec<Judged>, usize), HealFault>
-        requires { (0 < workers) × (workers ≤ 16) }
         ensures healed { IfOk result (λ settled. (was : shown_as.Cluster) → AreSides was
             → AreTrying (plan_of plan.entry.now) was plan.entry.now.gone.now (halves_of self.old)
             → clashes.now ≡ clashes_shown (plan_of plan.entry.now) was
@@ -160,7 +157,7 @@ impl Halves {
             → IsCause (plan_of plan.entry.now) was fault) }
     {
         let rulings = Vec::with_capacity(alloc, clashes.len())?;
-        let (board, seats) = open(alloc, plan.number, plan.seed, clashes, workers)?;
+        let (board, seats) = open(alloc, plan.number, plan.seed, clashes, workers.count())?;
         let mut pass = board.pass()?;
         let (first, second) = self.judge(rt, alloc, &board, &mut pass, seats, gate)?;
         meet_halves(&board, &mut pass, rulings, first, second)
@@ -215,7 +212,7 @@ impl Halves {
     ) -> Vec<Seat>
         requires pass { pass.old.place ≡ board.now.place }
         requires seats { All (λ s. s.draws ≡ board.now.draws) seats.items }
-        requires round { round < 4 }
+        requires round { round < rounds }
         ensures keeps { meeting.Keeps pass.old pass.new }
         ensures a { IsTold pass.new (length board.entry.now.place.clashes) self.old.a self.new.a }
         ensures b { IsTold pass.new (length board.entry.now.place.clashes) self.old.b self.new.b }

@@ -7,8 +7,10 @@ use Rattle.std.specs.Str.Parse.{AllDigits, IsNumeral, digits_value, without_lead
 use Rattle.std.proofs.lemmas.Bool.Decides.{nat_tests}
 use Rattle.clap.specs.Words.{Text}
 use Rattle.clap.specs.ValueTests.{is_numeral}
-use Rattle.command_line.specs.Names.{most_names, names_if}
-use Rattle.command_line.specs.Workers.{workers_if}
+use Rattle.partition_table.specs.Tables.{most_names}
+use Rattle.command_line.specs.Names.{names_if}
+use Rattle.verdict_board.specs.Boards.{most_seats}
+use Rattle.judge_pool.specs.Workers.{workers_if}
 use Rattle.command_line.specs.Asked.{number_named}
 
 less_than : (m n : ℕ) → m < n → nat_lt m n ≡ true
@@ -59,7 +61,7 @@ too_many most n true below e h = rw (e, few most n (nat_le n most) below refl h)
 too_many most n false below e h = rw e refl
 
 pub workers_short : AreShort workers_if
-workers_short n h = too_many 16 n (nat_le 1 n) (omega arith) refl h
+workers_short n h = too_many most_seats n (nat_le 1 n) (omega arith) refl h
 
 pub names_short : AreShort names_if
 names_short n h = too_many most_names n (nat_le 1 n) (omega arith) refl h

@@ -9,6 +9,8 @@ use Rattle.clap.specs.Simple.{filled}
 use Rattle.clap.specs.declared.parser.matches.ValueSource.{ValueSource}
 use Rattle.clap.specs.declared.parser.matches.ValueSource.TheVariants.{DefaultValue, CommandLine}
 use Rattle.clap.proofs.OnLiterals.{clap_on_literals}
+use Rattle.partition_table.specs.Tables.{max_names}
+use Rattle.judge_pool.specs.Workers.{default_workers}
 use Rattle.questions.specs.declared.question.Profile.TheVariants.{Unsigned, Both}
 use Rattle.command_line.specs.Asked.{Asks, asked_of, explain_option, given, heal_app, needed, asm, by_bytes, check, dis, judge, refusals, run, version}
 use Rattle.command_line.specs.Plain.{IsPlain}
@@ -47,7 +49,7 @@ plain_explained name code plain =
     let b = no_end code plain in inr (simp (a, b), simp (a, b))
 
 pub plain_narrated : (name file : Text) → IsPlain file
-    → Asks (name ∷ codes "run" ∷ file ∷ codes "--explain" ∷ []) (run file 4 4096 true)
+    → Asks (name ∷ codes "run" ∷ file ∷ codes "--explain" ∷ []) (run file default_workers max_names true)
 unfolding clap_on_literals
 plain_narrated name file plain =
     let a = no_hyphen file plain in
@@ -149,20 +151,21 @@ plain_dis name code plain =
     let a = no_hyphen code plain in
     let b = no_end code plain in inr (simp (a, b), simp (a, b))
 
-pub plain_run : (name file : Text) → IsPlain file → Asks (name ∷ codes "run" ∷ file ∷ []) (run file 4 4096 false)
+pub plain_run : (name file : Text) → IsPlain file
+    → Asks (name ∷ codes "run" ∷ file ∷ []) (run file default_workers max_names false)
 unfolding clap_on_literals
 plain_run name file plain =
     let a = no_hyphen file plain in
     let b = no_end file plain in inr (simp (a, b), simp (a, b))
 
 pub plain_workers : (name file : Text) → IsPlain file
-    → Asks (name ∷ codes "run" ∷ file ∷ codes "--workers" ∷ codes "16" ∷ []) (run file 16 4096 false)
+    → Asks (name ∷ codes "run" ∷ file ∷ codes "--workers" ∷ codes "16" ∷ []) (run file 16 max_names false)
 unfolding clap_on_literals
 plain_workers name [] plain = inr (refl, refl)
 plain_workers name (x ∷ xs) plain = inr (rw (plain, plain) refl, rw (plain, plain) refl)
 
 pub plain_names : (name file : Text) → IsPlain file
-    → Asks (name ∷ codes "run" ∷ file ∷ codes "--names" ∷ codes "8192" ∷ []) (run file 4 8192 false)
+    → Asks (name ∷ codes "run" ∷ file ∷ codes "--names" ∷ codes "8192" ∷ []) (run file default_workers 8192 false)
 unfolding clap_on_literals
 plain_names name [] plain = inr (refl, refl)
 plain_names name (x ∷ xs) plain = inr (rw (plain, plain) refl, rw (plain, plain) refl)
@@ -171,7 +174,8 @@ pub hyphen_asm : (name : Text) → Asks (name ∷ codes "asm" ∷ codes "-" ∷ 
 unfolding clap_on_literals
 hyphen_asm name = inr (refl, refl)
 
-pub hyphen_run : (name : Text) → Asks (name ∷ codes "run" ∷ codes "-" ∷ []) (run (codes "-") 4 4096 false)
+pub hyphen_run : (name : Text)
+    → Asks (name ∷ codes "run" ∷ codes "-" ∷ []) (run (codes "-") default_workers max_names false)
 unfolding clap_on_literals
 hyphen_run name = inr (refl, refl)
 

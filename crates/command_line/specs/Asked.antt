@@ -20,7 +20,9 @@ use Rattle.questions.specs.declared.question.Question.TheVariants.{Check, Judge,
 use Rattle.command_line.specs.declared.task.Task.{Task}
 use Rattle.command_line.specs.declared.task.Task.TheVariants.{Answer, Run, Version, Refusals}
 use Rattle.command_line.specs.Names.{names_if}
-use Rattle.command_line.specs.Workers.{workers_if}
+use Rattle.partition_table.specs.Tables.{max_names, most_names}
+use Rattle.verdict_board.specs.Boards.{most_seats}
+use Rattle.judge_pool.specs.Workers.{default_workers, workers_if}
 
 -- ---- the command
 
@@ -79,22 +81,22 @@ asm_app = one_app (codes "asm") (codes "FILE")
 abbrev pub dis_app : App
 dis_app = one_app (codes "dis") (codes "CODE")
 
--- an option with one value, a number from 1 to 16
+-- an option with one value, a number of workers
 abbrev pub workers_option : Rule
 workers_option = record (new_rule (codes "workers")) {
   long = Some (codes "workers");
   action = Some Set;
   value_names = 1;
-  parser = Some (value.Unsigned 1 16);
+  parser = Some (value.Unsigned 1 most_seats);
 }
 
--- an option with one value, a number from 1 to 1,048,576
+-- an option with one value, a number of names
 abbrev pub names_option : Rule
 names_option = record (new_rule (codes "names")) {
   long = Some (codes "names");
   action = Some Set;
   value_names = 1;
-  parser = Some (value.Unsigned 1 1048576);
+  parser = Some (value.Unsigned 1 most_names);
 }
 
 -- run FILE [--workers W] [--names N] [--explain]
@@ -188,14 +190,14 @@ abbrev pub number_named : (ℕ → Option ℕ) → Text → Option ℕ
 number_named valid number =
     if is_numeral (without_leading_plus number) then valid (digits_value 10 (without_leading_plus number)) else None
 
--- how many workers a text names, and four where none is named
+-- how many workers a text names, and the default where none is named
 abbrev pub workers_named : Option Text → Option ℕ
-workers_named None = Some 4
+workers_named None = Some default_workers
 workers_named (Some number) = number_named workers_if number
 
--- how many names a text names, and 4,096 where none is named
+-- how many names a text names, and the default where none is named
 abbrev pub names_named : Option Text → Option ℕ
-names_named None = Some 4096
+names_named None = Some max_names
 names_named (Some number) = number_named names_if number
 
 abbrev pub run_asked : List Row → Option Asked

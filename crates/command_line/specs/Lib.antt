@@ -1,5 +1,4 @@
 pub mod Names
-pub mod Workers
 pub mod Asked
 pub mod Plain
 pub mod model

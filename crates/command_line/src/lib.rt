@@ -6,10 +6,8 @@ mod grammar;
 mod names;
 mod reading;
 mod task;
-mod workers;
 
 pub use faults::CommandFault;
 pub use names::{MAX_NAMES, Names};
 pub use reading::{command, plain_words_theorem};
 pub use task::Task;
-pub use workers::{MAX_WORKERS, Workers};

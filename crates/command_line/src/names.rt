@@ -1,7 +1,8 @@
 //! The number of names that a half may have.
 ghost use Rattle.std.specs.Prelude.{◌≡◌, ◌<◌, ◌≤◌, ◌&&◌, nat_le, nat_lt, if◌then◌else◌, Some, None};
 ghost use Rattle.std.specs.Option.{option_map};
-ghost use Rattle.command_line.specs.Names.{most_names, names_if};
+ghost use Rattle.partition_table.specs.Tables.{most_names};
+ghost use Rattle.command_line.specs.Names.{names_if};
 
 /// The maximum number of names that a half of a script may have.
 pub const MAX_NAMES: u32 = 1_048_576;

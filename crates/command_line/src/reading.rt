@@ -5,6 +5,8 @@ ghost use Rattle.command_line.specs.Asked.{Asked, Asks, IsForMemory, asked_by, a
 ghost use Rattle.command_line.specs.Asked as asked;
 ghost use Rattle.std.specs.Str.{bytes_eq};
 ghost use Rattle.command_line.specs.Asked.{asm, asm_asked, by_bytes, check, check_asked, clash_by, clash_named, dis, dis_asked, explain_named, judge, judge_asked, names_named, profile_named, refusals, run, run_asked, version, workers_named};
+ghost use Rattle.partition_table.specs.Tables.{max_names};
+ghost use Rattle.judge_pool.specs.Workers.{default_workers};
 ghost use Rattle.questions.specs.declared.question.Profile.TheVariants.{Unsigned, Both};
 ghost use Rattle.command_line.specs.Plain.{IsPlain};
 
@@ -12,8 +14,8 @@ use crate::faults::CommandFault;
 use crate::grammar::heal;
 use crate::names::Names;
 use crate::task::Task;
-use crate::workers::Workers;
 use clap::ArgMatches;
+use judge_pool::Workers;
 use questions::{ClashWords, Profile, Question};
 use std::alloc::Global;
 use std::convert::AsStr;
@@ -123,12 +125,12 @@ fn dis_of<'a>(found: &ArgMatches<'a>) -> Option<Task<'a>>
     Some(Task::Answer(Question::Dis { code }))
 }
 
-// Reads the number of workers, 4 by default.
+// Reads the number of workers.
 fn workers_of(number: Option<&str>) -> Option<Workers>
     ensures { option_map (λ workers. workers.count) result ≡ workers_named (option_map (λ s. s.now) number.entry) }
 {
     match number {
-        None => Workers::new(4),
+        None => Some(Workers::default()),
         Some(text) => match text.parse::<u32>() {
             Ok(count) => Workers::new(count),
             Err(_) => None,
@@ -249,19 +251,21 @@ pub fn plain_words_theorem()
     ensures explained { (name code : List ℕ) → IsPlain code
         → Asks (name ∷ codes "check" ∷ code ∷ codes "--explain" ∷ []) (check code Both true) }
     ensures narrated { (name file : List ℕ) → IsPlain file
-        → Asks (name ∷ codes "run" ∷ file ∷ codes "--explain" ∷ []) (run file 4 4096 true) }
+        → Asks (name ∷ codes "run" ∷ file ∷ codes "--explain" ∷ []) (run file default_workers max_names true) }
     ensures judge { (name code clash : List ℕ) → IsPlain code → IsPlain clash
         → Asks (name ∷ codes "judge" ∷ code ∷ clash ∷ []) (judge code (by_bytes clash) false) }
     ensures asm { (name file : List ℕ) → IsPlain file → Asks (name ∷ codes "asm" ∷ file ∷ []) (asm file) }
     ensures dis { (name code : List ℕ) → IsPlain code → Asks (name ∷ codes "dis" ∷ code ∷ []) (dis code) }
-    ensures run { (name file : List ℕ) → IsPlain file → Asks (name ∷ codes "run" ∷ file ∷ []) (run file 4 4096 false) }
+    ensures run { (name file : List ℕ) → IsPlain file
+        → Asks (name ∷ codes "run" ∷ file ∷ []) (run file default_workers max_names false) }
     ensures workers { (name file : List ℕ) → IsPlain file
-        → Asks (name ∷ codes "run" ∷ file ∷ codes "--workers" ∷ codes "16" ∷ []) (run file 16 4096 false) }
+        → Asks (name ∷ codes "run" ∷ file ∷ codes "--workers" ∷ codes "16" ∷ []) (run file 16 max_names false) }
     ensures names { (name file : List ℕ) → IsPlain file
-        → Asks (name ∷ codes "run" ∷ file ∷ codes "--names" ∷ codes "8192" ∷ []) (run file 4 8192 false) }
+        → Asks (name ∷ codes "run" ∷ file ∷ codes "--names" ∷ codes "8192" ∷ []) (run file default_workers 8192 false) }
     ensures version { (name : List ℕ) → Asks (name ∷ codes "--version" ∷ []) version }
     ensures version_letter { (name : List ℕ) → Asks (name ∷ codes "-V" ∷ []) version }
     ensures refusals { (name : List ℕ) → Asks (name ∷ codes "help" ∷ codes "refusals" ∷ []) refusals }
     ensures asm_hyphen { (name : List ℕ) → Asks (name ∷ codes "asm" ∷ codes "-" ∷ []) (asm (codes "-")) }
-    ensures run_hyphen { (name : List ℕ) → Asks (name ∷ codes "run" ∷ codes "-" ∷ []) (run (codes "-") 4 4096 false) }
+    ensures run_hyphen { (name : List ℕ)
+        → Asks (name ∷ codes "run" ∷ codes "-" ∷ []) (run (codes "-") default_workers max_names false) }
 {}

@@ -1,6 +1,6 @@
 //! The tasks of heal.
 use crate::names::Names;
-use crate::workers::Workers;
+use judge_pool::Workers;
 use questions::Question;
 
 /// A task of heal.

@@ -7,8 +7,8 @@ ghost use Rattle.heal.specs.Sides.{shown_table};
 
 use heal::{
     Builtin, Clash, Cluster, Healing, Numbered, NumberedRefusal, OpenGate, Owner, Plan,
-    Registration, ResolverId, SideId, UploadStore, Uptimes, Verdict3, Withdrawal, name, notices,
-    refusal_of, words_of,
+    Registration, ResolverId, SideId, UploadStore, Uptimes, Verdict3, Withdrawal, Workers, name,
+    notices, refusal_of, words_of,
 };
 use std::alloc::Global;
 use std::io;
@@ -75,7 +75,7 @@ fn heal_split<R: Threads + Wait + Sync>(
         uptimes: Uptimes { a: 3600, b: 60 },
         gone: &gone,
     };
-    Ok(cluster.heal(rt, alloc, &plan, 4, &OpenGate)?)
+    Ok(cluster.heal(rt, alloc, &plan, Workers::default(), &OpenGate)?)
 }
 
 // Registers three names on each half. `cache` and `db` clash.

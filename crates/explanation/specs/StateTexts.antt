@@ -2,6 +2,7 @@
 use Rattle.std.specs.Prelude.{ℕ, zero, suc, ◌+◌, ◌-◌, Bool, true, false, not, ◌&&◌, nat_le, nat_lt, int_le, if◌then◌else◌, List, [], ◌++◌, codes, Option, Some, None}
 use Rattle.std.specs.Fmt.{decimal, signed_decimal}
 use Rattle.instruction_set.specs.declared.insn.Insn.{Insn}
+use Rattle.instruction_set.specs.Machine.{stack_len}
 use Rattle.assembler_text.specs.Text.{text_of}
 use Rattle.abstract_value.specs.Domain.{Ops}
 use Rattle.abstract_value.specs.States.{View}
@@ -62,7 +63,7 @@ written_text written (suc n) = written_text written n ++ byte_text written n
 -- a state, on a line
 abbrev pub state_text : {D : Type 0} → Ops D → View D → List ℕ
 state_text o s =
-    codes "     " ++ (registers_text o s.registers 11 ++ (written_text s.written 512 ++ codes "\n"))
+    codes "     " ++ (registers_text o s.registers 11 ++ (written_text s.written stack_len ++ codes "\n"))
 
 -- the state that was found, if any
 abbrev pub found_text : {D : Type 0} → Ops D → Option (View D) → List ℕ

@@ -1,5 +1,6 @@
 //! The text of the written stack bytes.
 ghost use Rattle.std.specs.Prelude.{◌≡◌, ◌<◌, ◌&&◌, nat_lt, IfOk, string_bytes};
+ghost use Rattle.instruction_set.specs.Machine.{stack_len};
 ghost use Rattle.abstract_value.specs.StackBytes.{is_written};
 ghost use Rattle.explanation.specs.StateTexts.{begins_run, byte_text, ends_run, written_text};
 
@@ -40,7 +41,7 @@ fn byte_text(alloc: Global, stack: &StackState, at: usize) -> Result<String, All
 // Returns the text of the written bytes.
 #[tactic(auto, using(crate::proofs::Longer::longer))]
 pub(crate) fn written_text(alloc: Global, stack: &StackState) -> Result<String, AllocError>
-    ensures { IfOk result (λ text. string_bytes text ≡ written_text (is_written stack.now) 512) }
+    ensures { IfOk result (λ text. string_bytes text ≡ written_text (is_written stack.now) stack_len) }
 {
     let mut text = String::new(alloc);
     for at in 0..STACK_LEN {

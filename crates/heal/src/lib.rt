@@ -5,7 +5,7 @@
 //!
 //! | task | items | crate |
 //! |---|---|---|
-//! | heal a split in one process | `Cluster`, `Plan`, `Healing`, `HealFault`, `Gate`, `OpenGate` | `cluster`, `judge_pool` |
+//! | heal a split in one process | `Cluster`, `Plan`, `Healing`, `HealFault`, `Workers`, `Gate`, `OpenGate` | `cluster`, `judge_pool` |
 //! | run one half | `Side`, `Offer`, `Withdrawals`, `ListFault`, `Finished`, `Judged`, `SideFault`, `history_theorem`, `two_halves_theorem` | `exchange_core` |
 //! | send messages | `encode_offer`, `decode_offer`, `encode_withdrawals`, `decode_withdrawals`, `peek`, `MessageFault` | `exchange_codec` |
 //! | judge clashes | `clashes`, `Clash`, `ClashList`, `word`, `Verdict`, `Ruling` | `partition_table` |
@@ -43,7 +43,7 @@ pub use exchange_core::{
     Finished, Judged, ListFault, MAX_EVENTS, MissingPart, Offer, ShownRows, Side, SideFault,
     Withdrawals, history_theorem, one_round_theorem, two_halves_theorem,
 };
-pub use judge_pool::{Gate, OpenGate};
+pub use judge_pool::{Gate, MAX_WORKERS, OpenGate, Workers};
 pub use partition_table::{
     Agreement, Clash, ClashList, MAX_NAMES, NameLimit, Rows, RowsAfter, Ruling, Table,
     TableBuilder, TableFault, Verdict, clashes, clashes_within, fit, fit_within, merge, word,

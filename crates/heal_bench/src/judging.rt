@@ -1,10 +1,8 @@
 //! The cost of a round of judging, by the count of workers.
-ghost use Rattle.std.specs.Prelude.{◌<◌, ◌≤◌, IfOk};
-
 use crate::registry::Fault;
 use clash_record::ResolverId;
 use fixtures::{numbered_clashes, stored};
-use judge_pool::{Ear, OpenGate, heal_round};
+use judge_pool::{Ear, OpenGate, Workers, heal_round};
 use partition_table::{ClashList, Ruling};
 use std::alloc::Global;
 use std::fmt;
@@ -52,7 +50,7 @@ pub(crate) fn measure<R: Threads + Wait + Clock + AllocGlobal + Sync>(
     code: &str,
     workers: &str,
 ) -> Result<RoundTime, Fault> {
-    let workers = worker_count(workers)?;
+    let workers = workers_of(workers)?;
     let list = clashes_by(rt.alloc(), &hex::decode(rt.alloc(), code)?)?;
     measure_rounds(rt, &list, workers)
 }
@@ -60,10 +58,8 @@ pub(crate) fn measure<R: Threads + Wait + Clock + AllocGlobal + Sync>(
 fn measure_rounds<R: Threads + Wait + Clock + AllocGlobal + Sync>(
     rt: &R,
     list: &ClashList,
-    workers: u32,
-) -> Result<RoundTime, Fault>
-    requires { (0 < workers) × (workers ≤ 16) }
-{
+    workers: Workers,
+) -> Result<RoundTime, Fault> {
     let mut least = u128::MAX;
     let mut kept: u32 = 0;
     for _ in 0..ROUNDS {
@@ -78,23 +74,19 @@ fn measure_rounds<R: Threads + Wait + Clock + AllocGlobal + Sync>(
 fn measure_round<R: Threads + Wait + Clock + AllocGlobal + Sync>(
     rt: &R,
     list: &ClashList,
-    workers: u32,
-) -> Result<(u128, u32), Fault>
-    requires { (0 < workers) × (workers ≤ 16) }
-{
-    let (board, seats) = open(rt.alloc(), NUMBER, SEED, list, workers)?;
+    workers: Workers,
+) -> Result<(u128, u32), Fault> {
+    let (board, seats) = open(rt.alloc(), NUMBER, SEED, list, workers.count())?;
     let start = Instant::now(rt)?;
     let done = heal_round(rt, rt.alloc(), &board, seats, 0, &OpenGate, &Deaf, &Deaf);
     Ok((start.elapsed(rt)?.as_nanos(), done.kept))
 }
 
-// The count of workers that a word gives.
-fn worker_count(word: &str) -> Result<u32, Fault>
-    ensures { IfOk result (λ workers. (0 < workers) × (workers ≤ 16)) }
-{
+// Reads the number of workers.
+fn workers_of(word: &str) -> Result<Workers, Fault> {
     match word.parse::<u32>() {
-        Ok(workers) if workers > 0 && workers <= 16 => Ok(workers),
-        _ => Err(Fault::Workers),
+        Ok(count) => Workers::new(count).ok_or(Fault::Workers),
+        Err(_) => Err(Fault::Workers),
     }
 }
 

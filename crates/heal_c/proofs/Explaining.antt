@@ -51,12 +51,12 @@ pub offer_found : (bytes : List ℕ) (r : Result sides.Offer MessageFault)
 offer_found bytes (Ok o) spelled taken refused told = record {
   answer = inl (o, spelled, refl);
   taken = λ p spells. list_found (Ok o) (Ok p) (taken p spells);
-  told = λ m is. list_found (Ok o) (Err m) (told m is);
+  reported = λ m is. list_found (Ok o) (Err m) (told m is);
 }
 offer_found bytes (Err f) spelled taken refused told = record {
   answer = inr (by refused);
   taken = λ p spells. list_found (Err f) (Ok p) (taken p spells);
-  told = λ m is. list_found (Err f) (Err m) (told m is);
+  reported = λ m is. list_found (Err f) (Err m) (told m is);
 }
   where
     by : HasCause message_fault_number (IsOfferFault bytes) f

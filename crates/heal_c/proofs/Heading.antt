@@ -5,7 +5,7 @@ use Rattle.refusals.specs.Answers.{ReturnsOrRunsOut}
 use Rattle.exchange_codec.specs.declared.fault.MessageFault.{MessageFault}
 use Rattle.exchange_codec.specs.declared.head.MessageHead.{MessageHead}
 use Rattle.exchange_codec.specs.Faults.{message_fault_number}
-use Rattle.heal_c.specs.declared.heads.HealHead.{HealHead}
+use Rattle.heal_c.specs.declared.head_exports.HealHead.{HealHead}
 use Rattle.c_calls.specs.Answers.{IsAnswer}
 use Rattle.heal_c.specs.Heads.{head_code, head_in}
 

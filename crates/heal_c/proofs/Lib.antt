@@ -1,6 +1,5 @@
 -- Proofs that the handles share.
 pub mod Explaining
-pub mod HalfWords
 pub mod Heading
 pub mod MessageWords
 pub mod OutcomeWords
@@ -8,4 +7,5 @@ pub mod Processes
 pub mod ProgramWords
 pub mod ReplicaWords
 pub mod SandboxWords
+pub mod SideWords
 pub mod Told

@@ -11,7 +11,7 @@ use Rattle.exchange_codec.specs.Faults.{field_fault_number, item_fault_number}
 use Rattle.exchange_codec.specs.Offers.{SpellsOffer, IsOfferFault}
 use Rattle.exchange_codec.specs.Withdrawals.{list_due}
 use Rattle.exchange_codec.specs.Withdrawals as lists
-use Rattle.heal_c.specs.declared.faults.HealFault.{HealFault}
+use Rattle.heal_c.specs.declared.fault_exports.HealFault.{HealFault}
 use Rattle.c_calls.specs.Answers.{slot_of}
 
 -- a refusal without a place; 0 is none
@@ -50,7 +50,7 @@ pub record IsOfferRead (bytes : List ℕ) (fault : HealFault) : Type 0 where
   pub answer : ((offer : sides.Offer) × SpellsOffer bytes offer × (fault ≡ numbered 0))
       ⊎ ((m : MessageFault) × IsOfferFault bytes m × (fault ≡ fault_code m)) ⊎ (fault ≡ numbered out_of_memory)
   pub taken : (offer : sides.Offer) → SpellsOffer bytes offer → IsFound (numbered 0) fault
-  pub told : (m : MessageFault) → IsOfferFault bytes m → IsFound (fault_code m) fault
+  pub reported : (m : MessageFault) → IsOfferFault bytes m → IsFound (fault_code m) fault
 
 -- what reading bytes as a list finds
 abbrev pub IsListRead : List ℕ → HealFault → Type 0

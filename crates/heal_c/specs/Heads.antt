@@ -8,7 +8,7 @@ use Rattle.exchange_codec.specs.declared.head.MessageKind.TheVariants as kind
 use Rattle.exchange_codec.specs.Faults.{message_fault_number}
 use Rattle.exchange_codec.specs.Peeking.{peeked}
 use Rattle.exchange_codec.specs.Reading.{due}
-use Rattle.heal_c.specs.declared.heads.HealHead.{HealHead}
+use Rattle.heal_c.specs.declared.head_exports.HealHead.{HealHead}
 use Rattle.c_calls.specs.Codes.{side_code}
 
 -- an offer is 1, and a list 2

@@ -4,7 +4,7 @@ use Rattle.upload_store.specs.Programs.{Upload}
 use Rattle.c_calls.specs.Halves.{Half}
 use Rattle.c_calls.specs.declared.outcome.Outcome.{Outcome}
 use Rattle.heal_c.specs.declared.program_handle.HealProgram.{HealProgram}
-use Rattle.heal_c.specs.declared.half_handle.HealSide.{HealSide}
+use Rattle.heal_c.specs.declared.side_handle.HealSide.{HealSide}
 use Rattle.heal_c.specs.declared.message_handle.HealBytes.{HealBytes}
 use Rattle.heal_c.specs.declared.outcome_handle.HealOutcome.{HealOutcome}
 use Rattle.heal_c.specs.declared.replica_handle.HealReplica.{HealReplica}

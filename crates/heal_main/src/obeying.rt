@@ -4,9 +4,9 @@ ghost use Rattle.device.specs.Sending.{AppendsFront};
 ghost use Rattle.heal_main.specs.Obeying.{Obeys, RunsFile, TellsUnopened};
 
 use crate::person::Listener;
-use command_line::{Names, Task, Workers};
+use command_line::{Names, Task};
 use device::send;
-use judge_pool::OpenGate;
+use judge_pool::{OpenGate, Workers};
 use partition_table::NameLimit;
 use questions::{is_standard_input, print_refusals, print_version, reply_to};
 use scripts::{Narrator, run_narrated};
@@ -106,21 +106,13 @@ fn run_from<T: Files + Threads + Wait + Sync + AllocGlobal, R: Read, W: Write, N
 ) -> u8
     ensures { RunsFile limit.names (W.contents writer.old) (W.contents writer.new) result }
 {
-    run_narrated(
-        rt,
-        reader,
-        writer,
-        limit,
-        workers.count(),
-        &OpenGate,
-        narrator,
-    )
+    run_narrated(rt, reader, writer, limit, workers, &OpenGate, narrator)
 }
 
 // Reports that a file could not be opened, and returns the status.
 fn tell_unopened<W: Write>(kind: ErrorKind, writer: &mut W) -> u8
     ensures status { result ≡ 3 }
-    ensures told { TellsUnopened (W.contents writer.old) (W.contents writer.new) }
+    ensures prints { TellsUnopened (W.contents writer.old) (W.contents writer.new) }
 {
     if kind == ErrorKind::OutOfMemory {
         return tell(writer, b"refused 90\n");

@@ -1,5 +1,6 @@
 //! A round of healing, with one worker for each seat.
 ghost use Rattle.std.specs.Prelude.{◌≡◌, ◌≤◌, ◌<◌, ◌+◌, All, vec_len, vec_capacity};
+ghost use Rattle.verdict_board.specs.Draws.{rounds};
 ghost use Rattle.judge_pool.specs.Work.{round_posts};
 
 use crate::done::Done;
@@ -52,7 +53,7 @@ pub fn heal_round<'p, G: Gate + Sync, E: Ear + Sync, R: Threads + Wait + Sync>(
     right: &E,
 ) -> RoundDone
     requires seats { All (λ s. s.draws ≡ board.now.draws) seats.items }
-    requires round { round < 4 }
+    requires round { round < rounds }
     ensures seats { All (λ s. s.draws ≡ board.entry.now.draws) result.seats.items }
     // At least as many seats are returned as workers were started.
     ensures back { result.started ≤ vec_len result.seats }

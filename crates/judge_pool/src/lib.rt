@@ -8,6 +8,7 @@ mod judging;
 mod round;
 mod scoped;
 mod serving;
+mod workers;
 
 pub use done::Done;
 pub use healing::{RoundDone, heal_round};
@@ -15,3 +16,4 @@ pub use hooks::{Ear, Gate, OpenGate};
 pub use judging::{judge, judge_in};
 pub use partition_table::word;
 pub use serving::work;
+pub use workers::{MAX_WORKERS, Workers};

@@ -1,5 +1,6 @@
 //! The data that the workers of a round share.
 ghost use Rattle.std.specs.Prelude.{◌<◌};
+ghost use Rattle.verdict_board.specs.Draws.{rounds};
 
 use verdict_board::Board;
 
@@ -11,5 +12,5 @@ pub(crate) struct Round<'a, 'p, G, E> {
     pub gate: &'a G,
     pub left: &'a E,
     pub right: &'a E,
-    pub ghost in_range: { number < 4 },
+    pub ghost in_range: { number < rounds },
 }

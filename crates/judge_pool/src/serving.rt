@@ -2,6 +2,7 @@
 ghost use Rattle.std.specs.Prelude.{◌≡◌, ◌+◌, ◌-◌, ◌^◌, ◌<◌, ◌≤◌, Some, length, slice_get};
 ghost use Rattle.partition_table.specs.Tables.{word_of};
 ghost use Rattle.partition_table.specs.Judged.{clash_of_verdict, word_of_verdict};
+ghost use Rattle.verdict_board.specs.Draws.{rounds};
 ghost use Rattle.judge_pool.specs.Work.{posts, clashes_drawn, DrewIn, IsSpent};
 
 use crate::done::Done;
@@ -39,7 +40,7 @@ pub fn work<'p, G: Gate, E: Ear, R: Wait>(
 ) -> Done
     requires seat { seat.draws ≡ board.now.draws }
     requires pass { pass.place ≡ board.now.place }
-    requires round { round < 4 }
+    requires round { round < rounds }
     ensures board { result.seat.draws ≡ board.entry.now.draws }
     // It drew in this round alone, until none was left, and counts one post for each clash that it drew.
     ensures round { DrewIn round seat.drawn result.seat.drawn }

@@ -50,7 +50,7 @@ impl Inbox {
     )
         requires { pass.old.place ≡ board.now.place }
         ensures keeps { Keeps pass.old pass.new }
-        ensures told { IsTold pass.new (length board.now.place.clashes) side.old side.new }
+        ensures taken { IsTold pass.new (length board.now.place.clashes) side.old side.new }
     {
         let is_own = side.has_clashes(board.clashes());
         for _turn in 0..board.clashes().len() {
@@ -75,7 +75,7 @@ fn take_seen<'p>(board: &Board<'p>, pass: &mut Pass<'p>, is_own: bool, side: &mu
     requires board { pass.old.place ≡ board.now.place }
     requires own { IsTrue is_own → heard_clashes (shown side.old) ≡ Some board.now.place.clashes }
     ensures keeps { Keeps pass.old pass.new }
-    ensures told { IsTold pass.new 1 side.old side.new }
+    ensures taken { IsTold pass.new 1 side.old side.new }
 {
     let Some(ruling) = board.read(k, pass) else {
         return;

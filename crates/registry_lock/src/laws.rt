@@ -4,6 +4,7 @@ ghost use Rattle.partition_table.specs.Rulings.{Ruling, is_lawful};
 ghost use Rattle.exchange_law.specs.Sides.{Offer};
 ghost use Rattle.exchange_law.specs.Worlds.{clashes_between, ruling_on};
 ghost use Rattle.verdict_board.specs.Boards.{Pass, seen};
+ghost use Rattle.verdict_board.specs.Draws.{rounds};
 ghost use Rattle.registry_lock.specs.Telling.{IsBoardOf};
 
 /// States that what a pass has seen of a clash is a ruling that a judging step of the exchange adds.
@@ -14,7 +15,7 @@ pub fn seen_theorem()
     // adds.
     ensures judged { (pass : Pass) (k : ℕ) (ruling : Ruling) (a b : Offer) → IsBoardOf a b pass.place
         → seen pass k ≡ Some ruling
-        → (round : ℕ) × (round < 4) × (ruling_on pass.place.number k round (Some a) (Some b) ≡ Some ruling) }
+        → (round : ℕ) × (round < rounds) × (ruling_on pass.place.number k round (Some a) (Some b) ≡ Some ruling) }
     // Its word is one of the clash's four, and its answer the resolver's there.
     ensures lawful { (pass : Pass) (k : ℕ) (ruling : Ruling) → seen pass k ≡ Some ruling
         → IsTrue (is_lawful pass.place.clashes pass.place.seed k ruling.judged) }

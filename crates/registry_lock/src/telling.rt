@@ -1,5 +1,6 @@
 //! A round whose rulings two sides take.
 ghost use Rattle.std.specs.Prelude.{◌≡◌, ◌<◌, ◌≤◌, All, length, vec_len};
+ghost use Rattle.verdict_board.specs.Draws.{rounds};
 ghost use Rattle.judge_pool.specs.Work.{round_posts};
 ghost use Rattle.registry_lock.specs.Meeting.{Keeps};
 ghost use Rattle.registry_lock.specs.Telling.{IsTold, AreTold};
@@ -28,9 +29,9 @@ pub fn tell_round<'p, G: Gate + Sync, R: Threads + Wait + Sync>(
     second: Side,
 ) -> (Side, Side, RoundDone)
     requires seats { All (λ s. s.draws ≡ board.now.draws) seats.items }
-    requires round { round < 4 }
+    requires round { round < rounds }
     // Each side differs only by takes of rulings, which one pass of this board has seen for both.
-    ensures told { AreTold board.entry.now.place first second result.0 result.1 }
+    ensures taken { AreTold board.entry.now.place first second result.0 result.1 }
     ensures seats { All (λ s. s.draws ≡ board.entry.now.draws) result.2.seats.items }
     // At least as many seats are returned as workers were started.
     ensures back { result.2.started ≤ vec_len result.2.seats }
@@ -76,7 +77,7 @@ pub fn tell_round_by<'p, G: Gate + Sync, R: Threads + Wait + Sync>(
 ) -> RoundDone
     requires pass { pass.old.place ≡ board.now.place }
     requires seats { All (λ s. s.draws ≡ board.now.draws) seats.items }
-    requires round { round < 4 }
+    requires round { round < rounds }
     // The pass still sees what it had seen.
     ensures keeps { Keeps pass.old pass.new }
     // Each side differs only by takes of rulings that the pass has then seen, at most one for each clash.

@@ -48,7 +48,7 @@ pub fn decode_entry(alloc: Global, bytes: &[u8]) -> Result<Entry, ReplicaMessage
     // A refusal has its cause.
     ensures refused { IfErr result (HasCause replica_message_fault_number (IsEntryFault bytes.now)) }
     // A fault of the bytes is returned, unless memory runs out.
-    ensures told { (fault : ReplicaMessageFault) → IsEntryFault bytes.now fault
+    ensures reported { (fault : ReplicaMessageFault) → IsEntryFault bytes.now fault
         → ReturnsOrRunsOut replica_message_fault_number result (Err fault) }
 {
     // For the proof: bytes have one reading, and code has one verdict.

@@ -76,7 +76,7 @@ pub fn decode_snapshot(alloc: Global, bytes: &[u8]) -> Result<Snapshot, ReplicaM
     // A refusal has its cause.
     ensures refused { IfErr result (HasCause replica_message_fault_number (IsSnapshotFault bytes.now)) }
     // A fault of the bytes is returned, unless memory runs out.
-    ensures told { (fault : ReplicaMessageFault) → IsSnapshotFault bytes.now fault
+    ensures reported { (fault : ReplicaMessageFault) → IsSnapshotFault bytes.now fault
         → ReturnsOrRunsOut replica_message_fault_number result (Err fault) }
 {
     // For the proof: bytes have one reading, code has one verdict, and bytes spell one table.

@@ -8,7 +8,7 @@ ghost use Rattle.scripts.specs.Steps.{HealRefused, HealsAs, plan_for};
 use crate::machine::Machine;
 use clash_record::{Uptimes, Withdrawal};
 use cluster::{Healing, Plan};
-use judge_pool::Gate;
+use judge_pool::{Gate, Workers};
 use refusals::{NumberedRefusal, refusal_of};
 use std::alloc::Global;
 use std::sync::Wait;
@@ -17,19 +17,18 @@ use std::thread::Threads;
 impl Machine {
     /// Heals the split with words from this seed, as an exchange of the next number. A failure uses the number up.
     ///
-    /// `gone` are the names to withdraw while the exchange is open. Requires 1 to 16 workers, which judge the clashes
-    /// and which it waits for, and fewer than 2^64 - 1 exchanges so far. Returns the least refusal.
+    /// `gone` are the names to withdraw while the exchange is open. The workers judge the clashes, and it waits for them.
+    /// Requires fewer than 2^64 - 1 exchanges so far. Returns the least refusal.
     pub fn heal<G: Gate + Sync, R: Threads + Wait + Sync>(
         &mut self,
         rt: &R,
         alloc: Global,
         gate: &G,
-        workers: u32,
+        workers: Workers,
         seed: u64,
         uptimes: Uptimes,
         gone: &[Withdrawal],
     ) -> Result<Healing, NumberedRefusal>
-        requires crew { (0 < workers) × (workers ≤ 16) }
         requires unused { (machine_of self.old).latest < 2 ^ 64 - 1 }
         ensures healed { IfOk result (λ healing. HealsAs (plan_for (machine_of self.old) seed uptimes gone.now)
             (machine_of self.old) (healing_of healing) (machine_of self.new)) }

@@ -1,6 +1,7 @@
 //! The lines of a script, one after another.
 ghost use Rattle.std.specs.Prelude.{◌≡◌, ◌<◌, ◌≤◌, [], IfOk};
 ghost use Rattle.std.specs.Io.KnownBytes.{Keeps};
+ghost use Rattle.verdict_board.specs.Boards.{most_seats};
 ghost use Rattle.scripts.specs.Machines.{machine_of};
 ghost use Rattle.scripts.specs.Runs.{IsRunFrom, IsScriptRun};
 
@@ -9,7 +10,7 @@ use crate::machine::Machine;
 use crate::narrator::{Narrator, Silence};
 use crate::serving::serve;
 use device::{DeviceFault, send_after};
-use judge_pool::Gate;
+use judge_pool::{Gate, Workers};
 use partition_table::NameLimit;
 use script_text::{LineBuffer, ReadBuffer, Stop, next_line};
 use std::alloc::{AllocError, Global};
@@ -43,10 +44,11 @@ where
     R: Read,
     W: Write,
     G: Gate + Sync,
-    requires { (0 < workers) × (workers ≤ 16) }
+    requires { (0 < workers) × (workers ≤ most_seats) }
     ensures { IsScriptRun limit.names (R.remaining reader.old) (R.remaining reader.new) (W.contents writer.old)
         (W.contents writer.new) result }
 {
+    let workers = Workers::new(workers).unwrap_or_default();
     run_narrated(rt, reader, writer, limit, workers, gate, &Silence)
 }
 
@@ -59,7 +61,7 @@ pub fn run_narrated<T, R, W, G, N>(
     reader: &mut R,
     writer: &mut W,
     limit: NameLimit,
-    workers: u32,
+    workers: Workers,
     gate: &G,
     narrator: &N,
 ) -> u8
@@ -69,7 +71,6 @@ where
     W: Write,
     G: Gate + Sync,
     N: Narrator,
-    requires { (0 < workers) × (workers ≤ 16) }
     ensures { IsScriptRun limit.names (R.remaining reader.old) (R.remaining reader.new) (W.contents writer.old)
         (W.contents writer.new) result }
 {

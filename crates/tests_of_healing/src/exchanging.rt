@@ -1,6 +1,7 @@
 //! The steps of exchange 7, before and after both sides take its rulings.
 use exchange_core::{Judged, Side};
 use fixtures::{Ended, begin_both, hear_both};
+use judge_pool::Workers;
 use partition_table::{ClashList, Table};
 use registry_lock::meet;
 use std::alloc::Global;
@@ -13,6 +14,14 @@ pub(crate) const NUMBER: u64 = 7;
 
 /// The seed of its words.
 pub(crate) const SEED: u64 = 0;
+
+/// Returns this number of workers.
+pub(crate) fn crew(count: u32) -> Result<Workers, Fail> {
+    match Workers::new(count) {
+        Some(workers) => Ok(workers),
+        None => Err(Fail::from("there can't be so many workers")),
+    }
+}
 
 /// Opens the exchange on both sides, and returns the clashes of their tables.
 pub(crate) fn begin(alloc: Global, a: &mut Side, b: &mut Side) -> Result<ClashList, Fail> {

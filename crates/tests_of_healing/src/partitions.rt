@@ -1,13 +1,13 @@
 //! Partitions whose sides are under locks: what one keeps, and two that workers tell a round, finish and meet.
-ghost use Rattle.std.specs.Prelude.{◌≡◌, ◌<◌, ◌≤◌, All};
+ghost use Rattle.std.specs.Prelude.{◌≡◌, All};
 
 use crate::exchanging;
-use crate::exchanging::{NUMBER, SEED, meet_at};
+use crate::exchanging::{NUMBER, SEED, crew, meet_at};
 use crate::registering::Names;
 use clash_record::{SideId, name};
 use exchange_core::SideFault;
 use fixtures::{Ended, exit_registration, finish_both};
-use judge_pool::{OpenGate, heal_round};
+use judge_pool::{OpenGate, Workers, heal_round};
 use partition_table::ClashList;
 use registry_lock::Partition;
 use std::alloc::Global;
@@ -97,11 +97,9 @@ impl Partitions {
         &self,
         rt: &R,
         list: &ClashList,
-        workers: u32,
-    ) -> Result<Outcome, Fail>
-        requires { (0 < workers) × (workers ≤ 16) }
-    {
-        let (board, seats) = open(self.alloc, NUMBER, SEED, list, workers)?;
+        workers: Workers,
+    ) -> Result<Outcome, Fail> {
+        let (board, seats) = open(self.alloc, NUMBER, SEED, list, workers.count())?;
         let before = self.events(rt);
         let (started, kept) = self.judge(rt, &board, seats);
         let after = self.events(rt);
@@ -121,10 +119,8 @@ fn heal<R: Threads + Wait + Sync>(
     rt: &R,
     alloc: Global,
     names: Names,
-    workers: u32,
-) -> Result<Outcome, Fail>
-    requires { (0 < workers) × (workers ≤ 16) }
-{
+    workers: Workers,
+) -> Result<Outcome, Fail> {
     let partitions = Partitions::new(alloc);
     let list = partitions.begin(rt, names)?;
     partitions.heal(rt, &list, workers)
@@ -144,7 +140,7 @@ fn partitions_are_told_and_meet(rt: HostRuntime) -> Result<(), Fail> {
             4096,
         ),
     ] {
-        let healed = heal(&rt, rt.alloc(), names, workers)?;
+        let healed = heal(&rt, rt.alloc(), names, crew(workers)?)?;
         assert_eq!(rt; (healed.started, healed.kept), (workers, kept));
         assert_eq!(rt; healed.before, before);
         assert_eq!(rt; healed.after, after);

@@ -1,13 +1,13 @@
 //! Two sides that take the rulings of a round once its workers have ended, finish and meet.
-ghost use Rattle.std.specs.Prelude.{◌≡◌, ◌<◌, ◌≤◌, All};
+ghost use Rattle.std.specs.Prelude.{◌≡◌, All};
 
-use crate::exchanging::{NUMBER, SEED, begin, meet_at, rulings_of};
+use crate::exchanging::{NUMBER, SEED, begin, crew, meet_at, rulings_of};
 use crate::registering::Names;
 use builtin_resolvers::Verdict3;
 use clash_record::{Owner, SideId, name};
 use exchange_core::{Judged, Side};
 use fixtures::{Ended, Together, finish_both};
-use judge_pool::{Gate, OpenGate};
+use judge_pool::{Gate, OpenGate, Workers};
 use partition_table::ClashList;
 use registry_lock::tell_round;
 use std::alloc::Global;
@@ -90,13 +90,11 @@ impl Sides {
         self,
         rt: &R,
         list: &ClashList,
-        workers: u32,
+        workers: Workers,
         gate: &G,
-    ) -> Result<Outcome, Fail>
-        requires { (0 < workers) × (workers ≤ 16) }
-    {
+    ) -> Result<Outcome, Fail> {
         let db = name(b"db")?;
-        let (board, seats) = open(self.alloc, NUMBER, SEED, list, workers)?;
+        let (board, seats) = open(self.alloc, NUMBER, SEED, list, workers.count())?;
         let told = self.told(rt, &board, seats, gate);
         let (started, kept) = (told.started, told.kept);
         let events = (told.a.events(), told.b.events());
@@ -119,11 +117,9 @@ fn heal<G: Gate + Sync, R: Threads + Wait + Sync>(
     rt: &R,
     alloc: Global,
     names: Names,
-    workers: u32,
+    workers: Workers,
     gate: &G,
-) -> Result<Outcome, Fail>
-    requires { (0 < workers) × (workers ≤ 16) }
-{
+) -> Result<Outcome, Fail> {
     let mut sides = Sides::new(alloc);
     let list = sides.begin(names)?;
     sides.heal(rt, &list, workers, gate)
@@ -131,7 +127,7 @@ fn heal<G: Gate + Sync, R: Threads + Wait + Sync>(
 
 #[test]
 fn two_told_sides_meet(rt: HostRuntime) -> Result<(), Fail> {
-    let healed = heal(&rt, rt.alloc(), Names::DbAndWeb, 2, &OpenGate)?;
+    let healed = heal(&rt, rt.alloc(), Names::DbAndWeb, crew(2)?, &OpenGate)?;
     assert_eq!(rt; (healed.started, healed.kept), (2, 1));
     assert_eq!(rt; healed.events, (4, 5));
     assert_eq!(rt; healed.names, 2);
@@ -145,7 +141,7 @@ fn two_told_sides_meet(rt: HostRuntime) -> Result<(), Fail> {
 
 #[test]
 fn three_clashes_are_told_in_order(rt: HostRuntime) -> Result<(), Fail> {
-    let healed = heal(&rt, rt.alloc(), Names::Three, 2, &OpenGate)?;
+    let healed = heal(&rt, rt.alloc(), Names::Three, crew(2)?, &OpenGate)?;
     let ruling = |word, answer| Some(Judged { word, answer });
     let rulings = [
         ruling(0, Verdict3::First),
@@ -165,7 +161,7 @@ fn told_workers_run_beside_each_other(rt: HostRuntime) -> Result<(), Fail> {
             &rt,
             rt.alloc(),
             Names::Numbered(workers),
-            u32::from(workers),
+            crew(u32::from(workers))?,
             &gate,
         )?;
         let all = u32::from(workers);

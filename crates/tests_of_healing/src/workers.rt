@@ -1,9 +1,10 @@
 //! Workers that judge the clashes of a board concurrently.
-ghost use Rattle.std.specs.Prelude.{◌≡◌, ◌<◌, ◌≤◌, All, vec_len};
+ghost use Rattle.std.specs.Prelude.{◌≡◌, All, vec_len};
 
+use crate::exchanging::crew;
 use crate::registering::exit_clashes;
 use fixtures::Together;
-use judge_pool::{Ear, OpenGate, heal_round};
+use judge_pool::{Ear, OpenGate, Workers, heal_round};
 use partition_table::{ClashList, Ruling};
 use std::alloc::Global;
 use std::sync::Wait;
@@ -113,11 +114,9 @@ impl<'a, R: Threads + Wait + Clock + Sync> Listeners<'a, R> {
         rt: &R,
         alloc: Global,
         list: &ClashList,
-        workers: u32,
-    ) -> Result<Worked, Fail>
-        requires { (0 < workers) × (workers ≤ 16) }
-    {
-        let (board, seats) = open(alloc, 7, 100, list, workers)?;
+        workers: Workers,
+    ) -> Result<Worked, Fail> {
+        let (board, seats) = open(alloc, 7, 100, list, workers.count())?;
         self.work(rt, alloc, &board, seats)
     }
 }
@@ -135,12 +134,10 @@ struct Outcome {
 fn judge<R: Threads + Wait + Clock + Sync>(
     rt: &R,
     alloc: Global,
-    workers: u32,
+    workers: Workers,
     count: u16,
     held: u64,
-) -> Result<Outcome, Fail>
-    requires { (0 < workers) × (workers ≤ 16) }
-{
+) -> Result<Outcome, Fail> {
     let list = exit_clashes(alloc, count)?;
     let listeners = Listeners::new(rt, alloc, held, list.len())?;
     let worked = listeners.work_anew(rt, alloc, &list, workers)?;
@@ -158,7 +155,7 @@ fn workers_run_beside_each_other(rt: HostRuntime) -> Result<(), Fail> {
             worked,
             gate,
             once_each,
-        } = judge(&rt, rt.alloc(), workers, count, held)?;
+        } = judge(&rt, rt.alloc(), crew(workers)?, count, held)?;
         assert_eq!(rt; worked.started, workers);
         assert_eq!(rt; worked.posts, (u32::from(count), 0, 0));
         assert_eq!(rt; gate, (u64::from(count), 0));
@@ -172,13 +169,11 @@ fn workers_run_beside_each_other(rt: HostRuntime) -> Result<(), Fail> {
 fn judge_twice<R: Threads + Wait + Sync>(
     rt: &R,
     alloc: Global,
-    workers: u32,
+    workers: Workers,
     count: u16,
-) -> Result<[(u32, u32, u32); 2], Fail>
-    requires { (0 < workers) × (workers ≤ 16) }
-{
+) -> Result<[(u32, u32, u32); 2], Fail> {
     let list = exit_clashes(alloc, count)?;
-    let (board, seats) = open(alloc, 7, 100, &list, workers)?;
+    let (board, seats) = open(alloc, 7, 100, &list, workers.count())?;
     Ok(judge_rounds(rt, alloc, &board, seats))
 }
 
@@ -202,7 +197,7 @@ fn judge_rounds<'p, R: Threads + Wait + Sync>(
 #[test]
 fn a_second_round_posts_too_late(rt: HostRuntime) -> Result<(), Fail> {
     for (workers, count) in [(1, 1), (2, 3), (16, 40)] {
-        let posts = judge_twice(&rt, rt.alloc(), workers, count)?;
+        let posts = judge_twice(&rt, rt.alloc(), crew(workers)?, count)?;
         let all = u32::from(count);
         assert_eq!(rt; posts, [(all, 0, 0), (0, all, 0)]);
     }

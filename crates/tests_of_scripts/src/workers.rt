@@ -1,7 +1,6 @@
 //! Workers that judge clashes concurrently.
-ghost use Rattle.std.specs.Prelude.{◌<◌, ◌≤◌};
-
 use fixtures::Together;
+use judge_pool::Workers;
 use partition_table::NameLimit;
 use scripts::run_script;
 use std::alloc::Global;
@@ -28,12 +27,10 @@ fn clashing(alloc: Global, count: u32) -> Result<Vec<u8>, Fail> {
 /// Checks that `workers` workers judge as many clashes of this script concurrently, one each.
 fn run_together<T: Files + Threads + Wait + Sync + AllocGlobal + Clock>(
     rt: &T,
-    workers: u32,
+    workers: Workers,
     script: &[u8],
-) -> bool
-    requires { (0 < workers) × (workers ≤ 16) }
-{
-    let gate = Together::new(rt, u64::from(workers));
+) -> bool {
+    let gate = Together::new(rt, u64::from(workers.count()));
     let mut reader = script;
     let mut written = Vec::new(rt.alloc());
     let status = run_script(
@@ -41,26 +38,28 @@ fn run_together<T: Files + Threads + Wait + Sync + AllocGlobal + Clock>(
         &mut reader,
         &mut written,
         NameLimit::default(),
-        workers,
+        workers.count(),
         &gate,
     );
-    status == 0 && gate.counts() == (u64::from(workers), 0)
+    status == 0 && gate.counts() == (u64::from(workers.count()), 0)
 }
 
 /// Checks that `workers` workers judge as many clashes concurrently.
-fn are_together<T>(rt: &T, workers: u32) -> Result<bool, Fail>
+fn are_together<T>(rt: &T, workers: Workers) -> Result<bool, Fail>
 where
     T: Files + Threads + Wait + Sync + AllocGlobal + Clock,
-    requires { (0 < workers) × (workers ≤ 16) }
 {
-    let script = clashing(rt.alloc(), workers)?;
+    let script = clashing(rt.alloc(), workers.count())?;
     Ok(run_together(rt, workers, &script))
 }
 
 #[test]
 fn workers_run_beside_each_other(rt: HostRuntime) -> Result<(), Fail> {
-    let two = are_together(&rt, 2)?;
-    let sixteen = are_together(&rt, 16)?;
-    assert_eq!(&rt; (two, sixteen), (true, true));
+    for count in [2, 16] {
+        let Some(workers) = Workers::new(count) else {
+            return Err(Fail::from("there can't be so many workers"));
+        };
+        assert!(&rt; are_together(&rt, workers)?);
+    }
     Ok(())
 }

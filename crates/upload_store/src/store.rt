@@ -129,7 +129,7 @@ impl UploadStore {
         ensures unchanged { OnErr result (self.new ≡ self.old) }
         // Each cause has its refusal, unless memory runs out: a fault of the bytes, other code under their id, and a new
         // id in a full store.
-        ensures told { (f : UploadFault) → IsUploadFault self.old bytes.now f
+        ensures reported { (f : UploadFault) → IsUploadFault self.old bytes.now f
             → ReturnsOrRunsOut upload_fault_number result (Err f) }
         // Code that the verifier doesn't accept is refused by a rule.
         ensures rejected { IsUnaccepted bytes.now → IsRejection result }
@@ -149,7 +149,7 @@ impl UploadStore {
         ensures refused { IfErr result (HasCause upload_fault_number (IsUploadFault self.old bytes.now)) }
         ensures unchanged { OnErr result (self.new ≡ self.old) }
         // Each cause has its refusal, unless memory runs out.
-        ensures told { (f : UploadFault) → IsUploadFault self.old bytes.now f
+        ensures reported { (f : UploadFault) → IsUploadFault self.old bytes.now f
             → ReturnsOrRunsOut upload_fault_number result (Err f) }
         // Code that the verifier doesn't accept is refused by a rule.
         ensures rejected { IsUnaccepted bytes.now → IsRejection result }

@@ -17,6 +17,10 @@ pub record Place : Type 0 where
   pub clashes : List Clash
   pub cells : List ℕ
 
+-- the most seats of a board
+abbrev pub most_seats : ℕ
+most_seats = 16
+
 pub record Board : Type 0 where
   pub place : Place
   pub seats : ℕ

@@ -5,6 +5,10 @@ use Rattle.std.specs.declared.ops.Range.{Range}
 use Rattle.verdict_board.specs.declared.draw.Draw.{Draw}
 use Rattle.verdict_board.specs.declared.draw.Draw.TheVariants.{Clash, Spent}
 
+-- how many rounds an exchange has
+abbrev pub rounds : ℕ
+rounds = 4
+
 -- a seat: whose draws it makes, and those that it made, the earliest first
 pub record Seat : Type 0 where
   pub draws : TableId

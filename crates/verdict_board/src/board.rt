@@ -4,8 +4,8 @@ ghost use Rattle.std.specs.Option.{option_map};
 ghost use Rattle.partition_table.specs.Tables.{IsOneOfFour};
 ghost use Rattle.partition_table.specs.Judged.{clash_of_verdict, word_of_verdict};
 ghost use Rattle.partition_table.specs.Rulings.{ruling_of};
-ghost use Rattle.verdict_board.specs.Boards.{as_ruling, ruling_at, seen, LooksAt, IsAnswer};
-ghost use Rattle.verdict_board.specs.Draws.{taken, most_drawn, Draws, DrawsRow, EachOnce};
+ghost use Rattle.verdict_board.specs.Boards.{as_ruling, most_seats, ruling_at, seen, LooksAt, IsAnswer};
+ghost use Rattle.verdict_board.specs.Draws.{rounds, taken, most_drawn, Draws, DrawsRow, EachOnce};
 ghost use Rattle.verdict_board.specs.model.Given.{hand};
 
 use crate::answers::{AnswerTable, keep_answer, kept_answer, no_answers};
@@ -58,7 +58,8 @@ impl<'p> Model for Board<'p> {
     ghost use Rattle.std.specs.Prelude.{◌≡◌, ◌<◌, ◌≤◌, map, length};
     ghost use Rattle.once_cell.specs.Once.{cell_name};
     ghost use Rattle.partition_table.specs.Tables.{most_names};
-    ghost use Rattle.verdict_board.specs.Boards.{Board};
+    ghost use Rattle.verdict_board.specs.Boards.{Board, most_seats};
+    ghost use Rattle.verdict_board.specs.Draws.{rounds};
     ghost use Rattle.verdict_board.specs.Views.{place_of};
 
     ghost Value = { Board };
@@ -71,8 +72,8 @@ impl<'p> Model for Board<'p> {
 
     ghost invariant = { λ b. (length b.cells.items ≡ length b.site.clashes.now)
         × (length b.site.clashes.now ≤ most_names)
-        × (0 < b.seats) × (b.seats ≤ 16) × (b.words.shared.key ≡ b.seats)
-        × (b.words.shared.table_id.words ≡ 4) × (b.words.shared.table_id.slots ≡ 0)
+        × (0 < b.seats) × (b.seats ≤ most_seats) × (b.words.shared.key ≡ b.seats)
+        × (b.words.shared.table_id.words ≡ rounds) × (b.words.shared.table_id.slots ≡ 0)
         × (b.answers.shared.table_id.words ≡ length b.site.clashes.now)
         × (b.answers.shared.key.seed ≡ b.site.seed)
         × (b.answers.shared.key.clashes.value ≡ b.site.clashes.now) };
@@ -89,7 +90,7 @@ pub fn open<'p>(
     clashes: &'p ClashList,
     seats: u32,
 ) -> Result<(Board<'p>, Vec<Seat>), AllocError>
-    requires { (0 < seats) × (seats ≤ 16) }
+    requires { (0 < seats) × (seats ≤ most_seats) }
     ensures number { IfOk result (λ opened. opened.0.place.number ≡ number) }
     ensures seed { IfOk result (λ opened. opened.0.place.seed ≡ seed) }
     ensures clashes { IfOk result (λ opened. opened.0.place.clashes ≡ clashes.now) }
@@ -169,7 +170,7 @@ impl<'p> Board<'p> {
     /// Requires a seat of this board and a round from 0 to 3. Never waits.
     pub fn draw(&self, seat: &mut Seat, round: u32) -> Draw
         requires board { seat.old.draws ≡ self.now.draws }
-        requires round { round < 4 }
+        requires round { round < rounds }
         ensures board { seat.new.draws ≡ seat.old.draws }
         ensures draws { Draws (length self.now.place.clashes) round seat.old.drawn seat.new.drawn result }
     {
@@ -187,7 +188,7 @@ impl<'p> Board<'p> {
     /// in the round. Requires a seat of this board and a round from 0 to 3. Never waits.
     pub fn draw_row(&self, seat: &mut Seat, round: u32, wanted: u32) -> Range<u32>
         requires board { seat.old.draws ≡ self.now.draws }
-        requires round { round < 4 }
+        requires round { round < rounds }
         ensures board { seat.new.draws ≡ seat.old.draws }
         ensures draws { DrawsRow (length self.now.place.clashes) round wanted seat.old.drawn seat.new.drawn result }
         // No seat has drawn more.
@@ -279,7 +280,7 @@ impl<'p> Board<'p> {
     pub fn gather(&self, seats: Vec<Seat>) -> [u64; 4]
         requires all { vec_len seats ≡ self.now.seats }
         requires board { All (λ seat. seat.draws ≡ self.now.draws) seats.items }
-        ensures { (round : ℕ) → round < 4 → EachOnce round seats.items (slice_index result round) }
+        ensures { (round : ℕ) → round < rounds → EachOnce round seats.items (slice_index result round) }
     {
         let words = &self.words.shared;
         let mut all = join_all(words, seats);

@@ -1,6 +1,6 @@
 //! The words that count the draws, one a round.
 ghost use Rattle.std.specs.Prelude.{◌≡◌, ℕ, ◌+◌, ◌<◌, ◌≤◌, [], ◌∷◌, List, All, length, slice_index, IfOk, vec_len};
-ghost use Rattle.verdict_board.specs.Draws.{weigh, weigh_all, times, once_below};
+ghost use Rattle.verdict_board.specs.Draws.{rounds, weigh, weigh_all, times, once_below};
 ghost use Rattle.verdict_board.specs.model.Given.{hand};
 
 use crate::given::{GivenOnce, Hand, Looked, OnePart, Together};
@@ -55,9 +55,9 @@ pub(crate) fn join_all(words: &DrawWords, seats: Vec<Seat>) -> Token
 
 // Returns the number of draws in a round, for the owner of all parts.
 pub(crate) fn drawn_in(words: &DrawWords, all: &mut Token, round: usize) -> u64
-    requires words { (all.old.table_id ≡ words.now.table_id) × (words.now.table_id.words ≡ 4) }
+    requires words { (all.old.table_id ≡ words.now.table_id) × (words.now.table_id.words ≡ rounds) }
     requires whole { (all.old.me.0.parts ≡ words.now.key) × (all.old.me.1 ≡ []) }
-    requires round { round < 4 }
+    requires round { round < rounds }
     ensures same { (all.new.table_id ≡ all.old.table_id) × (all.new.me ≡ all.old.me) }
     ensures once { (x : ℕ) → times round x all.old.me.0.drawn ≡ once_below x result }
 {

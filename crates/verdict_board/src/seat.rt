@@ -18,14 +18,14 @@ pub struct Seat {
 
 impl Model for Seat {
     ghost use Rattle.std.specs.Prelude.{◌≡◌, ℕ, ◌<◌, ◌≤◌, [], slice_index};
-    ghost use Rattle.verdict_board.specs.Draws.{Seat, taken, most_drawn};
+    ghost use Rattle.verdict_board.specs.Draws.{Seat, rounds, taken, most_drawn};
     ghost use Rattle.verdict_board.specs.model.Given.{hand};
 
     ghost Value = { Seat };
 
     ghost view = { λ s. record { draws = s.token.table_id; drawn = s.token.me.0.drawn } };
 
-    ghost invariant = { λ s. (s.token.me ≡ (hand 1 s.token.me.0.drawn, [])) × ((round : ℕ) → round < 4
+    ghost invariant = { λ s. (s.token.me ≡ (hand 1 s.token.me.0.drawn, [])) × ((round : ℕ) → round < rounds
         → (slice_index s.used round ≡ taken round s.token.me.0.drawn)
         × (taken round s.token.me.0.drawn ≤ most_drawn)) };
 }

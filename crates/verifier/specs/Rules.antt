@@ -15,6 +15,7 @@ use Rattle.instruction_set.specs.declared.insn.Source.TheVariants.{Imm, Reg}
 use Rattle.instruction_set.specs.declared.insn.Insn.{Insn}
 use Rattle.instruction_set.specs.declared.insn.Insn.TheVariants.{Alu, Neg, MovSx, End, LoadWide, Load, LoadSx, Store, StoreImm, Jump, JumpLong, JumpIf, Exit}
 use Rattle.abstract_value.specs.Domain.{Ops}
+use Rattle.abstract_value.specs.Offsets.{least_offset, greatest_offset}
 use Rattle.abstract_value.specs.StackBytes.{all_written, with_marks}
 use Rattle.abstract_value.specs.States.{View, make_span, with_register}
 use Rattle.abstract_value.specs.declared.states.Span.{Span}
@@ -88,7 +89,7 @@ steps_of o b =
     else None)
 
 abbrev pub is_near : ℤ → ℤ → Bool
-is_near lo hi = int_le (negsuc 65535) lo && int_le hi (pos 65536)
+is_near lo hi = int_le least_offset lo && int_le hi greatest_offset
 
 -- the offsets moved by the steps, if they stay in range
 abbrev pub span_moved : AluOp → Span → ℤ × ℤ → Option Span

@@ -28,7 +28,7 @@ pub fn read_program_over<D: Domain>(alloc: Global, bytes: &[u8]) -> Result<Verif
         → ReturnsOrRunsOut program_fault_number result (Ok code) }
     ensures refused { IfErr result (HasCause program_fault_number (IsProgramFaultOver D.ops bytes.now)) }
     // The fault of the bytes is returned, unless memory runs out; bytes have at most one.
-    ensures told { (fault : ProgramFault) → IsProgramFaultOver D.ops bytes.now fault
+    ensures reported { (fault : ProgramFault) → IsProgramFaultOver D.ops bytes.now fault
         → ReturnsOrRunsOut program_fault_number result (Err fault) }
 {
     // For the proof: bytes have one reading, and code has one verdict.
@@ -53,7 +53,7 @@ pub fn read_program(alloc: Global, bytes: &[u8]) -> Result<Verified, ProgramFaul
         → ReturnsOrRunsOut program_fault_number result (Ok code) }
     ensures refused { IfErr result (HasCause program_fault_number (IsProgramFault bytes.now)) }
     // The fault of the bytes is returned, unless memory runs out; bytes have at most one.
-    ensures told { (fault : ProgramFault) → IsProgramFault bytes.now fault
+    ensures reported { (fault : ProgramFault) → IsProgramFault bytes.now fault
         → ReturnsOrRunsOut program_fault_number result (Err fault) }
 {
     read_program_over::<Profile>(alloc, bytes)

@@ -1,5 +1,6 @@
 //! Operations on abstract states, and the law of their order.
-ghost use Rattle.std.specs.Prelude.{◌≡◌, ℕ, ◌<◌, ◌≤◌, ◌+◌, ◌≤ℤ◌, pos, negsuc};
+ghost use Rattle.std.specs.Prelude.{◌≡◌, ℕ, ◌<◌, ◌≤◌, ◌+◌, ◌≤ℤ◌};
+ghost use Rattle.abstract_value.specs.Offsets.{least_offset, greatest_offset};
 ghost use Rattle.abstract_value.specs.StackBytes.{is_written, all_written, with_marks};
 ghost use Rattle.abstract_value.specs.StateOrder.{StateOrder};
 ghost use Rattle.abstract_value.specs.States.{make_span, span_join, reg_join, View, view, entry, view_join, with_register, with_written};
@@ -12,8 +13,8 @@ impl Span {
     /// Creates the span of the offsets from `lo` to `hi`.
     pub fn new(lo: i32, hi: i32) -> Span
         requires ordered { lo ≤ℤ hi }
-        requires above { negsuc 65535 ≤ℤ lo }
-        requires below { hi ≤ℤ pos 65536 }
+        requires above { least_offset ≤ℤ lo }
+        requires below { hi ≤ℤ greatest_offset }
         ensures { result ≡ make_span lo hi }
     {
         Span { lo, hi }

@@ -51,7 +51,7 @@ pub refused_of : {V A : Type 0} (HasCode : List Insn → Type 0) (IsFault : Prog
 refused_of {A = A} HasCode IsFault IsLoaded old r f e refused taken told = record {
   answer = inr (refusal IsFault f (subst (λ (x : Result A ProgramFault). IfErr x (HasCause program_fault_number IsFault)) e refused), refl);
   taken = λ code accepted. inr (spent IsFault f r e (taken code accepted), refl);
-  told = λ fault is. (numbered IsFault f fault r e (told fault is), refl);
+  reported = λ fault is. (numbered IsFault f fault r e (told fault is), refl);
 }
 
 -- a refused load of a resolver

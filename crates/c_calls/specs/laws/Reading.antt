@@ -15,7 +15,7 @@ taken {V} {F} Spells IsFault number takes stays n (Ok made) value e spelled give
     record {
       answer = inl (value, subst Spells equal spelled, took);
       taken = λ v spells. subst takes (sym (the_one v (given v spells) equal)) took;
-      told = λ fault is. absurd (no_fault fault (told fault is));
+      reported = λ fault is. absurd (no_fault fault (told fault is));
     }
   where
     the_one : (v : V) → ReturnsOrRunsOut number (Ok made) (Ok v) → made ≡ value → v ≡ value
@@ -35,7 +35,7 @@ rejected Spells IsFault number takes stays n (Ok v) fault e given refused told i
 rejected {V} {F} Spells IsFault number takes stays n (Err f) fault e given refused told is same spent = record {
   answer = by refused;
   taken = λ v spells. untaken v (given v spells);
-  told = λ m cause. rejects m (told m cause);
+  reported = λ m cause. rejects m (told m cause);
 }
   where
     number_is : n ≡ number f
@@ -60,7 +60,7 @@ pub spent : {V F : Type 0} (Spells : V → Type 0) (IsFault : F → Type 0) (num
 spent Spells IsFault number takes stays n e same any = record {
   answer = inr (inr (e, same));
   taken = λ v spells. any v;
-  told = λ m cause. (inr e, same);
+  reported = λ m cause. (inr e, same);
 }
 
 pub spent_answer : {X : Type 0} (due : Result X ℕ) (done : X → Type 0) (stays : Type 0) (n : ℕ) → n ≡ out_of_memory → stays → IsAnswer due done stays n

@@ -10,5 +10,5 @@ returns-clause-complete c = code_answered c.read_lines.result c.args.text.now c.
 pub returns-clause-refused : goal.returns-clause-refused
 returns-clause-refused c = refusal_is c.read_lines.result c.args.text.now c.read_lines.ensures
 
-pub returns-clause-told : goal.returns-clause-told
-returns-clause-told c = fault_answered c.read_lines.result c.args.text.now c.read_lines.ensures
+pub returns-clause-reported : goal.returns-clause-reported
+returns-clause-reported c = fault_answered c.read_lines.result c.args.text.now c.read_lines.ensures

@@ -16,12 +16,12 @@ returns-in_err-code-clause-taken g c = λ code h.
     (Codec c.in_err-code.field-0.0) c.from_residual.ensures))
     (codec_taken c.in_err-code.field-0.0 code (c.in_err-code.ensures.read code h.spelled))
 
-pub returns-in_err-code-clause-told : goal.returns-in_err-code-clause-told
-returns-in_err-code-clause-told g c = λ fault h.
+pub returns-in_err-code-clause-reported : goal.returns-in_err-code-clause-reported
+returns-in_err-code-clause-reported g c = λ fault h.
     subst (λ r. ReturnsOrRunsOut program_fault_number r (Err fault)) (sym (converted c.from_residual.result
     (Codec c.in_err-code.field-0.0) c.from_residual.ensures))
     (codec_told c.in_err-code.field-0.0 g.D.Domain.ops c.args.context_len c.args.bytes.now c.in_err-code.ensures.read
-    c.in_err-code.ensures.told fault h)
+    c.in_err-code.ensures.reported fault h)
 
 pub returns-in_err-verified-clause-taken : goal.returns-in_err-verified-clause-taken
 returns-in_err-verified-clause-taken g c = λ code h.
@@ -38,8 +38,8 @@ returns-in_err-verified-clause-taken g c = λ code h.
     (c.one_verdict_for_theorem.ensures.one_refusal c.args.context_len c.in_ok-code.code)
     c.in_err-verified.field-0.0 c.in_err-verified.ensures.refused code h)
 
-pub returns-in_err-verified-clause-told : goal.returns-in_err-verified-clause-told
-returns-in_err-verified-clause-told g c = λ fault h.
+pub returns-in_err-verified-clause-reported : goal.returns-in_err-verified-clause-reported
+returns-in_err-verified-clause-reported g c = λ fault h.
     let bytes = c.args.bytes.now in
     let spelled = c.in_ok-code.ensures.spelled in
     let one : (other : List Insn) → Spells bytes other → other ≡ c.in_ok-code.code =
@@ -53,8 +53,8 @@ returns-in_err-verified-clause-told g c = λ fault h.
     (c.one_verdict_for_theorem.ensures.one_refusal c.args.context_len c.in_ok-code.code)
     c.in_err-verified.field-0.0 c.in_err-verified.ensures.refused fault h)
 
-pub returns-clause-told : goal.returns-clause-told
-returns-clause-told g c = λ fault h.
+pub returns-clause-reported : goal.returns-clause-reported
+returns-clause-reported g c = λ fault h.
     let bytes = c.args.bytes.now in
     let spelled = c.in_ok-code.ensures.spelled in
     let one : (other : List Insn) → Spells bytes other → other ≡ c.in_ok-code.code =

@@ -6,4 +6,4 @@ pub returns-in-Ok : goal.returns-in-Ok
 returns-in-Ok c =
     let d = c.decode_entry in
     taken _ _ _ (λ entry. AppliesEntry entry c.args.replica.now c.apply_entry.new.replica c.apply_entry.result) _ _ d.result c.in-Ok.entry
-    c.in-Ok.is d.ensures.spelled d.ensures.taken d.ensures.told c.apply_entry.ensures
+    c.in-Ok.is d.ensures.spelled d.ensures.taken d.ensures.reported c.apply_entry.ensures

@@ -13,16 +13,16 @@ take_own-requires c =
     is_own_clash pass c.args.side.now ruling
     (c.requires.own c.if-is_own.true ∙ sym (ap (λ (p : Place). Some p.clashes) place)) (has_seen pass c.args.k ruling found)
 
-pub returns-then-is_own-clause-told : goal.returns-then-is_own-clause-told
-returns-then-is_own-clause-told c =
+pub returns-then-is_own-clause-taken : goal.returns-then-is_own-clause-taken
+returns-then-is_own-clause-taken c =
     let pass = c.read.new.pass in
     let ruling = as_ruling c.in-Some.ruling in
     let found : Some ruling ≡ seen pass c.args.k = search rules in
     told_or_not pass c.args.side.now c.take_own.new.self ruling c.take_own.result
     (has_seen pass c.args.k ruling found) c.take_own.ensures.done c.take_own.ensures.untouched
 
-pub returns-else-is_own-clause-told : goal.returns-else-is_own-clause-told
-returns-else-is_own-clause-told c =
+pub returns-else-is_own-clause-taken : goal.returns-else-is_own-clause-taken
+returns-else-is_own-clause-taken c =
     let pass = c.read.new.pass in
     let ruling = as_ruling c.in-Some.ruling in
     let found : Some ruling ≡ seen pass c.args.k = search rules in

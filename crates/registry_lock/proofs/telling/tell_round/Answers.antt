@@ -3,8 +3,8 @@ use Rattle.registry_lock.proofs.Told.{both_told, none_told}
 use Rattle.registry_lock.proofs.telling.tell_round.Goals.{in-Ok, in-Err+in-Some-1, in-Err+in-None-1}
 use Rattle.registry_lock.proofs.telling.tell_round.Goals as goal
 
-pub returns-clause-told : goal.returns-clause-told
-returns-clause-told g c =
+pub returns-clause-taken : goal.returns-clause-taken
+returns-clause-taken g c =
     let place = c.args.board.now.place in
     elim c.match-pass.branch [
       | in-Ok w ↦

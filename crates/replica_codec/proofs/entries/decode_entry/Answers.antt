@@ -20,7 +20,7 @@ returns-in-Ok c =
       spelled = spelled;
       taken = λ entry s. is_taken known bytes c.entry_by.result spelled refused entry s;
       refused = refused;
-      told = λ fault h. is_told known bytes c.entry_by.result spelled refused fault h;
+      reported = λ fault h. is_told known bytes c.entry_by.result spelled refused fault h;
     }
 
 pub returns-in-Err : goal.returns-in-Err
@@ -35,7 +35,7 @@ returns-in-Err c =
       spelled = tt;
       taken = λ entry s. is_taken known bytes (Err c.in-Err.fault) tt refused entry s;
       refused = refused;
-      told = λ fault h. is_told known bytes (Err c.in-Err.fault) tt refused fault h;
+      reported = λ fault h. is_told known bytes (Err c.in-Err.fault) tt refused fault h;
     }
 
 pub entry_by-requires : goal.entry_by-requires

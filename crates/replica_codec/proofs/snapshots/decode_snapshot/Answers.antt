@@ -39,7 +39,7 @@ returns-in-Ok c =
       spelled = spelled;
       taken = λ snapshot s. is_taken known tables bytes c.snapshot_by.result spelled refused snapshot s;
       refused = refused;
-      told = λ fault h. is_told known tables bytes c.snapshot_by.result spelled refused fault h;
+      reported = λ fault h. is_told known tables bytes c.snapshot_by.result spelled refused fault h;
     }
 
 pub returns-in-Err : goal.returns-in-Err
@@ -56,5 +56,5 @@ returns-in-Err c =
       spelled = tt;
       taken = λ snapshot s. is_taken known tables bytes (Err c.in-Err.fault) tt refused snapshot s;
       refused = refused;
-      told = λ fault h. is_told known tables bytes (Err c.in-Err.fault) tt refused fault h;
+      reported = λ fault h. is_told known tables bytes (Err c.in-Err.fault) tt refused fault h;
     }

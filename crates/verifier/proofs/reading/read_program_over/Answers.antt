@@ -13,12 +13,12 @@ returns-in_err-code-clause-taken g c = λ code h.
     (Codec c.in_err-code.field-0.0) c.from_residual.ensures))
     (codec_taken c.in_err-code.field-0.0 code (c.in_err-code.ensures.read code h.spelled))
 
-pub returns-in_err-code-clause-told : goal.returns-in_err-code-clause-told
-returns-in_err-code-clause-told g c = λ fault h.
+pub returns-in_err-code-clause-reported : goal.returns-in_err-code-clause-reported
+returns-in_err-code-clause-reported g c = λ fault h.
     subst (λ r. ReturnsOrRunsOut program_fault_number r (Err fault)) (sym (converted c.from_residual.result
     (Codec c.in_err-code.field-0.0) c.from_residual.ensures))
     (codec_told c.in_err-code.field-0.0 g.D.Domain.ops c.args.bytes.now c.in_err-code.ensures.read
-    c.in_err-code.ensures.told fault h)
+    c.in_err-code.ensures.reported fault h)
 
 pub returns-in_err-program-clause-taken : goal.returns-in_err-program-clause-taken
 returns-in_err-program-clause-taken g c = λ code h.
@@ -33,8 +33,8 @@ returns-in_err-program-clause-taken g c = λ code h.
     (c.one_verdict_theorem.ensures.one_refusal c.in_ok-code.code)
     c.in_err-program.field-0.0 c.in_err-program.ensures.refused code h)
 
-pub returns-in_err-program-clause-told : goal.returns-in_err-program-clause-told
-returns-in_err-program-clause-told g c = λ fault h.
+pub returns-in_err-program-clause-reported : goal.returns-in_err-program-clause-reported
+returns-in_err-program-clause-reported g c = λ fault h.
     let bytes = c.args.bytes.now in
     let spelled = c.in_ok-code.ensures.spelled in
     let one : (other : List Insn) → Spells bytes other → other ≡ c.in_ok-code.code =
@@ -46,8 +46,8 @@ returns-in_err-program-clause-told g c = λ fault h.
     (c.one_verdict_theorem.ensures.one_refusal c.in_ok-code.code)
     c.in_err-program.field-0.0 c.in_err-program.ensures.refused fault h)
 
-pub returns-clause-told : goal.returns-clause-told
-returns-clause-told g c = λ fault h.
+pub returns-clause-reported : goal.returns-clause-reported
+returns-clause-reported g c = λ fault h.
     let bytes = c.args.bytes.now in
     let spelled = c.in_ok-code.ensures.spelled in
     let one : (other : List Insn) → Spells bytes other → other ≡ c.in_ok-code.code =

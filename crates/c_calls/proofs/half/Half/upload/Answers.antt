@@ -7,4 +7,4 @@ returns c =
     let u = c.upload-uploaded in
     rw (← c.self.view_is) (rw c.id_in-bytes.ensures (rw c.number_of.ensures (rw c.slot_in.ensures
     (upload_done c.args.code.now (half_of c.self.inside.side c.self.inside.store) u.new.self c.args.id.now u.result u.ensures.kept
-    u.ensures.taken u.ensures.refused u.ensures.unchanged u.ensures.told))))
+    u.ensures.taken u.ensures.refused u.ensures.unchanged u.ensures.reported))))

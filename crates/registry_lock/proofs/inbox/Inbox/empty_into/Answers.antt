@@ -26,7 +26,7 @@ loop-turn-preserved g c =
     record {
       place = kept.same_board ∙ c.loop-turn.invariant.place;
       kept = keeps_through _ _ _ c.loop-turn.invariant.kept kept;
-      told = told_on _ _ _ _ _ _ (told_still _ _ _ _ _ kept c.loop-turn.invariant.told) c.take_seen.ensures.told;
+      told = told_on _ _ _ _ _ _ (told_still _ _ _ _ _ kept c.loop-turn.invariant.told) c.take_seen.ensures.taken;
       few = omega (arith, c.loop-turn-test.true);
       end = c.loop-turn.invariant.end;
     }
@@ -34,13 +34,13 @@ loop-turn-preserved g c =
 pub returns-after-loop-turn-clause-keeps : goal.returns-after-loop-turn-clause-keeps
 returns-after-loop-turn-clause-keeps g c = c.loop-turn.invariant.kept
 
-pub returns-after-loop-turn-clause-told : goal.returns-after-loop-turn-clause-told
-returns-after-loop-turn-clause-told g c =
+pub returns-after-loop-turn-clause-taken : goal.returns-after-loop-turn-clause-taken
+returns-after-loop-turn-clause-taken g c =
     told_fewer _ _ _ _ _ (omega (arith, c.loop-turn.invariant.few, c.loop-turn.invariant.end)) c.loop-turn.invariant.told
 
 pub returns-in_default-clause-keeps : goal.returns-in_default-clause-keeps
 returns-in_default-clause-keeps g c = c.loop-turn.invariant.kept
 
-pub returns-in_default-clause-told : goal.returns-in_default-clause-told
-returns-in_default-clause-told g c =
+pub returns-in_default-clause-taken : goal.returns-in_default-clause-taken
+returns-in_default-clause-taken g c =
     told_fewer _ _ _ _ _ (omega (arith, c.loop-turn.invariant.few, c.loop-turn.invariant.end)) c.loop-turn.invariant.told

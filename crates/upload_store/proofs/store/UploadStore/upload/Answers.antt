@@ -10,11 +10,11 @@ returns-in_err-uploaded-clause-taken c = λ fits.
     fault_passed fault c.from_residual.result (converted c.from_residual.result fault c.from_residual.ensures)
     (λ e. absurd (cc)) (c.in_err-uploaded.ensures.taken fits)
 
-pub returns-in_err-uploaded-clause-told : goal.returns-in_err-uploaded-clause-told
-returns-in_err-uploaded-clause-told c = λ other h.
+pub returns-in_err-uploaded-clause-reported : goal.returns-in_err-uploaded-clause-reported
+returns-in_err-uploaded-clause-reported c = λ other h.
     let fault = c.in_err-uploaded.field-0.0 in
     fault_passed fault c.from_residual.result (converted c.from_residual.result fault c.from_residual.ensures)
-    (λ e. let same : fault ≡ other = cc in ap Err same) (c.in_err-uploaded.ensures.told other h)
+    (λ e. let same : fault ≡ other = cc in ap Err same) (c.in_err-uploaded.ensures.reported other h)
 
 pub returns-in_err-uploaded-clause-rejected : goal.returns-in_err-uploaded-clause-rejected
 returns-in_err-uploaded-clause-rejected c = λ u.
@@ -27,9 +27,9 @@ returns-clause-taken c = λ fits.
     id_passed c.in_ok-uploaded.uploaded (uploaded_as (id_of c.args.bytes.now) fits.code)
     (c.in_ok-uploaded.ensures.taken fits)
 
-pub returns-clause-told : goal.returns-clause-told
-returns-clause-told c = λ other h.
-    no_fault c.in_ok-uploaded.uploaded other (c.in_ok-uploaded.ensures.told other h)
+pub returns-clause-reported : goal.returns-clause-reported
+returns-clause-reported c = λ other h.
+    no_fault c.in_ok-uploaded.uploaded other (c.in_ok-uploaded.ensures.reported other h)
 
 pub returns-clause-rejected : goal.returns-clause-rejected
 returns-clause-rejected c = λ u. no_rejection c.in_ok-uploaded.uploaded (c.in_ok-uploaded.ensures.rejected u)

@@ -15,10 +15,10 @@ returns-in_err-program-clause-refused c =
     unread_refused c.args.self.now c.args.bytes.now c.in_err-program.field-0.0 c.from_residual.result
     c.from_residual.ensures c.in_err-program.ensures.refused
 
-pub returns-in_err-program-clause-told : goal.returns-in_err-program-clause-told
-returns-in_err-program-clause-told c =
+pub returns-in_err-program-clause-reported : goal.returns-in_err-program-clause-reported
+returns-in_err-program-clause-reported c =
     unread_told c.args.self.now c.args.bytes.now c.in_err-program.field-0.0 c.from_residual.result
-    c.from_residual.ensures c.in_err-program.ensures.taken c.in_err-program.ensures.told
+    c.from_residual.ensures c.in_err-program.ensures.taken c.in_err-program.ensures.reported
 
 pub returns-in_err-program-clause-rejected : goal.returns-in_err-program-clause-rejected
 returns-in_err-program-clause-rejected c =
@@ -46,10 +46,10 @@ returns-clause-refused c =
     refused_from c.args.self.now c.args.bytes.now c.in_ok-program.program (record { 0 = c.digest.result })
     c.in_ok-program.ensures.accepted (named c) c.keep.result c.keep.ensures.refused
 
-pub returns-clause-told : goal.returns-clause-told
-returns-clause-told c =
+pub returns-clause-reported : goal.returns-clause-reported
+returns-clause-reported c =
     accepted_told c.args.self.now c.args.bytes.now c.in_ok-program.program (record { 0 = c.digest.result })
-    c.in_ok-program.ensures.accepted (named c) c.in_ok-program.ensures.taken c.in_ok-program.ensures.told c.keep.result
+    c.in_ok-program.ensures.accepted (named c) c.in_ok-program.ensures.taken c.in_ok-program.ensures.reported c.keep.result
     c.keep.ensures.place c.keep.ensures.refused
 
 pub returns-clause-rejected : goal.returns-clause-rejected
