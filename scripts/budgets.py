@@ -2,8 +2,8 @@
 """budgets.py [--write]: compares the instructions that the program takes with those in bench/budgets.
 
 Counts, by callgrind, the instructions of `heal judge` for each resolver of resolvers/ on the record of crates/heal_main/args,
-of `heal run` with one worker on a script in which 1,024 names clash, and of each call of a side with 1,024 and 2,048 names
-(bindings/c/cost.c). Fails if a count is more than 3 percent above its budget, and reports each that is as far below. --write
+of `heal run` with one worker on a script in which 1,024 names clash and on one in which a program of 1,024 instructions judges 256
+clashes, and of each call of a side with 1,024 and 2,048 names (bindings/c/cost.c). Fails if a count is more than 3 percent above its budget, and reports each that is as far below. --write
 writes the counts down. Needs the proved program, libheal (HEAL_OUT names its folder), a C compiler and valgrind.
 """
 
@@ -22,6 +22,8 @@ C = os.path.join(TOP, "bindings", "c")
 HEAL = os.path.join(TOP, "crates", "heal_main", "out", "heal_main")
 BUDGETS = os.path.join(TOP, "bench", "budgets")
 CLASHES = 1024
+LONG_CLASHES = 256
+LONG_CODE = "b700000000000000" + 1022 * "0700000001000000" + "9500000000000000"
 NAMES = [1024, 2048]
 PART = 0.03
 
@@ -36,10 +38,18 @@ def instructions(work, *words):
         return int(re.search(r"^summary: (\d+)", file.read(), re.MULTILINE).group(1))
 
 
-def script():
-    """The text of a script in which every name clashes, and a healing."""
-    lines = [f"register {side} name{i} {node}.{i} 5 0 - notify" for i in range(CLASHES) for side, node in ("a1", "b2")]
-    return "\n".join(lines + ["heal 7"]) + "\n"
+def script(clashes, resolver, first=()):
+    """The text of a script with these lines first, in which so many names clash by a resolver, and a healing."""
+    lines = [f"register {side} name{i} {node}.{i} 5 0 - {resolver}" for i in range(clashes) for side, node in ("a1", "b2")]
+    return "\n".join([*first, *lines, "heal 7"]) + "\n"
+
+
+def of_script(work, text):
+    """The instructions of a script with one worker."""
+    path = os.path.join(work, "script")
+    with open(path, "w", encoding="utf-8") as file:
+        file.write(text)
+    return instructions(work, "run", path, "--workers", "1")
 
 
 def of_sides(work):
@@ -61,10 +71,9 @@ def counts():
             name = os.path.basename(path)[:-len(".hex")]
             with open(path, encoding="utf-8") as file:
                 found[f"judge {name}"] = instructions(work, "judge", file.read().strip(), record)
-        path = os.path.join(work, "script")
-        with open(path, "w", encoding="utf-8") as file:
-            file.write(script())
-        found[f"run {CLASHES} clashes"] = instructions(work, "run", path, "--workers", "1")
+        found[f"run {CLASHES} clashes"] = of_script(work, script(CLASHES, "notify"))
+        long_script = script(LONG_CLASHES, "long", [f"upload long {LONG_CODE}"])
+        found[f"run {LONG_CLASHES} clashes by 1,024 instructions"] = of_script(work, long_script)
         found.update(of_sides(work))
     return found
 

@@ -1,14 +1,14 @@
 //! Code in a file of any of its forms.
 ghost use Rattle.std.specs.Prelude.{◌≡◌, ◌⊎◌, ℕ, List, take, Ok, IfOk, IfErr};
 ghost use Rattle.std.specs.List.{list_all};
-ghost use Rattle.hex.specs.Hex.{decode_of};
+ghost use Rattle.hex.specs.Hex.{decode_of, is_hex_digit};
 ghost use Rattle.refusals.specs.Answers.{HasCause};
 ghost use Rattle.code_file.specs.CodeFiles.{IsCodeFile, IsHexFault, IsNoCodeFile, IsObjectFault, digits_of, fault_number, is_elf, is_hex};
 ghost use Rattle.code_file.specs.Objects.{IsObjectCode};
 ghost use Rattle.code_file.specs.declared.fault.CodeFileFault.{CodeFileFault};
 ghost use Rattle.code_file.specs.declared.fault.CodeFileFault.TheVariants.{OutOfMemory};
 
-use crate::digits::{are_digits, decode_digits, decode_pairs};
+use crate::digits::decode_digits;
 use crate::fault::CodeFileFault;
 use crate::object::code_in_object;
 use std::alloc::{AllocError, Global};
@@ -58,6 +58,17 @@ fn trimmed(file: &[u8]) -> &[u8]
     &file[..len]
 }
 
+// Checks whether all bytes are hex digits. Reads them all, so that many are tested at once.
+fn are_digits(digits: &[u8]) -> bool
+    ensures { result ≡ list_all is_hex_digit digits.now }
+{
+    let mut all = true;
+    for digit in digits {
+        all &= digit.is_ascii_hexdigit();
+    }
+    all
+}
+
 // Decodes a file of hex digits. Copies them only if there is white space between them.
 fn decode_hex(alloc: Global, file: &[u8]) -> Result<Vec<u8>, CodeFileFault>
     ensures code { IfOk result (λ code. decode_of (digits_of file.now) ≡ Ok code.items) }
@@ -65,7 +76,7 @@ fn decode_hex(alloc: Global, file: &[u8]) -> Result<Vec<u8>, CodeFileFault>
 {
     let digits = trimmed(file);
     if are_digits(digits) {
-        return decode_pairs(alloc, digits);
+        return decode_digits(alloc, digits);
     }
     let digits = digits_of(alloc, digits)?;
     decode_digits(alloc, &digits)
