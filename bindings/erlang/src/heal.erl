@@ -97,8 +97,8 @@ init() ->
     end,
     erlang:load_nif(filename:join(priv_dir(), "heal_nif"), 0).
 
-%% The folder of the NIF. Where the application's folder isn't named after it, this is beside the file that is being loaded: during an
-%% upgrade `code:which/1' returns the file of the module that is still in use.
+%% The folder of the NIF. Where the application's folder isn't named after it, this is next to that of the file being loaded:
+%% during an upgrade `code:which/1' returns the file of the module that is still in use.
 priv_dir() ->
     case code:priv_dir(heal) of
         {error, bad_name} -> filename:join(filename:dirname(filename:dirname(code:where_is_file("heal.beam"))), "priv");

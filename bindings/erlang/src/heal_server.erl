@@ -262,7 +262,7 @@ heard(Node, {adopt, Number, Edit}, State) ->
 heard(Node, Body = {here, _}, State) ->
     event({message, Node, Body}, watched(Node, State));
 heard(Node, Body, State) when element(1, Body) =:= ask; element(1, Body) =:= hello; element(1, Body) =:= propose ->
-    %% Processes that are gone are looked for when the offers have come.
+    %% The registry checks which processes are gone when the offers have come.
     event({message, Node, Body}, roomy(0, State));
 heard(Node, Body = {offer, _, _, {_, Processes, _, _}, _}, State) ->
     event({message, Node, Body}, release_dead(roomy(map_size(Processes), State)));
