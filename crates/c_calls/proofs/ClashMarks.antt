@@ -1,30 +1,26 @@
--- What a merge keeps of each clash, and which half has its first registration.
-use Rattle.std.proofs.Common.{◌≡◌, ℕ, Bool, true, false, cond, if◌then◌else◌, not, ◌&&◌, ◌==◌, filter, filter_map, length, map, Option, Some, None, is_some, List, [], ◌∷◌, refl, ap, sym, subst, ◌∙◌, suc}
+-- What a merge keeps of each clash.
+use Rattle.std.proofs.Common.{◌≡◌, ℕ, Bool, true, false, cond, if◌then◌else◌, not, filter, length, map, Option, Some, None, is_some, List, [], ◌∷◌, refl, ap, sym, subst, ◌∙◌, suc}
 use Rattle.std.proofs.lemmas.Bool.{and_parts}
-use Rattle.std.proofs.lemmas.Cmp.{nat_eq_equiv}
 use Rattle.std.proofs.lemmas.Map.Keys.{sorted_head, sorted_tail}
 use Rattle.std.proofs.lemmas.List.Kept.{IsStrictlySortedBy-filter}
-use Rattle.std.specs.List.{AllByRecursion, cons_option}
+use Rattle.std.specs.List.{AllByRecursion}
 use Rattle.std.specs.List.Sorted.{IsStrictlySortedBy}
-use Rattle.std.specs.Option.{option_map_or}
 use Rattle.std.specs.declared.cmp.Ordering.{Ordering}
 use Rattle.std.specs.declared.cmp.Ordering.TheVariants.{Less, Equal, Greater}
 use Rattle.std.specs.Ordering.{is_eq, is_lt}
 use Rattle.std.specs.Cmp.{tied_itself}
 use Rattle.std.specs.FinMap.{get, keys, entries, entries_sorted}
 use Rattle.std.specs.FinMap.Entries.{is_sorted, below_all}
-use Rattle.clash_record.specs.declared.records.Facts.{Facts}
-use Rattle.clash_record.specs.declared.registrations.Registration.{Registration}
 use Rattle.clash_record.specs.Name.{Name}
-use Rattle.clash_record.specs.Orders.{name_cmp, registration_cmp}
-use Rattle.clash_record.specs.laws.Orders.{names_total, registrations_total}
+use Rattle.clash_record.specs.Orders.{name_cmp}
+use Rattle.clash_record.specs.laws.Orders.{names_total}
 use Rattle.builtin_resolvers.specs.declared.verdicts.Verdict3.{Verdict3}
 use Rattle.builtin_resolvers.specs.declared.verdicts.Verdict3.TheVariants.{First, Second, Neither}
 use Rattle.upload_store.specs.laws.Mapped.{to_true}
-use Rattle.partition_table.specs.Tables.{Row, Table, Clash, Gone, IsMerge, answer_at, merge, clash_at, clash_names, clashes, differ, facts_of, is_in, merged_at, same_facts, same_registration, unless_gone, winner}
+use Rattle.partition_table.specs.Tables.{Row, Table, Clash, Gone, IsMerge, answer_at, merge, clash_names, clashes, differ, is_in, merged_at, same_registration, unless_gone, winner}
 use Rattle.partition_table.specs.declared.judged.Judged.{Judged}
 use Rattle.exchange_core.specs.Finished.{Finished, IsFinished, clashes_merged}
-use Rattle.c_calls.specs.Outcomes.{has_first, has_winner, is_kept}
+use Rattle.c_calls.specs.Outcomes.{has_winner, is_kept}
 
 -- ---- lists
 
@@ -163,65 +159,3 @@ winners_kept f is merges named none_a none_b =
     (merges f.a f.b (map (λ judged. judged.answer) f.rulings) f.gone))
     none_a none_b (named f.a f.b f.uptime_a f.uptime_b) (length_map (λ (judged : Judged). judged.answer) f.rulings ∙ is.one_each)
     ∙ map_map (λ (judged : Judged). judged.answer) has_winner f.rulings
-
--- ---- which half has the first registration
-
-own_facts : (f : Facts) → same_facts f f ≡ true
-own_facts f = ap (λ b. b && f.uptime == f.uptime) (nat_eq_equiv.refl f.size) ∙ nat_eq_equiv.refl f.uptime
-
-module _ (of_a of_b : Facts) (a : Table) where
-  first_at : (n : Name) (r s : Option Row) (cs : List Clash) → same_facts of_b of_a ≡ false → get a n ≡ r
-      → map (has_first a) cs ≡ map (λ c. same_facts c.of_first of_a) cs
-      → map (has_first a) (cons_option (clash_at of_a of_b n r s) cs)
-      ≡ map (λ c. same_facts c.of_first of_a) (cons_option (clash_at of_a of_b n r s) cs)
-  first_at n None s cs apart e h = h
-  first_at n (Some r) None cs apart e h = h
-  first_at n (Some r) (Some s) cs apart e h =
-      by (same_registration r.registration s.registration) refl (is_lt (registration_cmp r.registration s.registration))
-    where
-      has : (first : Registration) → option_map_or (λ row. same_registration row.registration first) (get a n) false
-          ≡ same_registration r.registration first
-      has first = ap (λ row. option_map_or (λ (row : Row). same_registration row.registration first) row false) e
-
-      by : (same : Bool) → same_registration r.registration s.registration ≡ same → (less : Bool)
-          → (let found = cons_option (if same then None else Some (
-          if less
-          then record {
-            name = n;
-            first = r.registration;
-            second = s.registration;
-            of_first = of_a;
-            of_second = of_b;
-            code = r.code;
-          }
-          else record {
-            name = n;
-            first = s.registration;
-            second = r.registration;
-            of_first = of_b;
-            of_second = of_a;
-            code = s.code;
-          })) cs in map (has_first a) found ≡ map (λ (c : Clash). same_facts c.of_first of_a) found)
-      by true t less = h
-      by false t true =
-          ap (λ b. b ∷ map (has_first a) cs) (has r.registration ∙ ap is_eq (tied_itself registrations_total r.registration)
-          ∙ sym (own_facts of_a))
-          ∙ ap (λ bs. same_facts of_a of_a ∷ bs) h
-      by false t false =
-          ap (λ b. b ∷ map (has_first a) cs) (has s.registration ∙ t ∙ sym apart)
-          ∙ ap (λ bs. same_facts of_b of_a ∷ bs) h
-
-first_in : (of_a of_b : Facts) (a b : Table) (names : List Name) → same_facts of_b of_a ≡ false
-    → (let found = filter_map (λ n. clash_at of_a of_b n (get a n) (get b n)) names in
-    map (has_first a) found ≡ map (λ (c : Clash). same_facts c.of_first of_a) found)
-first_in of_a of_b a b [] apart = refl
-first_in of_a of_b a b (n ∷ names) apart =
-    first_at of_a of_b a n (get a n) (get b n) _ apart refl (first_in of_a of_b a b names apart)
-
--- halves with other facts: a clash has those of the half with its first registration
-pub first_by_facts : (a b : Table) (uptime_a uptime_b : ℕ)
-    → same_facts (facts_of b uptime_b) (facts_of a uptime_a) ≡ false
-    → map (has_first a) (clashes a uptime_a b uptime_b)
-    ≡ map (λ c. same_facts c.of_first (facts_of a uptime_a)) (clashes a uptime_a b uptime_b)
-unfolding clashes
-first_by_facts a b uptime_a uptime_b apart = first_in (facts_of a uptime_a) (facts_of b uptime_b) a b (keys a) apart

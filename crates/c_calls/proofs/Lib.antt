@@ -7,4 +7,3 @@ pub mod Hearing
 pub mod Keeping
 pub mod Uploading
 pub mod Repeating
-pub mod MarkedRows

@@ -11,7 +11,7 @@ use Rattle.builtin_resolvers.specs.declared.notice.Notice.{Notice}
 use Rattle.builtin_resolvers.specs.Telling.{notices_of}
 use Rattle.builtin_resolvers.specs.declared.verdicts.Verdict3.{Verdict3}
 use Rattle.builtin_resolvers.specs.declared.verdicts.Verdict3.TheVariants.{First, Second, Neither}
-use Rattle.partition_table.specs.Tables.{Table, Clash, Gone, same_registration}
+use Rattle.partition_table.specs.Tables.{Clash, Gone, has_first}
 use Rattle.partition_table.specs.declared.judged.Judged.{Judged}
 use Rattle.clash_record.specs.Name.{Name}
 use Rattle.exchange_core.specs.Finished.{Finished, clashes_merged}
@@ -24,10 +24,6 @@ use Rattle.c_calls.specs.declared.outcome.Outcome.{Outcome}
 use Rattle.c_calls.specs.Answers.{and_then}
 use Rattle.c_calls.specs.Sides.{side_id}
 use Rattle.c_calls.specs.Codes.{name_code, registration_code, side_code, verdict_code, notice_code}
-
--- the table has the name of a clash with its first registration
-abbrev pub has_first : Table → Clash → Bool
-has_first table clash = option_map_or (λ row. same_registration row.registration clash.first) (get table clash.name) false
 
 -- the merged table has the name of a clash
 abbrev pub is_kept : Finished → Clash → Bool

@@ -1,20 +1,12 @@
 -- The rows of a table as C reads them.
-use Rattle.std.specs.Prelude.{◌≡◌, ℕ, List, Result, Some, slice_get}
-use Rattle.std.specs.List.{AllByRecursion}
+use Rattle.std.specs.Prelude.{ℕ, List, Result, slice_get}
 use Rattle.std.specs.Option.{option_map, ok_or}
 use Rattle.std.specs.FinMap as map
-use Rattle.clash_record.specs.declared.registrations.Registration.{Registration}
-use Rattle.clash_record.specs.Name.{Name}
 use Rattle.partition_table.specs.Tables.{Table, rows_of, rows_above}
 use Rattle.c_calls.specs.declared.codes.HealRegistration.{HealRegistration}
 use Rattle.c_calls.specs.declared.codes.HealRow.{HealRow}
 use Rattle.c_calls.specs.Answers.{and_then}
 use Rattle.c_calls.specs.Codes.{name_of, registration_code, row_code}
-
--- the table has each of these rows
-abbrev pub AreRowsOf : Table → List (Name × Registration) → Type 0
-AreRowsOf table rows =
-    AllByRecursion (λ row. option_map (λ r. r.registration) (map.get table row.0) ≡ Some row.1) rows
 
 -- the registration of a name, or 44 or 31
 abbrev pub found_in : List ℕ → Table → Result HealRegistration ℕ

@@ -10,7 +10,7 @@ use crate::codes::{
     HealClash, HealName, HealNotice, name_code, notice_code, registration_code, side_code, side_id,
     verdict_code,
 };
-use crate::marking::{mark_first, mark_kept};
+use crate::marking::mark_kept;
 use builtin_resolvers::{Notices, Verdict3, notices};
 use clash_record::{Name, ResolverId, SideId};
 use exchange_core::{Finished, Judged};
@@ -86,7 +86,7 @@ impl Outcome {
         self.rulings.copy_from_slice(finished.rulings());
         let clashes = self.clashes.iter().as_slice();
         mark_kept(finished, clashes, &mut self.kept);
-        mark_first(finished, clashes, &mut self.of_a);
+        self.of_a.copy_from_slice(finished.first_of_a());
     }
 
     /// Returns the number of clashes.

@@ -1,5 +1,7 @@
 //! The rounds of an exchange, and the meeting of the two halves.
-ghost use Rattle.std.specs.Prelude.{◌≡◌, ◌<◌, [], All, Some, OnErr, IfOk, IfErr, length, vec_capacity};
+ghost use Rattle.std.specs.Prelude.{◌≡◌, ◌<◌, [], All, Some, IsTrue, OnErr, IfOk, IfErr, length, vec_capacity};
+ghost use Rattle.exchange_law.specs.Sides.{heard_clashes};
+ghost use Rattle.exchange_core.specs.Shown.{shown};
 ghost use Rattle.verdict_board.specs.Draws.{rounds};
 ghost use Rattle.registry_lock.specs.Meeting as meeting;
 ghost use Rattle.registry_lock.specs.Telling.{IsTold};
@@ -138,6 +140,7 @@ impl Halves {
         workers: Workers,
         gate: &G,
     ) -> Result<(Vec<Judged>, usize), HealFault>
+        requires own { heard_clashes (shown self.old.a) ≡ Some clashes.now }
         ensures healed { IfOk result (λ settled. (was : shown_as.Cluster) → AreSides was
             → AreTrying (plan_of plan.entry.now) was plan.entry.now.gone.now (halves_of self.old)
             → clashes.now ≡ clashes_shown (plan_of plan.entry.now) was
@@ -176,6 +179,7 @@ impl Halves {
     ) -> Result<(Finished, Finished), HealFault>
         requires pass { pass.old.place ≡ board.now.place }
         requires seats { All (λ s. s.draws ≡ board.now.draws) seats.items }
+        requires own { heard_clashes (shown self.old.a) ≡ Some board.now.place.clashes }
         ensures pass { pass.new.place ≡ pass.old.place }
         ensures merged { IfOk result (λ finished. (plan : planned.Plan) (was : shown_as.Cluster)
             → AreTrying plan was plan.gone (halves_of self.old)
@@ -192,14 +196,15 @@ impl Halves {
             if a.finished.is_some() && b.finished.is_some() {
                 break;
             }
-            seats = self.tell(rt, alloc, board, pass, seats, round, gate);
+            // In the first round the board's clashes are A's, which it shared.
+            seats = self.tell(rt, alloc, board, pass, seats, round, gate, round == 0);
             a.try_finish(alloc, &mut self.a);
             b.try_finish(alloc, &mut self.b);
         }
         both_finished(a, b)
     }
 
-    // Runs a round and hands its rulings to both halves. Returns the seats.
+    // Runs a round and hands its rulings to both halves. Returns the seats. Requires that the board's clashes are A's if `is_own`.
     fn tell<'p, G: Gate + Sync, R: Threads + Wait + Sync>(
         &mut self,
         rt: &R,
@@ -209,17 +214,19 @@ impl Halves {
         seats: Vec<Seat>,
         round: u32,
         gate: &G,
+        is_own: bool,
     ) -> Vec<Seat>
         requires pass { pass.old.place ≡ board.now.place }
         requires seats { All (λ s. s.draws ≡ board.now.draws) seats.items }
         requires round { round < rounds }
+        requires own { IsTrue is_own → heard_clashes (shown self.old.a) ≡ Some board.now.place.clashes }
         ensures keeps { meeting.Keeps pass.old pass.new }
         ensures a { IsTold pass.new (length board.entry.now.place.clashes) self.old.a self.new.a }
         ensures b { IsTold pass.new (length board.entry.now.place.clashes) self.old.b self.new.b }
         ensures seats { All (λ s. s.draws ≡ board.entry.now.draws) result.items }
     {
         let (a, b) = (&mut self.a, &mut self.b);
-        tell_round_by(rt, alloc, board, pass, seats, round, gate, a, b).seats
+        tell_round_by(rt, alloc, board, pass, seats, round, gate, is_own, a, b).seats
     }
 }
 

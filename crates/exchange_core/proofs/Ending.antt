@@ -1,19 +1,17 @@
 -- What a finish merges, and what it gives.
 use Rattle.std.proofs.Common.{◌≡◌, ℕ, zero, suc, true, if◌then◌else◌, List, [], ◌∷◌, length, map, Option, Some, None, is_some, slice_get, refl, sym, ap, ◌∙◌, subst, option_and_then}
 use Rattle.std.proofs.lemmas.Bool.{and_from}
-use Rattle.std.proofs.lemmas.List.{length-map}
 use Rattle.std.specs.List.{list_all}
 use Rattle.builtin_resolvers.specs.declared.verdicts.Verdict3.{Verdict3}
 use Rattle.clash_record.specs.Name.{Name}
-use Rattle.partition_table.specs.Tables.{Table, Clash}
+use Rattle.partition_table.specs.Tables.{Table, has_first}
 use Rattle.clash_record.specs.declared.side_id.SideId.{SideId}
 use Rattle.clash_record.specs.declared.side_id.SideId.TheVariants.{A, B}
 use Rattle.exchange_law.specs.Sides.{Judged, Heard, Exchange, Side, clashes_for, fit_for, merge_for, is_lawful, answer_in, merged_table, finish_in, finish}
-use Rattle.exchange_core.specs.Finished.{IsFinished, all_held, finished_at, finished_of, finished_in, finished_from}
-use Rattle.exchange_core.specs.model.Pairing.{clash_names_for}
+use Rattle.exchange_core.specs.Finished.{IsFinished, clashes_merged, all_held, finished_at, finished_of, finished_in, finished_from}
+use Rattle.exchange_core.specs.model.Keeping.{marks_for}
 use Rattle.exchange_core.specs.model.Finishing.{IsMergeable, IsMergeOf}
 use Rattle.exchange_law.specs.laws.Carried.{some_inj}
-use Rattle.exchange_law.specs.laws.Merges.{clash_names_are, own_merge}
 
 abbrev pub answers : List Judged → List Verdict3
 answers rulings = map (λ judged. judged.answer) rulings
@@ -39,34 +37,12 @@ held_at (None ∷ rulings) full k judged e = cc
 held_at (Some held ∷ rulings) full zero judged e = ap Some e
 held_at (Some held ∷ rulings) full (suc k) judged e = held_at rulings full k judged e
 
--- there is one clash a name that clashes
-length-names : (id : SideId) (own : Table) (u : ℕ) (other : Table) (v : ℕ) →
-    length (clashes_for id own u other v) ≡ length (clash_names_for id own other)
-length-names A own u other v =
-    sym (length-map (clashes_for A own u other v) (λ (c : Clash). c.name)) ∙ ap length (clash_names_are own other u v)
-length-names B own u other v =
-    sym (length-map (clashes_for B own u other v) (λ (c : Clash). c.name)) ∙ ap length (clash_names_are other own v u)
-
--- a side that merges its table with an equal one keeps it, if no name was withdrawn
-pub own_merge_for : (id : SideId) (own : Table) (answers : List Verdict3) → merge_for id own own answers [] [] ≡ own
-own_merge_for A own answers = own_merge own answers
-own_merge_for B own answers = own_merge own answers
-
 module _ {id : SideId} {own : Table} {x : Exchange} (m : IsMergeable id own x) where
   same_heard : (heard : Heard) → x.heard ≡ Some heard → m.heard ≡ heard
   same_heard heard is = some_inj (sym m.was_heard ∙ is)
 
   pub fits : (heard : Heard) → x.heard ≡ Some heard → fit_for id own heard.table ≡ true
   fits heard is = subst (λ (h : Heard). fit_for id own h.table ≡ true) (same_heard heard is) m.fit
-
-  pub one_answer_each : (heard : Heard) → x.heard ≡ Some heard → (given : List Verdict3) →
-      given ≡ answers (all_held heard.rulings) → length given ≡ length (clash_names_for id own heard.table)
-  one_answer_each heard is given e =
-      subst (λ (h : Heard). given ≡ answers (all_held h.rulings)
-      → length given ≡ length (clash_names_for id own h.table))
-      (same_heard heard is)
-      (λ e. ap length (e ∙ held_answers m.heard.rulings m.full) ∙ length-map m.heard.rulings answer_in ∙ m.places
-      ∙ length-names id own x.uptime m.heard.table m.heard.uptime) e
 
   pub merged_so : (heard : Heard) (theirs : List Name) → x.heard ≡ Some heard → x.their_list ≡ Some theirs →
       (rulings : List Judged) (table : Table) → rulings ≡ all_held heard.rulings →
@@ -95,6 +71,13 @@ by_side A own x heard theirs rulings table fit n lawful t =
     record { fit = fit; one_each = n; lawful = lawful; merged = t }
 by_side B own x heard theirs rulings table fit n lawful t =
     record { fit = fit; one_each = n; lawful = lawful; merged = t }
+
+-- its marks are those of the clashes
+pub marked_so : (id : SideId) (own : Table) (x : Exchange) (heard : Heard) (theirs : List Name) (rulings : List Judged)
+    (table : Table) → (let f = finished_at id own x heard theirs rulings table in
+    (marks_for id own x.uptime heard.table heard.uptime).0 ≡ map (has_first f.a) (clashes_merged f))
+marked_so A own x heard theirs rulings table = refl
+marked_so B own x heard theirs rulings table = refl
 
 -- what the rulings and the table make is finished
 pub finished_so : {id : SideId} {own : Table} {x : Exchange} → IsMergeable id own x → (rulings : List Judged)

@@ -1,4 +1,5 @@
 pub mod Bounded
+pub mod Comparing
 pub mod Due
 pub mod Ending
 pub mod Filling

@@ -1,5 +1,5 @@
 -- What the events of a journal record, and where a journal leads.
-use Rattle.std.specs.Prelude.{◌≡◌, ℕ, ◌*◌, List, [], ◌∷◌}
+use Rattle.std.specs.Prelude.{ℕ, ◌*◌, List, [], ◌∷◌}
 use Rattle.std.specs.Option.{option_and_then}
 use Rattle.std.specs.FinMap.{get}
 use Rattle.partition_table.specs.Tables.{most_names}

@@ -1,5 +1,6 @@
 pub mod Holding
 pub mod Keeping
+pub mod Marked
 pub mod Pairing
 pub mod Changing
 pub mod Early

@@ -1,7 +1,8 @@
 //! The result of a finish.
-ghost use Rattle.std.specs.Prelude.{◌≡◌};
+ghost use Rattle.std.specs.Prelude.{◌≡◌, map};
 ghost use Rattle.std.specs.Arc.{arc_value};
-ghost use Rattle.exchange_core.specs.Finished.{IsFinished, finished_by};
+ghost use Rattle.partition_table.specs.Tables.{has_first};
+ghost use Rattle.exchange_core.specs.Finished.{IsFinished, clashes_merged, finished_by};
 ghost use Rattle.exchange_core.specs.Codings.{names_of};
 
 use crate::held_table::HeldTable;
@@ -26,6 +27,7 @@ pub struct Finished {
     pub(crate) other: Arc<Table>,
     pub(crate) other_uptime: u64,
     pub(crate) other_gone: Arc<Vec<Name>>,
+    pub(crate) first_of_a: Vec<bool>,
     pub(crate) rulings: Vec<Judged>,
     pub(crate) table: Arc<Table>,
 }
@@ -38,12 +40,12 @@ impl Model for Finished {
 
     ghost coded = { coded_finished };
 
-    ghost use Rattle.exchange_core.specs.Finished.{IsFinished};
+    ghost use Rattle.exchange_core.specs.model.Marked.{IsMarked};
     ghost use Rattle.exchange_core.specs.Views.{finished_inside};
 
     ghost view = { finished_inside };
 
-    ghost invariant = { λ f. IsFinished (finished_inside f) };
+    ghost invariant = { IsMarked };
 }
 
 impl Finished {
@@ -119,6 +121,13 @@ impl Finished {
             SideId::A => &self.other_gone,
             SideId::B => &self.own_gone,
         }
+    }
+
+    /// Returns for each clash whether side A has its first registration, in the order of clashes.
+    pub fn first_of_a(&self) -> &[bool]
+        ensures { result.now ≡ map (has_first self.now.a) (clashes_merged self.now) }
+    {
+        &self.first_of_a
     }
 
     /// Returns the ruling of each clash, in the order of clashes.

@@ -1,10 +1,10 @@
 //! Finishes an exchange.
 ghost use Rattle.std.specs.Prelude.{◌≡◌, Some, IsTrue, IfOk, OnOk, OnErr, List, is_some, map};
 ghost use Rattle.std.specs.Arc.{arc_value};
-ghost use Rattle.std.specs.Option.{option_map_or};
+ghost use Rattle.partition_table.specs.Tables as tables;
 ghost use Rattle.exchange_law.specs.Sides as sides;
 ghost use Rattle.exchange_core.specs.Finished.{all_held, finished_at, finished_from};
-ghost use Rattle.exchange_core.specs.model.Finishing.{IsMergeable, IsMergeOf};
+ghost use Rattle.exchange_core.specs.model.Finishing.{IsComparedIn, IsMarkedIn, IsMergeable, IsMergeOf, merged_in};
 ghost use Rattle.clash_record.specs.Name.{Name};
 
 use crate::exchange::Exchange;
@@ -14,16 +14,16 @@ use crate::pairing::merge_own;
 use crate::state::State;
 use builtin_resolvers::Verdict3;
 use clash_record::SideId;
-use partition_table::{Judged, Table, clashes_theorem, fit_theorem};
+use partition_table::{Compared, Judged, MergedTable, Table};
 use std::alloc::{AllocError, Global};
 use std::mem;
 use std::sync::Arc;
 
-// The rulings of an exchange, and its merged table, unless that is the side's own.
+// The rulings of an exchange, and its merged table.
 #[derive(Drop)]
 struct Merged {
     rulings: Vec<Judged>,
-    table: Option<Table>,
+    table: MergedTable,
 }
 
 impl State {
@@ -38,31 +38,50 @@ impl State {
         let Some(exchange) = &self.exchange else {
             unreachable!()
         };
+        let Some(compared) = &self.compared else {
+            unreachable!()
+        };
         let Merged { rulings, table } = merge_exchange(
             alloc,
             self.id,
             self.table.table(),
             exchange,
+            compared,
         )?;
-        let mut held = hold(alloc, &mut self.table, table)?;
+        let mut held = hold(alloc, self.id, &mut self.table, exchange, table)?;
         let table = held.share()?;
         let Some(exchange) = self.exchange.take() else {
             unreachable!()
         };
-        self.clashes = None;
+        let Some(compared) = self.compared.take() else {
+            unreachable!()
+        };
         let own = mem::replace(&mut self.table, held);
-        Ok(finished_with(self.id, own, exchange, rulings, table))
+        Ok(finished_with(self.id, own, exchange, compared.first_of_a, rulings, table))
     }
 }
 
-// Holds the merged table, or the side's own if that is the merge.
-fn hold(alloc: Global, own: &mut HeldTable, merged: Option<Table>) -> Result<HeldTable, AllocError>
-    ensures held { IfOk result (λ held. held ≡ option_map_or (λ table. table) merged own.old) }
+// Holds the merged table: the side's own, the other's, or a new one.
+fn hold(
+    alloc: Global,
+    id: SideId,
+    own: &mut HeldTable,
+    exchange: &Exchange,
+    merged: MergedTable,
+) -> Result<HeldTable, AllocError>
+    requires { IsTrue (is_some exchange.now.heard) }
+    ensures held { IfOk result (λ held. merged_in id own.old exchange.now merged ≡ Some held) }
     ensures same { own.new ≡ own.old }
 {
-    match merged {
-        Some(table) => Ok(HeldTable::new(alloc, table)),
-        None => own.share_held(),
+    let Some(heard) = &exchange.heard else {
+        unreachable!()
+    };
+    match (merged, id) {
+        (MergedTable::New(table), _) => Ok(HeldTable::new(alloc, table)),
+        (MergedTable::A, SideId::A) | (MergedTable::B, SideId::B) => own.share_held(),
+        (MergedTable::A, SideId::B) | (MergedTable::B, SideId::A) => {
+            Ok(HeldTable::shared(alloc, heard.share_table()?))
+        }
     }
 }
 
@@ -72,23 +91,24 @@ fn merge_exchange(
     id: SideId,
     own: &Table,
     exchange: &Exchange,
+    compared: &Compared,
 ) -> Result<Merged, AllocError>
-    requires { IsMergeable id own.now exchange.now }
-    ensures { IfOk result (λ merged. IsMergeOf id own.now exchange.now merged.rulings.items
-        (option_map_or (λ table. table) merged.table own.now)) }
+    requires ready { IsMergeable id own.now exchange.now }
+    requires compared { IsComparedIn id own.now exchange.now compared.now }
+    ensures { IfOk result (λ merged. (table : tables.Table) → merged_in id own.now exchange.now merged.table ≡ Some table
+        → IsMergeOf id own.now exchange.now merged.rulings.items table) }
 {
     let (Some(heard), Some(theirs)) = (&exchange.heard, &exchange.their_list) else {
         unreachable!()
     };
     let rulings = held_rulings(alloc, heard.rulings())?;
     let answers = answers_of(alloc, &rulings)?;
-    // For the proof: the order of the two tables doesn't matter.
-    fit_theorem();
-    clashes_theorem();
     let table = merge_own(
         alloc,
+        id,
         own,
         heard.table(),
+        compared,
         &answers,
         exchange.withdrawn().names(),
         theirs,
@@ -101,10 +121,12 @@ fn finished_with(
     id: SideId,
     own: HeldTable,
     exchange: Exchange,
+    first_of_a: Vec<bool>,
     rulings: Vec<Judged>,
     table: Arc<Table>,
 ) -> Finished
     requires ready { IsMergeable id own exchange }
+    requires marked { IsMarkedIn id own exchange first_of_a.items }
     requires merged { IsMergeOf id own exchange rulings.items (arc_value table) }
     ensures { (heard : sides.Heard) (theirs : List Name) → exchange.heard ≡ Some heard
         → exchange.their_list ≡ Some theirs
@@ -124,6 +146,7 @@ fn finished_with(
         other,
         other_uptime,
         other_gone,
+        first_of_a,
         rulings,
         table,
     }

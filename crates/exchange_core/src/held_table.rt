@@ -52,6 +52,16 @@ impl HeldTable {
         }
     }
 
+    // Holds a table that others read. Allocates nothing.
+    pub(crate) fn shared(alloc: Global, table: Arc<Table>) -> HeldTable
+        ensures { result ≡ arc_value table }
+    {
+        HeldTable {
+            alloc,
+            held: Held::Shared(table),
+        }
+    }
+
     // Returns the table.
     pub(crate) fn table(&self) -> &Table
         ensures { result.now ≡ self.now }
@@ -88,10 +98,7 @@ impl HeldTable {
         ensures same { self.new ≡ self.old }
     {
         let shared = self.share()?;
-        Ok(HeldTable {
-            alloc: self.alloc,
-            held: Held::Shared(shared),
-        })
+        Ok(HeldTable::shared(self.alloc, shared))
     }
 
     // Registers the name like `Table::register_known`. Copies the table if others read it.

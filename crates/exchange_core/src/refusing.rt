@@ -148,10 +148,10 @@ impl State {
     pub(crate) fn has_clash(&self, k: u32, clash: &Clash) -> bool
         ensures { result ≡ has_clash self.now k clash.now }
     {
-        let Some(clashes) = &self.clashes else {
+        let Some(compared) = &self.compared else {
             return false;
         };
-        match clashes.get(k) {
+        match compared.clashes.get(k) {
             Some(own) => is_same_clash(clash, own),
             None => false,
         }
@@ -161,8 +161,8 @@ impl State {
     fn is_word_of(&self, exchange: &Exchange, k: u32, at: u64) -> bool
         ensures { result ≡ is_one_of_four at exchange.now.seed (length (clashes_of self.now)) k }
     {
-        let count = match &self.clashes {
-            Some(clashes) => clashes.len() as u32,
+        let count = match &self.compared {
+            Some(compared) => compared.clashes.len() as u32,
             None => 0,
         };
         is_one_of_four(at, exchange.seed(), count, k)

@@ -47,13 +47,13 @@ impl State {
         ensures written { calls_of journal.new.past.value
             ≡ reverse (settle_calls round self.old) ++ calls_of journal.old.past.value }
     {
-        let Some(clashes) = &self.clashes else {
+        let Some(compared) = &self.compared else {
             return;
         };
         let Some(exchange) = &mut self.exchange else {
             return;
         };
-        exchange.settle(round, clashes, journal);
+        exchange.settle(round, &compared.clashes, journal);
     }
 }
 

@@ -16,28 +16,29 @@ ghost use Rattle.exchange_law.specs.Sides as sides;
 ghost use Rattle.exchange_law.specs.Worlds.{offer_of, list_of};
 ghost use Rattle.exchange_core.specs.model.Early.{early_hear_fault};
 ghost use Rattle.exchange_core.specs.model.Hearing.{has_heard, clashes_offered};
+ghost use Rattle.exchange_core.specs.model.Keeping.{marks_of, marks_offered};
 ghost use Rattle.exchange_core.specs.model.Pairing.{fit_fault_for};
 
 use crate::exchange::{Exchange, Heard};
 use crate::fault::{MissingPart, SideFault};
 use crate::held_table::HeldTable;
 use crate::messages::{Offer, Withdrawals};
-use crate::pairing::clashes_own;
+use crate::pairing::compare;
 use crate::shown_rows::ShownRows;
 use clash_record::{Name, Registration, SideId};
-use partition_table::{ClashList, Judged, NameLimit, Table, TableFault};
+use partition_table::{ClashList, Compared, Judged, NameLimit, Table, TableFault};
 use std::alloc::{AllocError, Global};
 use std::marker::Model;
 use std::sync::Arc;
 use upload_store::UploadStore;
 
-// The state of a side apart from its journal, and the clashes of the open exchange.
+// The state of a side apart from its journal, and what a comparison of the two tables of the open exchange found.
 #[derive(Debug, Drop)]
 pub(crate) struct State {
     pub(crate) id: SideId,
     pub(crate) table: HeldTable,
     pub(crate) exchange: Option<Exchange>,
-    pub(crate) clashes: Option<Arc<ClashList>>,
+    pub(crate) compared: Option<Compared>,
     pub(crate) latest: Option<u64>,
 }
 
@@ -49,12 +50,12 @@ impl Model for State {
 
     ghost coded = { coded_side };
 
-    ghost use Rattle.exchange_core.specs.model.Keeping.{HasClashes};
+    ghost use Rattle.exchange_core.specs.model.Keeping.{HasCompared};
     ghost use Rattle.exchange_core.specs.Views.{state_seen};
 
     ghost view = { state_seen };
 
-    ghost invariant = { HasClashes };
+    ghost invariant = { HasCompared };
 }
 
 impl State {
@@ -66,7 +67,7 @@ impl State {
             id,
             table: HeldTable::new(alloc, Table::new(alloc)),
             exchange: None,
-            clashes: None,
+            compared: None,
             latest: None,
         }
     }
@@ -116,8 +117,8 @@ impl State {
     pub(crate) fn clashes(&self) -> Option<&ClashList>
         ensures { option_map (λ list. list.now) result ≡ heard_clashes self.now }
     {
-        match &self.clashes {
-            Some(clashes) => Some(clashes),
+        match &self.compared {
+            Some(compared) => Some(&compared.clashes),
             None => None,
         }
     }
@@ -126,8 +127,8 @@ impl State {
     pub(crate) fn has_clashes(&self, clashes: &ClashList) -> bool
         ensures { Decides result (heard_clashes self.now ≡ Some clashes.now) }
     {
-        match &self.clashes {
-            Some(own) => is_same_list(own, clashes),
+        match &self.compared {
+            Some(own) => is_same_list(&own.clashes, clashes),
             None => false,
         }
     }
@@ -137,13 +138,13 @@ impl State {
         ensures answer { IsAnswered side_fault_number (due.clashes_fault self.now) result }
         ensures clashes { IfOk result (λ list. heard_clashes self.now ≡ Some (arc_value list)) }
     {
-        let Some(clashes) = &self.clashes else {
+        let Some(compared) = &self.compared else {
             return Err(match &self.exchange {
                 Some(_) => SideFault::Missing(MissingPart::TheirOffer),
                 None => SideFault::NotHealing,
             });
         };
-        Ok(clashes.clone()?)
+        Ok(compared.clashes.clone()?)
     }
 
     // What the name is registered with, unless it was withdrawn.
@@ -227,7 +228,7 @@ impl State {
     {
         let table = self.table.share()?;
         self.exchange = Some(Exchange::new(alloc, number, seed, uptime));
-        self.clashes = None;
+        self.compared = None;
         self.latest = Some(number);
         Ok(Offer::new(self.id, number, seed, uptime, table))
     }
@@ -257,29 +258,31 @@ impl State {
         if self.has_heard() {
             return Ok(());
         }
-        let clashes = self.clashes_with(alloc, limit, offer)?;
-        self.keep_offer(alloc, offer, clashes)?;
+        let compared = self.compare_with(alloc, limit, offer)?;
+        self.keep_offer(alloc, offer, compared)?;
         Ok(())
     }
 
-    // Returns the clashes of the table with the offer's, unless the two don't fit together.
-    fn clashes_with(
+    // Compares the table with the offer's, unless the two don't fit together.
+    fn compare_with(
         &self,
         alloc: Global,
         limit: NameLimit,
         offer: &Offer,
-    ) -> Result<ClashList, TableFault>
+    ) -> Result<Compared, TableFault>
         requires { IsTrue (is_some self.now.exchange) }
         ensures answer { IsAnswered table.table_fault_number
             (fit_fault_for limit.names self.now.id self.now.table offer.now.table) result }
-        ensures clashes { IfOk result (λ list. list ≡ clashes_offered self.now offer.now) }
+        ensures clashes { IfOk result (λ found. arc_value found.clashes ≡ clashes_offered self.now offer.now) }
+        ensures marks { IfOk result (λ found. Some (marks_of found) ≡ marks_offered self.now offer.now) }
     {
         let Some(exchange) = &self.exchange else {
             unreachable!()
         };
-        clashes_own(
+        compare(
             alloc,
             limit,
+            self.id,
             self.table.table(),
             exchange.uptime(),
             offer.table(),
@@ -287,26 +290,27 @@ impl State {
         )
     }
 
-    // Keeps the first offer with its clashes.
+    // Keeps the first offer, and what its comparison found.
     fn keep_offer(
         &mut self,
         alloc: Global,
         offer: &Offer,
-        clashes: ClashList,
+        compared: Compared,
     ) -> Result<(), AllocError>
         requires hearable { IsTrue (is_some (sides.hear self.old offer.now)) }
         requires unheard { has_heard self.old ≡ false }
-        requires clashes { clashes ≡ clashes_offered self.old offer.now }
+        requires clashes { arc_value compared.clashes ≡ clashes_offered self.old offer.now }
+        requires marks { Some (marks_of compared) ≡ marks_offered self.old offer.now }
         ensures done { OnOk result (sides.hear self.old offer.now ≡ Some self.new) }
         ensures unchanged { OnErr result (self.new ≡ self.old) }
     {
         let Some(exchange) = &mut self.exchange else {
             unreachable!()
         };
-        let heard = Heard::new(alloc, offer.share_table()?, offer.uptime(), clashes.len())?;
-        let clashes = Arc::new(alloc, clashes)?;
+        let places = compared.clashes.len();
+        let heard = Heard::new(alloc, offer.share_table()?, offer.uptime(), places)?;
         exchange.keep_heard(heard);
-        self.clashes = Some(clashes);
+        self.compared = Some(compared);
         Ok(())
     }
 
@@ -386,7 +390,7 @@ impl State {
             self.table.put(table);
         }
         self.exchange = None;
-        self.clashes = None;
+        self.compared = None;
         Ok(())
     }
 

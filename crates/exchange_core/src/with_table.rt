@@ -38,7 +38,7 @@ impl Side {
             id,
             table: HeldTable::new(alloc, table),
             exchange: None,
-            clashes: None,
+            compared: None,
             latest,
         };
         let journal = state.fresh_journal();

@@ -1,22 +1,19 @@
 -- Two tables fit together in either order, or in none.
-use Rattle.std.proofs.Common.{◌≡◌, ◌≤◌, ℕ, ◌+◌, Bool, true, ◌&&◌, if◌then◌else◌, not, filter, Option, Some, None, is_some, List, [], ◌∷◌, length, refl, ap, sym, ◌∙◌, arith}
+use Rattle.std.proofs.Common.{◌≡◌, ℕ, ◌+◌, Bool, true, ◌&&◌, if◌then◌else◌, not, filter, Option, Some, None, List, [], ◌∷◌, length, refl, ap, sym, ◌∙◌, arith}
 use Rattle.std.proofs.Math.Bool.{and_comm}
 use Rattle.std.proofs.Math.Nat.{add_right_comm}
 use Rattle.std.proofs.lemmas.List.Filters.{length-filter_both}
 use Rattle.std.proofs.lemmas.List.Kept.{IsStrictlySortedBy-filter}
-use Rattle.std.specs.Option.{option_map}
-use Rattle.std.specs.FinMap.{get, keys, len, contains_key, contains_key-keys}
+use Rattle.std.specs.FinMap.{keys, len, contains_key, contains_key-keys}
 use Rattle.std.specs.Prelude.{nat_le}
 use Rattle.std.specs.List.{list_any}
 use Rattle.clash_record.specs.Name.{Name}
-use Rattle.clash_record.specs.declared.registrations.Registration.{Registration}
 use Rattle.clash_record.specs.Orders.{name_cmp}
 use Rattle.clash_record.specs.laws.Orders.{names_total}
 use Rattle.partition_table.specs.declared.fault.TableFault.{TableFault}
 use Rattle.partition_table.specs.declared.fault.TableFault.TheVariants.{TooManyNames, OtherCode}
 use Rattle.partition_table.specs.Faults.{fit_fault}
-use Rattle.partition_table.specs.Tables.{Row, Table, is_name, rows_agree, agrees_with, tables_agree, union_len, fit_within}
-use Rattle.partition_table.specs.model.Merging.{names_without}
+use Rattle.partition_table.specs.Tables.{Table, is_name, rows_agree, agrees_with, tables_agree, union_len, fit_within, names_without}
 use Rattle.partition_table.proofs.Agreeing.{same_bool}
 use Rattle.partition_table.proofs.Held.{agree_from, agree_at}
 use Rattle.partition_table.proofs.Maps.{all_values_from, all_values_at}
@@ -54,30 +51,10 @@ union_back a b =
     ∙ ap (λ ns. length ns + length (alone b a) + length (alone a b)) (common_back a b)
     ∙ ap (λ n. n + length (alone a b)) (parts b a)
 
-empty : {X : Type 0} (xs : List X) → length xs ≡ 0 → xs ≡ []
-empty [] e = refl
-empty (x ∷ xs) e = absurd (omega (arith, e))
-
--- where the first has all but as many names as it has alone, the second has none alone
-pub none_there : (a b : Table) (alone : ℕ) → alone ≡ length (names_without b (keys a)) → len b + alone ≤ len a →
-    names_without a (keys b) ≡ []
-none_there a b alone counted few =
-    empty (names_without a (keys b)) (omega (arith, union_back a b, keys_length a, keys_length b, counted, few))
-
--- one name further
-pub counted_next : {X : Type 0} (shown : X → Registration) (b : Table) (n : Name) (other : Option X) (left : List Name)
-    (alone total : ℕ) → option_map (λ row. row.registration) (get b n) ≡ option_map shown other →
-    alone + length (names_without b (n ∷ left)) ≡ total →
-    alone + (if is_some other then 0 else 1) + length (names_without b left) ≡ total
-counted_next {X = X} shown b n other left alone total is counted = by (get b n) other is counted
-  where
-    by : (o : Option Row) (other : Option X) → option_map (λ row. row.registration) o ≡ option_map shown other →
-        alone + length (if not (is_some o) then n ∷ names_without b left else names_without b left) ≡ total →
-        alone + (if is_some other then 0 else 1) + length (names_without b left) ≡ total
-    by None None e h = omega (arith, h)
-    by None (Some x) e h = absurd (cc)
-    by (Some row) None e h = absurd (cc)
-    by (Some row) (Some x) e h = omega (arith, h)
+-- a list of no length has nothing
+pub no_names : {X : Type 0} (xs : List X) → length xs ≡ 0 → xs ≡ []
+no_names [] e = refl
+no_names (x ∷ xs) e = absurd (omega (arith, e))
 
 -- the names of the second and those that the first has alone are all
 pub union_by_alone : (a b : Table) (count alone : ℕ) → count ≡ len b → alone ≡ length (names_without b (keys a)) →

@@ -8,6 +8,7 @@ pub mod EitherWay
 pub mod Equal
 pub mod Held
 pub mod Holding
+pub mod Listed
 pub mod Maps
 pub mod MergeLen
 pub mod Merged
@@ -20,3 +21,4 @@ pub mod Settling
 pub mod Sides
 pub mod Uniting
 pub mod Walks
+pub mod Whole

@@ -5,8 +5,8 @@ use Rattle.builtin_resolvers.specs.declared.verdicts.Verdict3.{Verdict3}
 use Rattle.clash_record.specs.Name.{Name}
 use Rattle.clash_record.specs.Orders.{name_cmp}
 use Rattle.clash_record.specs.laws.Orders.{names_total}
-use Rattle.partition_table.specs.Tables.{Row, Table, Gone, is_in, merge, union_len, with_row}
-use Rattle.partition_table.specs.model.Merging.{put_all, settled, each_kept, names_without, answers_left}
+use Rattle.partition_table.specs.Tables.{Row, Table, Gone, is_in, merge, union_len, with_row, names_without}
+use Rattle.partition_table.specs.model.Merging.{put_all, settled, each_kept, answers_left}
 use Rattle.partition_table.proofs.Merged.{passes_merge, first_pass, alone_in_b}
 
 one_longer : (n : Name) (o : Option Row) (t : Table) → len (with_row n o t) ≤ len t + 1

@@ -1,5 +1,5 @@
 -- The table made name by name is the merge.
-use Rattle.std.proofs.Common.{◌≡◌, ℕ, ◌≤◌, Bool, true, false, cond, if◌then◌else◌, nat_le, not, ◌||◌, filter, Option, Some, None, is_some, List, [], ◌∷◌, ◌++◌, refl, ap, sym, ◌∙◌, arith}
+use Rattle.std.proofs.Common.{◌≡◌, ℕ, ◌≤◌, Bool, true, false, cond, if◌then◌else◌, nat_le, not, ◌&&◌, ◌||◌, filter, Option, Some, None, is_some, List, [], ◌∷◌, ◌++◌, refl, ap, sym, ◌∙◌, arith}
 use Rattle.std.proofs.lemmas.Bool.{and_parts, and_from, or_parts, or_from, leb-true, le-leb}
 use Rattle.std.proofs.lemmas.Map.Keys.{sorted_head, sorted_tail}
 use Rattle.std.proofs.lemmas.List.Kept.{IsStrictlySortedBy-filter}
@@ -14,8 +14,10 @@ use Rattle.clash_record.specs.laws.Orders.{names_total, names_exact}
 use Rattle.builtin_resolvers.specs.declared.verdicts.Verdict3.{Verdict3}
 use Rattle.builtin_resolvers.specs.declared.verdicts.Verdict3.TheVariants.{Neither}
 use Rattle.clash_record.specs.Name.{Name}
-use Rattle.partition_table.specs.Tables.{Row, Table, most_names, is_name, is_in, same_registration, differ, clash_names, answer_at, merged_at, winner, unless_gone, Gone, kept_at, IsMerge, with_row, tabulated, merge, union_len, tables_agree, fit_within, fit_together}
-use Rattle.partition_table.specs.model.Merging.{IsReady, first_answer, answers_behind, answers_left, kept_with, settled, put_all, names_without, each_kept}
+use Rattle.partition_table.specs.Faults.{fit_fault}
+use Rattle.partition_table.specs.declared.fault.TableFault.TheVariants.{TooManyNames, OtherCode}
+use Rattle.partition_table.specs.Tables.{Row, Table, most_names, is_name, is_in, same_registration, differ, clash_names, answer_at, merged_at, winner, unless_gone, Gone, kept_at, IsMerge, with_row, tabulated, merge, union_len, tables_agree, fit_within, fit_together, names_without}
+use Rattle.partition_table.specs.model.Merging.{IsReady, first_answer, answers_behind, answers_left, kept_with, settled, put_all, each_kept}
 use Rattle.partition_table.proofs.Maps.{get-insert_same}
 use Rattle.partition_table.proofs.Walks.{flipped}
 use Rattle.partition_table.proofs.OneClash.{keys_length}
@@ -333,6 +335,16 @@ pub fit_few : (a b : Table) → fit_together a b ≡ true → union_len a b ≤ 
 fit_few a b h = leb-true (union_len a b) most_names (and_parts _ _ h).0
 
 -- tables that fit into a limit fit together
+-- what no fault leaves of the tests
+pub fits_without : (limit : ℕ) (a b : Table) → fit_fault limit a b ≡ None → fit_within limit a b ≡ true
+fits_without limit a b none = by (nat_le (union_len a b) limit) (tables_agree a b) none
+  where
+    by : (few agree : Bool) → (if not few then Some TooManyNames else (if not agree then Some OtherCode else None)) ≡ None
+        → (few && agree) ≡ true
+    by true true e = refl
+    by true false e = absurd (cc)
+    by false agree e = absurd (cc)
+
 pub fits_together : (limit : ℕ) (a b : Table) → limit ≤ most_names → fit_within limit a b ≡ true → fit_together a b ≡ true
 fits_together limit a b most h =
     let parts = and_parts (nat_le (union_len a b) limit) (tables_agree a b) h in

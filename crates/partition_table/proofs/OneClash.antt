@@ -12,9 +12,8 @@ use Rattle.clash_record.specs.Name.{Name}
 use Rattle.std.specs.Prelude.{nat_le, if◌then◌else◌}
 use Rattle.partition_table.specs.declared.fault.TableFault.TheVariants.{TooManyNames}
 use Rattle.partition_table.specs.Faults.{fit_fault}
-use Rattle.partition_table.specs.Tables.{Row, Table, IsTable, Clash, clash_at, clashes, facts_of, most_names, tables_agree, union_len}
+use Rattle.partition_table.specs.Tables.{Row, Table, IsTable, Clash, clash_at, clashes, facts_of, most_names, tables_agree, union_len, names_without}
 use Rattle.partition_table.specs.model.Judging.{clash_by_name}
-use Rattle.partition_table.specs.model.Merging.{names_without}
 
 few_kept : {X Y : Type 0} (h : X → Option Y) (xs : List X) → length (filter_map h xs) ≤ length xs
 few_kept h [] = omega arith

@@ -16,13 +16,11 @@ use Rattle.clash_record.specs.laws.Orders.{names_total, names_exact}
 use Rattle.builtin_resolvers.specs.declared.verdicts.Verdict3.{Verdict3}
 use Rattle.builtin_resolvers.specs.declared.verdicts.Verdict3.TheVariants.{First, Second, Neither}
 use Rattle.clash_record.specs.Name.{Name}
-use Rattle.partition_table.specs.Tables.{Row, Table, merged_at, winner, same_registration, holds, unless_gone, with_row}
-use Rattle.partition_table.specs.model.Walking.{IsPaired}
-use Rattle.partition_table.specs.model.Merging.{IsRowOf, IsReady, answers_left, names_without}
+use Rattle.partition_table.specs.Tables.{Row, Table, merged_at, winner, same_registration, holds, unless_gone, with_row, names_without}
+use Rattle.partition_table.specs.model.Merging.{IsRowOf, IsReady}
 use Rattle.partition_table.proofs.Walks.{flipped, is_less}
 use Rattle.upload_store.specs.laws.Mapped.{to_true}
 use Rattle.partition_table.proofs.OneClash.{keys_length}
-use Rattle.partition_table.proofs.Uniting.{row_with}
 
 winner_is : (r s : Row) (x : Verdict3) → IfSome (winner r s x) (λ row. (Some r ≡ Some row) ⊎ (Some s ≡ Some row))
 winner_is r s First = by (is_lt (registration_cmp r.registration s.registration))
@@ -52,26 +50,7 @@ module _ (a b : Table) where
   pub merged_of : (n : Name) (x : Verdict3) → IfSome (merged_at (get a n) (get b n) x) (IsRowOf a b n)
   merged_of n x = merged_is (get a n) (get b n) x
 
-  module _ (n : Name) (mine : Registration) (other : Option Registration) (met : IsPaired a b (n, mine, other))
-      (x : Verdict3) where
-    -- what is settled is the registration that is kept
-    pub settled_kept : (kept : Option (Bor Registration))
-        → ((r : Row) (s : Option Row) → r.registration ≡ mine → option_map (λ row. row.registration) s ≡ other
-        → option_map (λ kept. kept.now) kept ≡ option_map (λ row. row.registration) (merged_at (Some r) s x))
-        → option_map (λ kept. kept.now) kept ≡ option_map (λ row. row.registration) (merged_at (get a n) (get b n) x)
-    settled_kept kept h =
-        let row = row_with (get a n) mine met.0 in
-        h row.0 (get b n) row.2 met.1
-        ∙ ap (λ r. option_map (λ (row : Row). row.registration) (merged_at r (get b n) x)) (sym row.1)
-
-    pub settled_left : (before after : List Verdict3)
-        → ((r : Row) (s : Option Row) → r.registration ≡ mine → option_map (λ row. row.registration) s ≡ other
-        → after ≡ answers_left (Some r) s before) → after ≡ answers_left (get a n) (get b n) before
-    settled_left before after h =
-        let row = row_with (get a n) mine met.0 in
-        h row.0 (get b n) row.2 met.1 ∙ ap (λ r. answers_left r (get b n) before) (sym row.1)
-
-  -- and it is a row of one of the two
+  -- what is settled is a row of one of the two
   pub kept_held : (n : Name) (row : Option Row) → IfSome row (IsRowOf a b n) → (kept : Option (Bor Registration))
       → option_map (λ kept. kept.now) kept ≡ option_map (λ row. row.registration) row
       → IfSome kept (λ kept. (row : Row) × IsRowOf a b n row × (row.registration ≡ kept.now))

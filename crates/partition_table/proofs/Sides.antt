@@ -123,7 +123,7 @@ differ_there (Some r) (Some s) = by (differ (Some r) (Some s))
     by true = refl
     by false = refl
 
-any_clash : (a b : Table) (q : Name) → list_any (is_name q) (clash_names a b) ≡ differ (get a q) (get b q)
+pub any_clash : (a b : Table) (q : Name) → list_any (is_name q) (clash_names a b) ≡ differ (get a q) (get b q)
 unfolding clash_names
 any_clash a b q =
     any_kept (λ name. differ (get a name) (get b name)) q (keys a)

@@ -182,6 +182,22 @@ pairs_met a b =
     paired_by a b (walk (rows_of a) (rows_of b)) (walk_owns (rows_of a) (rows_of b) (sorted_rows a))
     (walk_finds (rows_of a) (rows_of b) (sorted_rows a) (sorted_rows b))
 
+held_by : (table : Table) (rows ys : List (Name × Registration))
+    → AllByRecursion (λ item. find name_cmp item.0 (rows_of table) ≡ Some item.1) (walk rows ys)
+    → AllByRecursion (λ row. option_map (λ r. r.registration) (get table row.0) ≡ Some row.1) rows
+held_by table [] ys own = tt
+held_by table (row ∷ rows) ys own =
+    (sym (find_rows table row.0) ∙ own.0, held_by table rows (drop_through row.0 ys) own.1)
+
+-- a table has each of its rows
+pub rows_held : (table : Table)
+    → AllByRecursion (λ row. option_map (λ r. r.registration) (get table row.0) ≡ Some row.1) (rows_of table)
+rows_held table = held_by table (rows_of table) [] (walk_owns (rows_of table) [] (sorted_rows table))
+
+-- under each of its names
+pub rows_named : (table : Table) → map (λ row. row.0) (rows_of table) ≡ keys table
+rows_named table = names_shown (entries table)
+
 -- before the first name all rows are ahead
 pub all_ahead : (table : Table) → IsAhead table None (rows_of table)
 all_ahead table = record { sorted = sorted_rows table; all = λ name _. find_rows table name }

@@ -1,4 +1,5 @@
 pub mod Agreements
+pub mod Compared
 pub mod Faults
 pub mod Judged
 pub mod Rulings

@@ -1,6 +1,7 @@
 -- Tables, their clashes, and the merge of two.
 use Rattle.std.specs.Prelude.{◌≡◌, ℕ, ◌+◌, ◌*◌, ◌%◌, ◌^◌, ◌<◌, ◌≤◌, Bool, true, false, not, ◌&&◌, ◌||◌, nat_le, ◌==◌, IsTrue, if◌then◌else◌, List, [], ◌∷◌, ◌++◌, length, map, filter, Option, Some, None}
 use Rattle.std.specs.List.{filter_map, list_all, list_any}
+use Rattle.std.specs.Option.{option_map_or}
 use Rattle.std.specs.Ordering.{is_eq, is_lt, eq_by_cmp}
 use Rattle.std.specs.Cmp.Lexicographic.{pointwise}
 use Rattle.std.specs.FinMap.{FinMap, empty, get, insert, entries, keys, values, len, contains_key}
@@ -178,6 +179,14 @@ unfoldable pub clashes : Table → ℕ → Table → ℕ → List Clash
 clashes a uptime_a b uptime_b = filter_map (λ name. clash_at (facts_of a uptime_a) (facts_of b uptime_b) name
     (get a name) (get b name)) (keys a)
 
+-- the table has the name of a clash with its first registration
+abbrev pub has_first : Table → Clash → Bool
+has_first table clash = option_map_or (λ row. same_registration row.registration clash.first) (get table clash.name) false
+
+-- the names that a table lacks
+abbrev pub names_without : Table → List Name → List Name
+names_without a names = filter (λ name. not (contains_key a name)) names
+
 -- ---- judging
 
 -- what a resolver answers, of the code that it names: a program by its meaning on the record, a built-in by its table
@@ -269,7 +278,7 @@ merge a b answers gone = tabulated (keys a ++ keys b) (kept_at a b answers gone)
 
 -- how many names the two have together
 abbrev pub union_len : Table → Table → ℕ
-union_len a b = length (keys a) + length (filter (λ name. not (contains_key a name)) (keys b))
+union_len a b = length (keys a) + length (names_without a (keys b))
 
 -- the two have at most this many names together, and no program has two codes
 abbrev pub fit_within : ℕ → Table → Table → Bool

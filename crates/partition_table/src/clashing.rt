@@ -1,14 +1,16 @@
 //! The clashes of two tables.
-ghost use Rattle.std.specs.Prelude.{◌≡◌, ◌++◌, ◌∷◌, List, Some, IfOk, OnOk, length};
+ghost use Rattle.std.specs.Prelude.{◌≡◌, ◌≤◌, ◌++◌, ◌∷◌, [], List, Some, All, IfOk, OnOk, length, map};
+ghost use Rattle.std.specs.Arc.{arc_value};
 ghost use Rattle.std.specs.List.{filter_map};
 ghost use Rattle.std.specs.Option.{option_map};
-ghost use Rattle.std.specs.FinMap as map;
+ghost use Rattle.std.specs.FinMap.{get, keys};
 ghost use Rattle.refusals.specs.Answers.{IsAnswered};
 ghost use Rattle.clash_record.specs.Name.{Name};
+ghost use Rattle.partition_table.specs.Compared.{IsCompared};
 ghost use Rattle.partition_table.specs.Faults.{fit_fault, table_fault_number};
-ghost use Rattle.partition_table.specs.Tables.{IsTable, facts_of, clashes, clash_names};
+ghost use Rattle.partition_table.specs.Tables.{IsTable, facts_of, clashes, clash_names, has_first, most_names, names_without};
+ghost use Rattle.partition_table.specs.model.Coding.{IsCoded};
 ghost use Rattle.partition_table.specs.model.Judging.{clash_by_name};
-ghost use Rattle.partition_table.specs.model.Merging.{names_without};
 
 use crate::both::BothPrograms;
 use crate::clash::{Clash, ClashList, one_more_owner};
@@ -21,6 +23,7 @@ use crate::table::Table;
 use clash_record::{Facts, Name, Registration};
 use std::alloc::{AllocError, Global};
 use std::cmp::Ordering;
+use std::sync::Arc;
 
 // The maximum number of clashes for which a walk has room at its start.
 const FIRST_ROOM: usize = 4096;
@@ -48,6 +51,19 @@ impl<'a> Half<'a> {
     }
 }
 
+/// What a comparison of two tables finds.
+#[derive(Debug, Drop)]
+pub struct Compared {
+    /// The clashes, in the order of names.
+    pub clashes: Arc<ClashList>,
+    /// For each clash, whether table A has its first registration.
+    pub first_of_a: Vec<bool>,
+    /// The number of names that table A has alone.
+    pub alone_a: usize,
+    /// The number of names that table B has alone.
+    pub alone_b: usize,
+}
+
 /// Returns the clashes of two tables, in the order of names, with the uptime of each half.
 ///
 /// Walks both tables once. Allocates the list and copies of both maps of programs, and adds an owner to a program for each
@@ -65,23 +81,24 @@ pub fn clashes(
 {
     let programs = BothPrograms::of(a, b)?;
     let walked = walk(alloc, a, uptime_a, b, uptime_b)?;
-    Ok(ClashList::new(walked.clashes, programs))
+    Ok(ClashList::new(walked.found.clashes, programs))
 }
 
-/// Returns the clashes of two tables that have a merge of at most `limit` names, as `clashes` does.
+/// Compares two tables that have a merge of at most `limit` names: finds their clashes, as `clashes` does, which table has
+/// the first registration of each, and how many names each table has alone.
 ///
 /// Refusals, the least first: 37 if they have more names together, 42 if they have two codes under one id. Returns 90 when
 /// out of memory. Walks both tables once.
-pub fn clashes_within(
+pub fn compare_within(
     alloc: Global,
     limit: NameLimit,
     a: &Table,
     uptime_a: u64,
     b: &Table,
     uptime_b: u64,
-) -> Result<ClashList, TableFault>
+) -> Result<Compared, TableFault>
     ensures answer { IsAnswered table_fault_number (fit_fault limit.names a.now b.now) result }
-    ensures clashes { IfOk result (λ list. list ≡ clashes a.now uptime_a b.now uptime_b) }
+    ensures compared { IfOk result (IsCompared a.now uptime_a b.now uptime_b) }
 {
     if !a.agrees_with(b) {
         // Which of the two refusals it is depends on the number of names.
@@ -92,17 +109,54 @@ pub fn clashes_within(
     }
     let programs = BothPrograms::of_agreeing(alloc, a, b)?;
     let walked = walk(alloc, a, uptime_a, b, uptime_b)?;
-    if b.len() + walked.alone > limit.names() {
+    let names = b.len() + walked.alone;
+    if names > limit.names() {
         return Err(TableFault::TooManyNames);
     }
-    Ok(ClashList::new(walked.clashes, programs))
+    let alone_b = names - a.len();
+    Ok(walked.compared(alloc, programs, alone_b)?)
 }
 
 // What a walk over two tables finds: the clashes, and how many names the first has alone.
 #[derive(Drop)]
 struct Walked {
-    clashes: Vec<Clash>,
+    found: Found,
     alone: usize,
+}
+
+// Clashes, and whether the first table has the first registration of each.
+#[derive(Drop)]
+struct Found {
+    clashes: Vec<Clash>,
+    first_of_a: Vec<bool>,
+}
+
+impl Walked {
+    // Puts the parts of a comparison together.
+    fn compared(
+        self,
+        alloc: Global,
+        programs: BothPrograms,
+        alone_b: usize,
+    ) -> Result<Compared, AllocError>
+        requires few { length self.found.clashes.items ≤ most_names }
+        requires coded { All (IsCoded programs) self.found.clashes.items }
+        ensures clashes { IfOk result (λ compared. arc_value compared.clashes ≡ self.found.clashes.items) }
+        ensures first { IfOk result (λ compared. compared.first_of_a.items ≡ self.found.first_of_a.items) }
+        ensures alone { IfOk result (λ compared. (compared.alone_a ≡ self.alone) × (compared.alone_b ≡ alone_b)) }
+    {
+        let Found {
+            clashes,
+            first_of_a,
+        } = self.found;
+        let clashes = Arc::new(alloc, ClashList::new(clashes, programs))?;
+        Ok(Compared {
+            clashes,
+            first_of_a,
+            alone_a: self.alone,
+            alone_b,
+        })
+    }
 }
 
 // Walks both tables once.
@@ -113,58 +167,86 @@ fn walk(
     b: &Table,
     uptime_b: u64,
 ) -> Result<Walked, AllocError>
-    ensures clashes { IfOk result (λ walked. walked.clashes.items ≡ clashes a.now uptime_a b.now uptime_b) }
-    ensures alone { IfOk result (λ walked. walked.alone ≡ length (names_without b.now (map.keys a.now))) }
+    ensures clashes { IfOk result (λ walked. walked.found.clashes.items ≡ clashes a.now uptime_a b.now uptime_b) }
+    ensures first { IfOk result (λ walked. walked.found.first_of_a.items
+        ≡ map (has_first a.now) walked.found.clashes.items) }
+    ensures alone { IfOk result (λ walked. walked.alone ≡ length (names_without b.now (keys a.now))) }
     ensures kept { IfOk result (λ walked. IsTable a.now × IsTable b.now) }
 {
     let half_a = Half::new(a, uptime_a);
     let half_b = Half::new(b, uptime_b);
-    let mut found = Vec::with_capacity(alloc, a.len().min(b.len()).min(FIRST_ROOM))?;
+    let mut found = Found::with_capacity(alloc, a.len().min(b.len()).min(FIRST_ROOM))?;
     let mut alone = 0;
     for (name, mine, other) in Paired::new(half_a.table, half_b.table) {
         let Some(other) = other else {
             alone += 1;
             continue;
         };
-        push_clash(&mut found, name, mine, half_a, other, half_b)?;
+        found.push_clash(name, mine, half_a, other, half_b)?;
     }
     found.shrink_to_fit();
-    Ok(Walked {
-        clashes: found,
-        alone,
-    })
+    Ok(Walked { found, alone })
 }
 
-// Appends the clash of a name that both halves have, unless the registrations are equal.
-fn push_clash(
-    found: &mut Vec<Clash>,
-    name: &Name,
-    mine: &Registration,
-    half_a: Half<'_>,
-    other: &Registration,
-    half_b: Half<'_>,
-) -> Result<(), AllocError>
-    requires mine { option_map (λ row. row.registration) (map.get half_a.table.now name.now) ≡ Some mine.now }
-    requires other { option_map (λ row. row.registration) (map.get half_b.table.now name.now) ≡ Some other.now }
-    ensures found { OnOk result ((names : List Name)
-        → let by_name = clash_by_name half_a.entry.facts half_a.entry.table.now half_b.entry.facts half_b.entry.table.now in
-        found.new.items ++ filter_map by_name names ≡ found.old.items ++ filter_map by_name (name.now ∷ names)) }
-{
-    found.reserve(1)?;
-    match order(mine, other) {
-        Ordering::Less => {
-            let program = half_a.table.program_for(mine.resolver);
-            let program = one_more_owner(program)?;
-            let clash = Clash::new(*name, *mine, *other, half_a.facts, half_b.facts, program);
-            found.push_reserved(clash);
-        }
-        Ordering::Equal => {}
-        Ordering::Greater => {
-            let program = half_b.table.program_for(other.resolver);
-            let program = one_more_owner(program)?;
-            let clash = Clash::new(*name, *other, *mine, half_b.facts, half_a.facts, program);
-            found.push_reserved(clash);
-        }
+impl Found {
+    // Returns an empty list with room for as many clashes as this.
+    fn with_capacity(alloc: Global, clashes: usize) -> Result<Found, AllocError>
+        ensures clashes { IfOk result (λ found. found.clashes.items ≡ []) }
+        ensures first { IfOk result (λ found. found.first_of_a.items ≡ []) }
+    {
+        Ok(Found {
+            clashes: Vec::with_capacity(alloc, clashes)?,
+            first_of_a: Vec::with_capacity(alloc, clashes)?,
+        })
     }
-    Ok(())
+
+    // Gives back the room that the clashes don't take.
+    fn shrink_to_fit(&mut self)
+        ensures clashes { self.new.clashes.items ≡ self.old.clashes.items }
+        ensures first { self.new.first_of_a.items ≡ self.old.first_of_a.items }
+    {
+        self.clashes.shrink_to_fit();
+        self.first_of_a.shrink_to_fit();
+    }
+
+    // Appends the clash of a name that both halves have, unless the registrations are equal.
+    fn push_clash(
+        &mut self,
+        name: &Name,
+        mine: &Registration,
+        half_a: Half<'_>,
+        other: &Registration,
+        half_b: Half<'_>,
+    ) -> Result<(), AllocError>
+        requires mine { option_map (λ row. row.registration) (get half_a.table.now name.now) ≡ Some mine.now }
+        requires other { option_map (λ row. row.registration) (get half_b.table.now name.now) ≡ Some other.now }
+        requires first { self.old.first_of_a.items ≡ map (has_first half_a.table.now) self.old.clashes.items }
+        ensures found { OnOk result ((names : List Name)
+            → let by_name = clash_by_name half_a.entry.facts half_a.entry.table.now half_b.entry.facts half_b.entry.table.now in
+            self.new.clashes.items ++ filter_map by_name names
+            ≡ self.old.clashes.items ++ filter_map by_name (name.now ∷ names)) }
+        ensures first { OnOk result (self.new.first_of_a.items
+            ≡ map (has_first half_a.entry.table.now) self.new.clashes.items) }
+    {
+        self.clashes.reserve(1)?;
+        self.first_of_a.reserve(1)?;
+        match order(mine, other) {
+            Ordering::Less => {
+                let program = half_a.table.program_for(mine.resolver);
+                let program = one_more_owner(program)?;
+                let clash = Clash::new(*name, *mine, *other, half_a.facts, half_b.facts, program);
+                self.clashes.push_reserved(clash);
+                self.first_of_a.push_reserved(true);
+            }
+            Ordering::Equal => {}
+            Ordering::Greater => {
+                let program = half_b.table.program_for(other.resolver);
+                let program = one_more_owner(program)?;
+                let clash = Clash::new(*name, *other, *mine, half_b.facts, half_a.facts, program);
+                self.clashes.push_reserved(clash);
+                self.first_of_a.push_reserved(false);
+            }
+        }
+        Ok(())
+    }
 }

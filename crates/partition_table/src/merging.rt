@@ -1,33 +1,46 @@
 //! The merge of two tables.
-ghost use Rattle.std.specs.Prelude.{◌≡◌, ◌<◌, ◌≤◌, ◌+◌, if◌then◌else◌, is_some, ◌||◌, ◌&&◌, ◌↔◌, IsTrue, Option, Some, None, IfOk, OnOk, IfSome, length, []};
+ghost use Rattle.std.specs.Prelude.{◌≡◌, ◌<◌, ℕ, ◌||◌, ◌&&◌, IsTrue, Option, Some, None, IfOk, OnOk, IfSome, length, []};
 ghost use Rattle.std.specs.Option.{option_map};
 ghost use Rattle.std.specs.Arc.{arc_value};
 ghost use Rattle.std.specs.FinMap as map;
 ghost use Rattle.std.specs.BTreeSet.{contains};
-ghost use Rattle.std.specs.Slice.Iter.{iter_rest};
 ghost use Rattle.clash_record.specs.Orders.{name_cmp};
 ghost use Rattle.clash_record.specs.Name.{Name};
-ghost use Rattle.partition_table.specs.Tables.{IsTable, Row, max_names, most_names, tables_agree, differ, fit_together, clash_names, is_in};
-ghost use Rattle.partition_table.specs.Tables.{merged_at, unless_gone, with_row, merge};
+ghost use Rattle.partition_table.specs.Compared.{IsCompared, merged_by};
+ghost use Rattle.partition_table.specs.Tables.{IsTable, Row, max_names, most_names, tables_agree, fit_together, clash_names, is_in};
+ghost use Rattle.partition_table.specs.Tables.{clashes, unless_gone, with_row, merge, names_without};
 ghost use Rattle.refusals.specs.Answers.{IsAnswered};
 ghost use Rattle.partition_table.specs.Faults.{fit_fault, table_fault_number};
-ghost use Rattle.partition_table.specs.model.Merging.{IsRowOf, IsReady, holds_as, first_answer, answers_left};
-ghost use Rattle.partition_table.specs.model.Merging.{settled, put_all, names_without, each_kept, kept_with};
+ghost use Rattle.partition_table.specs.model.Merging.{IsRowOf, IsReady, holds_as};
+ghost use Rattle.partition_table.specs.model.Merging.{settled, put_all, each_kept};
 
 use crate::builder::TableBuilder;
+use crate::clash::ClashList;
+use crate::clashing::{Compared, compare_within};
 use crate::fault::TableFault;
-use crate::fitting::fit;
+use crate::laws::{clashes_theorem, merge_theorem};
+use crate::limit::NameLimit;
 use crate::order::order;
 use crate::paired::Paired;
 use crate::table::Table;
+use crate::upcoming::Upcoming;
 use builtin_resolvers::Verdict3;
 use clash_record::{Name, Registration, ResolverId};
 use std::alloc::{AllocError, Global};
-use std::cmp::Ordering;
 use std::collections::BTreeSet;
-use std::slice;
 use std::sync::Arc;
 use verifier::Verified;
+
+/// The merge of two tables.
+#[derive(Debug, Drop)]
+pub enum MergedTable {
+    /// Table A is the merge.
+    A,
+    /// Table B is the merge.
+    B,
+    /// A new table is the merge.
+    New(Table),
+}
 
 /// Merges two tables by one answer for each clash, in the order of names. Requires as many answers as clashes.
 ///
@@ -36,8 +49,8 @@ use verifier::Verified;
 /// side withdrew, in any order and with repetitions; a name that a side doesn't hold has no effect.
 ///
 /// Refusals, the least first: 37 if the tables have more than 4,096 names together, 42 if they have two codes under one
-/// id. Returns 90 when out of memory: it allocates the withdrawn names, the rows and one more owner of each program.
-/// Walks both tables once each way.
+/// id. Returns 90 when out of memory: it allocates the clashes, the withdrawn names, the rows and one more owner of each
+/// program. Compares the tables, and then merges them like `merge_compared`.
 pub fn merge(
     alloc: Global,
     a: &Table,
@@ -51,27 +64,42 @@ pub fn merge(
     ensures merged { IfOk result (λ table. table ≡ merge a.now b.now answers.now
         record { of_a = gone_a.now; of_b = gone_b.now }) }
 {
-    fit(a, b)?;
-    Ok(merge_fitting(alloc, a, b, answers, gone_a, gone_b)?)
+    let compared = compare_within(alloc, NameLimit::default(), a, 0, b, 0)?;
+    let merge = merge_compared(alloc, a, b, &compared, answers, gone_a, gone_b)?;
+    Ok(merge.into_table(a, b)?)
 }
 
-/// Merges two tables as `merge` does. Requires that they fit together, and compares no code. Walks the tables once if `b` has
-/// no name alone.
+/// Merges two tables, which were compared, as `merge` does. Requires that they fit together.
 ///
-/// Returns an error only when out of memory.
-pub fn merge_fitting(
+/// If no name clashes and none was withdrawn, a table that has all names is the merge, and nothing is allocated. Otherwise walks A's table
+/// and the clashes once, and both tables once more if B has a name alone. Returns an error only when out of memory.
+pub fn merge_compared(
     alloc: Global,
     a: &Table,
     b: &Table,
+    compared: &Compared,
     answers: &[Verdict3],
     gone_a: &[Name],
     gone_b: &[Name],
-) -> Result<Table, AllocError>
+) -> Result<MergedTable, AllocError>
     requires fit { IsTrue (fit_together a.now b.now) }
-    requires one_each { length answers.now ≡ length (clash_names a.now b.now) }
-    ensures { IfOk result (λ table. table ≡ merge a.now b.now answers.now
+    requires compared { (uptime_a : ℕ) × (uptime_b : ℕ) × IsCompared a.now uptime_a b.now uptime_b compared.now }
+    ensures { IfOk result (λ found. merged_by a.now b.now found ≡ merge a.now b.now answers.now
         record { of_a = gone_a.now; of_b = gone_b.now }) }
 {
+    // For the proof: the merge is defined name by name, in either order.
+    a.rows();
+    b.rows();
+    clashes_theorem();
+    merge_theorem();
+    if compared.clashes.is_empty() && gone_a.is_empty() && gone_b.is_empty() {
+        if compared.alone_b == 0 {
+            return Ok(MergedTable::A);
+        }
+        if compared.alone_a == 0 {
+            return Ok(MergedTable::B);
+        }
+    }
     let parents = Parents {
         a,
         b,
@@ -79,10 +107,23 @@ pub fn merge_fitting(
         gone_b: set_of(alloc, gone_b)?,
     };
     let mut merged = TableBuilder::with_capacity(alloc, a.len().max(b.len()))?;
-    let alone = parents.put_names_of_a(&mut merged, answers)?;
-    parents.put_names_of_b_alone(&mut merged, alone)?;
+    parents.put_names_of_a(&mut merged, &compared.clashes, answers)?;
+    parents.put_names_of_b_alone(&mut merged, compared.alone_b)?;
     let table = merged.finish(alloc)?;
-    Ok(table)
+    Ok(MergedTable::New(table))
+}
+
+impl MergedTable {
+    // Returns the table that the merge is. Copies it if it is one of the two.
+    fn into_table(self, a: &Table, b: &Table) -> Result<Table, AllocError>
+        ensures { IfOk result (λ table. table ≡ merged_by a.now b.now self) }
+    {
+        match self {
+            MergedTable::A => a.try_clone(),
+            MergedTable::B => b.try_clone(),
+            MergedTable::New(table) => Ok(table),
+        }
+    }
 }
 
 // What is merged: two tables, and the names that were withdrawn of each.
@@ -95,38 +136,38 @@ struct Parents<'a> {
 }
 
 impl<'a> Parents<'a> {
-    // Puts what is kept under the names of `a`, and returns how many names `a` has alone.
+    // Puts what is kept under the names of `a`, by the clashes of the two.
     fn put_names_of_a(
         &self,
         merged: &mut TableBuilder,
+        list: &ClashList,
         answers: &[Verdict3],
-    ) -> Result<usize, AllocError>
+    ) -> Result<(), AllocError>
         requires agree { IsTrue (tables_agree self.now.a.now self.now.b.now) }
+        requires tables { IsTable self.now.a.now × IsTable self.now.b.now }
+        requires listed { (uptime_a : ℕ) × (uptime_b : ℕ)
+            × (list.now ≡ clashes self.now.a.now uptime_a self.now.b.now uptime_b) }
         requires new { merged.old ≡ map.empty }
         ensures put { OnOk result (merged.new ≡ put_all (settled self.now.a.now self.now.b.now
             (contains name_cmp self.now.gone_a) (contains name_cmp self.now.gone_b)
             (map.keys self.now.a.now) answers.now) map.empty) }
         ensures few { OnOk result (IsReady self.now.a.now self.now.b.now [] (map.len self.now.a.now) merged.new) }
-        ensures alone { IfOk result (λ alone. alone ≡ length (names_without self.now.b.now (map.keys self.now.a.now))) }
     {
-        let mut answers = answers.iter();
-        let mut alone = 0;
-        for (name, mine, other) in Paired::new(self.a, self.b) {
-            alone = count_alone(alone, other);
-            let kept = settle(mine, other, &mut answers);
+        let mut upcoming = Upcoming::new(list.clashes(), answers);
+        for (name, mine) in self.a.rows() {
+            let kept = upcoming.settle(name, mine);
             self.put(merged, name, kept)?;
         }
-        Ok(alone)
+        Ok(())
     }
 
-    // Puts what is kept under the names that `b` has alone. `alone` is how many `a` has alone: where `a` has each name of `b`, this
-    // walks over nothing.
+    // Puts what is kept under the names that `b` has alone, of which there are this many.
     fn put_names_of_b_alone(
         &self,
         merged: &mut TableBuilder,
         alone: usize,
     ) -> Result<(), AllocError>
-        requires counted { alone ≡ length (names_without self.now.b.now (map.keys self.now.a.now)) }
+        requires counted { alone ≡ length (names_without self.now.a.now (map.keys self.now.b.now)) }
         requires agree { IsTrue (tables_agree self.now.a.now self.now.b.now) }
         requires ready { IsReady self.now.a.now self.now.b.now
             (names_without self.now.a.now (map.keys self.now.b.now)) most_names merged.old }
@@ -135,8 +176,7 @@ impl<'a> Parents<'a> {
             (map.get self.now.b.now name))
             (names_without self.now.a.now (map.keys self.now.b.now))) merged.old) }
     {
-        let names = self.a.len();
-        if self.b.len() + alone <= names {
+        if alone == 0 {
             return Ok(());
         }
         for (name, theirs, mine) in Paired::new(self.b, self.a) {
@@ -200,47 +240,6 @@ impl<'a> Parents<'a> {
             Some(program) => Some(program),
             None => self.b.program_for(resolver),
         }
-    }
-}
-
-// Counts one more name that the first table has alone, if the other lacks it.
-fn count_alone(alone: usize, other: Option<&Registration>) -> usize
-    requires { alone ≤ most_names }
-    ensures { result ≡ alone + (if is_some other.entry then 0 else 1) }
-{
-    match other {
-        Some(_) => alone,
-        None => alone + 1,
-    }
-}
-
-// What is kept of two tables under a name of the first. Takes an answer where the two have it with unequal
-// registrations.
-fn settle<'a>(
-    mine: &'a Registration,
-    other: Option<&'a Registration>,
-    answers: &mut slice::Iter<'_, Verdict3>,
-) -> Option<&'a Registration>
-    ensures kept { (r : Row) (s : Option Row) → r.registration ≡ mine.entry.now
-        → option_map (λ row. row.registration) s ≡ option_map (λ s. s.now) other.entry
-        → option_map (λ kept. kept.now) result
-        ≡ option_map (λ row. row.registration) (merged_at (Some r) s (first_answer (iter_rest answers.old))) }
-    ensures left { (r : Row) (s : Option Row) → r.registration ≡ mine.entry.now
-        → option_map (λ row. row.registration) s ≡ option_map (λ s. s.now) other.entry
-        → iter_rest answers.new ≡ answers_left (Some r) s (iter_rest answers.old) }
-{
-    let Some(other) = other else {
-        return Some(mine);
-    };
-    let (first, second) = match order(mine, other) {
-        Ordering::Less => (mine, other),
-        Ordering::Equal => return Some(mine),
-        Ordering::Greater => (other, mine),
-    };
-    match answers.next() {
-        Some(Verdict3::First) => Some(first),
-        Some(Verdict3::Second) => Some(second),
-        Some(Verdict3::Neither) | None => None,
     }
 }
 

@@ -40,19 +40,22 @@ impl Inbox {
         Inbox { queue: None }
     }
 
-    // Lets the side take the queued rulings as the pass reads them, at most one for each clash of the board.
+    // Lets the side take the queued rulings as the pass reads them, at most one for each clash of the board. Compares the board's
+    // clashes with the side's unless `is_own`: requires then that they are the side's.
     pub(crate) fn empty_into<'p, R: Wait>(
         &self,
         rt: &R,
         board: &Board<'p>,
         pass: &mut Pass<'p>,
+        is_own: bool,
         side: &mut Side,
     )
-        requires { pass.old.place ≡ board.now.place }
+        requires board { pass.old.place ≡ board.now.place }
+        requires own { IsTrue is_own → heard_clashes (shown side.old) ≡ Some board.now.place.clashes }
         ensures keeps { Keeps pass.old pass.new }
         ensures taken { IsTold pass.new (length board.now.place.clashes) side.old side.new }
     {
-        let is_own = side.has_clashes(board.clashes());
+        let is_own = is_its_own(is_own, board, side);
         for _turn in 0..board.clashes().len() {
             let Some(k) = self.next(rt) else {
                 break;
@@ -67,6 +70,17 @@ impl Inbox {
             None => None,
         }
     }
+}
+
+// Checks whether the board's clashes are the side's. Compares nothing if that is known.
+fn is_its_own(is_known: bool, board: &Board<'_>, side: &Side) -> bool
+    requires { IsTrue is_known → heard_clashes (shown side.now) ≡ Some board.now.place.clashes }
+    ensures { IsTrue result → heard_clashes (shown side.now) ≡ Some board.now.place.clashes }
+{
+    if is_known {
+        return true;
+    }
+    side.has_clashes(board.clashes())
 }
 
 // Lets the side take the ruling of clash k that the pass reads, if any. Drops a refusal. `is_own` is whether the side's

@@ -1,5 +1,7 @@
 //! A round whose rulings two sides take.
-ghost use Rattle.std.specs.Prelude.{◌≡◌, ◌<◌, ◌≤◌, All, length, vec_len};
+ghost use Rattle.std.specs.Prelude.{◌≡◌, ◌<◌, ◌≤◌, All, Some, IsTrue, length, vec_len};
+ghost use Rattle.exchange_law.specs.Sides.{heard_clashes};
+ghost use Rattle.exchange_core.specs.Shown.{shown};
 ghost use Rattle.verdict_board.specs.Draws.{rounds};
 ghost use Rattle.judge_pool.specs.Work.{round_posts};
 ghost use Rattle.registry_lock.specs.Meeting.{Keeps};
@@ -50,6 +52,7 @@ pub fn tell_round<'p, G: Gate + Sync, R: Threads + Wait + Sync>(
             seats,
             round,
             gate,
+            false,
             &mut first,
             &mut second,
         ),
@@ -61,7 +64,8 @@ pub fn tell_round<'p, G: Gate + Sync, R: Threads + Wait + Sync>(
     (first, second, done)
 }
 
-/// Like `tell_round`, for sides that are lent, which take what this pass reads.
+/// Like `tell_round`, for sides that are lent, which take what this pass reads. Compares the board's clashes with those of each side,
+/// but not with the first side's if `is_own`: requires then that they are the first side's.
 ///
 /// Requires a pass and seats of this board, and a round from 0 to 3.
 pub fn tell_round_by<'p, G: Gate + Sync, R: Threads + Wait + Sync>(
@@ -72,12 +76,14 @@ pub fn tell_round_by<'p, G: Gate + Sync, R: Threads + Wait + Sync>(
     seats: Vec<Seat>,
     round: u32,
     gate: &G,
+    is_own: bool,
     first: &mut Side,
     second: &mut Side,
 ) -> RoundDone
     requires pass { pass.old.place ≡ board.now.place }
     requires seats { All (λ s. s.draws ≡ board.now.draws) seats.items }
     requires round { round < rounds }
+    requires own { IsTrue is_own → heard_clashes (shown first.old) ≡ Some board.now.place.clashes }
     // The pass still sees what it had seen.
     ensures keeps { Keeps pass.old pass.new }
     // Each side differs only by takes of rulings that the pass has then seen, at most one for each clash.
@@ -94,7 +100,7 @@ pub fn tell_round_by<'p, G: Gate + Sync, R: Threads + Wait + Sync>(
     let left = Inbox::new(alloc);
     let right = Inbox::new(alloc);
     let done = heal_round(rt, alloc, board, seats, round, gate, &left, &right);
-    left.empty_into(rt, board, pass, first);
-    right.empty_into(rt, board, pass, second);
+    left.empty_into(rt, board, pass, is_own, first);
+    right.empty_into(rt, board, pass, false, second);
     done
 }

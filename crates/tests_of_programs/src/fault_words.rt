@@ -1,4 +1,5 @@
 //! Tests of the words, the numbers and the places of refusals.
+use crate::assertions::{assert_gives, assert_same};
 use assembler_text::{Fault, LineFault};
 use insn_codec::{CodecFault, LengthFault, SlotFault};
 use refusals::{Numbered, Place};
@@ -7,9 +8,13 @@ use std::fmt::Display;
 use std::test::Fail;
 use verifier::{ProgramFault, Rule, read_program};
 
-// Returns whether the fault is displayed as these words.
-fn is_displayed_as<F: Display>(alloc: Global, fault: &F, words: &str) -> Result<bool, Fail> {
-    Ok(format!(in alloc; "{fault}")?.as_str() == words)
+/// Returns whether the value is displayed as these words.
+pub(crate) fn is_displayed_as<F: Display>(
+    alloc: Global,
+    value: &F,
+    words: &str,
+) -> Result<bool, Fail> {
+    Ok(format!(in alloc; "{value}")?.as_str() == words)
 }
 
 // Returns the first words that aren't those of their fault.
@@ -32,7 +37,7 @@ const BAD_REGISTER: CodecFault = CodecFault::Slot {
 };
 
 // Faults of bytes, each with its words.
-const OF_BYTES: [(CodecFault, &'static str); 3] = [
+const OF_BYTES: &[(CodecFault, &'static str)] = &[
     (
         CodecFault::Length(LengthFault::Empty),
         "empty: no byte, or a text without an instruction",
@@ -42,7 +47,7 @@ const OF_BYTES: [(CodecFault, &'static str); 3] = [
 ];
 
 // Faults of listings, each with its words.
-const OF_LISTINGS: [(LineFault, &'static str); 7] = [
+const OF_LISTINGS: &[(LineFault, &'static str)] = &[
     (
         LineFault::Line {
             fault: Fault::Mnemonic,
@@ -98,45 +103,53 @@ fn is_refused_with(
     Ok((fault.number(), fault.place()) == numbered && is_displayed_as(alloc, &fault, words)?)
 }
 
-#[test]
-fn of_programs(rt: HostRuntime) -> Result<(), Fail> {
-    let rows: [(&[u8], u32, Option<Place>, &str); 4] = [
-        (
-            &[],
-            1,
-            None,
-            "empty: no byte, or a text without an instruction",
-        ),
-        (
-            &[0x95, 0, 0, 0, 0, 0, 0],
-            3,
-            None,
-            "an incomplete last slot",
-        ),
-        (
-            &[0xbf, 0x20, 0, 0, 0, 0, 0, 0, 0x95, 0, 0, 0, 0, 0, 0, 0],
-            15,
-            Some(Place::Slot(0)),
-            "slot 0: a read of a register that may be unset, or may be an address or a number",
-        ),
-        (
-            &[0xbf, 0x20, 0, 0, 0, 0, 0, 0, 0, 0, 0, 0, 0, 0, 0, 0],
-            4,
-            Some(Place::Slot(1)),
-            "slot 1: an unknown opcode or operation",
-        ),
-    ];
+// Bytes, and the number, the place and the words with which they are refused.
+type Refused = (&'static [u8], u32, Option<Place>, &'static str);
+
+const OF_PROGRAMS: &[Refused] = &[
+    (
+        &[],
+        1,
+        None,
+        "empty: no byte, or a text without an instruction",
+    ),
+    (
+        &[0x95, 0, 0, 0, 0, 0, 0],
+        3,
+        None,
+        "an incomplete last slot",
+    ),
+    (
+        &[0xbf, 0x20, 0, 0, 0, 0, 0, 0, 0x95, 0, 0, 0, 0, 0, 0, 0],
+        15,
+        Some(Place::Slot(0)),
+        "slot 0: a read of a register that may be unset, or may be an address or a number",
+    ),
+    (
+        &[0xbf, 0x20, 0, 0, 0, 0, 0, 0, 0, 0, 0, 0, 0, 0, 0, 0],
+        4,
+        Some(Place::Slot(1)),
+        "slot 1: an unknown opcode or operation",
+    ),
+];
+
+// Returns the words of the first row whose bytes are refused otherwise.
+fn first_refused_otherwise(alloc: Global, rows: &[Refused]) -> Result<Option<&'static str>, Fail> {
     for (bytes, number, place, words) in rows {
-        assert!(rt;
-            is_refused_with(rt.alloc(), bytes, (number, place), words)?,
-            "{words}"
-        );
+        if !is_refused_with(alloc, bytes, (*number, *place), words)? {
+            return Ok(Some(words));
+        }
     }
-    Ok(())
+    Ok(None)
+}
+
+#[test]
+fn of_programs(rt: HostRuntime) {
+    assert_gives(&rt, first_refused_otherwise(rt.alloc(), OF_PROGRAMS), None);
 }
 
 // Each rule with its words.
-const RULES: [(Rule, &'static str); 17] = [
+const RULES: &[(Rule, &'static str)] = &[
     (Rule::Backward, "a backward jump"),
     (Rule::Outside, "a jump to the end or past it"),
     (Rule::IntoWide, "a jump into a wide load"),
@@ -172,11 +185,10 @@ const RULES: [(Rule, &'static str); 17] = [
 ];
 
 #[test]
-fn of_bytes_listings_and_rules(rt: HostRuntime) -> Result<(), Fail> {
+fn of_bytes_listings_and_rules(rt: HostRuntime) {
     let numbered = (BAD_REGISTER.number(), BAD_REGISTER.place());
-    assert_eq!(rt; numbered, (5, Some(Place::Slot(3))));
-    assert_eq!(rt; first_misworded(rt.alloc(), &OF_BYTES)?, None);
-    assert_eq!(rt; first_misworded(rt.alloc(), &OF_LISTINGS)?, None);
-    assert_eq!(rt; first_misworded(rt.alloc(), &RULES)?, None);
-    Ok(())
+    assert_same(&rt, numbered, (5, Some(Place::Slot(3))));
+    assert_gives(&rt, first_misworded(rt.alloc(), OF_BYTES), None);
+    assert_gives(&rt, first_misworded(rt.alloc(), OF_LISTINGS), None);
+    assert_gives(&rt, first_misworded(rt.alloc(), RULES), None);
 }

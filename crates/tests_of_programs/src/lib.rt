@@ -4,6 +4,8 @@
 #[cfg(test)]
 mod abstract_states;
 #[cfg(test)]
+mod assertions;
+#[cfg(test)]
 mod code_bytes;
 #[cfg(test)]
 mod domain_calls;

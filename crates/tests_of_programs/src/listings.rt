@@ -1,4 +1,6 @@
 //! Tests of the assembler and the disassembler.
+use crate::assertions::{assert_gives, assert_same};
+use crate::fault_words::is_displayed_as;
 use assembler_text::{Listing, assemble, disassemble};
 use instruction_set::Insn;
 use refusals::{Numbered, Place};
@@ -20,7 +22,7 @@ const COMMENTED: &str =
 ";
 
 // Listings with the numbers and the lines of their refusals.
-const REFUSED: [(&str, u32, usize); 38] = [
+const REFUSED: &[(&str, u32, usize)] = &[
     ("foo", 60, 1),
     ("mov", 60, 1),
     ("mov64s64 r0, r1", 60, 1),
@@ -62,7 +64,7 @@ const REFUSED: [(&str, u32, usize); 38] = [
 ];
 
 // Listings with the disassembly of their code.
-const ACCEPTED: [(&str, &str); 11] = [
+const ACCEPTED: &[(&str, &str)] = &[
     (GREATER_TEXT, GREATER_TEXT),
     ("mov64 r0, 0x0000000001", "mov64 r0, 1\n"),
     ("mov64 r0, 0xFfFfFfFf", "mov64 r0, -1\n"),
@@ -118,8 +120,8 @@ fn first_not_written(alloc: Global, rows: &[(&'static str, &'static str)]) -> Op
 
 #[test]
 fn refused_and_accepted(rt: HostRuntime) {
-    assert_eq!(rt; first_not_refused(rt.alloc(), &REFUSED), None);
-    assert_eq!(rt; first_not_written(rt.alloc(), &ACCEPTED), None);
+    assert_same(&rt, first_not_refused(rt.alloc(), REFUSED), None);
+    assert_same(&rt, first_not_written(rt.alloc(), ACCEPTED), None);
 }
 
 // Returns the number of instructions of the first listing, and whether the second has the same code.
@@ -130,16 +132,15 @@ fn len_and_same(alloc: Global, text: &str, other: &str) -> Option<(usize, bool)>
 }
 
 #[test]
-fn displays_one_insn(rt: HostRuntime) -> Result<(), Fail> {
-    let text = format!(in rt.alloc(); "{}", Listing(Insn::Jump { distance: -2 }))?;
-    assert_eq!(rt; text.as_str(), "ja -2");
-    Ok(())
+fn displays_one_insn(rt: HostRuntime) {
+    let jump = Listing(Insn::Jump { distance: -2 });
+    assert_gives(&rt, is_displayed_as(rt.alloc(), &jump, "ja -2"), true);
 }
 
 #[test]
 fn comments_change_nothing(rt: HostRuntime) {
     let seen = len_and_same(rt.alloc(), GREATER_TEXT, COMMENTED);
-    assert_eq!(rt; seen, Some((6, true)));
+    assert_same(&rt, seen, Some((6, true)));
 }
 
 // Returns the refusal of a listing with this text after 1,024 lines of one slot each.
@@ -152,14 +153,16 @@ fn refusal_after_1024(alloc: Global, goes_on: &str) -> Result<Option<(u32, usize
     Ok(refusal(alloc, text.as_str()))
 }
 
+// What comes after 1,024 slots, and the refusal.
+const AFTER_1024: &[(&str, Option<(u32, usize)>)] = &[
+    ("", None),
+    ("exit", Some((2, 1025))),
+    ("exit r1", Some((63, 1025))),
+];
+
 #[test]
-fn too_many_slots(rt: HostRuntime) -> Result<(), Fail> {
-    for (goes_on, refused) in [
-        ("", None),
-        ("exit", Some((2, 1025))),
-        ("exit r1", Some((63, 1025))),
-    ] {
-        assert_eq!(rt; refusal_after_1024(rt.alloc(), goes_on)?, refused);
+fn too_many_slots(rt: HostRuntime) {
+    for (goes_on, refused) in AFTER_1024 {
+        assert_gives(&rt, refusal_after_1024(rt.alloc(), goes_on), *refused);
     }
-    Ok(())
 }

@@ -2,9 +2,11 @@
 //!
 //! A slot holds a state from the first edge into it that carries one until the slot is visited. The peaks in the rows
 //! follow from this: they are counted by hand.
+use crate::assertions::assert_gives;
 use abstract_value::{Both, Domain, Interval};
 use assembler_text::assemble;
 use std::alloc::Global;
+use std::fmt::Write;
 use std::test::Fail;
 use verifier::{Refusal, Rule, VerifyFault, verify_peak};
 
@@ -33,27 +35,24 @@ fn distance(targets: Targets, tests: u16, after: u16) -> u32 {
     }
 }
 
-// Returns code with tests from slot 1 on, `then` in the slot after them, and moves up to `exit` in the last slot. No
-// range decides a `jset`; R0 is 0, so no `jne` jumps.
-fn listing(alloc: Global, targets: Targets, tests: u16, then: &str) -> Result<String, Fail> {
+// Writes tests from slot 1 on, `then` in the slot after them, and moves up to `exit` in the last slot. No range decides
+// a `jset`; R0 is 0, so no `jne` jumps.
+fn write_listing(text: &mut String, targets: Targets, tests: u16, then: &str) -> Result<(), Fail> {
     let test = if targets == Targets::Dead {
         "jne"
     } else {
         "jset"
     };
-    let mut text = String::new(alloc);
     text.push_str("mov64 r0, 0\n")?;
     for after in (0..tests).rev() {
-        let distance = distance(targets, tests, after);
-        let line = format!(in alloc; "{test} r0, 0, +{distance}\n")?;
-        text.push_str(line.as_str())?;
+        writeln!(text, "{test} r0, 0, +{}", distance(targets, tests, after))?;
     }
     text.push_str(then)?;
     for _ in 1..tests {
         text.push_str("mov64 r0, 0\n")?;
     }
     text.push_str("exit\n")?;
-    Ok(text)
+    Ok(())
 }
 
 // Returns the peak, and the refusal of code that is refused.
@@ -65,8 +64,20 @@ fn peak_of<D: Domain>(alloc: Global, text: &str) -> Result<(u32, Option<Refusal>
     }
 }
 
+// Returns the peak of such a listing, and the refusal of one that is refused.
+fn peak_of_tests<D: Domain>(
+    alloc: Global,
+    targets: Targets,
+    tests: u16,
+    then: &str,
+) -> Result<(u32, Option<Refusal>), Fail> {
+    let mut text = String::new(alloc);
+    write_listing(&mut text, targets, tests, then)?;
+    peak_of::<D>(alloc, text.as_str())
+}
+
 // Tests, and the peak.
-const PEAKS: [(Targets, u16, u32); 16] = [
+const PEAKS: &[(Targets, u16, u32)] = &[
     (Targets::Rising, 1, 2),
     (Targets::Rising, 2, 3),
     (Targets::Rising, 3, 4),
@@ -87,51 +98,40 @@ const PEAKS: [(Targets, u16, u32); 16] = [
 
 // Returns the first row with another peak.
 fn first_other_peak<D: Domain>(alloc: Global) -> Result<Option<(Targets, u16, u32)>, Fail> {
-    for (targets, tests, peak) in PEAKS {
-        let text = listing(alloc, targets, tests, "mov64 r0, 0\n")?;
-        if peak_of::<D>(alloc, text.as_str())? != (peak, None) {
-            return Ok(Some((targets, tests, peak)));
+    for row in PEAKS {
+        let (targets, tests, peak) = *row;
+        let seen = peak_of_tests::<D>(alloc, targets, tests, "mov64 r0, 0\n")?;
+        if seen != (peak, None) {
+            return Ok(Some(*row));
         }
     }
     Ok(None)
 }
 
 #[test]
-fn a_state_waits_at_each_live_target(rt: HostRuntime) -> Result<(), Fail> {
-    assert_eq!(rt; first_other_peak::<Interval>(rt.alloc())?, None);
-    assert_eq!(rt; first_other_peak::<Both>(rt.alloc())?, None);
-    Ok(())
+fn a_state_waits_at_each_live_target(rt: HostRuntime) {
+    assert_gives(&rt, first_other_peak::<Interval>(rt.alloc()), None);
+    assert_gives(&rt, first_other_peak::<Both>(rt.alloc()), None);
 }
 
-// Returns the peak where the slot after these tests is refused, and the refusal.
-fn peak_at_refusal(
-    alloc: Global,
-    targets: Targets,
-    tests: u16,
-) -> Result<(u32, Option<Refusal>), Fail> {
-    let text = listing(alloc, targets, tests, "mov64 r0, r2\n")?;
-    peak_of::<Both>(alloc, text.as_str())
+// Tests before a slot that is refused, and the peak up to there.
+const PEAKS_AT_REFUSALS: &[(Targets, u16, u32)] = &[
+    (Targets::Rising, 3, 4),
+    (Targets::Last, 7, 2),
+    (Targets::Next, 7, 1),
+];
+
+fn refused_at(slot: u32, rule: Rule) -> Option<Refusal> {
+    Some(Refusal { slot, rule })
 }
 
 #[test]
-fn refused_code_has_the_peak_up_to_the_refusal(rt: HostRuntime) -> Result<(), Fail> {
-    for (targets, tests, peak) in [
-        (Targets::Rising, 3, 4),
-        (Targets::Last, 7, 2),
-        (Targets::Next, 7, 1),
-    ] {
-        let unreadable = Refusal {
-            slot: u32::from(tests) + 1,
-            rule: Rule::Unreadable,
-        };
-        let seen = peak_at_refusal(rt.alloc(), targets, tests)?;
-        assert_eq!(rt; seen, (peak, Some(unreadable)));
+fn refused_code_has_the_peak_up_to_the_refusal(rt: HostRuntime) {
+    for (targets, tests, peak) in PEAKS_AT_REFUSALS {
+        let seen = peak_of_tests::<Both>(rt.alloc(), *targets, *tests, "mov64 r0, r2\n");
+        let unreadable = refused_at(u32::from(*tests) + 1, Rule::Unreadable);
+        assert_gives(&rt, seen, (*peak, unreadable));
     }
-    let falls_off = Refusal {
-        slot: 0,
-        rule: Rule::FallsOff,
-    };
-    let seen = peak_of::<Both>(rt.alloc(), "mov64 r0, 0\n")?;
-    assert_eq!(rt; seen, (0, Some(falls_off)));
-    Ok(())
+    let seen = peak_of::<Both>(rt.alloc(), "mov64 r0, 0\n");
+    assert_gives(&rt, seen, (0, refused_at(0, Rule::FallsOff)));
 }

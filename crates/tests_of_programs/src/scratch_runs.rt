@@ -1,4 +1,5 @@
 //! Tests of runs in one scratch memory.
+use crate::assertions::assert_gives;
 use clash_record::{ClashRecord, RECORD_LEN, record_of};
 use interpreter::{Ended, Scratch, run, run_in, run_written};
 use std::alloc::Global;
@@ -13,30 +14,24 @@ const BY_STACK: [u8; 32] = [
     0x95, 0, 0, 0, 0, 0, 0, 0, // exit
 ];
 
-fn by_stack(alloc: Global) -> Result<Verified, Fail> {
-    Ok(read_program(alloc, &BY_STACK)?)
+// Returns the runs at the words 0 and `word` in one memory.
+fn two_runs(alloc: Global, word: u64) -> Result<(Ended, Ended), Fail> {
+    let program = read_program(alloc, &BY_STACK)?;
+    let mut scratch = Scratch::default();
+    let zero = run_written(&mut scratch, &program);
+    scratch.set_word(word);
+    Ok((zero, run_written(&mut scratch, &program)))
 }
 
-// Returns the runs at the words 0 and `word` in one memory.
-fn two_runs(program: &Verified, word: u64) -> (Ended, Ended) {
-    let mut scratch = Scratch::default();
-    let zero = run_written(&mut scratch, program);
-    scratch.set_word(word);
-    (zero, run_written(&mut scratch, program))
+// A run that ends with this answer.
+fn ended(r0: u64) -> Ended {
+    Ended { r0, steps: 4 }
 }
 
 #[test]
-fn one_memory_serves_many_words(rt: HostRuntime) -> Result<(), Fail> {
-    let (zero, greatest) = two_runs(&by_stack(rt.alloc())?, u64::MAX);
-    assert_eq!(rt; zero, Ended { r0: 0, steps: 4 });
-    assert_eq!(rt;
-        greatest,
-        Ended {
-            r0: u64::MAX,
-            steps: 4
-        }
-    );
-    Ok(())
+fn one_memory_serves_many_words(rt: HostRuntime) {
+    let wanted = (ended(0), ended(u64::MAX));
+    assert_gives(&rt, two_runs(rt.alloc(), u64::MAX), wanted);
 }
 
 // Returns a run on a copied record, a second run in the same memory, and whether the record is still there.
@@ -48,12 +43,18 @@ fn runs_on_copy(program: &Verified, record: &ClashRecord) -> (Ended, Ended, bool
     (copied, again, is_there)
 }
 
+// Returns a run on the record in a memory of its own, and the same as above.
+fn runs_on_record(
+    alloc: Global,
+    record: &ClashRecord,
+) -> Result<(Ended, (Ended, Ended, bool)), Fail> {
+    let program = read_program(alloc, &BY_STACK)?;
+    Ok((run(&program, record), runs_on_copy(&program, record)))
+}
+
 #[test]
-fn a_copied_record_stays(rt: HostRuntime) -> Result<(), Fail> {
-    let program = by_stack(rt.alloc())?;
-    let record = record_of([1; RECORD_LEN]);
-    let ended = run(&program, &record);
-    assert_eq!(rt; ended.r0, 0x0101_0101_0101_0101);
-    assert_eq!(rt; runs_on_copy(&program, &record), (ended, ended, true));
-    Ok(())
+fn a_copied_record_stays(rt: HostRuntime) {
+    let runs = runs_on_record(rt.alloc(), &record_of([1; RECORD_LEN]));
+    let all = ended(0x0101_0101_0101_0101);
+    assert_gives(&rt, runs, (all, (all, all, true)));
 }

@@ -1,4 +1,5 @@
 //! Tests of normal forms and of signed ranges, with expected values by hand.
+use crate::assertions::{assert_gives, assert_same};
 use crate::domain_calls::{
     compares_to_full, joined, of_alu, of_byte_extended, of_half_ordered, of_load, of_neg, of_refine,
 };
@@ -60,7 +61,7 @@ fn is_as_wanted(a: Option<Both>, want: Option<(Words, Numbers)>) -> bool {
 // Ends of both kinds, and the ends of the words between them, if any.
 type Form = (Words, Numbers, Option<(Words, Numbers)>);
 
-const FORMS: [Form; 9] = [
+const FORMS: &[Form] = &[
     // One range, below 2^63 and from there.
     ((0, 10), (5, MOST), Some(((5, 10), (5, 10)))),
     ((9, TOP - 3), (-9, -1), Some(((TOP - 8, TOP - 3), (-9, -4)))),
@@ -101,13 +102,13 @@ fn first_wrong_form(rows: &[Form]) -> Option<Form> {
 
 #[test]
 fn normal_forms(rt: HostRuntime) {
-    assert_eq!(rt; first_wrong_form(&FORMS), None);
+    assert_same(&rt, first_wrong_form(FORMS), None);
 }
 
 // An operation of the numbers from -5 to 7 and those of a range, and the ends of its result.
 type OfTwo = (Width, AluOp, Numbers, (Words, Numbers));
 
-const OF_TWO: [OfTwo; 8] = [
+const OF_TWO: &[OfTwo] = &[
     (Width::W64, AluOp::Mov, (-2, 1), ((0, TOP), (-2, 1))),
     (Width::W64, AluOp::Add, (1, 2), ((0, TOP), (-4, 9))),
     (
@@ -139,10 +140,11 @@ const OF_TWO: [OfTwo; 8] = [
 ];
 
 // Returns the first row whose operation has another result.
-fn first_wrong_of_two(few: &Both, rows: &[OfTwo]) -> Result<Option<OfTwo>, Fail> {
+fn first_wrong_of_two(rows: &[OfTwo]) -> Result<Option<OfTwo>, Fail> {
+    let few = numbers(-5, 7)?;
     for row in rows {
         let (width, op, b, want) = *row;
-        let computed = of_alu(width, op, few, &numbers(b.0, b.1)?);
+        let computed = of_alu(width, op, &few, &numbers(b.0, b.1)?);
         if !has_ends(&computed, want) {
             return Ok(Some(*row));
         }
@@ -150,32 +152,42 @@ fn first_wrong_of_two(few: &Both, rows: &[OfTwo]) -> Result<Option<OfTwo>, Fail>
     Ok(None)
 }
 
-fn extends_to(a: &Both, want: (Words, Numbers)) -> bool {
-    has_ends(&of_byte_extended(a), want)
+// Returns the first of these values that has other ends.
+fn first_with_other_ends(rows: &[(Both, (Words, Numbers))]) -> Option<(Both, (Words, Numbers))> {
+    for row in rows {
+        if !has_ends(&row.0, row.1) {
+            return Some(*row);
+        }
+    }
+    None
 }
 
-fn loads(size: Size, signed: bool, want: (Words, Numbers)) -> bool {
-    has_ends(&of_load(size, signed), want)
+// Returns the first result with other ends of an operation on the numbers from -5 to 7 or on others, or of a load.
+fn first_wrong_of_one() -> Result<Option<(Both, (Words, Numbers))>, Fail> {
+    let few = numbers(-5, 7)?;
+    let more = numbers(-129, 7)?;
+    Ok(first_with_other_ends(&[
+        (of_neg(Width::W64, &Both::single(1)), ((TOP, TOP), (-1, -1))),
+        (of_byte_extended(&few), ((0, TOP), (-5, 7))),
+        (of_byte_extended(&more), ((0, TOP), (-128, 127))),
+        (
+            of_half_ordered(EndKind::Big, &few),
+            ((0, 0xffff), (0, 0xffff)),
+        ),
+        (of_load(Size::Byte, true), ((0, TOP), (-128, 127))),
+        (of_load(Size::Byte, false), ((0, 255), (0, 255))),
+    ]))
 }
 
 #[test]
-fn rows_of_one_operand(rt: HostRuntime) -> Result<(), Fail> {
-    let few = numbers(-5, 7)?;
-    let negated = of_neg(Width::W64, &Both::single(1));
-    assert!(rt; has_ends(&negated, ((TOP, TOP), (-1, -1))));
-    assert!(rt; extends_to(&few, ((0, TOP), (-5, 7))));
-    assert!(rt; extends_to(&numbers(-129, 7)?, ((0, TOP), (-128, 127))));
-    let ordered = of_half_ordered(EndKind::Big, &few);
-    assert!(rt; has_ends(&ordered, ((0, 0xffff), (0, 0xffff))));
-    assert!(rt; loads(Size::Byte, true, ((0, TOP), (-128, 127))));
-    assert!(rt; loads(Size::Byte, false, ((0, 255), (0, 255))));
-    Ok(())
+fn rows_of_one_operand(rt: HostRuntime) {
+    assert_gives(&rt, first_wrong_of_one(), None);
 }
 
 // A test of the numbers from -5 to 7 against a word, whether it holds, and the ends of the numbers then, if any.
 type Refined = (Test, bool, u64, Option<(Words, Numbers)>);
 
-const REFINED: [Refined; 8] = [
+const REFINED: &[Refined] = &[
     (Test::Jslt, true, 3, Some(((0, TOP), (-5, 2)))),
     (Test::Jslt, false, 3, Some(((3, 7), (3, 7)))),
     (Test::Jsgt, true, 6, Some(((7, 7), (7, 7)))),
@@ -192,22 +204,21 @@ fn refined(few: &Both, test: Test, taken: bool, b: u64) -> Option<Both> {
 }
 
 // Returns the first row that is refined otherwise.
-fn first_wrong_refined(few: &Both, rows: &[Refined]) -> Option<Refined> {
+fn first_wrong_refined(rows: &[Refined]) -> Result<Option<Refined>, Fail> {
+    let few = numbers(-5, 7)?;
     for row in rows {
         let (test, taken, b, want) = *row;
-        if !is_as_wanted(refined(few, test, taken, b), want) {
-            return Some(*row);
+        if !is_as_wanted(refined(&few, test, taken, b), want) {
+            return Ok(Some(*row));
         }
     }
-    None
+    Ok(None)
 }
 
 #[test]
-fn rows_of_two_operands(rt: HostRuntime) -> Result<(), Fail> {
-    let few = numbers(-5, 7)?;
-    assert_eq!(rt; first_wrong_of_two(&few, &OF_TWO)?, None);
-    assert_eq!(rt; first_wrong_refined(&few, &REFINED), None);
-    Ok(())
+fn rows_of_two_operands(rt: HostRuntime) {
+    assert_gives(&rt, first_wrong_of_two(OF_TWO), None);
+    assert_gives(&rt, first_wrong_refined(REFINED), None);
 }
 
 fn joins_to(a: u64, b: u64, want: (Words, Numbers)) -> bool {
@@ -218,7 +229,7 @@ fn joins_to(a: u64, b: u64, want: (Words, Numbers)) -> bool {
 fn joins_are_hulls(rt: HostRuntime) {
     both_is_exact_theorem();
     let about: Both = joined(SIGN - 1, SIGN);
-    assert_eq!(rt; compares_to_full(&about), (true, false));
+    assert_same(&rt, compares_to_full(&about), (true, false));
     assert!(rt; joins_to(SIGN - 1, SIGN, ((SIGN - 1, SIGN), (LEAST, MOST))));
     assert!(rt; joins_to(1, TOP, ((1, TOP), (-1, 1))));
 }

@@ -1,4 +1,5 @@
 //! Tests of the verifier: the peak number of states, and code that needs ranges in both orders.
+use crate::assertions::assert_gives;
 use crate::sample_codes::{GREATER, longest_code};
 use abstract_value::{Both, Domain, Interval};
 use insn_codec::decode;
@@ -16,12 +17,11 @@ fn slots_and_peak<D: Domain>(alloc: Global, bytes: &[u8]) -> Result<(usize, u32)
 }
 
 #[test]
-fn states_are_held_where_code_jumps(rt: HostRuntime) -> Result<(), Fail> {
-    let straight = slots_and_peak::<Both>(rt.alloc(), &longest_code())?;
-    assert_eq!(rt; straight, (1024, 1));
-    let jumping = slots_and_peak::<Interval>(rt.alloc(), &GREATER)?;
-    assert_eq!(rt; jumping, (6, 2));
-    Ok(())
+fn states_are_held_where_code_jumps(rt: HostRuntime) {
+    let straight = slots_and_peak::<Both>(rt.alloc(), &longest_code());
+    assert_gives(&rt, straight, (1024, 1));
+    let jumping = slots_and_peak::<Interval>(rt.alloc(), &GREATER);
+    assert_gives(&rt, jumping, (6, 2));
 }
 
 // Returns the number of instructions of a program.
@@ -30,10 +30,9 @@ fn len_of(alloc: Global, bytes: &[u8]) -> Result<usize, Fail> {
 }
 
 #[test]
-fn reads_a_program(rt: HostRuntime) -> Result<(), Fail> {
+fn reads_a_program(rt: HostRuntime) {
     let bytes = [0xb7, 0, 0, 0, 1, 0, 0, 0, 0x95, 0, 0, 0, 0, 0, 0, 0];
-    assert_eq!(rt; len_of(rt.alloc(), &bytes)?, 2);
-    Ok(())
+    assert_gives(&rt, len_of(rt.alloc(), &bytes), 2);
 }
 
 // Returns the number of instructions of accepted code, or the refusal.
@@ -70,13 +69,20 @@ fn judged_by_both(alloc: Global, bytes: &[u8]) -> Result<(Judged, Judged), Fail>
 }
 
 #[test]
-fn signed_bounds_are_enough_in_both_orders(rt: HostRuntime) -> Result<(), Fail> {
+fn signed_bounds_are_enough_in_both_orders(rt: HostRuntime) {
     wider_theorem();
     let refusal = Refusal {
         slot: 4,
         rule: Rule::PointerRange,
     };
-    assert_eq!(rt; judged_by_both(rt.alloc(), &TESTED)?, (Err(refusal), Ok(7)));
-    assert_eq!(rt; judged_by_both(rt.alloc(), &LOADED)?, (Err(refusal), Ok(7)));
-    Ok(())
+    assert_gives(
+        &rt,
+        judged_by_both(rt.alloc(), &TESTED),
+        (Err(refusal), Ok(7)),
+    );
+    assert_gives(
+        &rt,
+        judged_by_both(rt.alloc(), &LOADED),
+        (Err(refusal), Ok(7)),
+    );
 }

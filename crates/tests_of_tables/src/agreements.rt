@@ -1,6 +1,7 @@
 //! Registrations that compare no code: a table with an agreement returns and keeps what one without an agreement does.
 ghost use Rattle.std.specs.Prelude.{◌≡◌};
 
+use crate::assertions::assert_gives;
 use clash_record::{ResolverId, SideId, name};
 use exchange_core::Side;
 use fixtures::{EXIT, FIRST, UNKNOWN, registration, stored};
@@ -71,12 +72,11 @@ impl Two {
     }
 }
 
-// A program's names come and go, between refusals; in the end the agreement begins anew.
-#[test]
-fn registers_as_without_an_agreement(rt: HostRuntime) -> Result<(), Fail> {
-    let (store, id) = stored(rt.alloc(), &FIRST)?;
-    let program = ResolverId::Program(id);
-    let mut two = Two::new(rt.alloc(), store);
+// What two tables answer in turn: to registrations, to removals of one name, and to the name once more; to another once
+// the agreement begins anew; whether they are equal then, and how many names they have.
+type Turns = ([Seen; 5], [(u32, u32); 2], [Seen; 2], (bool, usize));
+
+fn take_turns(two: &mut Two, program: ResolverId) -> Result<Turns, Fail> {
     let seen = [
         two.register("a", program)?,
         two.register("b", program)?,
@@ -84,23 +84,32 @@ fn registers_as_without_an_agreement(rt: HostRuntime) -> Result<(), Fail> {
         two.register("c", EXIT)?,
         two.register("d", UNKNOWN)?,
     ];
-    let wanted = [
+    let removed = [two.unregister("a")?, two.unregister("a")?];
+    let again = two.register("a", program)?;
+    two.restart();
+    let anew = two.register("e", program)?;
+    let end = (two.plain == two.agreed, two.agreed.len());
+    Ok((seen, removed, [again, anew], end))
+}
+
+fn turns(alloc: Global) -> Result<Turns, Fail> {
+    let (store, id) = stored(alloc, &FIRST)?;
+    take_turns(&mut Two::new(alloc, store), ResolverId::Program(id))
+}
+
+// A program's names come and go, between refusals; in the end the agreement begins anew.
+#[test]
+fn registers_as_without_an_agreement(rt: HostRuntime) {
+    let seen = [
         (0, 0, false),
         (0, 0, true),
         (30, 30, true),
         (0, 0, false),
         (41, 41, false),
     ];
-    assert_eq!(rt; seen, wanted);
-    assert_eq!(rt;
-        [two.unregister("a")?, two.unregister("a")?],
-        [(0, 0), (31, 31)]
-    );
-    assert_eq!(rt; two.register("a", program)?, (0, 0, true));
-    two.restart();
-    assert_eq!(rt; two.register("e", program)?, (0, 0, false));
-    assert_eq!(rt; (two.plain == two.agreed, two.agreed.len()), (true, 4));
-    Ok(())
+    let removed = [(0, 0), (31, 31)];
+    let again = [(0, 0, true), (0, 0, false)];
+    assert_gives(&rt, turns(rt.alloc()), (seen, removed, again, (true, 4)));
 }
 
 // Whether the agreement knows a program before a side registers it, and afterwards.
@@ -115,7 +124,6 @@ fn known(alloc: Global) -> Result<(bool, bool), Fail> {
 }
 
 #[test]
-fn a_side_notes_the_program(rt: HostRuntime) -> Result<(), Fail> {
-    assert_eq!(rt; known(rt.alloc())?, (false, true));
-    Ok(())
+fn a_side_notes_the_program(rt: HostRuntime) {
+    assert_gives(&rt, known(rt.alloc()), (false, true));
 }

@@ -5,6 +5,8 @@
 #[cfg(test)]
 mod agreements;
 #[cfg(test)]
+mod assertions;
+#[cfg(test)]
 mod exchange_rows;
 #[cfg(test)]
 mod exchanges;
@@ -26,3 +28,5 @@ mod two_sides;
 mod uploads;
 #[cfg(test)]
 mod verdicts;
+#[cfg(test)]
+mod wordings;

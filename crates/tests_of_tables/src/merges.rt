@@ -1,11 +1,12 @@
 //! Merges by answers, with names that were withdrawn, and tables that are too full for one.
+use crate::assertions::assert_gives;
+use crate::wordings::number;
 use builtin_resolvers::Verdict3;
 use clash_record::{Name, name};
 use fixtures::{EXIT, Row, exit_registration, numbered_name, numbered_table, table_of};
 use partition_table::{
     MAX_NAMES, Table, TableFault, clashes, clashes_theorem, fit, merge, merge_theorem,
 };
-use refusals::Numbered;
 use std::alloc::Global;
 use std::test::Fail;
 use upload_store::UploadStore;
@@ -134,20 +135,20 @@ fn first_present(table: &Table, texts: &[&'static str]) -> Result<Option<&'stati
     Ok(None)
 }
 
-#[test]
-fn merges_by_answers_and_withdrawn_names(rt: HostRuntime) -> Result<(), Fail> {
-    for case in MERGES {
-        let table = merged(rt.alloc(), case)?;
-        assert_eq!(rt; table.len(), case.merged.len());
-        let missing = first_missing(&table, case.merged)?;
-        let present = first_present(&table, case.absent)?;
-        assert_eq!(rt; (missing, present), (None, None));
-    }
-    Ok(())
+// Returns how many names the merge has, and the first that it lacks and the first that it has too many.
+fn seen_of_merge(alloc: Global, case: &Merge) -> Result<(usize, [Option<&'static str>; 2]), Fail> {
+    let table = merged(alloc, case)?;
+    let missing = first_missing(&table, case.merged)?;
+    let present = first_present(&table, case.absent)?;
+    Ok((table.len(), [missing, present]))
 }
 
-fn number(fault: Option<TableFault>) -> Option<u32> {
-    fault.map(|fault| fault.number())
+#[test]
+fn merges_by_answers_and_withdrawn_names(rt: HostRuntime) {
+    for case in MERGES {
+        let wanted = (case.merged.len(), [None; 2]);
+        assert_gives(&rt, seen_of_merge(rt.alloc(), case), wanted);
+    }
 }
 
 // The number with which a table refuses one more name.
@@ -165,13 +166,20 @@ fn refused_table(alloc: Global, full: &Table) -> Result<(Option<u32>, Option<u32
     Ok((number(fit(full, &one).err()), number(unmerged)))
 }
 
+// How many names a full table has, the number with which it refuses one more name, and the numbers with which it
+// refuses a table of one more.
+type Filled = (usize, Option<u32>, (Option<u32>, Option<u32>));
+
+fn filled(alloc: Global) -> Result<Filled, Fail> {
+    let mut full = numbered_table(alloc, 4096, 1, EXIT, &UploadStore::new(alloc))?;
+    let refused = refused_name(alloc, &mut full)?;
+    Ok((full.len(), refused, refused_table(alloc, &full)?))
+}
+
 #[test]
-fn holds_4096(rt: HostRuntime) -> Result<(), Fail> {
-    let mut full = numbered_table(rt.alloc(), 4096, 1, EXIT, &UploadStore::new(rt.alloc()))?;
-    assert_eq!(rt; full.len(), MAX_NAMES);
-    assert_eq!(rt; refused_name(rt.alloc(), &mut full)?, Some(32));
-    assert_eq!(rt; refused_table(rt.alloc(), &full)?, (Some(37), Some(37)));
+fn holds_4096(rt: HostRuntime) {
+    let refused = (Some(37), Some(37));
+    assert_gives(&rt, filled(rt.alloc()), (MAX_NAMES, Some(32), refused));
     clashes_theorem();
     merge_theorem();
-    Ok(())
 }

@@ -1,11 +1,12 @@
 //! An exchange that a program judges, and the notices of a clash.
+use crate::assertions::{assert_gives, assert_same};
 use builtin_resolvers::{Notice, Verdict3, notices};
 use clash_record::{Builtin, Owner, Registration, ResolverId, SideId, name};
 use exchange_core::{Side, SideFault};
 use fixtures::{
     BY_STAMP, begin_both, finish_both, hear_both, register_rows, registration, stored, take_all,
 };
-use partition_table::{ClashList, Table, Verdict, clashes};
+use partition_table::{Clash, ClashList, Table, Verdict, clashes};
 use std::alloc::Global;
 use std::sync::Arc;
 use std::test::Fail;
@@ -29,11 +30,18 @@ fn take_rulings(a: &mut Side, b: &mut Side, list: &ClashList) -> Result<(), Side
     take_all(b, list, 1, 0)
 }
 
-// Heals `db`, which a program judges on both sides, with `web` on side B alone. Returns the count of names, and the
-// two registrations.
-fn heal_by_stamp(
-    alloc: Global,
-) -> Result<(usize, [Option<Registration>; 2], [Registration; 2]), Fail> {
+// How many names a table has, and its registrations of `db` and `web`.
+type Found = (usize, [Option<Registration>; 2]);
+
+fn found(table: &Table) -> Result<Found, Fail> {
+    let db = table.whereis(&name(b"db")?).copied();
+    let web = table.whereis(&name(b"web")?).copied();
+    Ok((table.len(), [db, web]))
+}
+
+// Heals `db`, which a program judges on both sides, with `web` on side B alone. Returns what the table has, and what it
+// should have.
+fn heal_by_stamp(alloc: Global) -> Result<[Found; 2], Fail> {
     let (store, program) = stored(alloc, &BY_STAMP)?;
     let of_a = stamped(1, 10, 5, ResolverId::Program(program));
     let of_b = stamped(2, 20, 9, ResolverId::Program(program));
@@ -44,11 +52,7 @@ fn heal_by_stamp(
         &[("db", of_a)],
         &[("db", of_b), ("web", web)],
     )?;
-    let found = [
-        table.whereis(&name(b"db")?).copied(),
-        table.whereis(&name(b"web")?).copied(),
-    ];
-    Ok((table.len(), found, [of_b, web]))
+    Ok([found(&table)?, (2, [Some(of_b), Some(web)])])
 }
 
 fn heal_rows(
@@ -67,8 +71,8 @@ fn heal_rows(
 // The later stamp keeps `db`, and the name of one side alone stays.
 #[test]
 fn a_program_judges_an_exchange(rt: HostRuntime) -> Result<(), Fail> {
-    let (count, found, [db, web]) = heal_by_stamp(rt.alloc())?;
-    assert_eq!(rt; (count, found), (2, [Some(db), Some(web)]));
+    let [found, wanted] = heal_by_stamp(rt.alloc())?;
+    assert_same(&rt, found, wanted);
     Ok(())
 }
 
@@ -82,32 +86,39 @@ fn notified(alloc: Global) -> Result<ClashList, Fail> {
     Ok(clashes(alloc, &a, 0, &b, 0)?)
 }
 
-// Returns the answer to the only clash at this word, and its first two notices.
-fn told_at(alloc: Global, word: u64) -> Result<(Verdict3, [Option<Notice>; 3]), Fail> {
-    let list = notified(alloc)?;
-    let clash = list.get(0).ok_or("no clash")?;
+// The answer to a clash, and its first three notices.
+type Told = (Verdict3, [Option<Notice>; 3]);
+
+// Returns the answer to this clash at this word, and what is told.
+fn told_of(clash: &Clash, word: u64) -> Told {
     let answer = Verdict::judged(clash, word).answer();
     let (first, second) = (clash.first().owner, clash.second().owner);
     let told = notices(Builtin::NotifyAll, clash.name(), first, second, answer);
     let all = told.as_slice();
-    let three = [
-        all.get(0).copied(),
-        all.get(1).copied(),
-        all.get(2).copied(),
-    ];
-    Ok((answer, three))
+    let third = all.get(2).copied();
+    (answer, [all.get(0).copied(), all.get(1).copied(), third])
+}
+
+// Returns this of the only clash at this word.
+fn told_at(alloc: Global, word: u64) -> Result<Told, Fail> {
+    let list = notified(alloc)?;
+    Ok(told_of(list.get(0).ok_or("no clash")?, word))
+}
+
+fn notices_to_both() -> Result<[Option<Notice>; 3], Fail> {
+    let m = name(b"m")?;
+    let one = Owner { node: 1, serial: 1 };
+    let two = Owner { node: 2, serial: 2 };
+    Ok([
+        Some(Notice::ConflictWith(m, one, two)),
+        Some(Notice::ConflictWith(m, two, one)),
+        None,
+    ])
 }
 
 #[test]
 fn notify_all_at_word_three(rt: HostRuntime) -> Result<(), Fail> {
-    let m = name(b"m")?;
-    let one = Owner { node: 1, serial: 1 };
-    let two = Owner { node: 2, serial: 2 };
-    let wanted = [
-        Some(Notice::ConflictWith(m, one, two)),
-        Some(Notice::ConflictWith(m, two, one)),
-        None,
-    ];
-    assert_eq!(rt; told_at(rt.alloc(), 3)?, (Verdict3::Neither, wanted));
+    let wanted = (Verdict3::Neither, notices_to_both()?);
+    assert_gives(&rt, told_at(rt.alloc(), 3), wanted);
     Ok(())
 }

@@ -1,7 +1,9 @@
 //! Programs kept under ids from outside, refusals in words, a full store, and uploads that get no memory.
+use crate::assertions::{assert_gives, assert_same};
+use crate::wordings::{Worded, first_misworded, number};
 use clash_record::ProgramId;
 use fixtures::{FIRST, answering};
-use refusals::{Numbered, NumberedRefusal, OUT_OF_MEMORY, Place, refusal_of};
+use refusals::{OUT_OF_MEMORY, Place};
 use sha2::{Digest, Sha256};
 use std::alloc::Global;
 use std::test::Fail;
@@ -30,7 +32,7 @@ const ONE: [u8; 32] = [
 
 #[test]
 fn digest_of_abc(rt: HostRuntime) {
-    assert_eq!(rt; Sha256::digest("abc"), ABC);
+    assert_same(&rt, Sha256::digest("abc"), ABC);
 }
 
 // The ids of one program that is uploaded twice.
@@ -48,18 +50,27 @@ fn slots_of(store: &UploadStore, digest: [u8; 32]) -> Option<usize> {
     Some(store.get(&ProgramId(digest))?.code().slot_count())
 }
 
+// What a store shows of a program that is uploaded twice: how many programs it has before and after, its ids, and the
+// slot counts of the programs with this digest and with that of `abc`.
+type Kept = (usize, usize, [ProgramId; 2], [Option<usize>; 2]);
+
+fn kept(alloc: Global, bytes: &[u8], digest: [u8; 32]) -> Result<Kept, Fail> {
+    let mut store = UploadStore::new(alloc);
+    let before = store.len();
+    let ids = upload_twice(alloc, &mut store, bytes)?;
+    let slots = [slots_of(&store, digest), slots_of(&store, ABC)];
+    Ok((before, store.len(), ids, slots))
+}
+
+fn kept_once(digest: [u8; 32]) -> Kept {
+    (0, 1, [ProgramId(digest); 2], [Some(2), None])
+}
+
 #[test]
-fn keeps_bytes_once(rt: HostRuntime) -> Result<(), Fail> {
-    for (bytes, digest) in [(answering(0), ZERO), (FIRST, ONE)] {
-        let mut store = UploadStore::new(rt.alloc());
-        let before = store.len();
-        let ids = upload_twice(rt.alloc(), &mut store, &bytes)?;
-        assert_eq!(rt; ids, [ProgramId(digest); 2]);
-        assert_eq!(rt; (before, store.len()), (0, 1));
-        let slots = (slots_of(&store, digest), slots_of(&store, ABC));
-        assert_eq!(rt; slots, (Some(2), None));
-    }
-    Ok(())
+fn keeps_bytes_once(rt: HostRuntime) {
+    let zero = kept(rt.alloc(), &answering(0), ZERO);
+    assert_gives(&rt, zero, kept_once(ZERO));
+    assert_gives(&rt, kept(rt.alloc(), &FIRST, ONE), kept_once(ONE));
 }
 
 // Uploads `count` programs, each with a different id.
@@ -70,20 +81,29 @@ fn upload_many(alloc: Global, store: &mut UploadStore, count: u32) -> Result<(),
     Ok(())
 }
 
+// How many programs a store has, the number with which it refuses one more, the id of the first once more, and how many
+// it has then.
+type Filled = (usize, Option<u32>, Option<ProgramId>, usize);
+
+fn filled(alloc: Global, store: &mut UploadStore) -> Filled {
+    let count = store.len();
+    let refused = store.upload(alloc, &answering(256));
+    let again = store.upload(alloc, &answering(0)).ok();
+    (count, number(refused.err()), again, store.len())
+}
+
+fn filled_with_256(alloc: Global) -> Result<Filled, Fail> {
+    let mut store = UploadStore::new(alloc);
+    upload_many(alloc, &mut store, 256)?;
+    Ok(filled(alloc, &mut store))
+}
+
 // 256 programs, then one more: 43, then the first again: its id.
 #[test]
-fn holds_256(rt: HostRuntime) -> Result<(), Fail> {
-    let mut store = UploadStore::new(rt.alloc());
-    upload_many(rt.alloc(), &mut store, 256)?;
-    assert_eq!(rt; store.len(), MAX_PROGRAMS);
-    let refused = store.upload(rt.alloc(), &answering(256));
-    let number = refused.err().map(|fault| fault.number());
-    let again = store.upload(rt.alloc(), &answering(0)).ok();
-    assert_eq!(rt;
-        (number, again, store.len()),
-        (Some(43), Some(ProgramId(ZERO)), 256)
-    );
-    Ok(())
+fn holds_256(rt: HostRuntime) {
+    let again = Some(ProgramId(ZERO));
+    let wanted = (MAX_PROGRAMS, Some(43), again, 256);
+    assert_gives(&rt, filled_with_256(rt.alloc()), wanted);
 }
 
 // Returns the refusal of code that reads an unwritten register.
@@ -99,52 +119,58 @@ fn refusal_of_unread(alloc: Global) -> Option<UploadFault> {
     }
 }
 
+const OTHER_REFUSALS: &[Worded<UploadFault>] = &[
+    (
+        UploadFault::DigestClash,
+        42,
+        None,
+        "other code has the same program id",
+    ),
+    (
+        UploadFault::StoreFull,
+        43,
+        None,
+        "the store is full: 256 programs",
+    ),
+    (UploadFault::OutOfMemory, 90, None, "out of memory"),
+];
+
+// Returns the words with which code that reads an unwritten register should be refused, if it is refused otherwise.
+fn misworded_if_unread(alloc: Global) -> Result<Option<&'static str>, Fail> {
+    let refusal = refusal_of_unread(alloc).ok_or("it was kept")?;
+    let words = "slot 0: a read of a register that may be unset, or may be an address or a number";
+    let row = (refusal, 15, Some(Place::Slot(0)), words);
+    first_misworded(alloc, &[row])
+}
+
 #[test]
-fn refuses_in_words(rt: HostRuntime) -> Result<(), Fail> {
-    let refusal = refusal_of_unread(rt.alloc()).ok_or("it was kept")?;
-    let rows = [
-        (
-            refusal,
-            15,
-            Some(Place::Slot(0)),
-            "slot 0: a read of a register that may be unset, or may be an address or a number",
-        ),
-        (
-            UploadFault::DigestClash,
-            42,
-            None,
-            "other code has the same program id",
-        ),
-        (
-            UploadFault::StoreFull,
-            43,
-            None,
-            "the store is full: 256 programs",
-        ),
-        (UploadFault::OutOfMemory, 90, None, "out of memory"),
-    ];
-    for (fault, number, place, words) in rows {
-        assert_eq!(rt; refusal_of(&fault), NumberedRefusal { number, place });
-        let told = format!(in rt.alloc(); "{fault}")?;
-        assert_eq!(rt; told.as_str(), words);
-    }
-    Ok(())
+fn refuses_in_words(rt: HostRuntime) {
+    assert_gives(&rt, misworded_if_unread(rt.alloc()), None);
+    assert_gives(&rt, first_misworded(rt.alloc(), OTHER_REFUSALS), None);
+}
+
+// Returns the id, the number of the refusal and the count of programs after each of two uploads of one program.
+fn uploaded_twice(
+    alloc: Global,
+    store: &mut UploadStore,
+) -> [(Option<ProgramId>, Option<u32>, usize); 2] {
+    let first = store.upload(alloc, &answering(0));
+    let kept = store.len();
+    let second = store.upload(alloc, &answering(0));
+    [
+        (first.ok(), number(first.err()), kept),
+        (second.ok(), number(second.err()), store.len()),
+    ]
 }
 
 // When one allocation fails, at most one upload fails, and the next answers as if nothing had failed.
 #[test]
 fn survives_a_failed_allocation(rt: HostRuntime) {
     let mut store = UploadStore::new(rt.alloc());
-    let first = store.upload(rt.alloc(), &answering(0));
-    let kept = store.len();
-    assert_eq!(rt; kept, if first.is_ok() { 1 } else { 0 });
-    let second = store.upload(rt.alloc(), &answering(0));
-    for fault in [first.err(), second.err()] {
-        let number = fault.map(|fault| fault.number());
-        assert!(rt; matches!(number, None | Some(OUT_OF_MEMORY)));
-    }
-    assert_eq!(rt;
-        (first.or(second).ok(), store.len()),
-        (Some(ProgramId(ZERO)), 1)
-    );
+    let [first, second] = uploaded_twice(rt.alloc(), &mut store);
+    let zero = Some(ProgramId(ZERO));
+    assert_same(&rt, first.2, if first.0.is_some() { 1 } else { 0 });
+    assert!(rt; matches!(first.1, None | Some(OUT_OF_MEMORY)));
+    assert!(rt; matches!(second.1, None | Some(OUT_OF_MEMORY)));
+    assert_same(&rt, (first.0.or(second.0), second.2), (zero, 1));
 }

@@ -1,4 +1,5 @@
 //! Clashes of two tables: the order of registrations, the facts of each half, words and answers, and equality.
+use crate::assertions::{assert_gives, assert_same};
 use builtin_resolvers::Verdict3;
 use clash_record::{Registration, ResolverId, name};
 use fixtures::{EXIT, Row, clashes_of, exit_registration, reading, registration, stored, table_of};
@@ -12,23 +13,18 @@ const THREE: [Row; 3] = [("db", 1, 9), ("web", 3, 1), ("x", 1, 1)];
 
 // The half that is up longer holds the lesser registration, whichever side asks.
 #[test]
-fn lesser_is_first(rt: HostRuntime) -> Result<(), Fail> {
-    for (left, up_left, right, up_right) in [
-        (&TWO[..], 5, &THREE[..], 6),
-        (&THREE[..], 6, &TWO[..], 5),
-    ] {
-        let (counts, clash) = only_clash(rt.alloc(), left, up_left, right, up_right)?;
-        assert_eq!(rt; counts, (1, 1, true));
-        let wanted = Shown {
-            first: exit_registration(1, 9),
-            second: exit_registration(2, 1),
-            facts: ((3, 6), (2, 5)),
-            resolver: EXIT,
-            is_builtin: true,
-        };
-        assert_eq!(rt; clash, Some(wanted));
-    }
-    Ok(())
+fn lesser_is_first(rt: HostRuntime) {
+    let wanted = Shown {
+        first: exit_registration(1, 9),
+        second: exit_registration(2, 1),
+        facts: ((3, 6), (2, 5)),
+        resolver: EXIT,
+        is_builtin: true,
+    };
+    let seen = only_clash(rt.alloc(), &TWO, 5, &THREE, 6);
+    assert_gives(&rt, seen, ((1, 1, true), Some(wanted)));
+    let seen = only_clash(rt.alloc(), &THREE, 6, &TWO, 5);
+    assert_gives(&rt, seen, ((1, 1, true), Some(wanted)));
 }
 
 /// The fields of a clash. A built-in resolver has no code.
@@ -113,20 +109,33 @@ const ON_A: &[Row] = &[("a1", 1, 1), ("b1", 1, 1), ("c1", 1, 1)];
 
 const ON_B: &[Row] = &[("a1", 2, 1), ("b1", 2, 1), ("c1", 2, 1)];
 
-// How many clashes they have, and the word and the answer of the first three in the first round.
-fn judged_three(alloc: Global, seed: u64) -> Result<(usize, [Option<(u64, Verdict3)>; 3]), Fail> {
+// The word and the answer of this clash in the first round, if there is one.
+fn judged_at(list: &ClashList, seed: u64, k: u32) -> Option<(u64, Verdict3)> {
+    judged(list.get(k)?, k, word(seed, 0, 3, k))
+}
+
+// The first three of these, if there are three.
+fn first_three(list: &ClashList, seed: u64) -> Option<[(u64, Verdict3); 3]> {
+    Some([
+        judged_at(list, seed, 0)?,
+        judged_at(list, seed, 1)?,
+        judged_at(list, seed, 2)?,
+    ])
+}
+
+// How many clashes the names have, and the word and the answer of the first three in the first round.
+fn judged_three(alloc: Global, seed: u64) -> Result<(usize, Option<[(u64, Verdict3); 3]>), Fail> {
     let list = clashes_of(alloc, ON_A, 0, ON_B, 0)?;
-    let three = [0, 1, 2].map(|k| judged(list.get(k)?, k, word(seed, 0, 3, k)));
-    Ok((list.len(), three))
+    Ok((list.len(), first_three(&list, seed)))
 }
 
 #[test]
-fn words_and_answers(rt: HostRuntime) -> Result<(), Fail> {
-    assert_eq!(rt; word(5, 2, 3, 1), 12);
+fn words_and_answers(rt: HostRuntime) {
+    assert_same(&rt, word(5, 2, 3, 1), 12);
     for (seed, wanted) in WORDS {
-        assert_eq!(rt; judged_three(rt.alloc(), seed)?, (3, wanted.map(Some)));
+        let judged = judged_three(rt.alloc(), seed);
+        assert_gives(&rt, judged, (3, Some(wanted)));
     }
-    Ok(())
 }
 
 // A table whose name db is judged by code that reads the record from this place on.
@@ -160,23 +169,36 @@ fn first_answer(list: &ClashList) -> Option<Verdict3> {
     Some(Verdict::judged(clash, 0).answer())
 }
 
+// The place in the record that is read, whether the tables are swapped, and the answer.
+const BY_FACTS: &[(u8, bool, Verdict3)] = &[
+    (128, false, Verdict3::First),
+    (128, true, Verdict3::First),
+    (136, false, Verdict3::Second),
+    (136, true, Verdict3::Second),
+    (144, false, Verdict3::Second),
+    (144, true, Verdict3::Second),
+    (152, false, Verdict3::First),
+    (152, true, Verdict3::First),
+];
+
+// Returns the first row with another answer, and this answer.
+fn first_other_answer(
+    alloc: Global,
+    rows: &[(u8, bool, Verdict3)],
+) -> Result<Option<(u8, bool, Option<Verdict3>)>, Fail> {
+    for (offset, is_swapped, expected) in rows {
+        let answer = first_answer(&judged_clash(alloc, *offset, *is_swapped)?);
+        if answer != Some(*expected) {
+            return Ok(Some((*offset, *is_swapped, answer)));
+        }
+    }
+    Ok(None)
+}
+
 // A resolver sees size and uptime of the half that holds each registration, whichever side asks.
 #[test]
-fn facts_by_registration(rt: HostRuntime) -> Result<(), Fail> {
-    for (offset, is_swapped, expected) in [
-        (128, false, Verdict3::First),
-        (128, true, Verdict3::First),
-        (136, false, Verdict3::Second),
-        (136, true, Verdict3::Second),
-        (144, false, Verdict3::Second),
-        (144, true, Verdict3::Second),
-        (152, false, Verdict3::First),
-        (152, true, Verdict3::First),
-    ] {
-        let list = judged_clash(rt.alloc(), offset, is_swapped)?;
-        assert_eq!(rt; first_answer(&list), Some(expected));
-    }
-    Ok(())
+fn facts_by_registration(rt: HostRuntime) {
+    assert_gives(&rt, first_other_answer(rt.alloc(), BY_FACTS), None);
 }
 
 // Checks whether the first clashes of two lists are equal.
@@ -184,16 +206,24 @@ fn has_equal_first(one: &ClashList, other: &ClashList) -> Option<bool> {
     Some(one.get(0)? == other.get(0)?)
 }
 
+// Returns whether the first clash of the tables with uptimes 5 and 6 is that of these.
+fn equals_first(
+    alloc: Global,
+    left: &[Row],
+    up_left: u64,
+    right: &[Row],
+    up_right: u64,
+) -> Result<Option<bool>, Fail> {
+    let one = clashes_of(alloc, &TWO, 5, &THREE, 6)?;
+    let again = clashes_of(alloc, left, up_left, right, up_right)?;
+    Ok(has_equal_first(&one, &again))
+}
+
 // The clash of two tables is the same in either order, and differs if a half has another uptime.
 #[test]
-fn equal_clashes(rt: HostRuntime) -> Result<(), Fail> {
-    let one = clashes_of(rt.alloc(), &TWO, 5, &THREE, 6)?;
-    for (left, up_left, right, up_right, is_equal) in [
-        (&THREE[..], 6, &TWO[..], 5, true),
-        (&TWO[..], 5, &THREE[..], 7, false),
-    ] {
-        let again = clashes_of(rt.alloc(), left, up_left, right, up_right)?;
-        assert_eq!(rt; has_equal_first(&one, &again), Some(is_equal));
-    }
-    Ok(())
+fn equal_clashes(rt: HostRuntime) {
+    let swapped = equals_first(rt.alloc(), &THREE, 6, &TWO, 5);
+    assert_gives(&rt, swapped, Some(true));
+    let other = equals_first(rt.alloc(), &TWO, 5, &THREE, 7);
+    assert_gives(&rt, other, Some(false));
 }

@@ -1,8 +1,8 @@
 -- How a merge is made: the names of one table, and then those of the other alone.
-use Rattle.std.specs.Prelude.{◌≡◌, ◌⊎◌, ◌+◌, ◌≤◌, ℕ, Bool, false, not, if◌then◌else◌, Option, Some, None, List, [], ◌∷◌, length, filter, map}
+use Rattle.std.specs.Prelude.{◌≡◌, ◌⊎◌, ◌+◌, ◌≤◌, ℕ, Bool, false, if◌then◌else◌, Option, Some, None, List, [], ◌∷◌, length, map}
 use Rattle.std.specs.List.{AllByRecursion}
 use Rattle.std.specs.List.Sorted.{IsStrictlySortedBy}
-use Rattle.std.specs.FinMap.{get, len, contains_key}
+use Rattle.std.specs.FinMap.{get, len}
 use Rattle.clash_record.specs.declared.registrations.Registration.{Registration}
 use Rattle.clash_record.specs.Orders.{name_cmp}
 use Rattle.builtin_resolvers.specs.declared.verdicts.Verdict3.{Verdict3}
@@ -49,10 +49,6 @@ settled a b gone_a gone_b (name ∷ names) xs =
 abbrev pub put_all : List (Name × Option Row) → Table → Table
 put_all [] table = table
 put_all (e ∷ es) table = put_all es (with_row e.0 e.1 table)
-
--- the names that a table lacks
-abbrev pub names_without : Table → List Name → List Name
-names_without a names = filter (λ name. not (contains_key a name)) names
 
 -- what is kept under each of these names
 abbrev pub each_kept : (Name → Option Row) → List Name → List (Name × Option Row)

@@ -1,7 +1,7 @@
 use Rattle.std.proofs.Common.{◌≡◌, ◌+◌, ◌++◌, map, length}
 use Rattle.std.specs.List.{filter_map, AllByRecursion}
 use Rattle.std.specs.FinMap.{keys}
-use Rattle.partition_table.specs.model.Merging.{names_without}
+use Rattle.partition_table.specs.Tables.{has_first, names_without}
 use Rattle.partition_table.specs.model.Walking.{pairs_left, IsPaired}
 use Rattle.partition_table.specs.model.Judging.{clash_by_name}
 use Rattle.partition_table.proofs.clashing.walk.Given as goal
@@ -14,7 +14,8 @@ invariant-loop-name l =
     let by_name = clash_by_name l.half_a.facts a l.half_b.facts b in
     let left = map (λ item. item.0) (pairs_left l.name-iterator) in
     record {
-      told : l.found.items ++ filter_map by_name left ≡ filter_map by_name (keys a);
+      told : l.found.clashes.items ++ filter_map by_name left ≡ filter_map by_name (keys a);
+      first : l.found.first_of_a.items ≡ map (has_first a) l.found.clashes.items;
       counted : l.alone + length (names_without b left) ≡ length (names_without b (keys a));
       met : AllByRecursion (IsPaired a b) (pairs_left l.name-iterator);
     }

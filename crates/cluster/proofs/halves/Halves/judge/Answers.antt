@@ -1,4 +1,5 @@
-use Rattle.std.proofs.Common.{sym, ◌∙◌, subst}
+use Rattle.std.proofs.Common.{sym, ◌∙◌, subst, arith}
+use Rattle.std.proofs.lemmas.Bool.Decides.{Decides-eqb}
 use Rattle.clash_record.specs.declared.side_id.SideId.TheVariants.{A, B}
 use Rattle.cluster.specs.Causes.{IsCause}
 use Rattle.cluster.specs.model.Stages.{halves_of}
@@ -16,6 +17,7 @@ loop-round-init g c = (
     subst (IsCause plan was) (sym c.new-a.ensures.least) tt,
     subst (IsCause plan was) (sym c.new-b.ensures.least) tt,
   ),
+  λ first. c.requires.own,
 )
 
 pub loop-round-preserved : goal.loop-round-preserved
@@ -40,7 +42,11 @@ loop-round-preserved g c =
             a.ensures.cause plan was pass A told.a least.0,
             b.ensures.cause plan was pass B told.b least.1,
           ),
+      λ first. absurd (omega (arith, first)),
     )
+
+pub tell-seats-requires-clause-own : goal.tell-seats-requires-clause-own
+tell-seats-requires-clause-own g c = λ lifetimes lives own. c.loop-round.invariant.4 ((Decides-eqb _ 0).0 own)
 
 pub returns-clause-merged : goal.returns-clause-merged
 returns-clause-merged g c =

@@ -1,15 +1,14 @@
-use Rattle.std.proofs.Common.{◌≤◌, ◌+◌, None, map, refl, ap, sym, subst, ◌∙◌, arith}
+use Rattle.std.proofs.Common.{None, map, refl, ap, sym, subst, ◌∙◌}
 use Rattle.std.specs.List.{AllByRecursion}
 use Rattle.std.specs.BTreeSet.{contains}
-use Rattle.std.specs.FinMap.{get, len}
+use Rattle.std.specs.FinMap.{get, keys}
 use Rattle.clash_record.specs.Orders.{name_cmp}
 use Rattle.clash_record.specs.Name.{Name}
-use Rattle.partition_table.specs.Tables.{most_names, unless_gone, with_row}
+use Rattle.partition_table.specs.Tables.{most_names, unless_gone, with_row, names_without}
 use Rattle.partition_table.specs.model.Walking.{pairs_left, IsPaired}
-use Rattle.partition_table.specs.model.Merging.{IsReady, put_all, each_kept, names_without, IsRowOf}
+use Rattle.partition_table.specs.model.Merging.{IsReady, put_all, each_kept, IsRowOf}
 use Rattle.partition_table.proofs.Settling.{ready_next, unless_gone_of, own_row, lacked, without_step}
-use Rattle.partition_table.proofs.EitherWay.{none_there}
-use Rattle.partition_table.proofs.OneClash.{alone_few}
+use Rattle.partition_table.proofs.EitherWay.{no_names}
 use Rattle.partition_table.proofs.merging.Parents.put_names_of_b_alone.Goals as goal
 
 pub loop-name-preserved : goal.loop-name-preserved
@@ -40,18 +39,11 @@ loop-name-preserved c =
       met = met.1;
     }
 
-pub overflow_add-len : goal.overflow_add-len
-overflow_add-len c =
+pub returns-then-alone-eq0 : goal.returns-then-alone-eq0
+returns-then-alone-eq0 c =
     let p = c.args.self.now in
-    omega (arith, c.requires.counted, alone_few p.b.now p.a.now c.len-names.ensures.kept, c.len.ensures.count, c.len.ensures.kept.few)
-
-pub returns-then-len-alone : goal.returns-then-len-alone
-returns-then-len-alone c =
-    let p = c.args.self.now in
-    let a = p.a.now in
-    let b = p.b.now in
     let gone_a = contains name_cmp p.gone_a in
     let gone_b = contains name_cmp p.gone_b in
-    let kept = λ (name : Name). unless_gone None (get b name) (gone_a name) (gone_b name) (get b name) in
-    let few : len b + c.args.alone ≤ len a = omega (arith, c.if-len-alone.true, c.len.ensures.count, c.len-names.ensures.count) in
-    ap (λ names. put_all (each_kept kept names) c.args.merged.now) (sym (none_there a b c.args.alone c.requires.counted few))
+    let kept = λ (name : Name). unless_gone None (get p.b.now name) (gone_a name) (gone_b name) (get p.b.now name) in
+    ap (λ names. put_all (each_kept kept names) c.args.merged.now)
+    (sym (no_names (names_without p.a.now (keys p.b.now)) (sym c.requires.counted ∙ c.if-alone-eq0.true)))

@@ -4,9 +4,9 @@ use Rattle.std.specs.BTreeSet.{contains}
 use Rattle.std.specs.FinMap.{get, keys}
 use Rattle.clash_record.specs.Orders.{name_cmp}
 use Rattle.clash_record.specs.Name.{Name}
-use Rattle.partition_table.specs.Tables.{most_names, unless_gone}
+use Rattle.partition_table.specs.Tables.{most_names, unless_gone, names_without}
 use Rattle.partition_table.specs.model.Walking.{pairs_left, IsPaired}
-use Rattle.partition_table.specs.model.Merging.{IsReady, put_all, each_kept, names_without}
+use Rattle.partition_table.specs.model.Merging.{IsReady, put_all, each_kept}
 use Rattle.partition_table.proofs.merging.Parents.put_names_of_b_alone.Given as goal
 
 -- what is put and what is left are all

@@ -1,4 +1,4 @@
-use Rattle.std.proofs.Common.{rules, ◌∙◌, ap, Some, arith}
+use Rattle.std.proofs.Common.{rules, ◌∙◌, arith}
 use Rattle.registry_lock.proofs.Agreeing.{keeps_all, keeps_through}
 use Rattle.registry_lock.proofs.OwnClashes.{same_when_told}
 use Rattle.registry_lock.proofs.Told.{told_on, told_still, told_fewer, same_told}
@@ -6,7 +6,7 @@ use Rattle.registry_lock.proofs.inbox.Inbox.empty_into.Goals as goal
 
 pub loop-turn-init : goal.loop-turn-init
 loop-turn-init g c = record {
-  place = c.requires;
+  place = c.requires.board;
   kept = keeps_all c.args.pass.now;
   told = same_told c.args.pass.now 0 c.args.side.now;
   few = omega arith;
@@ -18,7 +18,7 @@ take_seen-requires-clause-board g c = c.loop-turn.invariant.place
 
 pub take_seen-requires-clause-own : goal.take_seen-requires-clause-own
 take_seen-requires-clause-own g c = λ own. same_when_told _ _ c.args.side.now c.loop-turn.side c.loop-turn.invariant.told
-    ∙ c.has_clashes-is_own.ensures.0 own ∙ ap Some c.clashes.ensures
+    ∙ c.is_its_own-is_own.ensures own
 
 pub loop-turn-preserved : goal.loop-turn-preserved
 loop-turn-preserved g c =

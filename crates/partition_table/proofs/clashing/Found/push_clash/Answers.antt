@@ -1,13 +1,16 @@
-use Rattle.std.proofs.Common.{Option, Some, List, [], ◌∷◌, ◌++◌, ap, sym, ◌∙◌}
+use Rattle.std.proofs.Common.{true, false, Option, Some, List, [], ◌∷◌, ◌++◌, map, ap, sym, ◌∙◌}
 use Rattle.std.specs.Option.{option_map}
 use Rattle.std.specs.Arc.{arc_value}
 use Rattle.std.specs.FinMap.{get}
 use Rattle.std.specs.List.{filter_map}
 use Rattle.instruction_set.specs.declared.insn.Insn.{Insn}
 use Rattle.clash_record.specs.Name.{Name}
+use Rattle.clash_record.specs.Orders.{registration_cmp}
+use Rattle.partition_table.specs.Tables.{Clash, has_first}
 use Rattle.partition_table.specs.model.Judging.{clash_by_name}
+use Rattle.partition_table.proofs.Listed.{first_here, first_there, one_more_marked}
 use Rattle.partition_table.proofs.OneClash.{less_clash, greater_clash, one_more_found}
-use Rattle.partition_table.proofs.clashing.push_clash.Goals as goal
+use Rattle.partition_table.proofs.clashing.Found.push_clash.Goals as goal
 
 pub returns-in_ok-program-in-Less : goal.returns-in_ok-program-in-Less
 returns-in_ok-program-in-Less c =
@@ -25,11 +28,15 @@ returns-in_ok-program-in-Less c =
       of_second = b.facts;
       code = code;
     }) c.in_ok-program-in-Less.ensures in
-    let found = λ (names : List Name). one_more_found c.args.found.now.items c.push_reserved.new.self.items
+    let found = λ (names : List Name). one_more_found c.args.self.now.clashes.items c.push_reserved.new.self.items
     (filter_map (clash_by_name a.facts a.table.now b.facts b.table.now) names) _ c.new-clash.result
     (at ∙ ap Some (sym made)) (c.push_reserved.ensures.items
     ∙ ap (λ clashes. clashes ++ (c.new-clash.result ∷ [])) c.reserve.ensures.items) in
-    record { found = found }
+    let first = one_more_marked a.table.now _ _ _ _ true c.new-clash.result (c.reserve-2.ensures.items ∙ c.requires.first
+    ∙ ap (map (has_first a.table.now)) (sym c.reserve.ensures.items)) c.push_reserved-in-Less.ensures.items c.push_reserved.ensures.items
+    (first_here a.table.now c.args.name.now c.args.mine.now c.requires.mine c.new-clash.result
+    (ap (λ (k : Clash). k.name) made) (ap (λ (k : Clash). k.first) made)) in
+    record { found = found; first = first }
 
 pub returns-in_ok-program-in-Greater : goal.returns-in_ok-program-in-Greater
 returns-in_ok-program-in-Greater c =
@@ -47,8 +54,14 @@ returns-in_ok-program-in-Greater c =
       of_second = a.facts;
       code = code;
     }) c.in_ok-program-in-Greater.ensures in
-    let found = λ (names : List Name). one_more_found c.args.found.now.items c.push_reserved-in-Greater.new.self.items
+    let found = λ (names : List Name). one_more_found c.args.self.now.clashes.items c.push_reserved-in-Greater.new.self.items
     (filter_map (clash_by_name a.facts a.table.now b.facts b.table.now) names) _ c.new-clash-in-Greater.result
     (at ∙ ap Some (sym made)) (c.push_reserved-in-Greater.ensures.items
     ∙ ap (λ clashes. clashes ++ (c.new-clash-in-Greater.result ∷ [])) c.reserve.ensures.items) in
-    record { found = found }
+    let first = one_more_marked a.table.now _ _ _ _ false c.new-clash-in-Greater.result (c.reserve-2.ensures.items ∙ c.requires.first
+    ∙ ap (map (has_first a.table.now)) (sym c.reserve.ensures.items)) c.push_reserved-in-Greater-2.ensures.items
+    c.push_reserved-in-Greater.ensures.items
+    (first_there a.table.now c.args.name.now c.args.mine.now c.requires.mine c.new-clash-in-Greater.result
+    (ap (λ (k : Clash). k.name) made)
+    (ap (λ (k : Clash). registration_cmp c.args.mine.now k.first) made ∙ sym c.in-Greater.ensures)) in
+    record { found = found; first = first }

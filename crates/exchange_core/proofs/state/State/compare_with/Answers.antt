@@ -4,15 +4,15 @@ use Rattle.partition_table.specs.Faults.{table_fault_number}
 use Rattle.partition_table.specs.Tables.{Table}
 use Rattle.exchange_law.specs.Sides.{Side}
 use Rattle.exchange_core.specs.model.Pairing.{fit_fault_for}
-use Rattle.exchange_core.proofs.state.State.clashes_with.Goals as goal
+use Rattle.exchange_core.proofs.state.State.compare_with.Goals as goal
 
 pub returns-clause-answer : goal.returns-clause-answer
 returns-clause-answer c =
     let limit = c.args.limit.names in
     let other = c.args.offer.now.table in
-    subst (λ (s : Side). IsAnswered table_fault_number (fit_fault_for limit s.id s.table other) c.clashes_own.result)
+    subst (λ (s : Side). IsAnswered table_fault_number (fit_fault_for limit s.id s.table other) c.compare.result)
     c.self.view_is
-    (subst (λ (t : Table). IsAnswered table_fault_number (fit_fault_for limit c.self.inside.id t other) c.clashes_own.result)
+    (subst (λ (t : Table). IsAnswered table_fault_number (fit_fault_for limit c.self.inside.id t other) c.compare.result)
     c.table.ensures
     (subst (λ (t : Table). IsAnswered table_fault_number (fit_fault_for limit c.self.inside.id c.table.result.now t)
-    c.clashes_own.result) c.table-2.ensures (c.clashes_own.ensures.answer c.self.inside.id)))
+    c.compare.result) c.table-2.ensures c.compare.ensures.answer))
