@@ -1,22 +1,24 @@
 %% Measures heal_registry and `global' one after the other on the same nodes of one machine, which connect over the loopback interface.
 %%
-%% On 2, 4 and 8 nodes: registrations on the primary and on another node, with one client and with eight; lookups; memory; and
-%% healings of two halves whose names all clash, by a resolver that notifies the loser, while a client goes on to register. Then
+%% On 2, 4 and 8 nodes: registrations on the primary and on each other node, with one client and with eight; lookups; memory on the node
+%% of the processes and on another one; and healings of two halves whose names all clash, by a resolver that notifies the loser, while a
+%% client goes on to register. Then
 %% `global' and heal_registry heal more and more clashes, as far as `global' goes. A table compares the outcome with the goals.
 -module(heal_bench).
 
 -export([main/1]).
--export([rates/4, lookups/3, fill/3, clear/2, memory/1, answers/2, longest/1, stop_longest/1]).
+-export([rates/4, lookups/3, fill/3, spawned/1, named/3, clear/2, memory/0, answers/2, longest/1, stop_longest/1]).
 
-%% How long one measurement of a rate takes, the clashes that are healed, how often (more than 4,096 less often), and how long
-%% `global' may take.
+%% How long one measurement of a rate takes, the clashes that are healed, how often (more than 4,096 less often), of how many names the
+%% memory is measured, and how long `global' may take.
 -record(plan, {nodes, milliseconds, clashes, rounds, names, alone, limit}).
 
 plan(full) ->
-    #plan{nodes = [2, 4, 8], milliseconds = 3000, clashes = [4096, 16384], rounds = 3, names = 16384,
+    #plan{nodes = [2, 4, 8], milliseconds = 3000, clashes = [4096, 16384], rounds = 3,
+          names = [4096, 8192, 16384],
           alone = [1024, 4096, 16384, 65536], limit = 600};
 plan(short) ->
-    #plan{nodes = [2, 4], milliseconds = 200, clashes = [512], rounds = 1, names = 1024, alone = [256, 1024], limit = 30}.
+    #plan{nodes = [2, 4], milliseconds = 200, clashes = [512], rounds = 1, names = [1024], alone = [256, 1024], limit = 30}.
 
 -define(REGISTRIES, [global, heal_registry]).
 -define(OPTIONS, #{names => 1048576, exchange_timeout => 60000, edit_timeout => 60000}).
@@ -32,10 +34,15 @@ main(Mode) ->
 
 on(Count, Plan) ->
     Edits = with_nodes(Count, fun(Nodes) -> edits(Count, Nodes, Plan) end),
+    Memory = [{{Count, {memory, Names, Where}, Registry}, Bytes}
+              || Names <- Plan#plan.names, Registry <- ?REGISTRIES,
+                 {Where, Bytes} <- lists:zip([home, other], memory(Count, Names, Registry))],
+    [io:format("~p nodes: ~s takes ~.1f bytes for each of ~p names on the ~s node~n", [Count, Registry, Bytes, Names, Where])
+     || {{_, {_, Names, Where}, Registry}, Bytes} <- Memory],
     Heals = [{{Count, {heal, Clashes}, Registry}, heal(Count, Clashes, Registry, Plan)} || Clashes <- Plan#plan.clashes, Registry <- ?REGISTRIES],
     [io:format("~p nodes, ~p clashes: ~s heals in ~.1f ms (least ~.1f), and the longest registration meanwhile takes ~.1f ms~n",
                [Count, Clashes, Registry, Median, Least, Longest]) || {{_, {heal, Clashes}, Registry}, {Median, Least, Longest}} <- Heals],
-    Edits ++ Heals.
+    Edits ++ Memory ++ Heals.
 
 with_nodes(Count, Run) ->
     Nodes = [heal_cluster:start(Letter, ["-kernel", "prevent_overlapping_partitions", "false"])
@@ -46,7 +53,7 @@ with_nodes(Count, Run) ->
         [heal_cluster:stop(It) || It <- Nodes]
     end.
 
-%% ---- Edits, lookups and memory ----
+%% ---- Edits and lookups ----
 
 edits(Count, Nodes, Plan) ->
     [heal_cluster:start_registry(It, any, ?OPTIONS) || It <- Nodes],
@@ -54,19 +61,24 @@ edits(Count, Nodes, Plan) ->
     heal_cluster:one_part(Nodes),
     [ok = heal_cluster:call(It, global, sync, []) || It <- Nodes],
     #{primary := Primary} = heal_cluster:status(hd(Nodes)),
-    {[First], [Other | _]} = lists:partition(fun(It) -> heal_cluster:node_of(It) =:= Primary end, Nodes),
-    Rates = [begin
-                 {Rate, P99} = heal_cluster:call(It, ?MODULE, rates, [Registry, Clients, Plan#plan.milliseconds, Where]),
-                 io:format("~p nodes: ~s registers ~.1f a second on ~s with ~p clients, p99 ~.2f ms~n",
-                           [Count, Registry, Rate, Where, Clients, P99]),
-                 {{Count, {register, Where, Clients}, Registry}, {Rate, P99}}
-             end || Registry <- ?REGISTRIES, {Where, It} <- [{primary, First}, {other, Other}], Clients <- [1, 8]],
-    Memory = [{{Count, memory, Registry}, memory(Registry, First, Other, Plan)} || Registry <- ?REGISTRIES],
-    [io:format("~p nodes: ~s takes ~.1f bytes for each name on a node~n", [Count, Registry, Bytes]) || {{_, _, Registry}, Bytes} <- Memory],
+    {[First], Others = [Other | _]} = lists:partition(fun(It) -> heal_cluster:node_of(It) =:= Primary end, Nodes),
+    Rates = [{{Count, {register, Where, Clients}, Registry}, slowest(Count, Registry, Where, Of, Clients, Plan)}
+             || Registry <- ?REGISTRIES, {Where, Of} <- [{primary, [First]}, {other, Others}], Clients <- [1, 8]],
     Lookups = [{{Count, whereis, Registry}, heal_cluster:call(Other, ?MODULE, lookups, [Registry, 1000, Plan#plan.milliseconds])}
                || Registry <- ?REGISTRIES],
     [io:format("~p nodes: ~s looks ~.2f million names up a second~n", [Count, Registry, Rate / 1.0e6]) || {{_, _, Registry}, Rate} <- Lookups],
-    Rates ++ Memory ++ Lookups.
+    Rates ++ Lookups.
+
+%% The least rate of these nodes, and the greatest p99.
+slowest(Count, Registry, Where, Nodes, Clients, Plan) ->
+    Seen = [begin
+                {Rate, P99} = heal_cluster:call(It, ?MODULE, rates, [Registry, Clients, Plan#plan.milliseconds, Where]),
+                io:format("~p nodes: ~s registers ~.1f a second on ~s with ~p clients, p99 ~.2f ms~n",
+                          [Count, Registry, Rate, Where, Clients, P99]),
+                {Rate, P99}
+            end || It <- Nodes],
+    {Rates, Times} = lists:unzip(Seen),
+    {lists:min(Rates), lists:max(Times)}.
 
 %% Each client registers and unregisters names for a while. Returns how many registrations a second they make, of the time that
 %% registrations take, and the time in milliseconds within which 99 of 100 end.
@@ -102,26 +114,20 @@ look(Registry, Names, End, Rounds) ->
     [Registry:whereis_name(Name) || Name <- Names],
     case erlang:monotonic_time(millisecond) >= End of true -> Rounds + 1; false -> look(Registry, Names, End, Rounds + 1) end.
 
-%% The memory of a node for each name whose process is on another one.
-memory(Registry, At, Other, #plan{names = Count}) ->
-    Before = heal_cluster:call(Other, ?MODULE, memory, [Registry]),
-    Names = heal_cluster:call(At, ?MODULE, fill, [Registry, "m", Count]),
-    Last = lists:last(Names),
-    heal_cluster:eventually(fun() -> heal_cluster:call(Other, Registry, whereis_name, [Last]) =/= undefined end),
-    After = heal_cluster:call(Other, ?MODULE, memory, [Registry]),
-    heal_cluster:call(At, ?MODULE, clear, [Registry, Names]),
-    (After - Before) / Count.
-
-memory(_Registry) ->
-    [erlang:garbage_collect(Pid) || Pid <- processes()],
-    timer:sleep(100),
-    erlang:memory(processes_used) + erlang:memory(ets) + erlang:memory(binary).
-
 %% Registers this many names, each of a process of its own.
 fill(Registry, Prefix, Count) ->
-    Names = [iolist_to_binary([Prefix, integer_to_list(N)]) || N <- lists:seq(1, Count)],
-    [registered(Registry, Name, spawn(heal_cluster, serve, [[]])) || Name <- Names],
+    Names = names(Prefix, Count),
+    named(Registry, Names, spawned(Count)),
     Names.
+
+names(Prefix, Count) ->
+    [iolist_to_binary([Prefix, integer_to_list(N)]) || N <- lists:seq(1, Count)].
+
+spawned(Count) ->
+    [spawn(heal_cluster, serve, [[]]) || _ <- lists:seq(1, Count)].
+
+named(Registry, Names, Pids) ->
+    lists:foreach(fun({Name, Pid}) -> registered(Registry, Name, Pid) end, lists:zip(Names, Pids)).
 
 registered(global, Name, Pid) -> yes = global:register_name(Name, Pid, fun global:random_notify_name/3);
 registered(heal_registry, Name, Pid) -> ok = heal_registry:register(Name, Pid, #{resolver => notify}).
@@ -129,6 +135,28 @@ registered(heal_registry, Name, Pid) -> ok = heal_registry:register(Name, Pid, #
 clear(Registry, Names) ->
     [exit(Pid, kill) || Name <- Names, Pid <- [Registry:whereis_name(Name)], is_pid(Pid)],
     heal_cluster:eventually(fun() -> lists:all(fun(Name) -> Registry:whereis_name(Name) =:= undefined end, Names) end).
+
+%% ---- Memory ----
+
+%% The bytes for each name on the node of the processes, without what these take themselves, and on another node. The nodes have made
+%% nothing before, so that no heap is enlarged.
+memory(Nodes, Count, Registry) ->
+    with_nodes(Nodes, fun(All = [At, Other | _]) ->
+        [heal_cluster:start_registry(It, any, ?OPTIONS) || Registry =:= heal_registry, It <- All],
+        gathered(Registry, All),
+        Names = names("m", Count),
+        Pids = heal_cluster:call(At, ?MODULE, spawned, [Count]),
+        Before = [heal_cluster:call(It, ?MODULE, memory, []) || It <- [At, Other]],
+        heal_cluster:call(At, ?MODULE, named, [Registry, Names, Pids]),
+        filled(Registry, lists:last(Names), All),
+        After = [heal_cluster:call(It, ?MODULE, memory, []) || It <- [At, Other]],
+        [(Now - Then) / Count || {Now, Then} <- lists:zip(After, Before)]
+    end).
+
+memory() ->
+    [erlang:garbage_collect(Pid) || Pid <- processes()],
+    timer:sleep(100),
+    erlang:memory(processes_used) + erlang:memory(ets) + erlang:memory(binary).
 
 %% ---- Healing ----
 
@@ -148,7 +176,7 @@ healing(Count, Clashes, Registry) ->
         heal_cluster:split_into([Left, Right]),
         [gathered(Registry, Half) || Half <- [Left, Right]],
         [heal_cluster:call(hd(Half), ?MODULE, fill, [Registry, "n", Clashes]) || Half <- [Left, Right]],
-        [filled(Registry, Half, Clashes) || Half <- [Left, Right]],
+        [filled(Registry, lists:last(names("n", Clashes)), Half) || Half <- [Left, Right]],
         Client = heal_cluster:call(hd(Left), ?MODULE, longest, [Registry]),
         {Time, _} = timer:tc(fun() -> heal_cluster:mesh(Nodes), gathered(Registry, Nodes), settled(Registry, Nodes, Clashes) end),
         {Time, heal_cluster:call(hd(Left), ?MODULE, stop_longest, [Client])}
@@ -171,8 +199,8 @@ gathered(heal_registry, Nodes) ->
 view(#{primary := Primary, view := {Number, _Operation}, members := Members}) ->
     {Primary, Number, Members}.
 
-filled(Registry, Nodes, Count) ->
-    Last = iolist_to_binary(["n", integer_to_list(Count)]),
+%% Waits until all nodes have the name that was registered last.
+filled(Registry, Last, Nodes) ->
     heal_cluster:eventually(fun() -> [] =:= [It || It <- Nodes, heal_cluster:call(It, Registry, whereis_name, [Last]) =:= undefined] end).
 
 settled(Registry, Nodes, Count) ->
@@ -240,7 +268,7 @@ spelled(Time, _Limit) -> io_lib:format("~.1f ms", [Time / 1000]).
 
 %% ---- Goals ----
 
-goals(Rows, #plan{nodes = Counts, clashes = Series}) ->
+goals(Rows, #plan{nodes = Counts, clashes = Series, names = Sizes}) ->
     Of = fun(Key) -> proplists:get_value(Key, Rows) end,
     Rate = fun(Count, Where, Clients, Registry) -> element(1, Of({Count, {register, Where, Clients}, Registry})) end,
     io:format("~n| goal | nodes | seen | |~n|---|---|---|---|~n"),
@@ -254,7 +282,9 @@ goals(Rows, #plan{nodes = Counts, clashes = Series}) ->
     ] ++ [
         {"lookups as many as global's", Part, Part >= 1} || Part <- [Of({Count, whereis, heal_registry}) / Of({Count, whereis, global})]
     ] ++ [
-        {"memory for each name at most global's", Part, Part =< 1} || Part <- [Of({Count, memory, heal_registry}) / Of({Count, memory, global})]
+        {io_lib:format("memory for each of ~p names on the ~s node at most global's", [Names, Where]), Part, Part =< 1}
+        || Names <- Sizes, Where <- [home, other],
+           Part <- [Of({Count, {memory, Names, Where}, heal_registry}) / Of({Count, {memory, Names, Where}, global})]
     ] ++ lists:append([
         [{io_lib:format("~p clashes in 0.05 of global's time", [Clashes]), Heals / Global, Heals / Global =< 0.05},
          {io_lib:format("longest registration during ~p clashes under 100 ms", [Clashes]), Longest, Longest < 100}]

@@ -25,7 +25,7 @@ adopt(Call = #call{edit = {adopt, Name, Term, Options, Pid, _}}, here, Part = #p
             heal_edits:answer(Call, {error, 30}, Part);
         true ->
             Registration = heal_names:registration(Number, World:serial(), Options),
-            Row = #row{registration = Registration, pid = Pid, term = Term, home = heal_state:life(Part)},
+            Row = heal_row:new(Name, Registration, Pid, Term, heal_state:life(Part)),
             heal_edits:edit(Call#call{edit = {register, Name, Row}}, Part);
         false ->
             heal_edits:answer(Call, {error, noproc}, Part)

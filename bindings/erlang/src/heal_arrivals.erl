@@ -10,12 +10,9 @@
 arrived(_Name, Part = #part{arriving = Arriving}) when Arriving =:= #{} ->
     Part;
 arrived(Name, Part = #part{arriving = Arriving}) ->
-    case (heal_state:half(Part))#half.names of
-        #{Name := #row{registration = #{owner := Owner}}} when is_map_key(Owner, Arriving) ->
-            {Call, Rest} = maps:take(Owner, Arriving),
-            heal_edits:answer(Call, ok, Part#part{arriving = Rest});
-        _ ->
-            Part
+    case maps:take(heal_state:owner(Name, Part), Arriving) of
+        {Call, Rest} -> heal_edits:answer(Call, ok, Part#part{arriving = Rest});
+        error -> Part
     end.
 
 %% A name that this node had unregistered is gone from its table too.
@@ -40,8 +37,8 @@ released(Number, Owner, Part = #part{unreleased = Unreleased, requested = Reques
 leave(Call = #call{edit = {change, _, _, _}}, Owner, Part) ->
     heal_edits:answer(Call, {ok, Owner}, Part);
 leave(Call = #call{edit = {unregister, Name, _}}, Owner, Part = #part{leaving = Leaving}) ->
-    case (heal_state:half(Part))#half.names of
-        #{Name := #row{registration = #{owner := Owner}}} -> Part#part{leaving = Leaving#{Owner => Call}};
+    case heal_state:owner(Name, Part) of
+        Owner -> Part#part{leaving = Leaving#{Owner => Call}};
         _ -> heal_edits:answer(Call, {ok, Owner}, Part)
     end.
 
@@ -51,11 +48,11 @@ all_arrived(Part = #part{arriving = Arriving, leaving = Leaving}) when Arriving 
     Part;
 all_arrived(Part = #part{leaving = Leaving}) ->
     #half{names = Names} = heal_state:half(Part),
-    Owners = maps:from_list([{Owner, has} || #row{registration = #{owner := Owner}} <- maps:values(Names)]),
+    Owners = maps:from_keys([heal_row:owner(Row) || Row <- maps:values(Names)], has),
     Left = [Owner || Owner <- maps:keys(Leaving), not is_map_key(Owner, Owners)],
     lists:foldl(fun left/2, lists:foldl(fun arrived/2, Part, maps:keys(Names)), Left).
 
 %% A registration is made, and this node will have it.
 -spec arriving(heal:name(), #call{}, #part{}) -> #part{}.
-arriving(Name, Call = #call{edit = {register, _, #row{registration = #{owner := Owner}}}}, Part = #part{arriving = Arriving}) ->
-    arrived(Name, Part#part{arriving = Arriving#{Owner => Call}}).
+arriving(Name, Call = #call{edit = {register, _, Row}}, Part = #part{arriving = Arriving}) ->
+    arrived(Name, Part#part{arriving = Arriving#{heal_row:owner(Row) => Call}}).

@@ -82,8 +82,8 @@ died(Name, Owner, Part) ->
     end.
 
 released_by_death(Name, Owner, Part) ->
-    case (heal_state:half(Part))#half.names of
-        #{Name := #row{registration = #{owner := Owner}}} ->
+    case heal_state:owner(Name, Part) of
+        Owner ->
             Hidden = heal_state:add({hide, Name}, Part),
             edit(#call{edit = {unregister, Name, Owner}}, heal_meeting:withdraw(Name, Hidden));
         _ ->
@@ -103,8 +103,8 @@ answer(#call{from = {caller, From}}, Answer, Part) ->
     heal_state:add({reply, From, Answer}, Part);
 answer(#call{from = {member, Node, Number}}, Answer, Part) ->
     heal_state:send(Node, {answer, heal_state:view(Part), Number, Answer}, Part);
-answer(#call{from = {adopting, Node, Number}, edit = {register, Name, #row{registration = #{owner := Owner}}}}, ok, Part) ->
-    heal_state:send(Node, {adopted, Number, {ok, Name, Owner, heal_state:at(Part)}}, Part);
+answer(#call{from = {adopting, Node, Number}, edit = {register, Name, Row}}, ok, Part) ->
+    heal_state:send(Node, {adopted, Number, {ok, Name, heal_row:owner(Row), heal_state:at(Part)}}, Part);
 answer(#call{from = {adopting, Node, Number}}, Answer, Part) ->
     heal_state:send(Node, {adopted, Number, Answer}, Part).
 

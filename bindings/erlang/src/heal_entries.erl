@@ -35,26 +35,28 @@ entries(_Node, _At, [], _By, _Answer, Part) ->
 
 entry(already, _Edit, _By, _Applied, Part) ->
     Part;
-entry(now, Edit = {register, Name, Row}, By, Applied, Part = #part{own = Own}) ->
-    Done = heal_orders:applied(Edit, By, Part, claimed_by(By, Row, Name, Applied)),
+entry(now, {register, Name, _}, By, Applied, Part = #part{own = Own, lost = Lost}) ->
+    #{Name := Row} = (heal_state:half(Applied))#half.names,
+    Done = heal_orders:applied({register, Name, Row}, By, Part, claimed_by(By, Row, Name, Applied)),
     case is_map_key(Name, Own) andalso heal_home:conflicts([], #half{names = #{Name => Row}}, Done) of
-        [Name | _] when (map_get(Name, Own))#own.lost =:= none -> heal_view:lead_alone(Done);
+        [Name | _] when not is_map_key(Name, Lost) -> heal_view:lead_alone(Done);
         _ -> Done
     end;
 entry(now, Edit, By, Applied, Part) ->
     heal_orders:applied(Edit, By, Part, Applied).
 
 %% The entry makes a registration that this node has requested. If its view has changed since, the request waits again.
-claimed_by({Self, Number}, Row = #row{registration = #{owner := Owner}}, Name, Part = #part{node = Self, requested = Requested}) ->
-    case Requested of
-        #{Number := #call{edit = {register, Name, #row{registration = #{owner := Owner}}}}} -> heal_home:claim(Name, Row, Part);
-        _ -> claimed_again(Name, Row, Part)
+claimed_by({Self, Number}, Row, Name, Part = #part{node = Self, requested = Requested}) ->
+    case is_registering(heal_row:owner(Row), maps:get(Number, Requested, none)) of
+        true -> heal_home:claim(Name, Row, Part);
+        false -> claimed_again(Name, Row, Part)
     end;
 claimed_by(_By, _Row, _Name, Part) ->
     Part.
 
-claimed_again(Name, Row = #row{registration = #{owner := Owner}}, Part = #part{requested = Requested, waiting = Waiting}) ->
-    Is = fun(#call{edit = {register, _, #row{registration = #{owner := Of}}}}) -> Of =:= Owner; (_Call) -> false end,
+claimed_again(Name, Row, Part = #part{requested = Requested, waiting = Waiting}) ->
+    Owner = heal_row:owner(Row),
+    Is = fun(Call) -> is_registering(Owner, Call) end,
     case lists:any(Is, maps:values(Requested)) of
         true -> heal_home:claim(Name, Row, Part);
         false ->
@@ -63,6 +65,9 @@ claimed_again(Name, Row = #row{registration = #{owner := Owner}}, Part = #part{r
                 {[Call | _], Rest} -> claim(Call, Name, Row, Part#part{waiting = Rest})
             end
     end.
+
+is_registering(Owner, #call{edit = {register, _, Row}}) -> heal_row:owner(Row) =:= Owner;
+is_registering(_Owner, _Call) -> false.
 
 %% A request of this node is carried out. A home other than the primary has yet to confirm that it answers no more for a name.
 entered(Number, Made, Answer, Before, Part = #part{requested = Requested, unreleased = Unreleased}) ->
@@ -77,8 +82,8 @@ entered(Number, Made, Answer, Before, Part = #part{requested = Requested, unrele
                 false when Call#call.released =/= none -> heal_arrivals:leave(Call, Call#call.released, Part#part{requested = Rest});
                 false -> Part#part{requested = Rest, unreleased = Unreleased#{Number => Call}}
             end;
-        {{Call, Rest}, {_, {register, Name, #row{registration = #{owner := Owner}}}}} ->
-            heal_edits:answer(Call, registered(Name, Owner, Answer, Part), Part#part{requested = Rest});
+        {{Call, Rest}, {_, {register, Name, Row}}} ->
+            heal_edits:answer(Call, registered(Name, heal_row:owner(Row), Answer, Part), Part#part{requested = Rest});
         {{Call, Rest}, {now, _Upload}} ->
             heal_edits:answer(Call, Answer, Part#part{requested = Rest});
         {{Call, Rest}, {already, _}} ->
@@ -130,16 +135,16 @@ restart(Call = #call{from = From, edit = Edit}, Part = #part{waiting = Waiting})
     end.
 
 %% A registration of this node is made: it is claimed, unless this node has come to answer for another one of the name.
-claim(Call, Name, Row = #row{registration = #{owner := Owner}}, Part) ->
-    case heal_home:is_taken(Name, Owner, Part) of
+claim(Call, Name, Row, Part) ->
+    case heal_home:is_taken(Name, heal_row:owner(Row), Part) of
         false -> heal_edits:answer(Call, ok, shown(Name, Row, heal_home:claim(Name, Row, Part)));
         true -> heal_edits:answer(Call, {error, 30}, Part)
     end.
 
-is_made({register, Name, #row{registration = #{owner := Owner}}}, Part) ->
-    case (heal_state:half(Part))#half.names of
-        #{Name := Row = #row{registration = #{owner := Owner}}} -> {true, Name, Row};
-        _ -> false
+is_made({register, Name, Row}, Part) ->
+    case heal_row:owner(Row) =:= heal_state:owner(Name, Part) of
+        true -> {true, Name, map_get(Name, (heal_state:half(Part))#half.names)};
+        false -> false
     end;
 is_made(_Edit, _Part) ->
     false.

@@ -18,7 +18,7 @@
 -spec prepare(a | b, #{heal:name() => #row{}}, #{binary() => binary()}, Limit :: pos_integer()) -> {ok, handle()} | refused().
 prepare(Id, Names, Programs, Limit) ->
     {ok, Side} = heal:side(Id, Limit),
-    Rows = [{Name, Registration} || {Name, #row{registration = Registration}} <- maps:to_list(Names)],
+    Rows = [{Name, heal_row:registration(Row)} || {Name, Row} <- maps:to_list(Names)],
     Calls = [fun() -> plain(heal:upload(Side, Code)) end || Code <- maps:values(Programs)]
         ++ [fun() -> heal:register_all(Side, Rows) end, fun() -> heal:renew(Side) end],
     with({Side, Rows}, all(Calls)).

@@ -9,7 +9,7 @@
 
 -export([start_link/0, begin_call/3, end_call/3, drop_calls/2, calls/0]).
 -export([add/3, drop/2, has/2, names_of/1, rows_of/1, drop_node/1]).
--export([node_up/3, node_down/1, nodes_down/0, outdate/0, number/1, answers/1]).
+-export([node_up/3, node_down/1, nodes_down/0, outdate/0, number/1, check_numbers/0, answers/1]).
 -export([keep_program/3, program/1, codes/0, find/2, is_seen/1]).
 -export([known/2, code/1, sees/1]).
 -export([init/1, handle_call/3, handle_cast/2]).
@@ -138,10 +138,21 @@ nodes_down() ->
     [{Node, Now - Gone} || #met{node = Node, gone = Gone} <- ets:tab2list(?NODES), Gone =/= no].
 
 %% The number of a node: of the configuration, or computed from its name.
--spec number(node()) -> non_neg_integer().
+-spec number(node()) -> 0..16#ffffffff.
 number(Node) ->
+    case application:get_env(heal, node_numbers, #{}) of
+        #{Node := Number} when is_integer(Number), Number >= 0, Number =< 16#ffffffff -> Number;
+        _ -> erlang:phash2(Node, 1 bsl 32)
+    end.
+
+%% Raises an error if the setting isn't a map of nodes to numbers.
+-spec check_numbers() -> ok.
+check_numbers() ->
     Numbers = application:get_env(heal, node_numbers, #{}),
-    maps:get(Node, Numbers, erlang:phash2(Node, 1 bsl 32)).
+    is_map(Numbers) andalso lists:all(fun is_numbered/1, maps:to_list(Numbers)) orelse error({bad_setting, node_numbers, Numbers}),
+    ok.
+
+is_numbered({Node, Number}) -> is_atom(Node) andalso is_integer(Number) andalso Number >= 0 andalso Number =< 16#ffffffff.
 
 facts(Node) ->
     case ets:lookup(?NODES, Node) of

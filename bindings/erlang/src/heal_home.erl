@@ -20,13 +20,13 @@
 %% What changes on a node whose part takes another half. It follows from the half and from the first three fields.
 -record(plan, {
     losers :: [loser()],
-    own :: #{heal:name() => #own{}},
+    own :: #{heal:name() => #row{}},
     before :: #{heal:name() => #row{}},
     %% Names of this node that the half gives to another process, though no exchange decided so.
     conflicts :: [heal:name()],
     changes :: changes(),
-    %% The registrations, with those that an exchange takes names from.
-    flagged :: #{heal:name() => #own{}},
+    %% The registrations that an exchange takes names from.
+    lost :: #{heal:name() => loss()},
     %% Names whose process another node answers for.
     moved :: [heal:name()],
     %% Registrations that the table lacks.
@@ -41,14 +41,14 @@
 %% Answers for a registration from now on, unless this node answers for another one of the name.
 -spec claim(heal:name(), #row{}, #part{}) -> #part{}.
 claim(Name, Row, Part = #part{own = Own}) when not is_map_key(Name, Own) ->
-    heal_state:add({own, Name, Row}, Part#part{own = Own#{Name => #own{row = Row}}});
+    heal_state:add({own, Name, Row}, Part#part{own = Own#{Name => Row}});
 claim(_Name, _Row, Part) ->
     Part.
 
 %% Keeps registrations that the table lacks, so that a registry that starts again has them.
 -spec missing([heal:name()], #part{}) -> #part{}.
 missing(Names, Part = #part{own = Own}) ->
-    kept([{Name, Row} || Name <- Names, #{Name := #own{row = Row}} <- [Own]], Part).
+    kept([{Name, Row} || Name <- Names, #{Name := Row} <- [Own]], Part).
 
 kept([], Part) -> Part;
 kept(Rows, Part) -> heal_state:add({keep_own, Rows}, Part).
@@ -56,8 +56,7 @@ kept(Rows, Part) -> heal_state:add({keep_own, Rows}, Part).
 %% A registration that this node answers for is changed.
 -spec change(heal:name(), #row{}, #part{}) -> #part{}.
 change(Name, Row, Part = #part{own = Own}) ->
-    #{Name := Entry} = Own,
-    kept([{Name, Row}], Part#part{own = Own#{Name := Entry#own{row = Row}}}).
+    kept([{Name, Row}], Part#part{own = Own#{Name := Row}}).
 
 %% Returns whether this node answers for another registration of the name.
 -spec is_taken(heal:name(), heal:owner(), #part{}) -> boolean().
@@ -66,29 +65,29 @@ is_taken(Name, Owner, Part = #part{own = Own}) ->
 
 %% Answers for it no more.
 -spec disown(heal:name(), #part{}) -> #part{}.
-disown(Name, Part = #part{own = Own}) ->
-    {#own{row = Row}, Rest} = maps:take(Name, Own),
-    heal_state:add({disown, Name, Row}, Part#part{own = Rest}).
+disown(Name, Part = #part{own = Own, lost = Lost}) ->
+    {Row, Rest} = maps:take(Name, Own),
+    heal_state:add({disown, Name, Row}, Part#part{own = Rest, lost = maps:remove(Name, Lost)}).
 
 %% Returns whether this node answers for the registration of this owner.
 -spec is_own(heal:name(), heal:owner(), #part{}) -> boolean().
 is_own(Name, Owner, #part{own = Own}) ->
     case Own of
-        #{Name := #own{row = #row{registration = #{owner := Owner}}}} -> true;
+        #{Name := Row} -> owner(Row) =:= Owner;
         _ -> false
     end.
 
-owner(#row{registration = #{owner := Owner}}) -> Owner.
+owner(Row) -> heal_row:owner(Row).
 
 %% Returns the losers whose notice still waits.
 -spec waiting(#part{}) -> [loser()].
-waiting(#part{own = Own}) ->
-    [{Name, owner(Row), Loss} || {Name, #own{row = Row, lost = Loss}} <- maps:to_list(Own), Loss =/= none].
+waiting(#part{own = Own, lost = Lost}) ->
+    [{Name, owner(map_get(Name, Own)), Loss} || {Name, Loss} <- maps:to_list(Lost)].
 
 %% Returns the names of this node that a half has given to another process, except those that an exchange decided.
 -spec conflicts([loser()], #half{}, #part{}) -> [heal:name()].
 conflicts(Losers, #half{names = Names}, Part = #part{own = Own}) ->
-    case [Name || {Name, #own{row = Row}} <- maps:to_list(Own), is_rival(Row, maps:get(Name, Names, Row))] of
+    case [Name || {Name, Row} <- maps:to_list(Own), is_rival(Row, maps:get(Name, Names, Row))] of
         [] -> [];
         Rivals ->
             Lost = maps:from_keys([Name || {Name, Owner, _} <- Losers, is_own(Name, Owner, Part)], lost),
@@ -103,31 +102,28 @@ is_rival(Row, Other) -> owner(Row) =/= owner(Other).
 -spec plan([loser()], #half{}, changes() | unknown, #part{}) -> plan().
 plan(Losers, #half{names = New}, Changes, Part = #part{own = Own}) ->
     #half{names = Old} = heal_state:half(Part),
-    Flagged = flagged(Losers, Own),
-    Found = found(Flagged, New),
+    Lost = lost_by(Losers, Own),
+    Found = found(Own, New),
     #plan{
         losers = Losers,
         own = Own,
         before = Old,
-        conflicts = [Name || {Name, #own{row = Row, lost = none}, Other = #row{}} <- Found, is_rival(Row, Other)],
+        conflicts = [Name || {Name, Row, Other = #row{}} <- Found, is_rival(Row, Other), not is_map_key(Name, Lost)],
         changes = case Changes of unknown -> changes(Old, New); _ -> Changes end,
-        flagged = Flagged,
-        moved = [Name || {Name, #own{row = Row}, Other} <- Found, is_moved(Row, Other)],
-        missing = [{Name, Row} || {Name, #own{row = Row, lost = Lost}, Other} <- Found, Lost =/= none orelse Other =:= none,
-                                  not is_moved(Row, Other)],
+        lost = Lost,
+        moved = [Name || {Name, Row, Other} <- Found, is_moved(Row, Other)],
+        missing = [{Name, Row} || {Name, Row, Other} <- Found, Other =:= none orelse is_map_key(Name, Lost), not is_moved(Row, Other)],
         strange = strange(maps:to_list(New), Part),
-        lacking = lacking(Found)
+        lacking = lacking(Found, Lost)
     }.
 
 %% The registrations, each with the row that the table has under its name.
 found(Own, Names) ->
-    [{Name, Entry, maps:get(Name, Names, none)} || {Name, Entry} <- maps:to_list(Own)].
+    [{Name, Row, maps:get(Name, Names, none)} || {Name, Row} <- maps:to_list(Own)].
 
-%% Notes which registrations an exchange has taken names from.
-flagged(Losers, Own) ->
-    Free = [{Name, Entry#own{lost = none}} || {Name, Entry = #own{lost = {_, _}}} <- maps:to_list(Own)],
-    Lost = [{Name, Entry#own{lost = Loss}} || {Name, Owner, Loss} <- Losers, #{Name := Entry} <- [Own], owner(Entry#own.row) =:= Owner],
-    maps:merge(Own, maps:from_list(Free ++ Lost)).
+%% The registrations that an exchange has taken names from.
+lost_by(Losers, Own) ->
+    maps:from_list([{Name, Loss} || {Name, Owner, Loss} <- Losers, #{Name := Row} <- [Own], owner(Row) =:= Owner]).
 
 changes(Old, New) ->
     Put = [Entry || Entry = {Name, Row} <- maps:to_list(New), not (is_map_key(Name, Old) andalso map_get(Name, Old) =:= Row)],
@@ -149,11 +145,11 @@ conflicts(#plan{conflicts = Conflicts}) -> Conflicts.
 %% Replaces the table that processes read by that of the replica, and notes which registrations have lost their names. Names of
 %% processes that ended are hidden already.
 -spec swap(plan(), #part{}) -> #part{}.
-swap(#plan{changes = {Put, Drop}, flagged = Flagged, moved = Moved, missing = Missing, strange = Strange}, Part) ->
+swap(#plan{changes = {Put, Drop}, lost = Lost, moved = Moved, missing = Missing, strange = Strange}, Part) ->
     #half{programs = Known} = heal_state:half(Part),
     All = maps:merge(Part#part.programs, Known),
-    Flags = Part#part{own = Flagged, programs = All},
-    Shown = heal_state:add({rows, Put, Drop}, kept(Missing, lists:foldl(fun disown/2, Flags, Moved))),
+    Noted = Part#part{lost = Lost, programs = All},
+    Shown = heal_state:add({rows, Put, Drop}, kept(Missing, lists:foldl(fun disown/2, Noted, Moved))),
     Hide = fun({Name, _}, Sum) -> heal_state:add({hide, Name}, Sum) end,
     lists:foldl(Hide, heal_state:add({keep, programs, All}, Shown), Strange).
 
@@ -169,22 +165,21 @@ is_moved(_Row, _Other) -> false.
 %% Returns the edits that the part lacks: registrations and programs of this node, their changes, and names that it answers for no
 %% more.
 -spec differences(#part{}) -> [heal_edits:edit()].
-differences(Part = #part{own = Own}) ->
+differences(Part = #part{own = Own, lost = Lost}) ->
     #half{names = Names} = heal_state:half(Part),
-    dropped(strange(maps:to_list(Names), Part)) ++ uploads(Part) ++ lacking(found(Own, Names)).
+    dropped(strange(maps:to_list(Names), Part)) ++ uploads(Part) ++ lacking(found(Own, Names), Lost).
 
 %% The same right after a plan, of which most of it follows.
 -spec differences(plan(), #part{}) -> [heal_edits:edit()].
-differences(#plan{flagged = Own, strange = Strange, lacking = Lacking}, Part = #part{own = Now}) when Own =:= Now ->
+differences(#plan{own = Own, lost = Lost, strange = Strange, lacking = Lacking}, Part = #part{own = Own, lost = Lost}) ->
     dropped(Strange) ++ uploads(Part) ++ Lacking;
 differences(_Plan, Part) ->
     differences(Part).
 
-lacking(Found) ->
-    Restored = [{register, Name, Row} || {Name, #own{row = Row, lost = none}, none} <- Found],
-    Changed = [{change, Name, owner(Row), maps:remove(owner, Registration)}
-               || {Name, #own{row = Row = #row{registration = Registration}, lost = none}, Shown = #row{}} <- Found,
-                  Shown =/= Row, owner(Shown) =:= owner(Row)],
+lacking(Found, Lost) ->
+    Restored = [{register, Name, Row} || {Name, Row, none} <- Found, not is_map_key(Name, Lost)],
+    Changed = [{change, Name, owner(Row), maps:remove(owner, heal_row:registration(Row))}
+               || {Name, Row, Shown = #row{}} <- Found, Shown =/= Row, owner(Shown) =:= owner(Row), not is_map_key(Name, Lost)],
     Restored ++ Changed.
 
 dropped(Strange) ->
@@ -197,17 +192,15 @@ uploads(Part = #part{programs = Programs}) ->
 
 %% The view is settled: notifies losers whose name another process has, and returns the edits that restore the others.
 -spec settle(#part{}) -> {[heal_edits:edit()], #part{}}.
-settle(Part = #part{own = Own}) ->
+settle(Part = #part{own = Own, lost = Lost}) ->
     #half{names = Names} = heal_state:half(Part),
-    Settled = lists:sort([{Name, Entry} || {Name, Entry = #own{lost = {_, _}}} <- maps:to_list(Own)]),
-    {Free, Taken} = lists:partition(fun({Name, Entry}) -> is_free(Name, Entry, Names) end, Settled),
-    Kept = maps:from_list([{Name, #own{row = Row}} || {Name, #own{row = Row}} <- Free]),
-    Left = Part#part{own = maps:merge(maps:without([Name || {Name, _} <- Taken], Own), Kept)},
-    Losers = [{Name, Row, Loss} || {Name, #own{row = Row, lost = Loss}} <- Taken],
-    {[{register, Name, Row} || {Name, #own{row = Row}} <- Free], lost(Losers, Left)}.
+    Settled = [{Name, map_get(Name, Own), Loss} || {Name, Loss} <- lists:sort(maps:to_list(Lost))],
+    {Free, Taken} = lists:partition(fun({Name, _, Loss}) -> is_free(Name, Loss, Names) end, Settled),
+    Left = Part#part{own = maps:without([Name || {Name, _, _} <- Taken], Own), lost = #{}},
+    {[{register, Name, Row} || {Name, Row, _} <- Free], lost(Taken, Left)}.
 
 %% Nobody has the name, though one of the two was to keep it.
-is_free(Name, #own{lost = {{Kind, _}, _}}, Names) -> Kind =/= conflict_with andalso not is_map_key(Name, Names).
+is_free(Name, {{Kind, _}, _}, Names) -> Kind =/= conflict_with andalso not is_map_key(Name, Names).
 
 lost([], Part) -> Part;
 lost(Losers, Part) -> heal_state:add({lost, Losers}, Part).

@@ -242,7 +242,7 @@ offered_names(b, Members, Part) ->
     #half{names = Names} = heal_state:half(Part),
     maps:without([Name || {Name, #row{home = Home}} <- maps:to_list(Names), is_map_key(Home, Theirs)], Names).
 
-process(#row{registration = #{owner := Owner}, pid = Pid, term = Term, home = Home}) -> {Owner, Pid, Term, Home}.
+process(Row = #row{pid = Pid, term = Term, home = Home}) -> {heal_row:owner(Row), Pid, Term, Home}.
 
 %% The other node begins too, and sends its offer.
 accept(Node, Number, Seed, Members, Continue, Part) ->
@@ -325,11 +325,13 @@ facts(Clashes, #half{names = Names}, #open{node = Node, number = Number, begun =
 
 %% The merge, and what it changes.
 merged(Changed, Lacking, Open, Part) ->
-    #open{number = Number, side = Side, own = Own, programs = Theirs, members = Members} = Open,
+    #open{number = Number, side = Side, own = Own, programs = Theirs} = Open,
     #half{names = Names, programs = Ours} = heal_state:half(Part),
     Programs = case Side of a -> united(Ours, Theirs); b -> united(Theirs, Ours) end,
-    Homes = [Life || {Life, _} <- Members],
-    Rows = [{Name, heal_replica:compact(Name, row(Name, Registration, Open), Homes)} || {Name, Registration} <- Changed],
+    {Rows, _} = lists:mapfoldl(fun({Name, Registration}, Shared) ->
+        {Row, Next} = heal_row:share(row(Name, Registration, Open), Shared),
+        {{Name, Row}, Next}
+    end, #{}, Changed),
     Merge = maps:merge(maps:without(Lacking, Own), maps:from_list(Rows)),
     Changes = case Names of
         Own -> {Rows, [Name || Name <- Lacking, is_map_key(Name, Own)]};
@@ -343,12 +345,12 @@ united(OfA, OfB) ->
     maps:merge(OfA, maps:from_list(lists:sublist(More, ?MAX_PROGRAMS - map_size(OfA)))).
 
 row(Name, Registration = #{owner := Owner}, #open{own = Own, others = Others}) ->
-    case Own of
+    case is_map_key(Name, Own) andalso heal_row:owner(map_get(Name, Own)) of
         %% Both parts have the registration, one of them before a change.
-        #{Name := Row = #row{registration = #{owner := Owner}}} -> Row#row{registration = Registration};
+        Owner -> heal_row:change(map_get(Name, Own), Registration);
         _ ->
             #{Name := {Owner, Pid, Term, Home}} = Others,
-            #row{registration = Registration, pid = Pid, term = Term, home = Home}
+            heal_row:new(Name, Registration, Pid, Term, Home)
     end.
 
 %% The leader starts the view with the merge.

@@ -9,38 +9,33 @@
 -define(REMEMBERED, 1000).
 
 %% Decides what an edit does to the half: nothing, with this answer, or an edit of the replica.
-plan({register, Name, Row = #row{home = Home, registration = #{owner := Owner}}}, Part = #part{own = Own}) ->
-    case {(heal_state:half(Part))#half.names, Own} of
-        {#{Name := #row{registration = #{owner := Owner}}}, _} -> {answer, ok};
-        {_, #{Name := #own{row = #row{registration = #{owner := Owner}}}}} -> {edit, {register, Name, Row}, ok};
-        {_, #{Name := #own{lost = Lost}}} ->
+plan({register, Name, Row = #row{home = Home}}, Part = #part{lost = Lost}) ->
+    Owner = heal_row:owner(Row),
+    case {heal_state:owner(Name, Part), heal_home:is_own(Name, Owner, Part), heal_home:is_taken(Name, Owner, Part)} of
+        {Owner, _, _} -> {answer, ok};
+        {_, true, _} -> {edit, {register, Name, Row}, ok};
+        {_, _, true} ->
             %% Another registration of this node waits to be restored, or for its notice.
-            case Lost =:= none orelse Home =:= heal_state:life(Part) of
+            case not is_map_key(Name, Lost) orelse Home =:= heal_state:life(Part) of
                 true -> {answer, {error, 30}};
                 false -> {edit, {register, Name, Row}, ok}
             end;
         _ -> {edit, {register, Name, Row}, ok}
     end;
 plan({unregister, Name, Whose}, Part) ->
-    case (heal_state:half(Part))#half.names of
-        #{Name := #row{registration = #{owner := Owner}}} when Whose =:= any; Whose =:= Owner ->
-            {edit, {unregister, Name}, {ok, Owner}};
-        #{Name := _} -> {answer, {error, not_held}};
-        _ when Whose =:= any, Part#part.settle_by =/= none -> wait;
-        _ -> {answer, {error, 31}}
-    end;
+    plan({unregister, Name}, Whose, heal_state:owner(Name, Part), Part);
 plan({change, Name, Whose, Changes}, Part) ->
-    case (heal_state:half(Part))#half.names of
-        #{Name := #row{registration = #{owner := Owner}}} when Whose =:= any; Whose =:= Owner ->
-            {edit, {change, Name, Changes}, {ok, Owner}};
-        #{Name := _} -> {answer, {error, not_held}};
-        _ when Whose =:= any, Part#part.settle_by =/= none -> wait;
-        _ -> {answer, {error, 31}}
-    end;
+    plan({change, Name, Changes}, Whose, heal_state:owner(Name, Part), Part);
 plan({upload, Id, Code}, _Part) ->
     {edit, {upload, Id, Code}, {ok, Id}};
 plan(bad, _Part) ->
     {answer, {error, bad_edit}}.
+
+%% An edit of a name that somebody has.
+plan(_Edit, any, none, #part{settle_by = SettleBy}) when SettleBy =/= none -> wait;
+plan(_Edit, _Whose, none, _Part) -> {answer, {error, 31}};
+plan(Edit, Whose, Owner, _Part) when Whose =:= any; Whose =:= Owner -> {edit, Edit, {ok, Owner}};
+plan(_Edit, _Whose, _Other, _Part) -> {answer, {error, not_held}}.
 
 %% Carries an edit out and answers it.
 -spec make(#call{}, #part{}) -> #part{}.
@@ -55,11 +50,11 @@ make(Call = #call{from = From, edit = Edit}, Part) ->
 
 make(Call, Edit, Answer, Part = #part{replica = Replica}) ->
     case heal_replica:edit(Edit, Replica) of
-        {ok, {At, _}, Edited} ->
-            {By, Numbered} = by(Call, Edit, Part),
-            Claimed = claimed(Call, Numbered#part{replica = Edited}),
-            Sent = heal_view:broadcast({edit, At, [Edit], By, Answer}, applied(Edit, By, Part, Claimed)),
-            made(Call, By, Answer, Edit, Part, Sent);
+        {ok, {At, Made}, Edited} ->
+            {By, Numbered} = by(Call, Made, Part),
+            Claimed = claimed(Call, Made, Numbered#part{replica = Edited}),
+            Sent = heal_view:broadcast({edit, At, [Made], By, Answer}, applied(Made, By, Part, Claimed)),
+            made(Call, By, Answer, Sent);
         {error, Number} ->
             heal_entries:finish(Call, {error, Number}, Part)
     end.
@@ -80,22 +75,22 @@ is_home(Name, Part) ->
     #{Name := #row{home = Home}} = (heal_state:half(Part))#half.names,
     Home =:= heal_state:life(Part).
 
-made(#call{from = {member, _, _}}, _By, _Answer, _Edit, _Before, Part) ->
+made(#call{from = {member, _, _}}, _By, _Answer, Part) ->
     Part;
-made(Call, {_, Number}, _Answer, _Edit, _Before, Part = #part{unreleased = Unreleased}) ->
+made(Call, {_, Number}, _Answer, Part = #part{unreleased = Unreleased}) ->
     Part#part{unreleased = Unreleased#{Number => (heal_edits:timed(Call, Part))#call{is_sent = true}}};
-made(Call, none, Answer, _Edit, _Before, Part) ->
+made(Call, none, Answer, Part) ->
     heal_edits:answer(Call, Answer, Part).
 
 %% This node answers for what it registers.
-claimed(#call{from = {member, _, _}}, Part) ->
+claimed(#call{from = {member, _, _}}, _Made, Part) ->
     Part;
-claimed(#call{edit = {register, Name, Row = #row{home = Home}}}, Part) ->
+claimed(_Call, {register, Name, Row = #row{home = Home}}, Part) ->
     case heal_state:life(Part) of
         Home -> heal_home:claim(Name, Row, Part);
         _ -> Part
     end;
-claimed(_Call, Part) ->
+claimed(_Call, _Made, Part) ->
     Part.
 
 %% Makes edits of the primary itself, all of which apply, and sends them in one message.
@@ -131,7 +126,8 @@ requested(Node, View, Number, Edit, Part = #part{members = Members}) ->
 
 %% Does what an entry changes on each node. `Before' is the state that the replica left.
 -spec applied(heal_replica:edit(), none | {node(), pos_integer()}, Before :: #part{}, #part{}) -> #part{}.
-applied({register, Name, Row = #row{home = Home, registration = #{owner := Owner}}}, _By, _Before, Part) ->
+applied({register, Name, Row = #row{home = Home}}, _By, _Before, Part) ->
+    Owner = heal_row:owner(Row),
     case Home =/= heal_state:life(Part) orelse heal_home:is_own(Name, Owner, Part) of
         true -> heal_arrivals:arrived(Name, heal_state:add({rows, [{Name, Row}], []}, Part));
         false ->
@@ -140,7 +136,8 @@ applied({register, Name, Row = #row{home = Home, registration = #{owner := Owner
             heal_edits:edit(#call{edit = {unregister, Name, Owner}}, Hidden)
     end;
 applied({unregister, Name}, By, Before, Part) ->
-    #{Name := #row{home = Home, registration = #{owner := Owner}}} = (heal_state:half(Before))#half.names,
+    #{Name := Row = #row{home = Home}} = (heal_state:half(Before))#half.names,
+    Owner = heal_row:owner(Row),
     Dropped = heal_arrivals:left(Owner, heal_state:add({rows, [], [Name]}, note(Owner, Part))),
     case {Home =:= heal_state:life(Part), By =/= none orelse heal_state:is_primary(Part)} of
         {true, true} -> release(Name, Owner, By, Dropped);
@@ -149,7 +146,8 @@ applied({unregister, Name}, By, Before, Part) ->
         {false, _} -> Dropped
     end;
 applied({change, Name, _}, By, _Before, Part) ->
-    #{Name := Row = #row{home = Home, registration = #{owner := Owner}}} = (heal_state:half(Part))#half.names,
+    #{Name := Row = #row{home = Home}} = (heal_state:half(Part))#half.names,
+    Owner = heal_row:owner(Row),
     Shown = heal_state:add({rows, [{Name, Row}], []}, note(Owner, Part)),
     case {Home =:= heal_state:life(Part), heal_home:is_own(Name, Owner, Part)} of
         {true, true} -> confirm(Owner, By, heal_home:change(Name, Row, Shown));
@@ -179,8 +177,8 @@ is_current({member, Node, _}, _Edit, Part = #part{peers = Peers}) ->
         #{Node := #peer{at = {View, _}}} -> true;
         _ -> false
     end;
-is_current({home, Operation}, {register, _, #row{registration = #{owner := Owner}}}, Part) ->
-    is_later(Operation, Owner, Part);
+is_current({home, Operation}, {register, _, Row}, Part) ->
+    is_later(Operation, heal_row:owner(Row), Part);
 is_current({home, Operation}, {change, _, Owner, _}, Part) ->
     is_later(Operation, Owner, Part);
 is_current(_From, _Edit, _Part) ->

@@ -13,7 +13,7 @@
 
 -include("heal_part.hrl").
 
--export([new/1, handle/3, upgrade/1, status/1, position/1, count/1, tick/1]).
+-export([new/1, handle/3, upgrade/1, status/1, position/1, own/1, count/1, tick/1, is_idle/1]).
 -export_type([part/0, event/0, action/0, step/0, settings/0, status/0]).
 
 -opaque part() :: #part{}.
@@ -91,7 +91,7 @@ new(Settings = #{life := Life = {Node, _}}) ->
         edit_timeout = maps:get(edit_timeout, Settings),
         exchange_timeout = maps:get(exchange_timeout, Settings),
         replica = heal_replica:within(maps:get(names, Settings), maps:get(replica, Settings, heal_replica:start(Life))),
-        own = maps:map(fun(_, Row) -> #own{row = Row} end, maps:get(own, Settings, #{})),
+        own = maps:get(own, Settings, #{}),
         programs = maps:get(programs, Settings, #{}),
         greatest = maps:get(greatest, Settings, 0),
         problems = maps:get(problems, Settings, #{}),
@@ -110,12 +110,12 @@ taken(Part = #part{out = Out}) ->
 %% Takes the state of an earlier version over: the fields that it lacks are the last ones.
 -spec upgrade(Earlier :: part()) -> part().
 upgrade(Earlier) ->
-    Part = later(Earlier, record_info(size, part), [none, none, [], none, #{}]),
-    #part{waiting = Waiting, requested = Requested, unreleased = Unreleased, adopting = Adopting} = Part,
-    #part{arriving = Arriving, leaving = Leaving, storing = Storing, heal = Heal} = Part,
+    Part = later(Earlier, record_info(size, part), [none, none, [], none, #{}, #{}]),
+    #part{replica = Replica, waiting = Waiting, requested = Requested, unreleased = Unreleased, adopting = Adopting} = Part,
+    #part{arriving = Arriving, leaving = Leaving, storing = Storing} = Part,
     Each = fun(_, Call) -> call(Call) end,
-    Part#part{
-        heal = exchange(Heal),
+    owned(tuple_size(Earlier) < tuple_size(Part), Part#part{
+        replica = heal_replica:upgrade(Replica),
         waiting = [call(Call) || Call <- Waiting],
         requested = maps:map(Each, Requested),
         unreleased = maps:map(Each, Unreleased),
@@ -123,14 +123,24 @@ upgrade(Earlier) ->
         arriving = maps:map(Each, Arriving),
         leaving = maps:map(Each, Leaving),
         storing = [{Id, call(Call)} || {Id, Call} <- Storing]
+    }).
+
+%% A version before kept a registration that this node answers for with what became of it. Its exchange goes no further.
+owned(false, Part) ->
+    Part;
+owned(true, Part = #part{own = Own, heal = Heal}) ->
+    Part#part{
+        own = maps:map(fun(Name, {own, Row, _}) -> heal_row:upgrade(Name, Row) end, Own),
+        lost = maps:filtermap(fun(_, {own, _, Loss}) -> Loss =/= none andalso {true, Loss} end, Own),
+        heal = case Heal of #open{} -> idle; _ -> Heal end,
+        prepared = none
     }.
 
-call(Earlier) -> later(Earlier, record_info(size, call), [false]).
-
-%% An exchange of a version before goes no further: its handle was a side alone, or it had no plan.
-exchange(#open{handle = Side}) when is_reference(Side) -> idle;
-exchange(#open{stage = {done, _, Losers}}) when is_list(Losers) -> idle;
-exchange(Heal) -> Heal.
+call(Earlier) ->
+    case later(Earlier, record_info(size, call), [false]) of
+        Call = #call{edit = {register, Name, Row}} -> Call#call{edit = {register, Name, heal_row:upgrade(Name, Row)}};
+        Call -> Call
+    end.
 
 later(Record, Size, Last) ->
     list_to_tuple(tuple_to_list(Record) ++ lists:nthtail(length(Last) - (Size - tuple_size(Record)), Last)).
@@ -210,6 +220,16 @@ tick(Part) ->
 position(#part{replica = Replica}) ->
     #half{latest = Latest} = heal_replica:half(Replica),
     {heal_replica:position(Replica), heal_replica:led(Replica), Latest}.
+
+%% Returns the registrations that this node answers for.
+-spec own(part()) -> #{heal:name() => #row{}}.
+own(#part{own = Own}) ->
+    Own.
+
+%% Returns whether this node waits for nothing.
+-spec is_idle(part()) -> boolean().
+is_idle(Part) ->
+    heal_meeting:is_idle(Part).
 
 %% Returns the number of names.
 -spec count(part()) -> non_neg_integer().

@@ -1,12 +1,6 @@
 %% What the modules of a part share: the state of one node's registry. It has no process, clock or table of its own.
 -include("heal_replica.hrl").
 
-%% A registration that this node answers for. `lost' if an exchange gave the name to another process and the notice still waits.
--record(own, {
-    row :: #row{},
-    lost = none :: none | heal_home:loss()
-}).
-
 %% A connected node: whether its registry has announced itself, has none, or is refused for this reason.
 -record(link, {
     type = visible :: visible | hidden,
@@ -68,8 +62,7 @@
     programs = #{} :: #{binary() => binary()},
     members = [] :: [heal_meeting:member()],
     withdrawn = [] :: [heal:name()],
-    %% An exchange of an earlier version has its losers in place of a plan.
-    stage = offered :: offered | listed | {done, #half{}, heal_home:plan() | [heal_home:loser()]},
+    stage = offered :: offered | listed | {done, #half{}, heal_home:plan()},
     begun :: integer(),
     deadline :: integer()
 }).
@@ -95,7 +88,8 @@
     now = 0 :: integer(),
     out = [] :: [heal_part:action()],
     replica :: heal_replica:replica(),
-    own = #{} :: #{heal:name() => #own{}},
+    %% The registrations that this node answers for.
+    own = #{} :: #{heal:name() => #row{}},
     %% The programs that this node's callers rely on.
     programs = #{} :: #{Id :: binary() => Code :: binary()},
     links = #{} :: #{node() => #link{}},
@@ -142,5 +136,7 @@
     storing = [] :: [{Id :: binary(), #call{}}],
     prepared = none :: none | #prepared{},
     %% Primaries whose query this one has declined, with the nodes of their parts: it invites them once it is ready.
-    declined = #{} :: #{node() => {Reference :: term(), [node()]}}
+    declined = #{} :: #{node() => {Reference :: term(), [node()]}},
+    %% Which of `own' an exchange gave to another process, while the notice waits.
+    lost = #{} :: #{heal:name() => heal_home:loss()}
 }).

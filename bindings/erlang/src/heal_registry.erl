@@ -215,8 +215,8 @@ count() ->
 -spec info(Name :: term()) -> info() | undefined.
 info(Name) ->
     case heal_table:info(heal_names:name(Name), Name) of
-        {ok, #row{registration = Registration, pid = Pid, term = Term, home = {Home, _}}} ->
-            Registration#{name => Term, pid => Pid, home => Home};
+        {ok, Row = #row{pid = Pid, term = Term, home = {Home, _}}} ->
+            (heal_row:registration(Row))#{name => Term, pid => Pid, home => Home};
         none ->
             undefined;
         not_running ->

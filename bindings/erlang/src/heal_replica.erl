@@ -8,7 +8,7 @@
 -include("heal_replica.hrl").
 
 -export([start/1, resume/4, within/2, limit/1, life/1, position/1, half/1, led/1, is_primary/1]).
--export([lead/1, change/3, edit/2, snapshot/1, follow/2, apply/2, compact/1, compact/3]).
+-export([lead/1, change/3, edit/2, snapshot/1, follow/2, apply/2, compact/2, upgrade/1]).
 -export_type([replica/0, life/0, view/0, position/0, half/0, row/0, edit/0, changes/0, entry/0, snapshot/0, refusal/0]).
 
 -define(USUAL_LIMIT, 4096).
@@ -20,7 +20,9 @@
     at :: position(),
     led = 1 :: pos_integer(),
     half = #half{} :: half(),
-    limit = ?USUAL_LIMIT :: pos_integer()
+    limit = ?USUAL_LIMIT :: pos_integer(),
+    %% Fields of later versions follow.
+    shared = #{} :: heal_row:shared()
 }).
 
 -opaque replica() :: #replica{}.
@@ -91,7 +93,7 @@ change(From, Half, Replica = #replica{at = From}) ->
 change(_From, _Half, _Moved) ->
     {error, 49}.
 
-%% Carries an edit out as the primary, and returns the entry for the backups.
+%% Carries an edit out as the primary, and returns the entry for the backups, whose row is that of the half.
 -spec edit(edit(), replica()) -> {ok, entry(), replica()} | {error, refusal()}.
 edit(Edit, Replica = #replica{at = {_, Operation}}) ->
     case is_primary(Replica) of
@@ -101,13 +103,20 @@ edit(Edit, Replica = #replica{at = {_, Operation}}) ->
     end.
 
 made(Edit, Replica = #replica{limit = Limit}) ->
-    case step(Edit, Limit, Replica) of
-        {ok, Made = #replica{at = At}} -> {ok, {At, Edit}, Made};
+    {Shared, Next} = shared(Edit, Replica),
+    case step(Shared, Limit, Next) of
+        {ok, Made = #replica{at = At}} -> {ok, {At, Shared}, Made};
         Refused -> Refused
     end.
 
-step(Edit, Limit, Replica = #replica{life = Life, at = {View = {Primary, _}, Operation}, half = Half}) ->
-    case edited(compact(Edit, [Primary, Life]), Limit, Half) of
+shared({register, Name, Row}, Replica = #replica{shared = Known}) ->
+    {Shared, Next} = heal_row:share(Row, Known),
+    {{register, Name, Shared}, Replica#replica{shared = Next}};
+shared(Edit, Replica) ->
+    {Edit, Replica}.
+
+step(Edit, Limit, Replica = #replica{at = {View, Operation}, half = Half}) ->
+    case edited(Edit, Limit, Half) of
         {ok, Edited} -> {ok, Replica#replica{at = {View, Operation + 1}, half = Edited}};
         Refused -> Refused
     end.
@@ -135,7 +144,8 @@ apply({{View, Operation}, Edit}, Replica = #replica{at = {Own, Last}}) ->
 
 %% A backup takes what the primary made, also beyond its own limit.
 applied(Edit, Replica) ->
-    case step(Edit, infinity, Replica) of
+    {Shared, Next} = shared(Edit, Replica),
+    case step(Shared, infinity, Next) of
         {ok, Applied} -> {ok, now, Applied};
         Refused -> Refused
     end.
@@ -155,8 +165,7 @@ edited({unregister, Name}, _Limit, Half = #half{names = Names}) ->
 edited({change, Name, Changes}, _Limit, Half = #half{names = Names, programs = Programs}) ->
     case {Names, Changes} of
         {#{Name := _}, #{resolver := {program, Id}}} when not is_map_key(Id, Programs) -> {error, 41};
-        {#{Name := Row = #row{registration = Registration}}, _} ->
-            {ok, Half#half{names = Names#{Name := Row#row{registration = maps:merge(Registration, Changes)}}}};
+        {#{Name := Row}, _} -> {ok, Half#half{names = Names#{Name := heal_row:change(Row, Changes)}}};
         _ -> {error, 31}
     end;
 edited({upload, Id, Code}, _Limit, Half = #half{programs = Programs}) ->
@@ -167,30 +176,28 @@ edited({upload, Id, Code}, _Limit, Half = #half{programs = Programs}) ->
         _ -> {ok, Half#half{programs = Programs#{Id => Code}}}
     end.
 
-with_program(_Name, #row{registration = #{resolver := {program, Id}}}, #half{programs = Programs})
-        when not is_map_key(Id, Programs) ->
-    {error, 41};
-with_program(Name, Row, Half = #half{names = Names}) ->
-    {ok, Half#half{names = Names#{Name => Row}}}.
+with_program(Name, Row, Half = #half{names = Names, programs = Programs}) ->
+    case heal_row:resolver(Row) of
+        {program, Id} when not is_map_key(Id, Programs) -> {error, 41};
+        _ -> {ok, Half#half{names = Names#{Name => Row}}}
+    end.
 
-compact({register, Name, Row}, Homes) -> {register, Name, compact(Name, Row, Homes)};
-compact(Edit, _Homes) -> Edit.
+%% Returns the same snapshot with less memory: one that another node sent has copies of what rows share, and of rows that the replica
+%% has already.
+-spec compact(snapshot(), replica()) -> snapshot().
+compact({At, Half = #half{names = Names}}, #replica{half = #half{names = Known}}) ->
+    Compact = fun({Name, Row}, Shared) ->
+        case Known of
+            #{Name := Same} when Same =:= Row -> {{Name, Same}, Shared};
+            _ -> {Kept, Next} = heal_row:share(Row, Shared), {{Name, Kept}, Next}
+        end
+    end,
+    {Rows, _} = lists:mapfoldl(Compact, #{}, maps:to_list(Names)),
+    {At, Half#half{names = maps:from_list(Rows)}}.
 
-%% Returns the same snapshot with less memory: one that another node sent has copies of what all rows share.
--spec compact(snapshot()) -> snapshot().
-compact({At, Half = #half{names = Names}}) ->
-    Homes = lists:usort([Home || #row{home = Home} <- maps:values(Names)]),
-    {At, Half#half{names = maps:map(fun(Name, Row) -> compact(Name, Row, Homes) end, Names)}}.
-
-%% Returns the same row of a name with less memory. It shares its home with these.
--spec compact(heal:name(), row(), [life()]) -> row().
-compact(Name, Row = #row{registration = Sent, term = Term, home = Home}, Homes) ->
-    #{owner := Owner, stamp := Stamp, weight := Weight, extra := Extra, resolver := Resolver} = Sent,
-    %% The keys of a map that is written like this are a literal of the module.
-    Registration = #{owner => Owner, stamp => Stamp, weight => Weight, extra => shared(Extra, [<<0:128>>]), resolver => Resolver},
-    Row#row{registration = Registration, term = shared(Term, [Name]), home = shared(Home, Homes)}.
-
-%% Returns the term of the list that equals this one, so that only one is kept.
-shared(Term, [Other | _]) when Term =:= Other -> Other;
-shared(Term, [_ | Others]) -> shared(Term, Others);
-shared(Term, []) -> Term.
+%% Takes the replica of an earlier version over.
+-spec upgrade(Earlier :: replica()) -> replica().
+upgrade({replica, Life, At, Led, Half = #half{names = Names}, Limit}) ->
+    #replica{life = Life, at = At, led = Led, half = Half#half{names = maps:map(fun heal_row:upgrade/2, Names)}, limit = Limit};
+upgrade(Replica) ->
+    Replica.

@@ -1,7 +1,10 @@
 %% A registration as every node of its part has it. `home' is the life that answers for it: that of the process's node, or of the
-%% node that registered it if the process's node runs no registry.
+%% node that registered it if the process's node runs no registry. Rows share their homes, and most rows what
+%% they have alike: heal_row.
 -record(row, {
-    registration :: heal:registration(),
+    serial :: 0..16#ffffffff,
+    stamp :: non_neg_integer(),
+    alike :: heal_row:alike(),
     pid :: pid(),
     %% The name as its caller wrote it.
     term :: term(),

@@ -165,6 +165,7 @@ refused(Number) ->
 init([]) ->
     ok = net_kernel:monitor_nodes(true),
     ok = heal_facts:outdate(),
+    ok = heal_facts:check_numbers(),
     true = heal_facts:node_up(node(), heal_facts:number(node()), heal_names:uptime()),
     Own = heal_facts:names_of(node()) ++ [{Name, Pid} || {{Name, Pid, _}, _} <- heal_facts:calls()],
     Watching = lists:foldl(fun({Name, Pid}, State) -> watch(Name, Pid, State) end, #state{}, Own),

@@ -32,8 +32,8 @@
     send :: fun((node(), term()) -> term()),
     reconnect :: heal_reconnect:state(),
     %% The processes that this node answers for.
-    monitors = #{} :: #{reference() => {heal:name(), heal:owner()}},
-    owners = #{} :: #{heal:owner() => {reference(), heal:name(), pid()}},
+    watched = heal_watching:new() :: heal_watching:watched(),
+    heap :: heal_heap:heap(),
     %% For each connected node a process that reports the end of its registry.
     watches = #{} :: #{node() => pid()},
     subscribers = #{} :: heal_events:subscribers(),
@@ -42,11 +42,6 @@
     log = none :: none | {pid(), Monitor :: reference()}
 }).
 
-%% Words of heap during an exchange: for each name, and at most.
--define(ROOM_FOR_NAME, 170).
--define(ROOM, 4000000).
-%% The heap of the process, and that of the binaries that it refers to.
--define(HEAPS, [min_heap_size, min_bin_vheap_size]).
 %% Milliseconds until another attempt to start the process that writes.
 -define(AGAIN, 1000).
 %% How often to look for a registry that has failed, and the milliseconds in between.
@@ -79,15 +74,16 @@ init({Parent, Options = #{nodes := Nodes}}) ->
         nodes = Nodes,
         send = maps:get(send, Options, fun heal_wire:send/2),
         reconnect = heal_reconnect:start(Nodes, Options),
+        heap = heal_heap:new(heal_part:count(Part)),
         dir = Dir,
         log = Log
     },
     self() ! tick,
-    Watching = lists:foldl(fun({Name, Row}, Sum) -> watch(Name, Row, Sum) end, perform(Actions, State), owned(Settings)),
-    {ok, connected(release_dead(logged(maps:get(programs, Settings), Watching)))}.
+    Watching = State#server{watched = watch_all(maps:get(own, Settings, #{}))},
+    {ok, connected(release_dead(logged(maps:get(programs, Settings), perform(Actions, Watching))))}.
 
-owned(Settings) ->
-    maps:to_list(maps:get(own, Settings, #{})).
+watch_all(Own) ->
+    maps:fold(fun(Name, #row{pid = Pid}, Sum) -> heal_watching:watch(Name, Pid, Sum) end, heal_watching:new(), Own).
 
 %% A node's life begins with the table, and a registry that starts again goes on with it.
 life() ->
@@ -101,6 +97,7 @@ life() ->
     end.
 
 settings(Life, Options = #{nodes := Nodes}) ->
+    ok = heal_facts:check_numbers(),
     #{
         life => Life,
         number => heal_facts:number(node()),
@@ -197,9 +194,9 @@ handle_call({subscribe, Pid}, _From, State = #server{subscribers = Subscribers})
 handle_call({unsubscribe, Pid}, _From, State = #server{subscribers = Subscribers}) ->
     {reply, ok, State#server{subscribers = heal_events:remove(Pid, Subscribers)}};
 handle_call({edit, Edit}, From, State) ->
-    case heal_wire:is_edit(Edit) of
-        true -> {noreply, event({call, From, Edit}, released(Edit, State))};
-        false -> {reply, {error, bad_edit}, State}
+    case heal_wire:edit(Edit) of
+        bad -> {reply, {error, bad_edit}, State};
+        Valid -> {noreply, event({call, From, Valid}, released(Valid, State))}
     end;
 handle_call(_Unknown, _From, State) ->
     {reply, {error, unknown_call}, State}.
@@ -211,8 +208,8 @@ handle_cast(_Message, State) ->
 %% @private
 handle_info(tick, State = #server{part = Part}) ->
     _ = erlang:send_after(heal_part:tick(Part), self(), tick),
-    [process_flag(Flag, element(2, erlang:system_info(Flag))) || Flag <- ?HEAPS],
-    {noreply, event(tick, State)};
+    Next = #server{part = Now, heap = Heap} = event(tick, State),
+    {noreply, Next#server{heap = heal_heap:tick(heal_part:is_idle(Now), Heap)}};
 handle_info({nodeup, Node, #{node_type := Type}}, State) ->
     {noreply, up(Node, Type, State)};
 handle_info({nodedown, Node, _}, State) ->
@@ -230,35 +227,34 @@ handle_info({?REGISTRY, log}, State = #server{dir = Dir, log = none}) ->
     {noreply, logged(heal_table:kept(programs, #{}), State#server{log = log(Dir)})};
 handle_info({'DOWN', Monitor, process, _, _}, State = #server{log = {_, Monitor}}) ->
     {noreply, unlogged(State)};
+handle_info({?REGISTRY, quiet, Changed}, State = #server{part = Part, heap = Heap}) ->
+    {noreply, timed(State#server{heap = heal_heap:quiet(Changed, heal_part:is_idle(Part), Heap)})};
 handle_info({timeout, _Timer, reconnect}, State = #server{reconnect = Reconnect}) ->
     {_Attempts, Next} = heal_reconnect:attempt(heal_reconnect:expired(Reconnect)),
     {noreply, State#server{reconnect = Next}};
 handle_info({'ETS-TRANSFER', _, _, inherited}, State = #server{parent = Parent}) ->
     _ = is_process_alive(Parent) andalso heal_keeper:restart(Parent),
     {noreply, State};
-handle_info({'DOWN', Monitor, process, Pid, _}, State = #server{monitors = Monitors, reconnect = Reconnect}) ->
-    case {Monitors, heal_reconnect:attempted(Monitor, Reconnect)} of
-        {#{Monitor := {Name, Owner}}, _} -> {noreply, event({died, Name, Owner}, State)};
-        {_, {Node, Next}} -> {noreply, event({attempted, Node}, State#server{reconnect = Next})};
-        _ -> {noreply, State#server{subscribers = heal_events:gone(Monitor, Pid, State#server.subscribers)}}
+handle_info({'DOWN', Monitor, process, Pid, _}, State = #server{reconnect = Reconnect, subscribers = Subscribers}) ->
+    case heal_reconnect:attempted(Monitor, Reconnect) of
+        {Node, Next} -> {noreply, event({attempted, Node}, State#server{reconnect = Next})};
+        none -> {noreply, died(Pid, State#server{subscribers = heal_events:gone(Monitor, Pid, Subscribers)})}
     end;
 handle_info(Message, State) ->
     {noreply, message(heal_wire:read(Message), State)}.
 
 message({ok, Node, Body}, State) ->
-    case heal_wire:is_valid(Body) of
-        true -> heard(Node, Body, State);
-        false -> State
+    case heal_wire:body(Body) of
+        {ok, Valid} -> heard(Node, Valid, State);
+        error -> State
     end;
 message({version, Node, Version}, State) ->
     event({version, Node, Version}, State);
 message(error, State) ->
     State.
 
-heard(Node, {request, View, Number, Edit}, State) ->
-    event({message, Node, {request, View, Number, valid(Edit)}}, State);
-heard(Node, {adopt, Number, Edit}, State) ->
-    event({message, Node, {adopt, Number, valid(Edit)}}, released(Edit, State));
+heard(Node, Body = {adopt, _, Edit}, State) ->
+    event({message, Node, Body}, released(Edit, State));
 heard(Node, Body = {here, _}, State) ->
     event({message, Node, Body}, watched(Node, State));
 heard(Node, Body, State) when element(1, Body) =:= ask; element(1, Body) =:= hello; element(1, Body) =:= propose ->
@@ -266,22 +262,16 @@ heard(Node, Body, State) when element(1, Body) =:= ask; element(1, Body) =:= hel
     event({message, Node, Body}, roomy(0, State));
 heard(Node, Body = {offer, _, _, {_, Processes, _, _}, _}, State) ->
     event({message, Node, Body}, release_dead(roomy(map_size(Processes), State)));
-heard(Node, Body, State) when element(1, Body) =:= edit; element(1, Body) =:= answer ->
+heard(Node, Body, State) when element(1, Body) =:= edit; element(1, Body) =:= answer; element(1, Body) =:= request ->
     event({message, Node, Body}, State);
 heard(Node, Body, State) ->
     event({message, Node, Body}, release_dead(State)).
 
-%% An exchange makes much garbage. With more room fewer collections copy the rows. The next tick takes the room back.
-roomy(Names, State = #server{part = Part}) ->
-    Room = min(?ROOM, ?ROOM_FOR_NAME * max(heal_part:count(Part), Names)),
-    [process_flag(Flag, Room) || Flag <- ?HEAPS],
-    State.
+roomy(Names, State = #server{part = Part, heap = Heap}) ->
+    State#server{heap = heal_heap:roomy(max(heal_part:count(Part), Names), Heap)}.
 
-valid(Edit) ->
-    case heal_wire:is_edit(Edit) of
-        true -> Edit;
-        false -> bad
-    end.
+timed(State = #server{part = Part, heap = Heap}) ->
+    State#server{heap = heal_heap:timed(heal_part:count(Part), Heap)}.
 
 %% ---- Upgrades ----
 
@@ -290,7 +280,15 @@ code_change(_Version, State, _Extra) ->
     Lacks = record_info(size, server) - tuple_size(State),
     Later = lists:nthtail(2 - Lacks, [none, none]),
     Server = #server{part = Part} = list_to_tuple(tuple_to_list(State) ++ Later),
-    {ok, relogged(Server#server{part = heal_part:upgrade(Part)})}.
+    Monitors = element(#server.watched, State),
+    {ok, relogged(rewatched(Monitors, element(#server.heap, State), Server#server{part = heal_part:upgrade(Part)}))}.
+
+%% A version before had a monitor for each name, and a map of the owners instead of the heap.
+rewatched(Monitors, Owners, State = #server{part = Part}) when is_map(Owners) ->
+    [demonitor(Monitor, [flush]) || Monitor <- maps:keys(Monitors)],
+    State#server{watched = watch_all(heal_part:own(Part)), heap = heal_heap:new(heal_part:count(Part))};
+rewatched(_Watched, _Heap, State) ->
+    State.
 
 %% A version before knew no folder.
 relogged(State = #server{dir = none}) ->
@@ -354,7 +352,7 @@ perform([], State) ->
     State;
 perform(Actions, State = #server{subscribers = Subscribers}) ->
     ok = heal_events:report(Actions, Subscribers),
-    continued(Actions, positioned(lists:foldl(fun act/2, State, Actions))).
+    timed(continued(Actions, positioned(acts(Actions, none, State)))).
 
 continued(Actions, State) ->
     lists:foldl(fun event/2, State, [Step || Step = {continue, _} <- Actions]).
@@ -372,14 +370,25 @@ positioned(State = #server{part = Part, view = View, operation = Last}) ->
             State#server{view = Other, operation = Operation}
     end.
 
-act({send, Node, Body}, State = #server{send = Send}) ->
-    case Send(Node, heal_wire:message(Body)) of
-        nosuspend -> self() ! {?REGISTRY, unreachable, Node}, State;
-        _ -> State
-    end;
-act({rows, Put, Drop}, State) ->
-    ok = heal_table:rows(Put, Drop),
+%% A body that several nodes receive is made a message once.
+acts([], _Last, State) ->
     State;
+acts([{send, Node, Body} | Rest], Last, State) ->
+    Sent = {_, Message} = case Last of {Body, _} -> Last; _ -> {Body, heal_wire:message(Body)} end,
+    ok = send(Node, Message, State),
+    acts(Rest, Sent, State);
+acts([Action | Rest], Last, State) ->
+    acts(Rest, Last, act(Action, State)).
+
+send(Node, Message, #server{send = Send}) ->
+    case Send(Node, Message) of
+        nosuspend -> self() ! {?REGISTRY, unreachable, Node}, ok;
+        _ -> ok
+    end.
+
+act({rows, Put, Drop}, State = #server{heap = Heap}) ->
+    ok = heal_table:rows(Put, Drop),
+    State#server{heap = heal_heap:changed(length(Put) + length(Drop), Heap)};
 act({hide, Name}, State) ->
     ok = heal_table:hide(Name),
     State;
@@ -392,15 +401,17 @@ act({keep_own, Rows}, State) ->
 act({reply, From, Answer}, State) ->
     reply(From, spelled(Answer)),
     State;
-act({own, Name, Row}, State) ->
-    watch(Name, Row, State);
+act({own, Name, #row{pid = Pid}}, State = #server{watched = Watched}) ->
+    State#server{watched = heal_watching:watch(Name, Pid, Watched)};
 act({disown, Name, Row}, State) ->
-    ok = disown(Name, Row, State),
-    unwatched([Row], State);
+    disown(Name, Row, State);
 act({lost, Losers}, State) ->
     %% One after the other, so that a registry which is killed meanwhile has notified those that it answers for no more.
-    lists:foreach(fun({Name, Row, Loss}) -> ok = disown(Name, Row, State), notify(Row, Loss) end, Losers),
-    unwatched([Row || {_, Row, _} <- Losers], State);
+    lists:foldl(fun({Name, Row, Loss}, Sum) ->
+        Next = disown(Name, Row, Sum),
+        _ = notify(Row, Loss),
+        Next
+    end, State, Losers);
 act({problems, Problems}, State) ->
     ok = heal_problems:report(Problems),
     State;
@@ -436,30 +447,31 @@ deliver(#row{pid = Pid, term = Term}, {Notice = {_, Position}, Rival}) ->
 
 %% ---- Processes ----
 
-watch(Name, #row{pid = Pid, registration = #{owner := Owner}}, State = #server{monitors = Monitors, owners = Owners}) ->
-    Monitor = monitor(process, Pid),
-    State#server{monitors = Monitors#{Monitor => {Name, Owner}}, owners = Owners#{Owner => {Monitor, Name, Pid}}}.
-
 %% This node answers for a registration no more.
-disown(Name, #row{registration = #{owner := Owner}}, #server{owners = Owners}) ->
+disown(Name, #row{pid = Pid}, State = #server{watched = Watched}) ->
     ok = heal_table:disown(Name),
-    case Owners of
-        #{Owner := {Monitor, _, _}} -> true = demonitor(Monitor, [flush]), ok;
-        _ -> ok
+    State#server{watched = heal_watching:unwatch(Name, Pid, Watched)}.
+
+%% A process has ended, of which this node may have watched names.
+died(Pid, State = #server{watched = Watched}) ->
+    case heal_watching:ended(Pid, Watched) of
+        {Names, Rest} -> lists:foldl(fun(Name, Sum) -> died(Name, Pid, Sum) end, State#server{watched = Rest}, Names);
+        none -> State
     end.
 
-unwatched(Rows, State = #server{monitors = Monitors, owners = Owners}) ->
-    Gone = [Owner || #row{registration = #{owner := Owner}} <- Rows],
-    References = [Monitor || Owner <- Gone, #{Owner := {Monitor, _, _}} <- [Owners]],
-    State#server{monitors = maps:without(References, Monitors), owners = maps:without(Gone, Owners)}.
+died(Name, Pid, State = #server{part = Part}) ->
+    case heal_part:own(Part) of
+        #{Name := Row = #row{pid = Pid}} -> event({died, Name, heal_row:owner(Row)}, State);
+        _ -> State
+    end.
 
 %% Releases a name whose process, of this node, is gone before its monitor reports so: a supervisor restarts it at once.
 released({adopt, Name, _, _, _, _}, State) ->
     case heal_table:row(Name) of
-        {ok, #row{pid = Pid, registration = #{owner := Owner}}} when node(Pid) =:= node() ->
+        {ok, Row = #row{pid = Pid}} when node(Pid) =:= node() ->
             case is_process_alive(Pid) of
                 true -> State;
-                false -> event({died, Name, Owner}, State)
+                false -> event({died, Name, heal_row:owner(Row)}, State)
             end;
         _ ->
             State
@@ -468,6 +480,7 @@ released(_Edit, State) ->
     State.
 
 %% Releases the names of all processes of this node that are gone.
-release_dead(State = #server{owners = Owners}) ->
-    Dead = [{Name, Owner} || {Owner, {_, Name, Pid}} <- maps:to_list(Owners), node(Pid) =:= node(), not is_process_alive(Pid)],
+release_dead(State = #server{part = Part}) ->
+    Dead = [{Name, heal_row:owner(Row)} || {Name, Row = #row{pid = Pid}} <- maps:to_list(heal_part:own(Part)), node(Pid) =:= node(),
+                                           not is_process_alive(Pid)],
     lists:foldl(fun({Name, Owner}, Sum) -> event({died, Name, Owner}, Sum) end, State, Dead).

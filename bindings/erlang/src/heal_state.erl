@@ -3,7 +3,7 @@
 
 -include("heal_part.hrl").
 
--export([at/1, view/1, half/1, life/1, is_primary/1, primary/1, patience/1, tick/1]).
+-export([at/1, view/1, half/1, owner/2, life/1, is_primary/1, primary/1, patience/1, tick/1]).
 -export([add/2, continue/2, send/3, send_all/3]).
 
 %% Returns the position of this node's replica.
@@ -17,6 +17,14 @@ view(#part{replica = Replica}) -> element(1, heal_replica:position(Replica)).
 %% Returns the half of this node's replica.
 -spec half(#part{}) -> #half{}.
 half(#part{replica = Replica}) -> heal_replica:half(Replica).
+
+%% Returns who has a name in this node's replica.
+-spec owner(heal:name(), #part{}) -> heal:owner() | none.
+owner(Name, Part) ->
+    case (half(Part))#half.names of
+        #{Name := Row} -> heal_row:owner(Row);
+        _ -> none
+    end.
 
 %% Returns the life of this node.
 -spec life(#part{}) -> heal_replica:life().

@@ -15,8 +15,8 @@
 -define(OPERATION, {?MODULE, operation}).
 
 %% A name. `ended' if its process has ended and its row is about to go. The other fields are those of the row, without what ETS would
-%% copy for each: the keys of the registration, extra bytes that are zero, a term that is the name, and a home that is the node of
-%% the process, of which it has the incarnation.
+%% copy for each: extra bytes that are zero, a term that is the name, and a home that is the node of the process, of which it has the
+%% incarnation.
 -record(entry, {
     name :: heal:name() | atom(),
     pid :: pid() | {ended, pid()} | atom(),
@@ -82,8 +82,7 @@ rows(Put, Drop) ->
     [ets:delete(?ROWS, Name) || Name <- Drop],
     ok.
 
-entry(Name, #row{registration = Registration, pid = Pid, term = Term, home = Home}) ->
-    #{owner := {Node, Serial}, stamp := Stamp, weight := Weight, extra := Extra, resolver := Resolver} = Registration,
+entry(Name, #row{serial = Serial, stamp = Stamp, alike = {Node, Weight, Extra, Resolver}, pid = Pid, term = Term, home = Home}) ->
     #entry{
         name = Name,
         pid = Pid,
@@ -102,7 +101,7 @@ row_of(Entry = #entry{node = Node, serial = Serial, stamp = Stamp, weight = Weig
     Extra = case Entry#entry.extra of none -> ?NOTHING; Bytes -> Bytes end,
     Pid = case Entry#entry.pid of {ended, Ended} -> Ended; Living -> Living end,
     Registration = #{owner => {Node, Serial}, stamp => Stamp, weight => Weight, extra => Extra, resolver => Resolver},
-    #row{registration = Registration, pid = Pid, term = term_of(Entry), home = home_of(Entry, Pid)}.
+    heal_row:new(Entry#entry.name, Registration, Pid, term_of(Entry), home_of(Entry, Pid)).
 
 term_of(#entry{name = Name, term = same}) -> Name;
 term_of(#entry{term = {term, Term}}) -> Term.
@@ -149,8 +148,10 @@ kept(Key, Usual) ->
 -spec restore(heal_replica:life()) -> map().
 restore(Life) ->
     true = ets:match_delete(?ROWS, #entry{pid = none, _ = '_'}),
-    Names = maps:from_list([{Name, Entry} || Entry = #entry{name = Name} <- ets:match_object(?ROWS, #entry{_ = '_'})]),
-    Found = #{own => own(Life, Names), programs => kept(programs, #{}), greatest => kept(greatest, 0),
+    Entries = ets:match_object(?ROWS, #entry{_ = '_'}),
+    {Rows, _} = lists:mapfoldl(fun shared_row/2, #{}, Entries),
+    Names = maps:from_list(Rows),
+    Found = #{own => own(Life, Entries, Names), programs => kept(programs, #{}), greatest => kept(greatest, 0),
               problems => kept(reported, #{})},
     case kept(view, none) of
         none -> Found;
@@ -172,17 +173,19 @@ keep_position({View, Operation}, Led, Latest) ->
 keep_operation(Operation) ->
     atomics:put(persistent_term:get(?OPERATION), 1, Operation).
 
+shared_row(Entry = #entry{name = Name}, Shared) ->
+    {Row, Next} = heal_row:share(row_of(Entry), Shared),
+    {{Name, Row}, Next}.
+
 %% The rows of this node's living processes, and what the table lacks or may have lacked.
-own(Life, Names) ->
-    Shown = maps:filter(fun(_, Entry = #entry{pid = Pid}) -> is_pid(Pid) andalso home_of(Entry, Pid) =:= Life end, Names),
+own(Life, Entries, Names) ->
+    Ended = [Name || #entry{name = Name, pid = {ended, _}} <- Entries],
+    Shown = maps:filter(fun(_, #row{home = Home}) -> Home =:= Life end, maps:without(Ended, Names)),
     Missing = ets:select(?ROWS, [{#kept{key = {own, '$1'}, value = '$2'}, [], [{{'$1', '$2'}}]}]),
-    maps:merge(rows_of(Shown), maps:from_list(Missing)).
+    maps:merge(Shown, maps:from_list([{Name, heal_row:upgrade(Name, Row)} || {Name, Row} <- Missing])).
 
 half(Names, Latest) ->
-    #half{names = rows_of(Names), programs = kept(programs, #{}), latest = Latest}.
-
-rows_of(Entries) ->
-    maps:map(fun(_, Entry) -> row_of(Entry) end, Entries).
+    #half{names = Names, programs = kept(programs, #{}), latest = Latest}.
 
 %% ---- Readers ----
 

@@ -306,7 +306,7 @@ snapshot(Node, {Snapshot = {{{Life, _}, _} = At, _}, Losers}, Part = #part{peers
     case Peers of
         #{Node := #peer{life = Life}} ->
             case {heal_state:is_primary(Part), is_next(Node, At, Part), heal_state:at(Part)} of
-                {false, true, _} -> follow(heal_replica:compact(Snapshot), Losers, Node, Part);
+                {false, true, _} -> follow(heal_replica:compact(Snapshot, Part#part.replica), Losers, Node, Part);
                 {false, false, {View, _}} when View =:= element(1, At) -> join_with(heal_home:differences(Part), Part);
                 _ -> Part
             end;

@@ -6,14 +6,29 @@
 
 -include("heal_replica.hrl").
 
--export([message/1, send/2, read/1, is_valid/1, is_edit/1]).
+-export([message/1, send/2, read/1, body/1, edit/1]).
 
 -define(VERSION, 3).
 
 %% Returns the message of a body.
 -spec message(Body :: term()) -> tuple().
 message(Body) ->
-    {heal_registry, ?VERSION, node(), Body}.
+    {heal_registry, ?VERSION, node(), sent(Body)}.
+
+%% A row crosses the wire with its registration as a map.
+sent({snapshot, {{At, Half = #half{names = Names}}, Losers}}) ->
+    {snapshot, {{At, Half#half{names = maps:map(fun(_, Row) -> heal_row:sent(Row) end, Names)}}, Losers}};
+sent({edit, At, Edits, By, Answer}) ->
+    {edit, At, [sent_edit(Edit) || Edit <- Edits], By, Answer};
+sent({finished, Seq, At, Requests, Edits}) ->
+    {finished, Seq, At, Requests, [sent_edit(Edit) || Edit <- Edits]};
+sent({request, View, Number, Edit}) ->
+    {request, View, Number, sent_edit(Edit)};
+sent(Body) ->
+    Body.
+
+sent_edit({register, Name, Row}) -> {register, Name, heal_row:sent(Row)};
+sent_edit(Edit) -> Edit.
 
 %% Never waits: neither for a connection nor for a node that reads slowly.
 -spec send(node(), Message :: term()) -> ok | nosuspend | noconnect.
@@ -27,8 +42,30 @@ read({heal_registry, Version, Node, _Body}) when is_atom(Node) -> {version, Node
 read({heal_registry, Node, _Body}) when is_atom(Node) -> {version, Node, 1};
 read(_Other) -> error.
 
-%% Returns whether this is a valid body. An invalid edit is its receiver's matter.
--spec is_valid(Body :: term()) -> boolean().
+%% Returns a body that another node has sent, if it is valid. An invalid edit is `bad', which the receiver refuses.
+-spec body(Sent :: term()) -> {ok, Body :: term()} | error.
+body(Sent) ->
+    case is_valid(Sent) of
+        true -> {ok, received(Sent)};
+        false -> error
+    end.
+
+received({snapshot, {{At, Half = #half{names = Names}}, Losers}}) ->
+    {snapshot, {{At, Half#half{names = maps:map(fun heal_row:received/2, Names)}}, Losers}};
+received({edit, At, Edits, By, Answer}) ->
+    {edit, At, [received_edit(Edit) || Edit <- Edits], By, Answer};
+received({finished, Seq, At, Requests, Edits}) ->
+    {finished, Seq, At, Requests, [received_edit(Edit) || Edit <- Edits]};
+received({request, View, Number, Edit}) ->
+    {request, View, Number, edit(Edit)};
+received({adopt, Number, Edit}) ->
+    {adopt, Number, edit(Edit)};
+received(Body) ->
+    Body.
+
+received_edit({register, Name, Row}) -> {register, Name, heal_row:received(Name, Row)};
+received_edit(Edit) -> Edit.
+
 is_valid({here, #{life := Life, seq := Seq, number := Number, nodes := Nodes, scope := _, at := At, members := Members,
                   is_settled := IsSettled, is_first := IsFirst}}) ->
     is_life(Life) andalso is_count(Seq) andalso is_word(Number) andalso (Nodes =:= any orelse all(fun is_atom/1, Nodes))
@@ -103,7 +140,7 @@ is_loser({Name, Owner, {{Kind, Position}, Rival}}) ->
         andalso lists:member(Position, [first, second]) andalso is_pid(Rival);
 is_loser(_Other) -> false.
 
-is_row(#row{registration = Registration = #{owner := Owner}, pid = Pid, home = Home}) when map_size(Registration) =:= 5 ->
+is_row({row, Registration = #{owner := Owner}, Pid, _Term, Home}) when map_size(Registration) =:= 5 ->
     is_owner(Owner) andalso has_options(Registration) andalso is_pid(Pid) andalso is_life(Home);
 is_row(_Other) -> false.
 
@@ -117,8 +154,14 @@ is_made(_Other) -> false.
 all(Is, Terms) when length(Terms) >= 0 -> lists:all(Is, Terms);
 all(_Is, _Terms) -> false.
 
-%% Returns whether this is a valid edit of a caller or of another node.
--spec is_edit(term()) -> boolean().
+%% Returns the edit of a caller or of another node, or `bad' if it isn't valid.
+-spec edit(term()) -> heal_edits:edit().
+edit(Sent) ->
+    case is_edit(Sent) of
+        true -> received_edit(Sent);
+        false -> bad
+    end.
+
 is_edit({register, Name, Row}) -> is_name(Name) andalso is_row(Row);
 is_edit({adopt, Name, _Term, Options, Pid, On}) ->
     is_name(Name) andalso is_pid(Pid) andalso is_map(Options) andalso are_options(Options) andalso node(Pid) =:= On;

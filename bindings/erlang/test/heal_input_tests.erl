@@ -107,6 +107,35 @@ full_table(A, B) ->
     ?assertMatch([_], [Text || Text <- heal_logs:texts(A), string:find(Text, "more isn't registered") =/= nomatch]),
     heal_cluster:kill(A, Pid).
 
+%% ---- Settings ----
+
+%% A registry doesn't start with a wrong setting, of its options or of the application, and names it. One that starts next is whole.
+settings_test_() ->
+    {timeout, 120, fun() ->
+        A = heal_cluster:start(a),
+        Start = fun(Options) -> heal_cluster:call(A, heal_disk_tests, start_here, [Options]) end,
+        ?assertMatch({error, {{bad_setting, nodes, none}, _}}, Start(#{nodes => none})),
+        ?assertMatch({error, {{bad_setting, nodes, [b@c]}, _}}, Start(#{nodes => [b@c]})),
+        Wrong = [{Key, Value} || Key <- [names, edit_timeout, exchange_timeout], Value <- [-1, 0, 1.5, x, "1"]] ++ [{names, 1048577}],
+        _ = heal_cluster:call(A, application, load, [heal]),
+        [?assertMatch({error, {{bad_setting, Key, Value}, _}}, Start(#{nodes => any, Key => Value}))
+         || {Key, Value} <- Wrong ++ [{reconnect_interval, Value} || Value <- [-1, 1.5, x]]],
+        [in_application(A, Key, Value, Start) || {Key, Value} <- Wrong],
+        Of = heal_cluster:node_of(A),
+        [in_application(A, node_numbers, Value, Start)
+         || Value <- [none, [], [{Of, 1}], #{Of => 1 bsl 32}, #{b@c => -1}, #{"b@c" => 1}, #{b@c => 1.0}]],
+        heal_cluster:start_registry(A, [A], #{}),
+        Pid = heal_cluster:own(A, ?REGISTER, one, #{}),
+        ?assertEqual([{one, Pid}], heal_cluster:table(A)),
+        heal_cluster:stop(A)
+    end}.
+
+in_application(A, Key, Value, Start) ->
+    {ok, Usual} = heal_cluster:call(A, application, get_env, [heal, Key]),
+    ok = heal_cluster:call(A, application, set_env, [heal, Key, Value]),
+    ?assertMatch({error, {{bad_setting, Key, Value}, _}}, Start(#{nodes => any})),
+    ok = heal_cluster:call(A, application, set_env, [heal, Key, Usual]).
+
 %% ---- Not running ----
 
 not_running_test() ->

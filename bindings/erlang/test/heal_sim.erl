@@ -102,8 +102,8 @@ start_registry(Name, Sim = #sim{nodes = Nodes, count = Count, now = Now}) ->
     Running = Sim#sim{nodes = Nodes#{Name := Node#node{part = Part, is_hung = false, backlog = []}}},
     Begun = heal_sim_disk:started(Name, acted(Name, Actions, Running)),
     Ticking = heal_sim_trace:at(rand:uniform(100), {tick, Name, {Life, element(2, Life), Count}}, mark_run(Name, Count, Begun)),
-    Dead = [{Term, Owner} || {Term, #row{pid = Pid, registration = #{owner := Owner}}} <- maps:to_list(Own),
-                             not heal_sim_world:is_alive(Pid)],
+    Dead = [{Term, heal_row:owner(Row)} || {Term, Row = #row{pid = Pid}} <- maps:to_list(Own),
+                                           not heal_sim_world:is_alive(Pid)],
     lists:foldl(fun({Term, Owner}, Sum) -> event(Name, {died, Term, Owner}, Sum) end, Ticking, lists:sort(Dead)).
 
 connected(Name, #sim{nodes = Nodes, links = Links}) ->

@@ -25,9 +25,9 @@ action({hide, Term}, Name, Sim) ->
             _ -> Node
         end
     end, Sim);
-action({own, Term, Row = #row{pid = Pid, registration = #{owner := Owner}}}, Name, Sim) ->
+action({own, Term, Row = #row{pid = Pid}}, Name, Sim) ->
     Owned = update(Name, fun(Node = #node{own = Own}) -> Node#node{own = Own#{Term => Row}} end, Sim),
-    Known = process(Pid, fun(Process) -> Process#process{owner = Owner} end, Owned),
+    Known = process(Pid, fun(Process) -> Process#process{owner = heal_row:owner(Row)} end, Owned),
     case heal_sim_world:is_alive(Pid) of
         true -> Known;
         false -> heal_sim_trace:at(1, {died, Pid}, Known)

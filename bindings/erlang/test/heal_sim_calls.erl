@@ -90,7 +90,7 @@ answered({register, Pid}, {error, _}, _Name, Sim) ->
 answered({unregister, Term}, {ok, Owner}, Name, Sim = #sim{nodes = Nodes}) ->
     #{Name := #node{table = Table}} = Nodes,
     case Table of
-        #{Term := {#row{registration = #{owner := Owner}}, shown}} -> heal_sim_trace:broken(reads_its_writes, {Term, Owner}, Sim);
+        #{Term := {Row, shown}} -> heal_row:owner(Row) =/= Owner orelse heal_sim_trace:broken(reads_its_writes, {Term, Owner}, Sim);
         _ -> ok
     end,
     each(fun(_, Process = #process{owner = Of}) when Of =:= Owner -> Process#process{until = unregistered}; (_, P) -> P end, Sim);
@@ -185,7 +185,7 @@ check(Pid, Process = #process{name = Term, state = State, until = Until, notices
     end.
 
 %% The registration has the last change, or one that was made at the same time, or one that may be made at any time.
-check_weight(Pid, #process{weights = Weights, owner = Owner}, {#row{registration = #{weight := Weight}}, _}, Sim) ->
+check_weight(Pid, #process{weights = Weights, owner = Owner}, {#row{alike = {_, Weight, _, _}}, _}, Sim) ->
     Last = [0 || Weights =:= []] ++ [Of || {Of, _, Answered} <- Weights, [] =:= [later || {_, Called, _} <- Weights, Called > Answered]],
     Perhaps = [Of || {Of, By} <- Sim#sim.perhaps, By =/= Owner],
     lists:member(Weight, Last ++ Perhaps) orelse heal_sim_trace:broken(change_is_kept, {Pid, Weight, Weights}, Sim).

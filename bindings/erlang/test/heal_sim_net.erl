@@ -155,6 +155,6 @@ forget_calls(Name, Sim = #sim{calls = Calls}) ->
 ended(Pid = {pid, On, _}, Sim = #sim{nodes = Nodes}) ->
     heal_sim_world:end_process(Pid),
     #{On := #node{own = Own}} = Nodes,
-    Watched = [{Term, Owner} || {Term, #row{pid = Of, registration = #{owner := Owner}}} <- maps:to_list(Own), Of =:= Pid],
+    Watched = [{Term, heal_row:owner(Row)} || {Term, Row = #row{pid = Of}} <- maps:to_list(Own), Of =:= Pid],
     lists:foldl(fun({Term, Owner}, Sum) -> heal_sim:event(On, {died, Term, Owner}, Sum) end,
                 heal_sim_trace:trace("ends ~p", [Pid], Sim), Watched).

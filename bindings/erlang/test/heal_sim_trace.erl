@@ -43,6 +43,6 @@ short(Event) -> io_lib:format("~0p", [Event]).
 
 pids(Names) -> maps:map(fun(_, #row{pid = Pid}) -> Pid end, Names).
 
-edit({register, Name, #row{pid = Pid, registration = #{owner := Owner}}}) -> {register, Name, Owner, Pid};
+edit({register, Name, Row = #row{pid = Pid}}) -> {register, Name, heal_row:owner(Row), Pid};
 edit({adopt, Name, _, _, Pid, _}) -> {adopt, Name, Pid};
 edit(Edit) -> Edit.

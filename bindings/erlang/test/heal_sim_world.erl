@@ -28,7 +28,7 @@ seed() ->
     rand:uniform(1 bsl 32).
 
 prepare(Side, Names, _Programs, _Limit) ->
-    {ok, #handle{side = Side, names = maps:map(fun(_, Row) -> element(2, Row) end, Names)}}.
+    {ok, #handle{side = Side, names = maps:map(fun(_, Row) -> heal_row:registration(Row) end, Names)}}.
 
 open(_Number, Seed, Handle = #handle{side = Side, names = Names}) ->
     {ok, {Side, Seed, Names}, Handle#handle{seed = Seed}}.

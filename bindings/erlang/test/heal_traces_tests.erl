@@ -12,7 +12,7 @@ settings(Node) ->
 
 row(Node, Serial, Home, Weight) ->
     Registration = #{owner => {erlang:phash2(Node, 1000), Serial}, stamp => 1, weight => Weight, extra => <<0:128>>, resolver => notify},
-    #row{registration = Registration, pid = {pid, Node, Serial}, term = ?NAME, home = {Home, 1}}.
+    heal_row:new(?NAME, Registration, {pid, Node, Serial}, ?NAME, {Home, 1}).
 
 half(Row) ->
     #half{names = #{?NAME => Row}}.
@@ -85,13 +85,13 @@ one_registration_in_two_parts_test() ->
                 || {Node, Side, Row, Other} <- [{a, a, row(c, 1, c, 0), row(c, 1, c, 9)}, {b, b, row(c, 1, c, 9), row(c, 1, c, 0)}]].
 
 %% The row that a node takes from an exchange, which ends with the other's list.
-merged(Node, Side, Row = #row{registration = Own}, #row{registration = Of, pid = Pid, home = Home}, Part) ->
+merged(Node, Side, Row, Other = #row{pid = Pid, home = Home}, Part) ->
     [Peer] = [a, b] -- [Side],
     {ok, Prepared} = heal_sim_world:prepare(Side, #{?NAME => Row}, #{}, 10),
     {ok, _, Begun} = heal_sim_world:open(1, 7, Prepared),
-    {ok, Heard} = heal_sim_world:hear({Peer, 7, #{?NAME => Of}}, Begun),
+    {ok, Heard} = heal_sim_world:hear({Peer, 7, #{?NAME => heal_row:registration(Other)}}, Begun),
     Open = #open{node = Peer, number = 1, side = Side, from = position(Node, #{Node => Part}), handle = Heard, own = #{?NAME => Row},
-                 others = #{?NAME => {maps:get(owner, Own), Pid, ?NAME, Home}}, begun = 1, deadline = 9,
+                 others = #{?NAME => {heal_row:owner(Row), Pid, ?NAME, Home}}, begun = 1, deadline = 9,
                  stage = case Side of a -> listed; b -> offered end},
     {_, Finished} = handled(Node, {message, Peer, {list, 1, {[], []}}}, Part#part{heal = Open}),
     case Finished of
@@ -151,9 +151,9 @@ proposal_test() ->
 upgraded_exchange_test() ->
     #{a := Part} = start([{a, #{}}]),
     Open = #open{node = b, number = 1, side = a, from = position(a, #{a => Part}), handle = make_ref(), begun = 1, deadline = 9},
-    ?assertMatch(#part{heal = idle}, heal_part:upgrade(Part#part{heal = Open})),
-    Now = Open#open{handle = {make_ref(), []}},
-    ?assertMatch(#part{heal = Now}, heal_part:upgrade(Part#part{heal = Now})).
+    Begun = Part#part{heal = Open},
+    ?assertMatch(#part{heal = idle}, heal_part:upgrade(erlang:delete_element(tuple_size(Begun), Begun))),
+    ?assertMatch(#part{heal = Open}, heal_part:upgrade(Begun)).
 
 %% A change that was sent to a primary which is lost may have been made, so a refusal by the next one means nothing.
 repeated_change_test() ->

@@ -2,6 +2,7 @@
 -module(heal_upgrade_tests).
 
 -include_lib("eunit/include/eunit.hrl").
+-include("../src/heal_part.hrl").
 
 -export([load_here/1, take_over_here/0]).
 
@@ -10,6 +11,9 @@
 -define(SERVER, 13).
 -define(PART, 38).
 -define(CALL, 6).
+%% Fields of the record server.
+-define(PART_OF, 2).
+-define(MONITORS_OF, 10).
 
 upgrades_test_() ->
     {inparallel, 2, [
@@ -83,14 +87,25 @@ take_over_here() ->
     ok = sys:resume(heal_registry).
 
 server(State) ->
-    setelement(2, cut(State, ?SERVER), part(element(2, State))).
+    Part = #part{own = Own} = element(?PART_OF, State),
+    Owned = maps:from_list([{monitor(process, Pid), {Name, heal_row:owner(Row)}} || {Name, Row = #row{pid = Pid}} <- maps:to_list(Own)]),
+    Owners = maps:from_list([{Owner, {Monitor, Name, (map_get(Name, Own))#row.pid}} || {Monitor, {Name, Owner}} <- maps:to_list(Owned)]),
+    Fields = [{?PART_OF, part(Part)}, {?MONITORS_OF, Owned}, {?MONITORS_OF + 1, Owners}],
+    cut(lists:foldl(fun({N, Value}, Sum) -> setelement(N, Sum, Value) end, State, Fields), ?SERVER).
 
-part(Part) ->
-    calls(cut(Part, ?PART)).
+part(Part = #part{own = Own, replica = Replica, lost = Lost}) ->
+    Earlier = maps:map(fun(Name, Row) -> {own, heal_row:sent(Row), maps:get(Name, Lost, none)} end, Own),
+    calls(cut(Part#part{own = Earlier, replica = replica(Replica)}, ?PART)).
+
+replica(Replica) ->
+    {At, Half = #half{names = Names}} = heal_replica:snapshot(Replica),
+    Rows = maps:map(fun(_, Row) -> heal_row:sent(Row) end, Names),
+    {replica, heal_replica:life(Replica), At, heal_replica:led(Replica), Half#half{names = Rows}, heal_replica:limit(Replica)}.
 
 %% Calls are somewhere in the fields of a part.
-calls(Term) when is_tuple(Term), element(1, Term) =:= call -> cut(Term, ?CALL);
-calls(Term) when is_tuple(Term), element(1, Term) =:= part -> list_to_tuple([calls(Field) || Field <- tuple_to_list(Term)]);
+calls(Call = #call{edit = {register, Name, Row = #row{}}}) -> calls(Call#call{edit = {register, Name, heal_row:sent(Row)}});
+calls(Call) when element(1, Call) =:= call -> cut(Call, ?CALL);
+calls(Term) when element(1, Term) =:= part -> list_to_tuple([calls(Field) || Field <- tuple_to_list(Term)]);
 calls({Node, Call}) when element(1, Call) =:= call -> {Node, calls(Call)};
 calls(Calls) when is_map(Calls) -> maps:map(fun(_, Call) -> calls(Call) end, Calls);
 calls([Call | Rest]) -> [calls(Call) | calls(Rest)];
