@@ -2,8 +2,8 @@
 %%
 %% On 2, 4 and 8 nodes: registrations on the primary and on each other node, with one client and with eight; lookups; memory on the node
 %% of the processes and on another one; and healings of two halves whose names all clash, by a resolver that notifies the loser, while a
-%% client goes on to register. Then
-%% `global' and heal_registry heal more and more clashes, as far as `global' goes. A table compares the outcome with the goals.
+%% client goes on to register. Then `global' and heal_registry heal more and more clashes, as far as `global' goes. A table compares the
+%% outcome with the goals.
 -module(heal_bench).
 
 -export([main/1]).
