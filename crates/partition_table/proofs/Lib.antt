@@ -14,6 +14,7 @@ pub mod MergeLen
 pub mod Merged
 pub mod OneClash
 pub mod Others
+pub mod Pushing
 pub mod Registering
 pub mod Removing
 pub mod Resolvers

@@ -12,6 +12,7 @@ mod finder;
 mod fitting;
 mod judged;
 mod judging;
+mod kept_rows;
 mod laws;
 mod limit;
 mod merging;

@@ -14,10 +14,10 @@ ghost use Rattle.partition_table.specs.Faults.{fit_fault, table_fault_number};
 ghost use Rattle.partition_table.specs.model.Merging.{IsRowOf, IsReady, holds_as};
 ghost use Rattle.partition_table.specs.model.Merging.{settled, put_all, each_kept};
 
-use crate::builder::TableBuilder;
 use crate::clash::ClashList;
 use crate::clashing::{Compared, compare_within};
 use crate::fault::TableFault;
+use crate::kept_rows::KeptRows;
 use crate::laws::{clashes_theorem, merge_theorem};
 use crate::limit::NameLimit;
 use crate::order::order;
@@ -106,7 +106,7 @@ pub fn merge_compared(
         gone_a: set_of(alloc, gone_a)?,
         gone_b: set_of(alloc, gone_b)?,
     };
-    let mut merged = TableBuilder::with_capacity(alloc, a.len().max(b.len()))?;
+    let mut merged = KeptRows::with_capacity(alloc, a.len().max(b.len()))?;
     parents.put_names_of_a(&mut merged, &compared.clashes, answers)?;
     parents.put_names_of_b_alone(&mut merged, compared.alone_b)?;
     let table = merged.finish(alloc)?;
@@ -139,9 +139,9 @@ impl<'a> Parents<'a> {
     // Puts what is kept under the names of `a`, by the clashes of the two.
     fn put_names_of_a(
         &self,
-        merged: &mut TableBuilder,
-        list: &ClashList,
-        answers: &[Verdict3],
+        merged: &mut KeptRows<'a>,
+        list: &'a ClashList,
+        answers: &'a [Verdict3],
     ) -> Result<(), AllocError>
         requires agree { IsTrue (tables_agree self.now.a.now self.now.b.now) }
         requires tables { IsTable self.now.a.now × IsTable self.now.b.now }
@@ -164,7 +164,7 @@ impl<'a> Parents<'a> {
     // Puts what is kept under the names that `b` has alone, of which there are this many.
     fn put_names_of_b_alone(
         &self,
-        merged: &mut TableBuilder,
+        merged: &mut KeptRows<'a>,
         alone: usize,
     ) -> Result<(), AllocError>
         requires counted { alone ≡ length (names_without self.now.a.now (map.keys self.now.b.now)) }
@@ -191,9 +191,9 @@ impl<'a> Parents<'a> {
     // Puts the row that one of the two has with the registration that is kept, unless it was withdrawn.
     fn put(
         &self,
-        merged: &mut TableBuilder,
-        name: &Name,
-        kept: Option<&Registration>,
+        merged: &mut KeptRows<'a>,
+        name: &'a Name,
+        kept: Option<&'a Registration>,
     ) -> Result<(), AllocError>
         requires agree { IsTrue (tables_agree self.now.a.now self.now.b.now) }
         requires tables { IsTable self.now.a.now × IsTable self.now.b.now }

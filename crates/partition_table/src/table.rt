@@ -267,6 +267,17 @@ impl Table {
         Ok(Table { rows, programs })
     }
 
+    // Returns the table with these rows and programs.
+    pub(crate) fn of_parts(
+        rows: BTreeMap<Name, Registration>,
+        programs: BTreeMap<ProgramId, Kept>,
+    ) -> Table
+        requires { IsKept programs.entries (table_by (programs_by kept_code programs.entries) rows.entries) }
+        ensures { result ≡ table_by (programs_by kept_code programs.entries) rows.entries }
+    {
+        Table { rows, programs }
+    }
+
     // Returns 30 if the name is registered, and otherwise the fault.
     fn refusal(&self, name: &Name, fault: TableFault) -> TableFault
         ensures { result ≡ (if map.contains_key self.now name.now then NameTaken else fault) }

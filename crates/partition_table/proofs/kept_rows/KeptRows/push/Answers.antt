@@ -1,0 +1,46 @@
+use Rattle.std.proofs.Common.{◌≡◌, ◌∷◌, [], ◌++◌, ap, ◌∙◌, map}
+use Rattle.std.proofs.lemmas.List.{map-append}
+use Rattle.std.specs.Map.Iter.{deref_pair}
+use Rattle.std.specs.Option.{option_map}
+use Rattle.std.specs.Arc.{arc_value}
+use Rattle.partition_table.specs.Tables.{Row}
+use Rattle.partition_table.proofs.Pushing.{room_to_push, few_to_push, table_pushed, kept_pushed}
+use Rattle.partition_table.proofs.kept_rows.KeptRows.push.Goals.{After-push_reserved}
+use Rattle.partition_table.proofs.kept_rows.KeptRows.push.Goals as goal
+
+pub hold_program-requires-clause-room : goal.hold_program-requires-clause-room
+hold_program-requires-clause-room c =
+    room_to_push c.self.inside.programs.entries (map deref_pair c.self.inside.rows.items) c.args.self.now c.self.view_is c.self.invariant
+    c.args.name.now record { registration = c.args.registration.now; code = option_map (λ p. arc_value p.now) c.args.program }
+    c.requires
+
+pub hold_program-requires-clause-few : goal.hold_program-requires-clause-few
+hold_program-requires-clause-few c =
+    few_to_push c.self.inside.programs.entries (map deref_pair c.self.inside.rows.items) c.args.self.now c.self.view_is c.self.invariant
+    c.args.name.now record { registration = c.args.registration.now; code = option_map (λ p. arc_value p.now) c.args.program }
+    c.requires
+
+-- the row that is added
+row : After-push_reserved → Row
+row c = record { registration = c.args.registration.now; code = option_map (λ p. arc_value p.now) c.args.program }
+
+pushed : (c : After-push_reserved) → (map deref_pair c.push_reserved.new.self.items)
+    ≡ (map deref_pair c.self.inside.rows.items) ++ (c.args.name.now, c.args.registration.now) ∷ []
+pushed c =
+    ap (map deref_pair) c.push_reserved.ensures.items
+    ∙ map-append deref_pair c.reserve.new.self.items ((c.args.name, c.args.registration) ∷ [])
+    ∙ ap (λ es. map deref_pair es ++ (c.args.name.now, c.args.registration.now) ∷ []) c.reserve.ensures.items
+
+pub invariant_of-self-2 : goal.invariant_of-self-2
+unfolding row
+invariant_of-self-2 c =
+    kept_pushed c.self.inside.programs.entries (map deref_pair c.self.inside.rows.items) c.args.self.now c.self.view_is c.self.invariant
+    c.args.name.now (row c) c.requires c.hold_program.new.programs.entries (map deref_pair c.push_reserved.new.self.items)
+    c.in_ok-hold_program.ensures.held (pushed c) c.in_ok-hold_program.ensures.counted
+
+pub returns-clause-pushed : goal.returns-clause-pushed
+unfolding row
+returns-clause-pushed c =
+    table_pushed c.self.inside.programs.entries (map deref_pair c.self.inside.rows.items) c.args.self.now c.self.view_is c.self.invariant
+    c.args.name.now (row c) c.requires c.hold_program.new.programs.entries (map deref_pair c.push_reserved.new.self.items)
+    c.in_ok-hold_program.ensures.held (pushed c)
