@@ -1,12 +1,9 @@
 -- The answers of `decode_offer`.
-use Rattle.std.proofs.Common.{◌≡◌, ℕ, ◌-◌, List, [], length, Result, Ok, Err, refl, sym, ap, subst, ◌∙◌, ◌≤◌, arith, inl, inr}
+use Rattle.std.proofs.Common.{◌≡◌, ℕ, ◌-◌, List, [], length, Result, Ok, Err, refl, sym, ap, subst, ◌∙◌, inl, inr}
 use Rattle.std.specs.Prelude.{IfOk, IfErr}
 use Rattle.std.specs.FinMap.{entries}
 use Rattle.refusals.specs.Answers.{HasCause, ReturnsOrRunsOut}
-use Rattle.partition_table.specs.Tables.{Table, most_names}
-use Rattle.exchange_codec.specs.declared.offers.OfferText as lent
-use Rattle.exchange_codec.specs.OffersText.{view}
-use Rattle.exchange_codec.proofs.RebuildingLaws.{views_len}
+use Rattle.partition_table.specs.Tables.{Table}
 use Rattle.exchange_law.specs.Sides.{Offer}
 use Rattle.exchange_codec.specs.declared.offers.OfferHead.{OfferHead}
 use Rattle.exchange_codec.specs.declared.fault.FieldFault.{FieldFault}
@@ -117,8 +114,3 @@ pub is_failed : (bytes : List ℕ) (e : ReadError) → Fails e (offer_of bytes)
     → HasCause message_fault_number (IsOfferFault bytes) (told_of (length bytes) e)
 is_failed bytes errors.Memory h = inr refl
 is_failed bytes (errors.Fault f) h = inl (f.left, h, refl)
-
--- an offer that is read has at most 1,048,576 rows
-pub few_rows : (bytes : List ℕ) (text : lent.OfferText) → IsBytes bytes → offer_of bytes ≡ Ok (view text)
-    → length text.rows.items ≤ most_names
-few_rows bytes text fits e = omega (arith, (text_spelled bytes (view text) fits e).0.rows.few, views_len text.rows.items)

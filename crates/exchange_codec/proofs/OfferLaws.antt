@@ -1,11 +1,17 @@
 -- The text of an offer that is read is spelled so, and what is spelled so is read.
-use Rattle.std.proofs.Common.{◌≡◌, ℕ, ◌^◌, ◌<◌, List, [], ◌∷◌, ◌++◌, Ok, refl, sym, ap, subst, ◌∙◌, append_assoc, lit<}
+use Rattle.std.proofs.Common.{◌≡◌, ℕ, ◌^◌, ◌<◌, Bool, true, false, cond, List, [], ◌∷◌, ◌++◌, length, Result, Ok, Err, refl, sym, ap, subst, ◌∙◌, append_assoc, lit<}
+use Rattle.std.specs.Prelude.{◌==◌}
 use Rattle.std.specs.Int.{w64, to_le_bytes}
 use Rattle.std.proofs.lemmas.List.{append-nil}
+use Rattle.exchange_codec.specs.declared.fault.Fault.{Fault}
+use Rattle.exchange_codec.specs.declared.fault.FieldFault.TheVariants.{Trailing}
+use Rattle.exchange_codec.specs.declared.fault.ReadError.{ReadError}
+use Rattle.exchange_codec.specs.declared.fault.ReadError.TheVariants as errors
 use Rattle.exchange_codec.specs.declared.offers.OfferHead.{OfferHead}
-use Rattle.exchange_codec.specs.Reading.{◌>>=◌, number_at, header_at, ended}
+use Rattle.exchange_codec.specs.Reading.{◌>>=◌, Fails, wrong, number_at, header_at, ended}
 use Rattle.exchange_codec.specs.Names.{side_byte, side_at}
-use Rattle.exchange_codec.specs.Tables.{table_bytes, rows_at}
+use Rattle.exchange_codec.specs.Rows.{RowText}
+use Rattle.exchange_codec.specs.Tables.{table_bytes, rows_at, rows_of}
 use Rattle.exchange_codec.specs.laws.Tables.{rows_take, rows_again}
 use Rattle.exchange_codec.specs.Offers.{offers_header, OfferText, head_bytes, offer_bytes, IsText, head_at, offer_at, offer_of}
 use Rattle.exchange_codec.specs.laws.Fields.{IsBytes, bind_ok, ok_is, Takes, Takes-then, wide64, number_takes, number_again, header_takes, header_again, ended_ok}
@@ -91,3 +97,29 @@ text_read o fits =
     let all : offer_at (offer_bytes o) ≡ Ok (o, []) =
     ap offer_at (sym (append-nil (offer_bytes o))) ∙ offer_again o [] fits in
     rw all refl
+
+-- ---- an offer whose rows are all that follows its head
+
+-- nothing follows a part of a text if nothing follows the text
+ended_within : {A B : Type 0} (f : A → B) (read : Result (A × List ℕ) Fault)
+    → ((read >>= λ x. Ok (f x.0, x.1)) >>= ended) ≡ ((read >>= ended) >>= λ y. Ok (f y))
+ended_within f (Err e) = refl
+ended_within f (Ok x) = by (length x.1 == 0)
+  where
+    by : (b : Bool) → cond b (Ok (f x.0)) (wrong Trailing x.1) ≡ (cond b (Ok x.0) (wrong Trailing x.1) >>= λ y. Ok (f y))
+    by true = refl
+    by false = refl
+
+module _ (bytes rest after : List ℕ) (head : OfferHead) (is_header : header_at offers_header bytes ≡ Ok rest)
+    (is_head : head_at rest ≡ Ok (head, after)) where
+  by_rows : offer_of bytes ≡ (rows_of after >>= λ rows. Ok (record { head = head; rows = rows }))
+  unfolding offer_of offer_at rows_of
+  by_rows = rw (is_header, is_head) (ended_within (λ (rows : List RowText). record { head = head; rows = rows }) (rows_at after))
+
+  pub head_and_rows : (rows : List RowText) → rows_of after ≡ Ok rows
+      → offer_of bytes ≡ Ok (record { head = head; rows = rows })
+  head_and_rows rows h = by_rows ∙ rw h refl
+
+  pub head_and_fault : (e : ReadError) → Fails e (rows_of after) → Fails e (offer_of bytes)
+  head_and_fault errors.Memory h = tt
+  head_and_fault (errors.Fault f) h = by_rows ∙ rw h refl

@@ -45,7 +45,7 @@ some_inj x y e = cc
 heads : {A : Type 0} (x y : A) (xs ys : List A) → x ∷ xs ≡ y ∷ ys → (x ≡ y) × (xs ≡ ys)
 heads x y xs ys e = (cc, cc)
 
-pub row_at_text : (before : List ProgramId) (es : List Entry) (texts : List RowText) (at : ℕ) (text : RowText)
+row_at_text : (before : List ProgramId) (es : List Entry) (texts : List RowText) (at : ℕ) (text : RowText)
     → texts ≡ texts_of before es → slice_get texts at ≡ Some text → IsTextOf before es texts at text
 unfolding texts_of ids_of
 row_at_text before es [] at text is there = absurd cc
@@ -71,7 +71,7 @@ row_at_text before (e ∷ es) (t ∷ texts) (suc at) text is there =
       is = found.is;
     }
 
-pub taken_within : {A : Type 0} (xs : List A) (a b : ℕ) → a < b → (take a (take b xs) ≡ take a xs) × (slice_get (take b xs) a ≡ slice_get xs a)
+taken_within : {A : Type 0} (xs : List A) (a b : ℕ) → a < b → (take a (take b xs) ≡ take a xs) × (slice_get (take b xs) a ≡ slice_get xs a)
 taken_within [] zero zero h = absurd (omega (arith, h))
 taken_within [] (suc a) zero h = absurd (omega (arith, h))
 taken_within [] zero (suc b) h = (refl, refl)

@@ -1,10 +1,8 @@
 -- The answers of `decode_table`.
-use Rattle.std.proofs.Common.{◌≡◌, ℕ, ◌-◌, List, length, Result, Ok, Err, refl, sym, ap, subst, ◌∙◌, ◌≤◌, arith, inl, inr}
+use Rattle.std.proofs.Common.{◌≡◌, ℕ, ◌-◌, List, length, Result, Ok, Err, refl, sym, ap, subst, ◌∙◌, inl, inr}
 use Rattle.std.specs.Prelude.{IfOk, IfErr}
 use Rattle.refusals.specs.Answers.{HasCause, ReturnsOrRunsOut}
-use Rattle.partition_table.specs.Tables.{Table, IsTable, most_names}
-use Rattle.exchange_codec.specs.declared.rows.RowText as lent
-use Rattle.exchange_codec.specs.RowsText.{rows_view}
+use Rattle.partition_table.specs.Tables.{Table}
 use Rattle.exchange_codec.specs.declared.fault.FieldFault.{FieldFault}
 use Rattle.exchange_codec.specs.declared.fault.Fault.{Fault}
 use Rattle.exchange_codec.specs.declared.fault.ReadError.{ReadError}
@@ -16,11 +14,10 @@ use Rattle.exchange_codec.specs.Placing.{told_of}
 use Rattle.exchange_codec.specs.Reading.{Fails}
 use Rattle.exchange_codec.specs.Rows.{RowText}
 use Rattle.exchange_codec.specs.Tables.{table_bytes, table_text, rows_of, IsTableText, SpellsTable, IsFirstRowFault, IsTableFault}
-use Rattle.exchange_codec.specs.model.Building.{IsTableOf, IsRowsFault}
+use Rattle.exchange_codec.specs.model.Building.{IsBuiltOf}
 use Rattle.exchange_codec.specs.laws.Fields.{IsBytes}
 use Rattle.exchange_codec.specs.laws.Programs.{Readings}
 use Rattle.exchange_codec.specs.laws.Tables.{rows_spelled, rows_read}
-use Rattle.exchange_codec.proofs.RebuildingLaws.{views_len}
 use Rattle.exchange_codec.proofs.OneOffer.{same_table}
 use Rattle.exchange_codec.proofs.OneFault.{no_fault, one_row_fault}
 
@@ -83,22 +80,21 @@ module _ (known : Readings) (bytes : List ℕ) where
   is_told (Err g) spelled (inl cause) f h = inl (ap Err (one_table_fault g f cause h))
   is_told (Err g) spelled (inr out) f h = inr out
 
--- the table that is built of the rows
+-- what is built of the rows
 pub is_spelled : (bytes : List ℕ) (rows : List RowText) (r : Result Table MessageFault) → IsBytes bytes
-    → rows_of bytes ≡ Ok rows → IfOk r (IsTableOf rows) → IfOk r (λ table. IsTable table) → IfOk r (SpellsTable bytes)
-is_spelled bytes rows (Ok t) fits e h kept =
+    → rows_of bytes ≡ Ok rows → IsBuiltOf rows r → IfOk r (SpellsTable bytes)
+is_spelled bytes rows (Ok t) fits e built =
     let spelled = rows_spelled bytes rows fits e in
     record {
-      is_text = subst IsTableText h spelled.0;
-      kept = kept;
-      spelling = spelled.1 ∙ ap table_bytes h;
+      is_text = subst IsTableText built.0 spelled.0;
+      kept = built.1;
+      spelling = spelled.1 ∙ ap table_bytes built.0;
     }
-is_spelled bytes rows (Err f) fits e h kept = tt
+is_spelled bytes rows (Err f) fits e built = tt
 
 pub is_refused : (bytes : List ℕ) (rows : List RowText) (r : Result Table MessageFault) → rows_of bytes ≡ Ok rows
-    → IfErr r (HasCause message_fault_number (IsRowsFault rows))
-    → IfErr r (HasCause message_fault_number (IsTableFault bytes))
-is_refused bytes rows (Ok t) e h = tt
+    → IsBuiltOf rows r → IfErr r (HasCause message_fault_number (IsTableFault bytes))
+is_refused bytes rows (Ok t) e built = tt
 is_refused bytes rows (Err (message.Item fault at)) e (inl cause) = inl (rows, e, cause)
 is_refused bytes rows (Err (message.Field what at)) e (inl cause) = absurd cause
 is_refused bytes rows (Err message.OutOfMemory) e (inl cause) = absurd cause
@@ -109,8 +105,3 @@ pub is_failed : (bytes : List ℕ) (e : ReadError) → Fails e (rows_of bytes)
     → HasCause message_fault_number (IsTableFault bytes) (told_of (length bytes) e)
 is_failed bytes errors.Memory h = inr refl
 is_failed bytes (errors.Fault f) h = inl (f.left, h, refl)
-
--- rows that are read are at most 1,048,576
-pub few_rows : (bytes : List ℕ) (rows : List lent.RowText) → IsBytes bytes → rows_of bytes ≡ Ok (rows_view rows)
-    → length rows ≤ most_names
-few_rows bytes rows fits e = omega (arith, (rows_spelled bytes (rows_view rows) fits e).0.few, views_len rows)

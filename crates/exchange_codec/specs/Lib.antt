@@ -9,6 +9,5 @@ pub mod Offers
 pub mod Peeking
 pub mod WithdrawalsText
 pub mod RowsText
-pub mod OffersText
 pub mod model
 pub mod laws

@@ -1,27 +1,25 @@
-//! The offer of a text: a table of its rows, and a side with that table that begins the number.
-ghost use Rattle.std.specs.Prelude.{◌≡◌, ◌≤◌, ◌<◌, ◌-◌, false, not, slice_get, Some, None, [], IfOk, IfErr, OnOk, length, IsTrue};
+//! The table of rows that are read, and the offer of a side with that table.
+ghost use Rattle.std.specs.Prelude.{◌≡◌, ◌≤◌, ◌<◌, not, List, Ok, IfOk, IfErr, OnOk, IsTrue};
 ghost use Rattle.std.specs.Option.{option_map};
-ghost use Rattle.std.specs.Ordering.{is_lt};
 ghost use Rattle.std.specs.Arc.{arc_value};
 ghost use Rattle.std.specs.FinMap.{entries, insert, len};
 ghost use Rattle.refusals.specs.Answers.{HasCause};
 ghost use Rattle.instruction_set.specs.Machine.{IsSafe};
 ghost use Rattle.verifier.specs.Programs.{IsAccepted};
-ghost use Rattle.clash_record.specs.Orders.{name_cmp};
-ghost use Rattle.partition_table.specs.Tables.{IsNewRow, IsTable, most_names};
+ghost use Rattle.partition_table.specs.Tables.{IsNewRow, IsTable, Table, most_names};
 ghost use Rattle.exchange_codec.specs.Faults.{message_fault_number};
+ghost use Rattle.exchange_codec.specs.Reading.{Fails, many_at};
 ghost use Rattle.exchange_codec.specs.Rows.{Code};
 ghost use Rattle.exchange_codec.specs.Rows as texts;
-ghost use Rattle.exchange_codec.specs.RowsText.{resolver_view, row_view, rows_view};
+ghost use Rattle.exchange_codec.specs.RowsText.{resolver_view, row_view};
 ghost use Rattle.exchange_codec.specs.declared.fault.MessageFault.TheVariants.{OutOfMemory};
-ghost use Rattle.exchange_codec.specs.model.Building.{AreProgramsOf, row_with, HasRow, IsLeastRowFault, IsTableOf, IsOfferOf, IsRowsFault, IsCodeFault, program_fault_of};
+ghost use Rattle.exchange_codec.specs.model.Building.{AreProgramsOf, row_with, HasRow, IsBuiltOf, IsLast, IsLeastRowFault, IsOfferOf, IsRowsFault, IsCodeFault, program_fault_of};
 ghost use Rattle.exchange_codec.specs.Tables.{is_above};
-ghost use Rattle.exchange_codec.specs.OffersText.{view};
 
-use crate::fault::{ItemFault, MessageFault, ran_out};
-use crate::offers::OfferText;
-use crate::rows::{ResolverText, RowText};
-use clash_record::{ProgramId, Registration, ResolverId};
+use crate::fault::{ItemFault, MessageFault, ReadError, ran_out};
+use crate::offers::OfferHead;
+use crate::rows::{ResolverText, RowText, row_at, rows_within, skip_rows};
+use clash_record::{Name, ProgramId, Registration, ResolverId};
 use exchange_core::{Offer, Side};
 use partition_table::{NameLimit, Table, TableBuilder};
 use refusals::{Numbered, OUT_OF_MEMORY};
@@ -40,17 +38,22 @@ pub(crate) struct Known {
 // The programs of earlier rows: a table may name more programs than a store holds.
 type Programs = BTreeMap<ProgramId, Known>;
 
-/// Returns the offer of the text: a side with a table of the rows begins the number.
-pub(crate) fn rebuilt(alloc: Global, text: &OfferText<'_>) -> Result<Offer, MessageFault>
-    requires { length text.now.rows.items ≤ most_names }
-    ensures rebuilt { IfOk result (IsOfferOf (view text.now)) }
-    ensures refused { IfErr result (HasCause message_fault_number (IsRowsFault (rows_view text.now.rows.items))) }
+/// Returns the offer with this head and table: a side with the table begins the number. Returns the fault if there is no table.
+pub(crate) fn begun(
+    alloc: Global,
+    head: OfferHead,
+    built: Result<Table, MessageFault>,
+) -> Result<Offer, MessageFault>
+    ensures begun { (rows : List texts.RowText) → IsBuiltOf rows built
+        → IfOk result (IsOfferOf (record { head = head; rows = rows })) }
+    ensures refused { (rows : List texts.RowText) → IsBuiltOf rows built
+        → IfErr result (HasCause message_fault_number (IsRowsFault rows)) }
 {
-    let table = table_of(alloc, &text.rows)?;
-    let Ok(mut side) = Side::with_table(alloc, text.head.side, greatest(), table, None) else {
+    let table = built?;
+    let Ok(mut side) = Side::with_table(alloc, head.side, greatest(), table, None) else {
         unreachable!()
     };
-    match side.begin(alloc, text.head.number, text.head.seed, text.head.uptime) {
+    match side.begin(alloc, head.number, head.seed, head.uptime) {
         Ok(offer) => Ok(offer),
         Err(fault) => Err(ran_out(fault.number())),
     }
@@ -66,18 +69,48 @@ fn greatest() -> NameLimit
     }
 }
 
-/// Builds the table of the rows.
-pub(crate) fn table_of(alloc: Global, rows: &[RowText<'_>]) -> Result<Table, MessageFault>
-    requires { length rows.now ≤ most_names }
-    ensures built { IfOk result (IsTableOf (rows_view rows.now)) }
-    ensures kept { IfOk result (λ table. IsTable table) }
-    ensures refused { IfErr result (HasCause message_fault_number (IsRowsFault (rows_view rows.now))) }
+/// Builds the table of this many rows at the front. Returns it, or the fault of the first invalid row, and what follows the rows.
+pub(crate) fn table_at(
+    alloc: Global,
+    count: u32,
+    bytes: &[u8],
+) -> Result<(Result<Table, MessageFault>, &[u8]), ReadError>
+    requires { count ≤ most_names }
+    ensures built { IfOk result (λ x. (rows : List texts.RowText)
+        × (many_at texts.row_at count bytes.entry.now ≡ Ok (rows, x.1.now)) × IsBuiltOf rows x.0) }
+    ensures failed { IfErr result (λ error. Fails error (many_at texts.row_at count bytes.entry.now)) }
 {
     let mut programs = BTreeMap::new(alloc);
-    let Ok(mut builder) = TableBuilder::with_capacity(alloc, rows.len()) else {
-        return Err(MessageFault::OutOfMemory);
+    let Ok(mut builder) = TableBuilder::with_capacity(alloc, rows_within(count, bytes)) else {
+        return Err(ReadError::Memory);
     };
-    add_rows(alloc, &mut builder, &mut programs, rows)?;
+    let mut last = None;
+    let mut rest = bytes;
+    for k in 0..count {
+        let (row, after) = match row_at(rest) {
+            Ok(found) => found,
+            Err(error) => return Err(error),
+        };
+        builder.known();
+        let at = k as usize;
+        if let Err(fault) = add_after(alloc, &mut builder, &mut programs, &last, &row, at) {
+            // A field of a later row may be invalid: its fault comes first.
+            match skip_rows(count - k - 1, after) {
+                Ok(rest) => return Ok((Err(fault), rest)),
+                Err(error) => return Err(error),
+            }
+        }
+        last = Some(row.name);
+        rest = after;
+    }
+    Ok((finished(alloc, builder), rest))
+}
+
+// Returns the table of the rows.
+fn finished(alloc: Global, builder: TableBuilder) -> Result<Table, MessageFault>
+    ensures built { IfOk result (λ table. (table ≡ builder) × IsTable table) }
+    ensures refused { IfErr result (λ fault. fault ≡ OutOfMemory) }
+{
     match builder.finish(alloc) {
         Ok(table) => {
             // For the proof: what the type of the table guarantees.
@@ -88,43 +121,39 @@ pub(crate) fn table_of(alloc: Global, rows: &[RowText<'_>]) -> Result<Table, Mes
     }
 }
 
-// Adds each row.
-fn add_rows(
+// Adds the row at this index. Its name has to be above that of the last row.
+fn add_after(
     alloc: Global,
     builder: &mut TableBuilder,
     programs: &mut Programs,
-    rows: &[RowText<'_>],
+    last: &Option<Name>,
+    row: &RowText<'_>,
+    at: usize,
 ) -> Result<(), MessageFault>
     requires programs { AreProgramsOf builder.old programs.old }
-    requires none { entries builder.old ≡ [] }
-    requires few { length rows.now ≤ most_names }
-    ensures built { OnOk result (IsTableOf (rows_view rows.now) builder.new) }
-    ensures refused { IfErr result (HasCause message_fault_number (IsRowsFault (rows_view rows.now))) }
+    requires last { IsLast builder.old last.now }
+    requires room { len builder.old < most_names }
+    ensures added { OnOk result (HasRow builder.old (row_view row.now) builder.new programs.new) }
+    ensures refused { IfErr result
+        (HasCause message_fault_number (IsLeastRowFault (entries builder.old) (row_view row.now) at)) }
 {
-    for k in 0..rows.len() {
-        builder.known();
-        if is_misplaced(rows, k) {
-            return Err(MessageFault::Item {
-                fault: ItemFault::NameOrder,
-                at: k,
-            });
-        }
-        add_row(alloc, builder, programs, &rows[k], k)?;
+    if is_misplaced(last, &row.name) {
+        return Err(MessageFault::Item {
+            fault: ItemFault::NameOrder,
+            at,
+        });
     }
-    Ok(())
+    add_row(alloc, builder, programs, row, at)
 }
 
-// Checks whether the name of this row isn't above the one before it.
-fn is_misplaced(rows: &[RowText<'_>], k: usize) -> bool
-    requires { k < length rows.now }
-    ensures first { k ≡ 0 → result ≡ false }
-    ensures others { (last next : texts.RowText) → 0 < k → slice_get (rows_view rows.now) (k - 1) ≡ Some last
-        → slice_get (rows_view rows.now) k ≡ Some next → result ≡ not (is_lt (name_cmp last.name next.name)) }
+// Checks whether the name isn't above the last one.
+fn is_misplaced(last: &Option<Name>, name: &Name) -> bool
+    ensures { (table : Table) → IsLast table last.now → result ≡ not (is_above (entries table) name.now) }
 {
-    if k == 0 {
-        return false;
+    match last {
+        Some(last) => !last.cmp(name).is_lt(),
+        None => false,
     }
-    !rows[k - 1].name.cmp(&rows[k].name).is_lt()
 }
 
 // Adds the row at this index.

@@ -1,19 +1,19 @@
 //! Offers as bytes.
-ghost use Rattle.std.specs.Prelude.{◌≡◌, ◌++◌, Ok, Err, IfOk, IfErr, OnOk};
+ghost use Rattle.std.specs.Prelude.{◌≡◌, ◌++◌, List, Ok, Err, IfOk, IfErr, OnOk};
 ghost use Rattle.refusals.specs.Answers.{HasCause, ReturnsOrRunsOut};
 ghost use Rattle.exchange_law.specs.Sides as sides;
 ghost use Rattle.exchange_codec.specs.Faults.{message_fault_number};
 ghost use Rattle.exchange_codec.specs.declared.fault.MessageFault.{MessageFault};
-ghost use Rattle.exchange_codec.specs.Reading.{Gives};
-ghost use Rattle.exchange_codec.specs.Offers.{SpellsOffer, IsOfferFault, IsHead, head_at, offer_at, offer_of, head_bytes};
-ghost use Rattle.exchange_codec.specs.OffersText.{view};
+ghost use Rattle.exchange_codec.specs.Reading.{Fails, Gives};
+ghost use Rattle.exchange_codec.specs.Rows.{RowText};
+ghost use Rattle.exchange_codec.specs.model.Building.{IsBuiltOf};
+ghost use Rattle.exchange_codec.specs.Offers.{SpellsOffer, IsOfferFault, IsHead, head_at, offer_of, head_bytes};
 
-use crate::building::rebuilt;
-use crate::fault::{FieldFault, MessageFault, ReadError};
+use crate::building::begun;
+use crate::fault::{MessageFault, ReadError};
 use crate::fields::{header_at, push_u64, u64_at};
 use crate::names::{push_side, side_at};
-use crate::rows::RowText;
-use crate::tables::{push_table, rows_at};
+use crate::tables::{push_table, table_of};
 use clash_record::SideId;
 use exchange_core::Offer;
 use insn_codec::one_reading_theorem;
@@ -31,13 +31,6 @@ pub(crate) struct OfferHead {
     pub(crate) number: u64,
     pub(crate) seed: u64,
     pub(crate) uptime: u64,
-}
-
-/// The fields of an offer in a message.
-#[derive(Drop)]
-pub(crate) struct OfferText<'a> {
-    pub(crate) head: OfferHead,
-    pub(crate) rows: Vec<RowText<'a>>,
 }
 
 /// Encodes an offer. Fails only when out of memory.
@@ -116,32 +109,24 @@ pub fn decode_offer(alloc: Global, bytes: &[u8]) -> Result<Offer, MessageFault>
     one_reading_theorem();
     one_verdict_theorem::<Profile>();
     match all(alloc, bytes) {
-        Ok(text) => rebuilt(alloc, &text),
+        Ok((head, built)) => begun(alloc, head, built),
         Err(error) => Err(error.told(bytes.len())),
     }
 }
 
-// The text that all of the bytes spell.
-#[tactic(auto, unfolding(crate::specs::Offers::offer_of))]
-fn all(alloc: Global, bytes: &[u8]) -> Result<OfferText<'_>, ReadError>
-    ensures { Gives view result (offer_of bytes.entry.now) }
-{
-    let (text, rest) = text_at(alloc, bytes)?;
-    if !rest.is_empty() {
-        return Err(ReadError::at(FieldFault::Trailing, rest));
-    }
-    Ok(text)
-}
-
-// The text at the front.
-#[tactic(auto, unfolding(crate::specs::Offers::offer_at))]
-fn text_at(alloc: Global, bytes: &[u8]) -> Result<(OfferText<'_>, &[u8]), ReadError>
-    ensures { Gives (λ x. (view x.0, x.1.now)) result (offer_at bytes.entry.now) }
+// Reads an offer that all of the bytes spell. Returns the table of its rows, or the fault of the first invalid row.
+#[tactic(auto, unfolding(crate::specs::Offers::offer_of, crate::specs::Offers::offer_at))]
+fn all(alloc: Global, bytes: &[u8]) -> Result<(OfferHead, Result<Table, MessageFault>), ReadError>
+    ensures read { IfOk result (λ x. (texts : List RowText)
+        × (offer_of bytes.now ≡ Ok (record { head = x.0; rows = texts })) × IsBuiltOf texts x.1) }
+    ensures failed { IfErr result (λ error. Fails error (offer_of bytes.now)) }
 {
     let rest = header_at(HEADER, bytes)?;
     let (head, rest) = read_head(rest)?;
-    let (rows, rest) = rows_at(alloc, rest)?;
-    Ok((OfferText { head, rows }, rest))
+    match table_of(alloc, rest) {
+        Ok(built) => Ok((head, built)),
+        Err(error) => Err(error),
+    }
 }
 
 // The head at the front.

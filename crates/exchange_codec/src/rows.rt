@@ -1,15 +1,15 @@
 //! The rows of offers as bytes.
-ghost use Rattle.std.specs.Prelude.{◌≡◌, ◌++◌, [], List, IfOk, IfErr, OnOk};
-ghost use Rattle.exchange_codec.specs.declared.fault.ReadError.TheVariants.{Memory};
+ghost use Rattle.std.specs.Prelude.{◌≡◌, ◌++◌, List, Ok, IfOk, IfErr, OnOk};
 ghost use Rattle.std.specs.Option.{option_map};
 ghost use Rattle.std.specs.Arc.{arc_value};
 ghost use Rattle.std.specs.Int.{w64, to_le_bytes};
 ghost use Rattle.clash_record.specs.declared.registrations.ResolverId.TheVariants.{Program};
 ghost use Rattle.clash_record.specs.Orders.{builtin_place};
 ghost use Rattle.clash_record.specs.declared.registrations.ProgramId.{ProgramId};
-ghost use Rattle.exchange_codec.specs.Reading.{Gives, many_at, bytes_at};
+ghost use Rattle.exchange_codec.specs.Reading.{Fails, Gives, many_at, bytes_at};
+ghost use Rattle.exchange_codec.specs.Rows as texts;
 ghost use Rattle.exchange_codec.specs.Rows.{owner_at, resolver_at, row_at, row_bytes, owner_bytes, text_of, ids_after, fields_bytes, resolver_bytes, resolver_text, Code, code_bytes, IsRow, IsResolver, HasFields, AreIds};
-ghost use Rattle.exchange_codec.specs.RowsText.{row_view, rows_view, resolver_view};
+ghost use Rattle.exchange_codec.specs.RowsText.{row_view, resolver_view};
 
 use crate::fault::{FieldFault, ReadError};
 use crate::fields::{bytes_at, count_at, push_u32, u32_at, u64_at};
@@ -48,39 +48,25 @@ pub struct RowText<'a> {
     pub resolver: ResolverText<'a>,
 }
 
-/// Reads this many rows.
-pub(crate) fn all_rows(
-    alloc: Global,
-    count: u32,
-    bytes: &[u8],
-) -> Result<(Vec<RowText<'_>>, &[u8]), ReadError>
-    ensures { Gives (λ x. (rows_view x.0.items, x.1.now)) result (many_at row_at count bytes.entry.now) }
+/// Reads this many rows, and returns what follows them.
+pub(crate) fn skip_rows(count: u32, bytes: &[u8]) -> Result<&[u8], ReadError>
+    ensures read { IfOk result (λ rest. (rows : List texts.RowText)
+        × (many_at row_at count bytes.entry.now ≡ Ok (rows, rest.now))) }
+    ensures failed { IfErr result (λ error. Fails error (many_at row_at count bytes.entry.now)) }
 {
-    let mut rows = room_for(alloc, count, bytes)?;
     let mut rest = bytes;
     for _ in 0..count {
         match row_at(rest) {
-            Ok((row, after)) => {
-                let Ok(()) = rows.push(row) else {
-                    return Err(ReadError::Memory);
-                };
-                rest = after;
-            }
+            Ok(found) => rest = found.1,
             Err(error) => return Err(error),
         }
     }
-    Ok((rows, rest))
+    Ok(rest)
 }
 
-// Returns room for this many rows, but for no more than there are bytes for: the count isn't trusted.
-fn room_for<'a>(alloc: Global, count: u32, bytes: &[u8]) -> Result<Vec<RowText<'a>>, ReadError>
-    ensures empty { IfOk result (λ rows. rows.items ≡ []) }
-    ensures refused { IfErr result (λ error. error ≡ Memory) }
-{
-    match Vec::with_capacity(alloc, (count as usize).min(bytes.len() / LEAST_ROW)) {
-        Ok(rows) => Ok(rows),
-        Err(_) => Err(ReadError::Memory),
-    }
+/// Returns for how many of this many rows there is room in the bytes: the count isn't trusted.
+pub(crate) fn rows_within(count: u32, bytes: &[u8]) -> usize {
+    (count as usize).min(bytes.len() / LEAST_ROW)
 }
 
 /// The row at the front, and what follows it.

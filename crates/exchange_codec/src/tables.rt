@@ -1,19 +1,19 @@
 //! Tables as bytes: the last part of an offer.
-ghost use Rattle.std.specs.Prelude.{◌≡◌, ◌++◌, [], Ok, Err, IfOk, IfErr, OnOk};
+ghost use Rattle.std.specs.Prelude.{◌≡◌, ◌++◌, List, Ok, Err, IfOk, IfErr, OnOk};
 ghost use Rattle.std.specs.List.{flat_map, AllByRecursion};
 ghost use Rattle.refusals.specs.Answers.{HasCause, ReturnsOrRunsOut};
 ghost use Rattle.partition_table.specs.Tables as tables;
 ghost use Rattle.exchange_codec.specs.Faults.{message_fault_number};
-ghost use Rattle.exchange_codec.specs.Rows.{row_bytes, IsRow};
-ghost use Rattle.exchange_codec.specs.RowsText.{rows_view};
+ghost use Rattle.exchange_codec.specs.Rows.{RowText, row_bytes, IsRow};
 ghost use Rattle.exchange_codec.specs.declared.fault.MessageFault.{MessageFault};
-ghost use Rattle.exchange_codec.specs.Reading.{Gives};
-ghost use Rattle.exchange_codec.specs.Tables.{SpellsTable, IsTableFault, IsTableText, rows_at, rows_of, table_bytes, table_text};
+ghost use Rattle.exchange_codec.specs.Reading.{Fails};
+ghost use Rattle.exchange_codec.specs.model.Building.{IsBuiltOf};
+ghost use Rattle.exchange_codec.specs.Tables.{SpellsTable, IsTableFault, IsTableText, rows_of, table_bytes, table_text};
 
-use crate::building::table_of;
+use crate::building::table_at;
 use crate::fault::{FieldFault, MessageFault, ReadError};
 use crate::fields::{count_at, push_u32};
-use crate::rows::{RowText, all_rows, push_row};
+use crate::rows::push_row;
 use insn_codec::one_reading_theorem;
 use partition_table::{NameLimit, Table};
 use std::alloc::{AllocError, Global};
@@ -72,29 +72,25 @@ pub fn decode_table(alloc: Global, bytes: &[u8]) -> Result<Table, MessageFault>
     // For the proof: bytes have one reading, and code has one verdict.
     one_reading_theorem();
     one_verdict_theorem::<Profile>();
-    match rows_of(alloc, bytes) {
-        Ok(rows) => table_of(alloc, &rows),
+    match table_of(alloc, bytes) {
+        Ok(built) => built,
         Err(error) => Err(error.told(bytes.len())),
     }
 }
 
-// The rows that all of the bytes spell.
-#[tactic(auto, unfolding(crate::specs::Tables::rows_of))]
-fn rows_of(alloc: Global, bytes: &[u8]) -> Result<Vec<RowText<'_>>, ReadError>
-    ensures { Gives (λ rows. rows_view rows.items) result (rows_of bytes.entry.now) }
+/// Reads the rows that all of the bytes spell. Returns their table, or the fault of the first invalid row.
+#[tactic(auto, unfolding(crate::specs::Tables::rows_of, crate::specs::Tables::rows_at))]
+pub(crate) fn table_of(
+    alloc: Global,
+    bytes: &[u8],
+) -> Result<Result<Table, MessageFault>, ReadError>
+    ensures built { IfOk result (λ built. (texts : List RowText) × (rows_of bytes.now ≡ Ok texts) × IsBuiltOf texts built) }
+    ensures failed { IfErr result (λ error. Fails error (rows_of bytes.now)) }
 {
-    let (rows, rest) = rows_at(alloc, bytes)?;
+    let (count, rest) = count_at(NameLimit::MAX as u32, bytes)?;
+    let (built, rest) = table_at(alloc, count, rest)?;
     if !rest.is_empty() {
         return Err(ReadError::at(FieldFault::Trailing, rest));
     }
-    Ok(rows)
-}
-
-/// The rows at the front, and what follows them.
-#[tactic(auto, unfolding(crate::specs::Tables::rows_at))]
-pub(crate) fn rows_at(alloc: Global, bytes: &[u8]) -> Result<(Vec<RowText<'_>>, &[u8]), ReadError>
-    ensures { Gives (λ x. (rows_view x.0.items, x.1.now)) result (rows_at bytes.entry.now) }
-{
-    let (count, rest) = count_at(NameLimit::MAX as u32, bytes)?;
-    all_rows(alloc, count, rest)
+    Ok(built)
 }

@@ -1,10 +1,10 @@
 -- The table that is built of the rows of an offer, and the programs of these rows.
-use Rattle.std.specs.Prelude.{◌≡◌, ℕ, ◌<◌, ◌==◌, if◌then◌else◌, List, [], ◌∷◌, ◌++◌, is_some, Option, Some}
+use Rattle.std.specs.Prelude.{◌≡◌, ℕ, ◌<◌, ◌==◌, if◌then◌else◌, List, [], ◌∷◌, ◌++◌, is_some, Option, Some, None, Result, Ok, Err}
 use Rattle.std.specs.List.{AllByRecursion}
 use Rattle.std.specs.Arc.{arc_value}
 use Rattle.std.specs.BTreeMap.{BTreeMap, get}
 use Rattle.std.specs.FinMap.{entries}
-use Rattle.refusals.specs.Answers.{out_of_memory}
+use Rattle.refusals.specs.Answers.{HasCause, out_of_memory}
 use Rattle.instruction_set.specs.declared.insn.Insn.{Insn}
 use Rattle.verifier.specs.declared.program_fault.ProgramFault.{ProgramFault}
 use Rattle.verifier.specs.Programs.{IsProgramFault, program_fault_number}
@@ -22,7 +22,7 @@ use Rattle.exchange_codec.specs.declared.fault.ItemFault.{ItemFault}
 use Rattle.exchange_codec.specs.declared.fault.ItemFault.TheVariants as item
 use Rattle.exchange_codec.specs.declared.fault.MessageFault.{MessageFault}
 use Rattle.exchange_codec.specs.declared.fault.MessageFault.TheVariants as message
-use Rattle.exchange_codec.specs.Faults.{item_fault_number}
+use Rattle.exchange_codec.specs.Faults.{item_fault_number, message_fault_number}
 use Rattle.exchange_codec.specs.Rows.{RowText, has_id, ids_of, texts_of}
 use Rattle.exchange_codec.specs.Tables.{IsRowFault, IsFirstRowFault}
 use Rattle.exchange_codec.specs.Offers.{OfferText, text_of}
@@ -81,6 +81,16 @@ abbrev pub IsRowsFault : List RowText → MessageFault → Type 0
 IsRowsFault texts (message.Field what at) = ⊥
 IsRowsFault texts (message.Item fault at) = IsFirstRowFault texts fault at
 IsRowsFault texts message.OutOfMemory = ⊥
+
+-- what is built of rows: their table, or the fault of the first invalid one
+abbrev pub IsBuiltOf : List RowText → Result Table MessageFault → Type 0
+IsBuiltOf texts (Ok table) = IsTableOf texts table × IsTable table
+IsBuiltOf texts (Err fault) = HasCause message_fault_number (IsRowsFault texts) fault
+
+-- the name of the table's last row
+abbrev pub IsLast : Table → Option Name → Type 0
+IsLast table None = entries table ≡ []
+IsLast table (Some name) = (rows : List (Name × Row)) × (row : Row) × (entries table ≡ rows ++ (name, row) ∷ [])
 
 -- the fault of a program's bytes, in the row at this index
 abbrev pub IsCodeFault : List ℕ → ℕ → MessageFault → Type 0
