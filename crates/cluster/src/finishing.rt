@@ -44,6 +44,7 @@ impl Finishing {
             → IsInRounds plan was pass id self.old.finished (shown side.old)
             → IsInRounds plan was pass id self.new.finished (shown side.new) }
         ensures grown { AddsEvents side.old side.new }
+        ensures stays { self.new.finished ≡ None → (self.old.finished ≡ None) × (shown side.new ≡ shown side.old) }
         ensures cause { (plan : planned.Plan) (was : shown_as.Cluster) (pass : Pass) (id : SideId)
             → IsInRounds plan was pass id self.old.finished (shown side.old) → IsCause plan was self.old.least
             → IsCause plan was self.new.least }

@@ -196,8 +196,9 @@ impl Halves {
             if a.finished.is_some() && b.finished.is_some() {
                 break;
             }
-            // In the first round the board's clashes are A's, which it shared.
-            seats = self.tell(rt, alloc, board, pass, seats, round, gate, round == 0);
+            // Until A finishes, the board's clashes are those that A shared.
+            let is_own = a.finished.is_none();
+            seats = self.tell(rt, alloc, board, pass, seats, round, gate, is_own);
             a.try_finish(alloc, &mut self.a);
             b.try_finish(alloc, &mut self.b);
         }

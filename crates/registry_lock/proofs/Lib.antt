@@ -1,3 +1,3 @@
 mod Agreeing
-mod OwnClashes
+pub mod OwnClashes
 mod Told

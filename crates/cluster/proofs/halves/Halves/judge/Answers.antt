@@ -1,6 +1,8 @@
-use Rattle.std.proofs.Common.{sym, ◌∙◌, subst, arith}
-use Rattle.std.proofs.lemmas.Bool.Decides.{Decides-eqb}
+use Rattle.std.proofs.Common.{◌≡◌, Bool, true, false, IsTrue, None, Option, Some, refl, sym, ap, ◌∙◌, subst}
+use Rattle.std.specs.Prelude.{is_some, not}
 use Rattle.clash_record.specs.declared.side_id.SideId.TheVariants.{A, B}
+use Rattle.exchange_law.specs.Sides.{heard_clashes}
+use Rattle.registry_lock.proofs.OwnClashes.{same_when_told}
 use Rattle.cluster.specs.Causes.{IsCause}
 use Rattle.cluster.specs.model.Stages.{halves_of}
 use Rattle.cluster.proofs.Causes.{if_err, one_of}
@@ -17,7 +19,7 @@ loop-round-init g c = (
     subst (IsCause plan was) (sym c.new-a.ensures.least) tt,
     subst (IsCause plan was) (sym c.new-b.ensures.least) tt,
   ),
-  λ first. c.requires.own,
+  λ none. c.requires.own,
 )
 
 pub loop-round-preserved : goal.loop-round-preserved
@@ -42,11 +44,20 @@ loop-round-preserved g c =
             a.ensures.cause plan was pass A told.a least.0,
             b.ensures.cause plan was pass B told.b least.1,
           ),
-      λ first. absurd (omega (arith, first)),
+      λ none.
+          let stays = a.ensures.stays none in
+          ap heard_clashes stays.1
+          ∙ same_when_told _ _ c.loop-round.self.a c.tell-seats.new.self.a c.tell-seats.ensures.a
+          ∙ c.loop-round.invariant.4 stays.0,
     )
 
+none_is : {X : Type 0} (o : Option X) (b : Bool) → is_some o ≡ not b → IsTrue b → o ≡ None
+none_is None b e h = refl
+none_is (Some x) true e h = absurd cc
+none_is (Some x) false e h = absurd cc
+
 pub tell-seats-requires-clause-own : goal.tell-seats-requires-clause-own
-tell-seats-requires-clause-own g c = λ lifetimes lives own. c.loop-round.invariant.4 ((Decides-eqb _ 0).0 own)
+tell-seats-requires-clause-own g c = λ lifetimes lives own. c.loop-round.invariant.4 (none_is c.loop-round.a.finished _ c.is_none-is_own.ensures own)
 
 pub returns-clause-merged : goal.returns-clause-merged
 returns-clause-merged g c =
