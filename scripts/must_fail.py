@@ -7,12 +7,10 @@ function's own goals and not only because it calls another that isn't proved. Pr
 don't change what is proved of it. A wrong body that isn't refused like this, or that lies outside functions, is tried alone, as
 `rt ci` does: then the crate must not be proved.
 
-Takes the libraries in crates/*/out/rlib, as `rt ci` or prove.py left them, and of the crate's own library what a wrong body doesn't
-change. Prints one line for each wrong body, and at the end 'N refused, M not refused'. The status is 1 if one isn't refused or can't be
-tried.
+Takes the libraries in crates/*/out/rlib, as `rt ci` or prove.py left them. Prints one line for each wrong body, and at the end
+'N refused, M not refused'. The status is 1 if one isn't refused or can't be tried.
 """
 
-import json
 import os
 import re
 import shutil
@@ -27,8 +25,6 @@ from prove import ROOT, read_crates, with_below
 KIT = os.path.dirname(subprocess.run(["rt", "doc"], capture_output=True, text=True, check=True).stdout.strip())
 FUNCTION = re.compile(r"(\s*)(?:pub(?:\([^)]*\))? )?(?:const |unsafe |final |extern \"C\" )*fn (\w+)")
 CONSTANT = re.compile(r"(?:pub(?:\([^)]*\))? )?(?:const|static) (\w+)\s*:")
-# The head of a checked module names the format and the compiler's build: so does its folder, with _ in place of /.
-BUILD = re.compile(rb"antt-checked-\d+/\S+")
 IMPL = re.compile(r"impl(?:<.*?>)?\s+(?:(?P<trait>[\w:]+)(?:<.*>)?\s+for\s+)?(?P<type>[\w:]+)")
 
 
@@ -130,23 +126,6 @@ def check_words(lines, uses, crate):
     return words + (["--crate-type", "staticlib"] if "staticlib" in own[0] else [])
 
 
-def unpack(crate, kept):
-    """Unpacks the checked modules of a crate's library into a folder of kept work. A check takes those that are up to date."""
-    folder = f"{ROOT}/crates/{crate}/out/rlib/{crate}.rlib/toolchain"
-    if not os.path.isfile(f"{folder}/checked.a"):
-        return
-    with open(f"{folder}/checked.a", "rb") as it:
-        modules = it.read()
-    with open(f"{folder}/checked.json", encoding="utf-8") as it:
-        rows = [json.loads(line) for line in it]
-    for name, at, size in (row for row in rows if "/" not in row[0]):
-        module = modules[at : at + size]
-        own = f"{kept}/{BUILD.search(module)[0].decode().replace('/', '_')}"
-        os.makedirs(own, exist_ok=True)
-        with open(f"{own}/{name}.oantt", "wb") as out:
-            out.write(module)
-
-
 def checked(crate, words, edits, kept, functions):
     """Checks a copy of the crate with these wrong bodies, over kept work, and returns the status and what was printed."""
     with tempfile.TemporaryDirectory(prefix="must-fail-") as folder:
@@ -201,7 +180,6 @@ def try_crate(lines, uses, crate, edits):
     words = check_words(lines, uses, crate)
     said, failed = [], 0
     with tempfile.TemporaryDirectory(prefix="must-fail-kept-") as kept:
-        unpack(crate, kept)
         left = [it for it in edits if not it.functions]
         for group in rounds_of([it for it in edits if it.functions]):
             status, printed = checked(crate, words, group, kept, [function for it in group for function in it.functions])
