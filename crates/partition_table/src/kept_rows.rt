@@ -18,7 +18,7 @@ use std::marker::Model;
 use std::sync::Arc;
 use verifier::Verified;
 
-// The rows of two tables that a merge keeps. They are copied once, into the table that `finish` returns.
+// The rows of two tables that a merge keeps. They are copied only when `finish` makes a table of them.
 //
 // Contracts see them as that table. Rows that come in the order of names need no sorting.
 #[derive(Drop)]
