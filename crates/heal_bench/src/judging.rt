@@ -1,5 +1,5 @@
 //! The cost of a round of judging, by the count of workers.
-use crate::registry::Fault;
+use crate::fault::Fault;
 use clash_record::ResolverId;
 use fixtures::{numbered_clashes, stored};
 use judge_pool::{Ear, OpenGate, Workers, heal_round};

@@ -1,31 +1,19 @@
 //! heal_bench: what the calls of `heal` cost on this machine.
 #![tactic(auto)]
 
-mod exchanges;
+mod fault;
 mod judging;
-mod messages;
 mod programs;
-mod registry;
-mod tables;
 
 use std::process::ExitCode;
 use std::{env, fmt, io};
 
 const USAGE: &'static str = "usage: heal_bench program HEX RECORDHEX RUNS
-       heal_bench tables ROWS
-       heal_bench exchange ROWS
-       heal_bench messages ROWS PROGRAMS
        heal_bench judge HEX WORKERS
 
 program: decodes and verifies the program 2,000 times, and prints the mean times in nanoseconds. Then runs it RUNS times on
 the record in a scratch memory, where only the word changes from run to run, and RUNS times on a copy of such a record, and
 prints the mean times of both, the steps of one run and the sum of all answers in the scratch memory.
-tables: makes tables of ROWS rows, 1 to 4096, and prints the mean times in nanoseconds: of registering one row; of the
-clashes and the merge of two that clash in every name; and of these for two that are equal.
-exchange: two sides with ROWS names begin, hear each other, take a ruling for each name and finish; prints the times in
-nanoseconds of each of these on both sides together.
-messages: a side registers ROWS names, judged in turn by PROGRAMS programs, 0 to 256; prints the least of 5 times in
-nanoseconds of each: of uploading and registering, and of encoding and decoding its offer.
 judge: 1 to 16 WORKERS judge 4,096 clashes by the program in each of 20 rounds; prints the least time of a round in
 nanoseconds, and how many verdicts were kept in all.
 ";
@@ -48,9 +36,6 @@ fn answer(rt: &HostRuntime, words: &[&str]) -> io::Result<ExitCode> {
             Ok(ExitCode::SUCCESS)
         }
         [_, "program", code, clash, runs] => report(rt, programs::measure(rt, code, clash, runs)),
-        [_, "tables", rows] => report(rt, tables::measure(rt, rows)),
-        [_, "exchange", rows] => report(rt, exchanges::measure(rt, rows)),
-        [_, "messages", rows, programs] => report(rt, messages::measure(rt, rows, programs)),
         _ => {
             eprint!(rt; "{USAGE}")?;
             Ok(ExitCode::FAILURE)

@@ -1,7 +1,7 @@
 //! What decoding, verifying and running a program costs.
 ghost use Rattle.std.specs.Prelude.{◌<◌, IfOk};
 
-use crate::registry::Fault;
+use crate::fault::Fault;
 use clash_record::{RECORD_LEN, record_of, set_word};
 use insn_codec::decode;
 use interpreter::{Scratch, run, run_written};

@@ -1,9 +1,11 @@
 //! The rulings that a side receives during a round.
 ghost use Rattle.std.specs.Prelude.{◌≡◌, Some, IsTrue, length};
-ghost use Rattle.exchange_law.specs.Sides.{heard_clashes};
+ghost use Rattle.partition_table.specs.Judged.{clash_of_verdict};
+ghost use Rattle.exchange_law.specs.Sides.{has_clash, heard_clashes};
 ghost use Rattle.exchange_core.specs.Shown.{shown};
+ghost use Rattle.verdict_board.specs.Boards.{Pass, as_ruling};
 ghost use Rattle.registry_lock.specs.Meeting.{Keeps};
-ghost use Rattle.registry_lock.specs.Telling.{IsTold};
+ghost use Rattle.registry_lock.specs.Telling.{HasSeen, IsTold};
 
 use crossbeam_queue::SegQueue;
 use exchange_core::Side;
@@ -91,9 +93,16 @@ fn take_seen<'p>(board: &Board<'p>, pass: &mut Pass<'p>, is_own: bool, side: &mu
     ensures keeps { Keeps pass.old pass.new }
     ensures taken { IsTold pass.new 1 side.old side.new }
 {
-    let Some(ruling) = board.read(k, pass) else {
-        return;
-    };
+    if let Some(ruling) = board.read(k, pass) {
+        take_or_drop(side, ruling, is_own);
+    }
+}
+
+// Lets the side take a ruling, and drops a refusal. `is_own` is whether its clash is one of the side's own.
+fn take_or_drop(side: &mut Side, ruling: Ruling<'_>, is_own: bool)
+    requires { IsTrue is_own → IsTrue (has_clash (shown side.old) ruling.k (clash_of_verdict ruling.verdict)) }
+    ensures { (pass : Pass) → HasSeen pass (as_ruling ruling.entry) → IsTold pass 1 side.old side.new }
+{
     let _ = if is_own {
         side.take_own(ruling)
     } else {

@@ -1,4 +1,5 @@
-//! Tests of public calls: operations, codes as bytes and as listings, ranges and abstract states, and the verifier.
+//! Tests of public calls: operations, codes as bytes and as listings, ranges and abstract states, the verifier, and programs on
+//! contexts of several lengths.
 #![tactic(auto)]
 
 #[cfg(test)]
@@ -7,6 +8,10 @@ mod abstract_states;
 mod assertions;
 #[cfg(test)]
 mod code_bytes;
+#[cfg(test)]
+mod context_codes;
+#[cfg(test)]
+mod contexts;
 #[cfg(test)]
 mod domain_calls;
 #[cfg(test)]
@@ -19,6 +24,8 @@ mod operations;
 mod peaks;
 #[cfg(test)]
 mod ranges;
+#[cfg(test)]
+mod refused_codes;
 #[cfg(test)]
 mod sample_codes;
 #[cfg(test)]

@@ -1,5 +1,5 @@
 //! Devices that fail at each of their calls.
-use crate::devices::{Device, GOOD, is_answered};
+use crate::script_devices::{Device, GOOD, is_answered};
 
 /// A script, and what is written for it.
 const SCRIPT: &[u8] = b"register a db 1.1 0 0 - exit\nwhereis a db\nshow b\nheal 7\nwhereis b";

@@ -1,5 +1,5 @@
 //! Scripts on halves with other limits of names.
-use crate::devices::{GOOD, is_answered_within};
+use crate::script_devices::{GOOD, is_answered_within};
 use partition_table::NameLimit;
 use std::alloc::Global;
 use std::io;

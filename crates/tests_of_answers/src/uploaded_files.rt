@@ -1,5 +1,5 @@
 //! Programs in files.
-use crate::devices::{GOOD, is_answered};
+use crate::script_devices::{GOOD, is_answered};
 use std::rt::Files;
 use std::sync::Wait;
 use std::test::Fail;

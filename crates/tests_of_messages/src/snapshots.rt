@@ -1,6 +1,6 @@
 //! Snapshots by hand, encoded and decoded, and their faults.
 use crate::entries::{AT, FIRST};
-use crate::faults::changed;
+use crate::entry_faults::changed;
 use crate::rows::{EMPTY, FULL};
 use clash_record::{Builtin, Owner, Registration, ResolverId, name};
 use partition_table::{NameLimit, Table};

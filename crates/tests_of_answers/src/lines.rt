@@ -1,6 +1,6 @@
 //! The answers to single lines, blank ones and too long ones included.
-use crate::devices::{Device, GOOD, Said, first_other, is_answered};
 use crate::heals;
+use crate::script_devices::{Device, GOOD, Said, first_other, is_answered};
 
 /// Scripts of a few lines.
 const SCRIPTS: &[Said] = &[

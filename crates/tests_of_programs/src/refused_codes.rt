@@ -1,5 +1,5 @@
 //! Tests of refusals: the number and the slot.
-use crate::sample_codes::{ABOVE_NINE, STORES, byte_at};
+use crate::context_codes::{ABOVE_NINE, STORES, byte_at};
 use bpf::load;
 use refusals::{NumberedRefusal, Place, refusal_of};
 use std::alloc::Global;

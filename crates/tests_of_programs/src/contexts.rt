@@ -1,5 +1,5 @@
 //! Tests of runs: the expected values follow from RFC 9669.
-use crate::sample_codes::{ABOVE_NINE, BY_STACK, SEVEN, byte_at};
+use crate::context_codes::{ABOVE_NINE, BY_STACK, SEVEN, byte_at};
 use bpf::{Ended, Loaded, load};
 use std::alloc::Global;
 use std::test::Fail;

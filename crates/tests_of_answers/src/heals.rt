@@ -1,5 +1,5 @@
 //! Splits that heal, and the answers.
-use crate::devices::Said;
+use crate::script_devices::Said;
 
 /// Scripts that heal a split, or are refused.
 pub(crate) const SCRIPTS: &[Said] = &[
