@@ -148,6 +148,8 @@ if command -v valgrind > /dev/null; then
 fi
 compile growth growth.c -Wl,--wrap=malloc,--wrap=realloc,--wrap=free
 "$work/growth"
+compile copies copies.c -Wl,--wrap=malloc,--wrap=realloc
+"$work/copies"
 if command -v valgrind > /dev/null && command -v python3 > /dev/null; then
     compile cost cost.c
     c/cost.py "$work/cost"
