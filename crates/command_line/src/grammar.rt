@@ -1,6 +1,6 @@
 //! The command line for clap.
 ghost use Rattle.std.specs.Prelude.{◌≡◌, IfOk, codes, false};
-ghost use Rattle.clap.specs.Words.{App, app_of, new_app, rule_of, with_subcommand};
+ghost use Rattle.clap.specs.Words.{App, Rule, app_of, new_app, rule_of, with_rule, with_subcommand};
 ghost use Rattle.command_line.specs.Asked.{asm_app, check_app, dis_app, explain_option, given, heal_app, judge_app, names_option, needed, one_app, profile_option, record_app, run_app, valued, with_fields, workers_option};
 ghost use Rattle.command_line.specs.model.Apps.{IsApp};
 
@@ -142,18 +142,18 @@ fn run_command<'a>(alloc: Global) -> Result<Command<'a>, AllocError>
     ensures { IfOk result (λ c. IsApp c run_app) }
 {
     let about = "Runs a script about two halves of a cluster: their names, and how a split heals";
-    let run = one_command(
+    let script = one_command(
         alloc,
         "run",
         about,
         "FILE",
         "The file of the script, or - for standard input",
         RUN_EXAMPLE,
-    )?;
+    );
     let help = "Narrates each healing on standard error";
-    run.arg(workers_arg(alloc))?
-        .arg(names_arg(alloc))?
-        .arg(explain_arg(alloc, help))
+    let with_workers = with_arg(script, workers_arg(alloc));
+    let with_names = with_arg(with_workers, names_arg(alloc));
+    with_arg(with_names, explain_arg(alloc, help))
 }
 
 // Returns `check`: code, and an option.
@@ -161,16 +161,17 @@ fn check_command<'a>(alloc: Global) -> Result<Command<'a>, AllocError>
     ensures { IfOk result (λ c. IsApp c check_app) }
 {
     let about = "Checks whether the verifier accepts a program";
-    let check = one_command(
+    let code = one_command(
         alloc,
         "check",
         about,
         "CODE",
         "The program: hex digits, or @FILE",
         CHECK_EXAMPLE,
-    )?;
+    );
     let help = "Prints the verifier's state before each instruction on standard error";
-    check.arg(profile_arg(alloc))?.arg(explain_arg(alloc, help))
+    let with_profile = with_arg(code, profile_arg(alloc));
+    with_arg(with_profile, explain_arg(alloc, help))
 }
 
 // Returns `judge` with its code, and a record at a word.
@@ -178,28 +179,30 @@ fn record_command<'a>(alloc: Global) -> Result<Command<'a>, AllocError>
     ensures { IfOk result (λ c. IsApp c record_app) }
 {
     let about = "Judges a clash by a program: the first, the second or neither keeps the name";
-    let judge = one_command(
+    let code = one_command(
         alloc,
         "judge",
         about,
         "CODE",
         "The program: hex digits, or @FILE",
         JUDGE_EXAMPLE,
-    )?;
+    );
     let record = given_arg(alloc, "RECORDHEX", "The record of the clash, in hex digits");
     let word = valued_arg(alloc, "word", "W", "The word of the clash [default: 0]");
-    judge.arg(record)?.arg(word)
+    let with_record = with_arg(code, record);
+    with_arg(with_record, word)
 }
 
 // Adds the fields of a record: a name, and two registrations.
 fn fields_command<'a>(alloc: Global) -> Result<Command<'a>, AllocError>
     ensures { IfOk result (λ c. IsApp c (with_fields record_app)) }
 {
-    let judge = record_command(alloc)?;
     let name = valued_arg(alloc, "name", "NAME", "The name that clashes");
     let first = valued_arg(alloc, "first", "REG", "The first registration");
     let second = valued_arg(alloc, "second", "REG", "The second registration");
-    judge.arg(name)?.arg(first)?.arg(second)
+    let with_name = with_arg(record_command(alloc), name);
+    let with_first = with_arg(with_name, first);
+    with_arg(with_first, second)
 }
 
 // Returns `judge`: code, a clash, and an option.
@@ -207,8 +210,7 @@ fn judge_command<'a>(alloc: Global) -> Result<Command<'a>, AllocError>
     ensures { IfOk result (λ c. IsApp c judge_app) }
 {
     let help = "Prints on standard error what the program reads and answers";
-    let judge = fields_command(alloc)?;
-    judge.arg(explain_arg(alloc, help))
+    with_arg(fields_command(alloc), explain_arg(alloc, help))
 }
 
 // Returns `asm`: a file.
@@ -256,6 +258,18 @@ fn one_command<'a>(
         .about(about)
         .after_help(example)
         .arg(needed_arg(alloc, id, help))
+}
+
+// Adds an argument that isn't global. It takes a result, so that a chain of calls has no early return.
+fn with_arg<'a>(
+    command: Result<Command<'a>, AllocError>,
+    arg: Arg<'a>,
+) -> Result<Command<'a>, AllocError>
+    requires { arg.global ≡ false }
+    ensures { (app : App) (rule : Rule) → IfOk command.entry (λ c. IsApp c app) → rule_of arg.entry ≡ rule
+        → IfOk result (λ c. IsApp c (with_rule app rule)) }
+{
+    command?.arg(arg)
 }
 
 // Adds a subcommand. It takes results, so that a chain of calls has no early return.
