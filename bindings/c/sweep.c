@@ -136,15 +136,18 @@ static void live_apart(struct state *state, int which)
     CALL(state, heal_side_renew(side));
 }
 
-/* Lets a side receive the message of the other side, and frees the message. */
-static void deliver(struct state *state, int to, uint32_t (*receive)(heal_side *, const uint8_t *, size_t))
+/* Lets a side receive the message of the other side, which has no fault, and frees the message. */
+static void deliver(struct state *state, int to, uint32_t (*receive)(heal_side *, const uint8_t *, size_t),
+    uint32_t (*fault_of)(const uint8_t *, size_t, heal_fault *))
 {
     heal_bytes *message = &state->messages[1 - to];
+    heal_fault fault;
     uint8_t copy[4096];
     size_t len = 0;
 
     REQUIRE(heal_bytes_len(message, &len) == 0 && len <= sizeof copy);
     REQUIRE(heal_bytes_copy(message, copy, len) == 0);
+    CALL(state, fault_of(copy, len, &fault));
     CALL(state, receive(&state->sides[to], copy, len));
     heal_bytes_free(message);
 }
@@ -154,14 +157,14 @@ static void heal(struct state *state, uint64_t number)
     for (int i = 0; i < 2; i++)
         CALL(state, heal_side_begin(&state->sides[i], number, 7, 60, &state->messages[i]));
     for (int i = 0; i < 2; i++) {
-        deliver(state, i, heal_side_hear);
+        deliver(state, i, heal_side_hear, heal_offer_fault);
         CALL(state, heal_side_settle(&state->sides[i]));
     }
     CALL(state, heal_side_withdraw(&state->sides[0], text("gone"), 4));
     for (int i = 0; i < 2; i++)
         CALL(state, heal_side_close_list(&state->sides[i], &state->messages[i]));
     for (int i = 0; i < 2; i++) {
-        deliver(state, i, heal_side_hear_list);
+        deliver(state, i, heal_side_hear_list, heal_list_fault);
         CALL(state, heal_side_finish(&state->sides[i], &state->outcomes[i]));
     }
 }
