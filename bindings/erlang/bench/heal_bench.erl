@@ -1,13 +1,18 @@
-%% Measures heal_registry and `global' one after the other on the same nodes of one machine, which connect over the loopback interface.
+%% Measures heal_registry and `global' on nodes of one machine, which connect over the loopback interface. Each measurement starts nodes
+%% of its own, since what one registry leaves behind slows the other.
 %%
-%% On 2, 4 and 8 nodes: registrations on the primary and on each other node, with one client and with eight; lookups; memory on the node
-%% of the processes and on another one; and healings of two halves whose names all clash, by a resolver that notifies the loser, while a
-%% client goes on to register. Then `global' and heal_registry heal more and more clashes, as far as `global' goes. A table compares the
-%% outcome with the goals.
+%% First calls of a gen_server that does nothing, on its node and from another one: no registry that asks another process makes more
+%% registrations. Then, on 2, 4 and 8 nodes: registrations on the primary and on each other node, with one client and with eight; lookups;
+%% memory on the node of the processes and on another one; and healings of two halves whose names all clash, by a resolver that notifies
+%% the loser, while a client goes on to register. Then `global' and heal_registry heal more and more clashes, as far as `global' goes. A
+%% table compares the outcome with the goals.
 -module(heal_bench).
 
+-behaviour(gen_server).
+
 -export([main/1]).
--export([rates/4, lookups/3, fill/3, spawned/1, named/3, clear/2, memory/0, answers/2, longest/1, stop_longest/1]).
+-export([rates/4, lookups/3, fill/3, spawned/1, named/3, clear/2, memory/0, answers/2, longest/1, stop_longest/1, serve/0]).
+-export([init/1, handle_call/3, handle_cast/2]).
 
 %% How long one measurement of a rate takes, the clashes that are healed, how often (more than 4,096 less often), of how many names the
 %% memory is measured, and how long `global' may take.
@@ -26,14 +31,14 @@ plan(short) ->
 main(Mode) ->
     Plan = plan(Mode),
     io:format("~s: OTP ~s, ~p schedulers~n", [Mode, erlang:system_info(otp_release), erlang:system_info(schedulers)]),
-    {Time, Rows} = timer:tc(fun() -> lists:append([on(Count, Plan) || Count <- Plan#plan.nodes]) end),
+    {Time, Rows} = timer:tc(fun() -> bare(Plan) ++ lists:append([on(Count, Plan) || Count <- Plan#plan.nodes]) end),
     alone(Plan),
     goals(Rows, Plan),
     io:format("~.1f seconds without the last series~n", [Time / 1.0e6]),
     halt(0).
 
 on(Count, Plan) ->
-    Edits = with_nodes(Count, fun(Nodes) -> edits(Count, Nodes, Plan) end),
+    Edits = lists:append([with_nodes(Count, fun(Nodes) -> edits(Registry, Nodes, Plan) end) || Registry <- ?REGISTRIES]),
     Memory = [{{Count, {memory, Names, Where}, Registry}, Bytes}
               || Names <- Plan#plan.names, Registry <- ?REGISTRIES,
                  {Where, Bytes} <- lists:zip([home, other], memory(Count, Names, Registry))],
@@ -53,54 +58,88 @@ with_nodes(Count, Run) ->
         [heal_cluster:stop(It) || It <- Nodes]
     end.
 
+%% ---- Calls of a gen_server ----
+
+%% The rates of calls on the node of a gen_server and from another one.
+bare(Plan) ->
+    with_nodes(2, fun(Nodes = [First, Other]) ->
+        heal_cluster:mesh(Nodes),
+        ok = heal_cluster:call(First, ?MODULE, serve, []),
+        Server = {?MODULE, heal_cluster:node_of(First)},
+        [{{2, {call, Where, Clients}}, rate(Server, Where, It, Clients, "calls a gen_server", 2, Plan)}
+         || {Where, It} <- [{primary, First}, {other, Other}], Clients <- [1, 8]]
+    end).
+
+serve() ->
+    {ok, _} = gen_server:start({local, ?MODULE}, ?MODULE, none, []),
+    ok.
+
+init(none) -> {ok, none}.
+
+handle_call(call, _From, none) -> {reply, ok, none}.
+
+handle_cast(_Message, none) -> {noreply, none}.
+
 %% ---- Edits and lookups ----
 
-edits(Count, Nodes, Plan) ->
-    [heal_cluster:start_registry(It, any, ?OPTIONS) || It <- Nodes],
-    heal_cluster:mesh(Nodes),
-    heal_cluster:one_part(Nodes),
-    [ok = heal_cluster:call(It, global, sync, []) || It <- Nodes],
-    #{primary := Primary} = heal_cluster:status(hd(Nodes)),
+edits(Registry, Nodes, Plan) ->
+    Count = length(Nodes),
+    [heal_cluster:start_registry(It, any, ?OPTIONS) || Registry =:= heal_registry, It <- Nodes],
+    gathered(Registry, Nodes),
+    Primary = primary(Registry, Nodes),
     {[First], Others = [Other | _]} = lists:partition(fun(It) -> heal_cluster:node_of(It) =:= Primary end, Nodes),
     Rates = [{{Count, {register, Where, Clients}, Registry}, slowest(Count, Registry, Where, Of, Clients, Plan)}
-             || Registry <- ?REGISTRIES, {Where, Of} <- [{primary, [First]}, {other, Others}], Clients <- [1, 8]],
-    Lookups = [{{Count, whereis, Registry}, heal_cluster:call(Other, ?MODULE, lookups, [Registry, 1000, Plan#plan.milliseconds])}
-               || Registry <- ?REGISTRIES],
-    [io:format("~p nodes: ~s looks ~.2f million names up a second~n", [Count, Registry, Rate / 1.0e6]) || {{_, _, Registry}, Rate} <- Lookups],
-    Rates ++ Lookups.
+             || {Where, Of} <- [{primary, [First]}, {other, Others}], Clients <- [1, 8]],
+    Lookups = heal_cluster:call(Other, ?MODULE, lookups, [Registry, 1000, Plan#plan.milliseconds]),
+    io:format("~p nodes: ~s looks ~.2f million names up a second~n", [Count, Registry, Lookups / 1.0e6]),
+    [{{Count, whereis, Registry}, Lookups} | Rates].
+
+%% `global' has no primary.
+primary(global, [First | _]) -> heal_cluster:node_of(First);
+primary(heal_registry, [First | _]) -> maps:get(primary, heal_cluster:status(First)).
 
 %% The least rate of these nodes, and the greatest p99.
 slowest(Count, Registry, Where, Nodes, Clients, Plan) ->
-    Seen = [begin
-                {Rate, P99} = heal_cluster:call(It, ?MODULE, rates, [Registry, Clients, Plan#plan.milliseconds, Where]),
-                io:format("~p nodes: ~s registers ~.1f a second on ~s with ~p clients, p99 ~.2f ms~n",
-                          [Count, Registry, Rate, Where, Clients, P99]),
-                {Rate, P99}
-            end || It <- Nodes],
+    Seen = [rate(Registry, Where, It, Clients, [atom_to_list(Registry), " registers"], Count, Plan) || It <- Nodes],
     {Rates, Times} = lists:unzip(Seen),
     {lists:min(Rates), lists:max(Times)}.
 
-%% Each client registers and unregisters names for a while. Returns how many registrations a second they make, of the time that
-%% registrations take, and the time in milliseconds within which 99 of 100 end.
-rates(Registry, Clients, Milliseconds, Where) ->
+rate(Callee, Where, It, Clients, Does, Count, #plan{milliseconds = Milliseconds}) ->
+    {Rate, P99, Longest} = heal_cluster:call(It, ?MODULE, rates, [Callee, Clients, Milliseconds, Where]),
+    io:format("~p nodes: ~s ~.1f times a second on ~s with ~p clients, p99 ~.2f ms, the longest ~.1f ms~n",
+              [Count, Does, Rate, Where, Clients, P99, Longest]),
+    {Rate, P99}.
+
+%% Each client makes calls for a while. Returns how many a second they make, of the time that calls take, the time in milliseconds
+%% within which 99 of 100 end, and the longest.
+rates(Callee, Clients, Milliseconds, Where) ->
     End = erlang:monotonic_time(millisecond) + Milliseconds,
     Self = self(),
-    Pids = [spawn_link(fun() -> Self ! {self(), client(Registry, {Where, N, 0}, End, [])} end) || N <- lists:seq(1, Clients)],
+    Pids = [spawn_link(fun() -> Self ! {self(), client(Callee, {Where, N, 0}, End, [])} end) || N <- lists:seq(1, Clients)],
     Times = lists:append([receive {Pid, Of} -> Of end || Pid <- Pids]),
     Sorted = lists:sort(Times),
-    {Clients * length(Times) * 1.0e9 / lists:sum(Times), lists:nth(max(1, length(Times) * 99 div 100), Sorted) / 1.0e6}.
+    {Clients * length(Times) * 1.0e9 / lists:sum(Times), lists:nth(max(1, length(Times) * 99 div 100), Sorted) / 1.0e6,
+     lists:last(Sorted) / 1.0e6}.
 
-client(Registry, {Where, N, Count}, End, Times) ->
+client(Callee, {Where, N, Count}, End, Times) ->
     case erlang:monotonic_time(millisecond) >= End of
         true -> Times;
         false ->
             Name = list_to_atom(lists:concat([Where, N, "_", Count rem 1000])),
             Before = erlang:monotonic_time(nanosecond),
-            yes = Registry:register_name(Name, self()),
+            ok = call(Callee, Name),
             Time = erlang:monotonic_time(nanosecond) - Before,
-            _ = Registry:unregister_name(Name),
-            client(Registry, {Where, N, Count + 1}, End, [Time | Times])
+            undone(Callee, Name),
+            client(Callee, {Where, N, Count + 1}, End, [Time | Times])
     end.
+
+%% Registers a name, or calls a gen_server.
+call(Server, _Name) when is_tuple(Server) -> gen_server:call(Server, call);
+call(Registry, Name) -> yes = Registry:register_name(Name, self()), ok.
+
+%% Unregisters the name.
+undone(Server, _Name) when is_tuple(Server) -> ok;
+undone(Registry, Name) -> Registry:unregister_name(Name).
 
 %% Returns how many lookups a second one client makes.
 lookups(Registry, Count, Milliseconds) ->
@@ -277,6 +316,10 @@ goals(Rows, #plan{nodes = Counts, clashes = Series, names = Sizes}) ->
         || {Where, Least} <- [{primary, 40}, {other, 15}], Clients <- [1, 8],
            Times <- [Rate(Count, Where, Clients, heal_registry) / Rate(Count, Where, Clients, global)]
     ] ++ [
+        {io_lib:format("calls of a gen_server from the ~s node by global's registrations, ~p clients", [Where, Clients]), Times, bound}
+        || Where <- [primary, other], Clients <- [1, 8],
+           Times <- [element(1, Of({2, {call, Where, Clients}})) / Rate(Count, Where, Clients, global)]
+    ] ++ [
         {io_lib:format("p99 under 2 ms on the ~s node with 8 clients", [Where]), P99, P99 < 2}
         || Where <- [primary, other], {_, P99} <- [Of({Count, {register, Where, 8}, heal_registry})]
     ] ++ [
@@ -293,4 +336,5 @@ goals(Rows, #plan{nodes = Counts, clashes = Series, names = Sizes}) ->
     ])].
 
 goal(Words, Count, Seen, Holds) ->
-    io:format("| ~s | ~p | ~.3f | ~s |~n", [Words, Count, Seen / 1, case Holds of true -> "ok"; false -> "missed" end]).
+    Outcome = case Holds of true -> "ok"; false -> "missed"; bound -> "no goal" end,
+    io:format("| ~s | ~p | ~.3f | ~s |~n", [Words, Count, Seen / 1, Outcome]).

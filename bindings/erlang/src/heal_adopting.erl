@@ -59,11 +59,15 @@ adopted(Node, Number, Answer, Part = #part{adopting = Adopting, arriving = Arriv
         {{{Node, Call}, Rest}, {ok, Name, Owner, {View, Operation}}} ->
             case heal_state:at(Part) of
                 {View, Own} when Own >= Operation -> heal_edits:answer(Call, ok, Part#part{adopting = Rest});
-                _ -> heal_arrivals:arrived(Name, Part#part{adopting = Rest, arriving = Arriving#{Owner => Call}})
+                At -> hurried(View, At, heal_arrivals:arrived(Name, Part#part{adopting = Rest, arriving = Arriving#{Owner => Call}}))
             end;
         {{{Node, Call}, Rest}, _} -> heal_edits:answer(Call, Answer, Part#part{adopting = Rest});
         {{{_Other, _}, _}, _} -> Part
     end.
+
+%% The primary of this node's view may keep the entry for a moment.
+hurried(View = {{Primary, _}, _}, {View, _}, Part) -> heal_peers:hurry(Primary, Part);
+hurried(_View, _At, Part) -> Part.
 
 %% A node is gone. Whether it has registered its processes isn't known.
 -spec lost(node(), #part{}) -> #part{}.

@@ -1,12 +1,12 @@
 %% @private An exchange by libheal, for heal_meeting: a side that is made for it, and what else a part reads of its node.
 %%
-%% heal_meeting calls each function at most once for each exchange and in this order: `prepare', `open', `hear', `withdraw' any
+%% heal_meeting calls each function at most once for each exchange and in this order: `prepare', `update', `open', `hear', `withdraw' any
 %% number of times, `close', `finish'. A side is dropped when its exchange is over or abandoned.
 -module(heal_exchange).
 
 -include("heal_replica.hrl").
 
--export([prepare/4, open/3, hear/2, withdraw/2, close/1, finish/3, seed/0, serial/0, is_alive/1]).
+-export([prepare/4, update/3, open/3, hear/2, withdraw/2, close/1, finish/3, seed/0, serial/0, is_alive/1]).
 -export_type([process/0, handle/0]).
 
 -type process() :: {heal:owner(), pid(), Term :: term(), Home :: heal_replica:life()}.
@@ -22,6 +22,16 @@ prepare(Id, Names, Programs, Limit) ->
     Calls = [fun() -> plain(heal:upload(Side, Code)) end || Code <- maps:values(Programs)]
         ++ [fun() -> heal:register_all(Side, Rows) end, fun() -> heal:renew(Side) end],
     with({Side, Rows}, all(Calls)).
+
+%% Replaces names: those that are gone, and these rows.
+-spec update(Put :: [{heal:name(), #row{}}], Gone :: [heal:name()], handle()) -> {ok, handle()} | refused().
+update(Put, Gone, {Side, Rows}) ->
+    New = [{Name, heal_row:registration(Row)} || {Name, Row} <- Put],
+    Old = maps:from_keys(Gone, gone),
+    Calls = [fun() -> heal:unregister(Side, Name) end || Name <- Gone]
+        ++ [fun() -> heal:register(Side, Name, Registration) end || {Name, Registration} <- New]
+        ++ [fun() -> heal:renew(Side) end],
+    with({Side, New ++ [Entry || Entry = {Name, _} <- Rows, not is_map_key(Name, Old)]}, all(Calls)).
 
 %% Begins the exchange, and returns the offer.
 -spec open(Number :: pos_integer(), Seed :: non_neg_integer(), handle()) -> {ok, Offer :: binary(), handle()} | refused().

@@ -4,14 +4,14 @@
 %% garbage itself while it is quiet: when a quarter of the rows has changed, and when its heap has grown.
 -module(heal_heap).
 
--export([new/1, roomy/2, changed/2, timed/2, quiet/3, tick/2]).
+-export([new/1, roomy/2, cleaned/2, changed/2, timed/2, quiet/3, tick/2]).
 -export_type([heap/0]).
 
 %% Words during an exchange: for each name, and at most.
--define(ROOM_FOR_NAME, 170).
--define(ROOM, 4000000).
-%% The heap of the process, and that of the binaries that it refers to.
--define(HEAPS, [min_heap_size, min_bin_vheap_size]).
+-define(ROOM_FOR_NAME, 300).
+-define(ROOM, 6000000).
+%% Words at other times, at least.
+-define(USUAL, 20000).
 %% Milliseconds without a changed row.
 -define(QUIET, 50).
 
@@ -28,18 +28,33 @@
 %% Returns the heap of a process that has made this many rows.
 -spec new(Rows :: non_neg_integer()) -> heap().
 new(Rows) ->
+    usual(),
     #heap{changed = Rows}.
 
 %% An exchange of tables of this many names makes much garbage. With more room fewer collections copy the rows. A tick takes the room
 %% back.
 -spec roomy(Names :: non_neg_integer(), heap()) -> heap().
 roomy(Names, Heap) ->
-    Room = min(?ROOM, ?ROOM_FOR_NAME * Names),
-    [process_flag(Flag, Room) || Flag <- ?HEAPS],
+    _ = room(Names),
     changed(Names, Heap).
 
+%% Returns the words that there was room for before.
+room(Names) ->
+    Room = min(?ROOM, ?ROOM_FOR_NAME * Names),
+    _ = process_flag(min_bin_vheap_size, Room),
+    process_flag(min_heap_size, Room).
+
+%% The same, and collects the garbage now, unless the room is there already.
+-spec cleaned(Names :: non_neg_integer(), heap()) -> heap().
+cleaned(Names, Heap) ->
+    Before = room(Names),
+    _ = Before < ?ROOM_FOR_NAME * Names andalso Before < ?ROOM andalso erlang:garbage_collect(),
+    changed(Names, Heap).
+
+%% Room for the garbage of some edits: a small table would leave room for one or two.
 usual() ->
-    [process_flag(Flag, element(2, erlang:system_info(Flag))) || Flag <- ?HEAPS].
+    _ = process_flag(min_heap_size, max(?USUAL, element(2, erlang:system_info(min_heap_size)))),
+    _ = process_flag(min_bin_vheap_size, element(2, erlang:system_info(min_bin_vheap_size))).
 
 %% Notes that rows have changed.
 -spec changed(Rows :: non_neg_integer(), heap()) -> heap().

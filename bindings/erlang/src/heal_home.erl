@@ -196,8 +196,15 @@ settle(Part = #part{own = Own, lost = Lost}) ->
     #half{names = Names} = heal_state:half(Part),
     Settled = [{Name, map_get(Name, Own), Loss} || {Name, Loss} <- lists:sort(maps:to_list(Lost))],
     {Free, Taken} = lists:partition(fun({Name, _, Loss}) -> is_free(Name, Loss, Names) end, Settled),
-    Left = Part#part{own = maps:without([Name || {Name, _, _} <- Taken], Own), lost = #{}},
+    Left = Part#part{own = without([Name || {Name, _, _} <- Taken], Own), lost = #{}},
     {[{register, Name, Row} || {Name, Row, _} <- Free], lost(Taken, Left)}.
+
+%% Where much is left out, it takes less to make the map again.
+without(Names, Own) when 8 * length(Names) < map_size(Own) ->
+    maps:without(Names, Own);
+without(Names, Own) ->
+    Gone = maps:from_keys(Names, gone),
+    maps:filter(fun(Name, _) -> not is_map_key(Name, Gone) end, Own).
 
 %% Nobody has the name, though one of the two was to keep it.
 is_free(Name, {{Kind, _}, _}, Names) -> Kind =/= conflict_with andalso not is_map_key(Name, Names).

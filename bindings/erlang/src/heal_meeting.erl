@@ -7,7 +7,7 @@
 
 -include("heal_part.hrl").
 
--export([meet/1, message/3, continue/2, broken/1, failed_with/2, expired/1, withdraw/2, is_idle/1, name/1]).
+-export([meet/1, message/3, continue/2, touched/2, broken/1, failed_with/2, expired/1, withdraw/2, is_idle/1, name/1]).
 -export_type([member/0, outcome/0]).
 
 -type member() :: {heal_replica:life(), Number :: non_neg_integer()}.
@@ -91,7 +91,8 @@ name(Part) -> case heal_view:members(Part) of [_] -> apart; _ -> joined end.
 message(Node, {ask, Reference, Members}, Part = #part{node = Self, peers = Peers}) when Node < Self, is_map_key(Node, Peers) ->
     asked(Node, Reference, Members, Part);
 message(Node, {hello, Reference, Greatest, Members}, Part = #part{heal = {asking, #asking{node = Node, reference = Reference}}}) ->
-    propose(Node, Reference, max(Greatest, Part#part.greatest) + 1, Members, Part);
+    %% Edits that have come meanwhile go first: they wait once the exchange is open.
+    heal_state:later({begin_with, Reference, Greatest, Members}, ready_offer(a, [], Part));
 message(Node, {propose, Number, Seed, Members, Reference},
         Part = #part{heal = {engaged, #asking{node = Node, reference = Reference}}}) ->
     accept(Node, Number, Seed, Members, fun(Open) -> Open end, Part#part{heal = idle});
@@ -129,11 +130,10 @@ message(_Node, _Stale, Part) ->
 -spec continue(heal_part:step(), #part{}) -> #part{}.
 continue({propose, Reference, Number, Seed, Members}, Part = #part{heal = {asking, #asking{node = Node, reference = Reference}}}) ->
     opened(open(Node, a, Number, Seed, Members, Part), Reference, Number, Seed, Node, Part#part{heal = idle});
+continue({begin_with, Reference, Greatest, Members}, Part = #part{heal = {asking, #asking{node = Node, reference = Reference}}}) ->
+    propose(Node, Reference, max(Greatest, Part#part.greatest) + 1, Members, Part);
 continue({prepare, Reference, Members}, Part = #part{heal = {engaged, #asking{reference = Reference}}}) ->
-    case prepare(b, Members, Part) of
-        {ok, Prepared} -> Part#part{prepared = Prepared};
-        _Refused -> Part
-    end;
+    ready_offer(b, Members, Part);
 continue({hear, Number, Offer}, Part = #part{heal = Open = #open{number = Number, side = b, others = none}}) ->
     hear(Offer, Open, Part, fun(Heard) -> Heard end);
 continue({finish, Number, List}, Part = #part{heal = Open = #open{number = Number, side = b, stage = listed}}) ->
@@ -216,30 +216,64 @@ begin_with({ok, Prepared = #prepared{handle = Handle}}, Number, Seed, #part{worl
 begin_with(Refused, _Number, _Seed, _Part) ->
     Refused.
 
-%% What was prepared, unless the half has changed since.
+%% Prepares an offer before the exchange is open.
+ready_offer(Side, Members, Part) ->
+    case prepare(Side, Members, Part) of
+        {ok, Prepared} -> Part#part{prepared = Prepared};
+        _Refused -> Part
+    end.
+
+%% What was prepared, with the edits since.
 ready(Side, Members, Part = #part{prepared = Prepared}) ->
-    case {Side, heal_state:at(Part), Prepared} of
-        {b, At, #prepared{at = At, members = Members}} -> {ok, Prepared};
+    View = heal_state:view(Part),
+    case Prepared of
+        #prepared{side = a, at = {View, _}} when Side =:= a -> updated(Prepared, Part);
+        #prepared{side = b, at = {View, _}, members = Members} when Side =:= b -> updated(Prepared, Part);
         _ -> prepare(Side, Members, Part)
     end.
 
-prepare(Side, Members, Part = #part{world = World, replica = Replica}) ->
-    #half{programs = Programs} = heal_state:half(Part),
-    Names = offered_names(Side, Members, Part),
-    case World:prepare(Side, Names, Programs, heal_replica:limit(Replica)) of
-        {ok, Handle} ->
-            Processes = maps:map(fun(_, Row) -> process(Row) end, Names),
-            {ok, #prepared{at = heal_state:at(Part), members = Members, names = Names, processes = Processes, handle = Handle}};
-        Refused ->
-            Refused
+updated(Prepared = #prepared{touched = Touched}, Part) when Touched =:= #{} ->
+    {ok, Prepared#prepared{at = heal_state:at(Part)}};
+updated(#prepared{side = Side, members = Members, names = Names, processes = Processes, handle = Handle, touched = Touched},
+        Part = #part{world = World}) ->
+    Rows = offered(Side, Members, maps:with(maps:keys(Touched), (heal_state:half(Part))#half.names)),
+    Gone = [Name || Name <- maps:keys(Touched), is_map_key(Name, Names)],
+    case World:update(maps:to_list(Rows), Gone, Handle) of
+        {ok, Updated} ->
+            Replace = fun(Map, New) -> maps:merge(maps:without(Gone, Map), New) end,
+            {ok, prepared(Side, Members, Replace(Names, Rows), Replace(Processes, processes(Rows)), Updated, Part)};
+        _Refused ->
+            prepare(Side, Members, Part)
     end.
 
+%% Notes an edit of this primary for what it is about to offer.
+-spec touched(heal_replica:edit(), #part{}) -> #part{}.
+touched(_Edit, Part = #part{prepared = none}) ->
+    Part;
+touched({upload, _, _}, Part) ->
+    Part#part{prepared = none};
+touched(Edit, Part = #part{prepared = Prepared = #prepared{touched = Touched}}) ->
+    Part#part{prepared = Prepared#prepared{touched = Touched#{element(2, Edit) => edited}}}.
+
+prepare(Side, Members, Part = #part{world = World, replica = Replica}) ->
+    #half{names = All, programs = Programs} = heal_state:half(Part),
+    Names = offered(Side, Members, All),
+    case World:prepare(Side, Names, Programs, heal_replica:limit(Replica)) of
+        {ok, Handle} -> {ok, prepared(Side, Members, Names, processes(Names), Handle, Part)};
+        Refused -> Refused
+    end.
+
+prepared(Side, Members, Names, Processes, Handle, Part) ->
+    #prepared{at = heal_state:at(Part), side = Side, members = Members, names = Names, processes = Processes, handle = Handle}.
+
+processes(Names) ->
+    maps:map(fun(_, Row) -> process(Row) end, Names).
+
 %% Nodes that both parts claim count as the leader's.
-offered_names(a, _Members, Part) ->
-    (heal_state:half(Part))#half.names;
-offered_names(b, Members, Part) ->
+offered(a, _Members, Names) ->
+    Names;
+offered(b, Members, Names) ->
     Theirs = maps:from_keys([Life || {Life, _} <- Members], member),
-    #half{names = Names} = heal_state:half(Part),
     maps:without([Name || {Name, #row{home = Home}} <- maps:to_list(Names), is_map_key(Home, Theirs)], Names).
 
 process(Row = #row{pid = Pid, term = Term, home = Home}) -> {heal_row:owner(Row), Pid, Term, Home}.
@@ -310,12 +344,12 @@ losers(Rulings, Withdrawn, #open{side = Side, own = Own, others = Others}) ->
     Gone = maps:from_keys(Withdrawn, withdrawn),
     Add = fun(Ruling, Sum) ->
         Name = element(1, Ruling),
-        case {Own, Others} of
-            _ when is_map_key(Name, Gone) -> Sum;
+        case is_map_key(Name, Gone) orelse {Own, Others} of
             %% A process that clashes with itself loses nothing.
-            {#{Name := #row{pid = Pid}}, #{Name := {_, Pid, _, _}}} -> Sum;
-            {#{Name := #row{pid = OfOwn}}, #{Name := {_, OfOther, _, _}}} -> heal_home:losers(Ruling, Side, OfOwn, OfOther, Sum);
-            _ -> Sum
+            {#{Name := #row{pid = OfOwn}}, #{Name := {_, OfOther, _, _}}} when OfOwn =/= OfOther ->
+                heal_home:losers(Ruling, Side, OfOwn, OfOther, Sum);
+            _ ->
+                Sum
         end
     end,
     lists:foldr(Add, [], Rulings).

@@ -52,8 +52,8 @@ make(Call, Edit, Answer, Part = #part{replica = Replica}) ->
     case heal_replica:edit(Edit, Replica) of
         {ok, {At, Made}, Edited} ->
             {By, Numbered} = by(Call, Made, Part),
-            Claimed = claimed(Call, Made, Numbered#part{replica = Edited}),
-            Sent = heal_view:broadcast({edit, At, [Made], By, Answer}, applied(Made, By, Part, Claimed)),
+            Claimed = claimed(Call, Made, heal_meeting:touched(Made, Numbered#part{replica = Edited})),
+            Sent = heal_view:broadcast({edit, At, [Made], By, Answer}, awaited(By, Made, Part), applied(Made, By, Part, Claimed)),
             made(Call, By, Answer, Sent);
         {error, Number} ->
             heal_entries:finish(Call, {error, Number}, Part)
@@ -72,8 +72,20 @@ by(_Call, _Edit, Part) ->
     {none, Part}.
 
 is_home(Name, Part) ->
+    home(Name, Part) =:= heal_state:life(Part).
+
+home(Name, Part) ->
     #{Name := #row{home = Home}} = (heal_state:half(Part))#half.names,
-    Home =:= heal_state:life(Part).
+    Home.
+
+%% The nodes where somebody waits for an entry: that of the request, and the home of the name, which confirms the edit.
+awaited(none, _Edit, _Part) ->
+    [];
+awaited({Node, _}, Edit, Part) when element(1, Edit) =:= unregister; element(1, Edit) =:= change ->
+    {Home, _} = home(element(2, Edit), Part),
+    [Node, Home];
+awaited({Node, _}, _Edit, _Part) ->
+    [Node].
 
 made(#call{from = {member, _, _}}, _By, _Answer, Part) ->
     Part;
@@ -101,9 +113,9 @@ make_all(Edits, Part) ->
     {View, Operation} = heal_state:at(Part),
     Step = fun(Edit, Sum = #part{replica = Replica}) ->
         {ok, _, Edited} = heal_replica:edit(Edit, Replica),
-        applied(Edit, none, Sum, Sum#part{replica = Edited})
+        applied(Edit, none, Sum, heal_meeting:touched(Edit, Sum#part{replica = Edited}))
     end,
-    heal_view:broadcast({edit, {View, Operation + 1}, Edits, none, ok}, lists:foldl(Step, Part, Edits)).
+    heal_view:broadcast({edit, {View, Operation + 1}, Edits, none, ok}, [], lists:foldl(Step, Part, Edits)).
 
 %% Makes the edits that a home computed at this operation of the view, as far as they still apply.
 -spec make_each([heal_edits:edit()], Operation :: non_neg_integer(), #part{}) -> #part{}.

@@ -42,7 +42,7 @@
 }.
 -type event() ::
     {up, node(), visible | hidden}
-    | {down | stopped | absent | failed | unreachable, node()}
+    | {down | stopped | absent | failed | unreachable | reachable, node()}
     | {connecting | attempted, node()}
     | {version, node(), Version :: term()}
     | {message, node(), Body :: term()}
@@ -50,16 +50,19 @@
     | {sync, From :: term()}
     | {died, heal:name(), heal:owner()}
     | {disk, Stored :: [Id :: binary()], Lacking :: [Id :: binary()], Problem :: none | term()}
-    %% All actions of the event before are done.
+    %% All actions of the event before are done; or the messages that had arrived are handled.
     | {continue, step()}
     | tick.
 -type step() :: {hear | finish, Number :: pos_integer(), Message :: term()}
     | {prepare, Reference :: term(), [heal_meeting:member()]}
+    | {begin_with, Reference :: term(), Greatest :: non_neg_integer(), [heal_meeting:member()]}
     | {propose, Reference :: term(), Number :: pos_integer(), Seed :: non_neg_integer(), [heal_meeting:member()]}
     | {lead, Number :: pos_integer(), heal_meeting:outcome()}
     | settle.
 -type action() ::
     {send, node(), Body :: term()}
+    %% Entries for these nodes, which may wait for later ones. A body that is sent to a node goes after them.
+    | {post, [node()], Entries :: term()}
     | {reply, From :: term(), Answer :: term()}
     | {rows, Put :: [{heal:name(), #row{}}], Drop :: [heal:name()]}
     %% The process of the name has ended, and its row stays for a while.
@@ -75,6 +78,8 @@
     | {healed, #{atom() => term()}}
     %% After the other actions, and before any other event.
     | {continue, step()}
+    %% After the messages that have arrived.
+    | {later, step()}
     | {view, heal_replica:view(), [node()]}.
 -type status() :: #{atom() => term()}.
 
@@ -112,7 +117,7 @@ taken(Part = #part{out = Out}) ->
 upgrade(Earlier) ->
     Part = later(Earlier, record_info(size, part), [none, none, [], none, #{}, #{}]),
     #part{replica = Replica, waiting = Waiting, requested = Requested, unreleased = Unreleased, adopting = Adopting} = Part,
-    #part{arriving = Arriving, leaving = Leaving, storing = Storing} = Part,
+    #part{arriving = Arriving, leaving = Leaving, storing = Storing, prepared = Prepared} = Part,
     Each = fun(_, Call) -> call(Call) end,
     owned(tuple_size(Earlier) < tuple_size(Part), Part#part{
         replica = heal_replica:upgrade(Replica),
@@ -122,7 +127,8 @@ upgrade(Earlier) ->
         adopting = maps:map(fun(_, {Node, Call}) -> {Node, call(Call)} end, Adopting),
         arriving = maps:map(Each, Arriving),
         leaving = maps:map(Each, Leaving),
-        storing = [{Id, call(Call)} || {Id, Call} <- Storing]
+        storing = [{Id, call(Call)} || {Id, Call} <- Storing],
+        prepared = case Prepared of #prepared{} -> Prepared; _ -> none end
     }).
 
 %% A version before kept a registration that this node answers for with what became of it. Its exchange goes no further.
@@ -172,6 +178,8 @@ event({Kind, Node}, Part) when Kind =:= connecting; Kind =:= attempted ->
     settled(heal_peers:Kind(Node, Part));
 event(Event = {Kind, Node}, Part) when Kind =:= down; Kind =:= stopped; Kind =:= absent ->
     act(heal_meeting:broken(heal_adopting:lost(Node, heal_peers:link(Event, Part))));
+event({reachable, Node}, Part) ->
+    act(heal_view:reachable(Node, Part));
 event({failed, Node}, Part) ->
     act(heal_meeting:failed_with(Node, Part));
 event(Event, Part) ->

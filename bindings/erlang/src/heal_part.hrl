@@ -67,14 +67,16 @@
     deadline :: integer()
 }).
 
-%% What this node offers to the leader that it has answered: its half at this position, without the names of these members of the
-%% leader's part.
+%% What this node is about to offer: the half of this view, on side b without the names of these members of the leader's part. `touched'
+%% has the names that were edited since.
 -record(prepared, {
     at :: heal_replica:position(),
     members :: [heal_meeting:member()],
     names :: #{heal:name() => #row{}},
     processes :: #{heal:name() => heal_exchange:process()},
-    handle :: term()
+    handle :: term(),
+    side :: a | b,
+    touched = #{} :: #{heal:name() => edited}
 }).
 
 -record(part, {

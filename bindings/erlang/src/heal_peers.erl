@@ -3,7 +3,7 @@
 
 -include("heal_part.hrl").
 
--export([link/2, connecting/2, attempted/2, here/3, announce/1, announce_to/2, moved/4, pulse/1]).
+-export([link/2, connecting/2, attempted/2, here/3, announce/1, announce_to/2, hurry/2, moved/4, pulse/1]).
 -export([has_met/3, is_silent/2, is_connected/2, is_in_setting/2, is_primary/1, followers/1, retry/4, arrived/1, sync/1, report/1]).
 -export_type([refusal/0, problems/0, here/0]).
 
@@ -21,7 +21,9 @@
     at := heal_replica:position(),
     members := [node()],
     is_settled := boolean(),
-    is_first := boolean()
+    is_first := boolean(),
+    %% The node takes several bodies in one message. Nodes of earlier versions don't announce it.
+    bundles => boolean()
 }.
 
 %% ---- Links ----
@@ -102,6 +104,11 @@ announce(Part = #part{links = Links}) ->
 announce_to(Node, Part) ->
     announce_to(Node, false, Part).
 
+%% Has a node announce itself. What a primary keeps for this node goes before.
+-spec hurry(node(), #part{}) -> #part{}.
+hurry(Node, Part) ->
+    announce_to(Node, true, Part).
+
 %% The first announcement to a node is to be answered by that node's.
 announce_to(Node, IsFirst, Part = #part{seq = Seq, number = Number, nodes = Nodes, scope = Scope, settle_by = SettleBy}) ->
     Here = #{
@@ -113,7 +120,8 @@ announce_to(Node, IsFirst, Part = #part{seq = Seq, number = Number, nodes = Node
         at => heal_state:at(Part),
         members => heal_view:members(Part),
         is_settled => SettleBy =:= none,
-        is_first => IsFirst
+        is_first => IsFirst,
+        bundles => true
     },
     heal_state:send(Node, {here, Here}, Part#part{seq = Seq + 1}).
 

@@ -110,22 +110,26 @@ other(Other, false, _Refused) -> {error, {same_digest, Other}}.
 -spec update(Name :: term(), Options :: map()) -> ok | {error, reason()}.
 update(Name, Options) when is_map(Options) ->
     _ = heal_names:are_options(Options) orelse error(badarg, [Name, Options]),
-    _ = heal_table:is_running() orelse not_running(),
     Bytes = heal_names:name(Name),
-    case heal_table:row(Bytes) of
-        {ok, #row{term = Other}} -> update(Bytes, Options, heal_names:is_same(Other, Name));
-        none -> update(Bytes, Options, true)
+    case is_other(Bytes, Name) of
+        true -> {error, {?NO_SUCH_NAME, heal:refusal_words(?NO_SUCH_NAME)}};
+        false -> updated(call({edit, {change, Bytes, any, Options}}))
     end;
 update(Name, Options) ->
     error(badarg, [Name, Options]).
 
-update(_Bytes, _Options, false) ->
-    {error, {?NO_SUCH_NAME, heal:refusal_words(?NO_SUCH_NAME)}};
-update(Bytes, Options, true) ->
-    case call({edit, {change, Bytes, any, Options}}) of
-        {ok, _Owner} -> ok;
-        Refused -> Refused
-    end.
+updated({ok, _Owner}) -> ok;
+updated(Refused) -> Refused.
+
+%% Returns whether another term of this digest has the name.
+is_other(<<"$", _:22/binary>> = Bytes, Name) ->
+    _ = heal_table:is_running() orelse not_running(),
+    case heal_table:row(Bytes) of
+        {ok, #row{term = Other}} -> not heal_names:is_same(Other, Name);
+        none -> false
+    end;
+is_other(_Printable, _Name) ->
+    false.
 
 %% @doc Changes the resolver of a name, as {@link update/2} does.
 -spec set_resolver(Name :: term(), heal:resolver()) -> ok | {error, reason()}.
@@ -135,15 +139,8 @@ set_resolver(Name, Resolver) ->
 %% @doc Unregisters a name. It is `ok' too if nobody has the name.
 -spec unregister_name(Name :: term()) -> ok | {error, reason()}.
 unregister_name(Name) ->
-    _ = heal_table:is_running() orelse not_running(),
     Bytes = heal_names:name(Name),
-    case heal_table:row(Bytes) of
-        {ok, #row{term = Other}} -> case heal_names:is_same(Other, Name) of true -> unregister_bytes(Bytes); false -> ok end;
-        none -> unregister_bytes(Bytes)
-    end.
-
-unregister_bytes(Bytes) ->
-    case call({edit, {unregister, Bytes, any}}) of
+    case is_other(Bytes, Name) orelse call({edit, {unregister, Bytes, any}}) of
         {error, {Why, Whether}} when is_atom(Why) -> {error, {Why, Whether}};
         _ -> ok
     end.
@@ -264,15 +261,18 @@ call(Request) ->
     call(Request, ?ATTEMPTS).
 
 call(Request, Attempts) ->
-    _ = heal_table:is_running() orelse not_running(),
     try
-        gen_server:call(?MODULE, Request, heal_table:kept(call_timeout, ?PATIENCE))
+        gen_server:call(?MODULE, Request, heal_table:patience(?PATIENCE))
     catch
-        exit:{noproc, _} when Attempts > 1 -> timer:sleep(?PAUSE), call(Request, Attempts - 1);
-        exit:{noproc, _} -> not_running();
+        exit:{noproc, _} -> call_again(Request, Attempts - 1);
         exit:{timeout, _} -> {error, {timeout, unknown}};
         exit:{_Reason, {gen_server, call, _}} -> {error, {ended, unknown}}
     end.
+
+call_again(Request, Attempts) ->
+    _ = Attempts > 0 andalso heal_table:is_running() orelse not_running(),
+    timer:sleep(?PAUSE),
+    call(Request, Attempts).
 
 -spec not_running() -> no_return().
 not_running() ->

@@ -39,11 +39,24 @@
     subscribers = #{} :: heal_events:subscribers(),
     %% Fields of later versions follow. The folder of the setting `dir', and the process that writes there.
     dir = none :: none | file:name_all(),
-    log = none :: none | {pid(), Monitor :: reference()}
+    log = none :: none | {pid(), Monitor :: reference()},
+    outbox = heal_outbox:new() :: heal_outbox:outbox(),
+    %% Processes that have lost names, and aren't notified so far.
+    losers = [] :: [{heal:name(), #row{}, heal_home:loss()}],
+    %% Processes that wait until the connection to a node takes messages again.
+    waiters = #{} :: #{pid() => node()}
 }).
 
 %% Milliseconds until another attempt to start the process that writes.
 -define(AGAIN, 1000).
+%% Milliseconds that entries which nobody waits for are kept to be sent together.
+-define(TOGETHER, 1).
+%% Milliseconds until a node whose connection takes messages again gets a snapshot, at least, and the names for which it waits one more: a
+%% snapshot may fill the connection again.
+-define(RESPITE, 100).
+-define(NAMES_OF_RESPITE, 16).
+%% How many losers are notified before the next message is handled.
+-define(LOSERS, 200).
 %% How often to look for a registry that has failed, and the milliseconds in between.
 -define(ATTEMPTS, 100).
 -define(PAUSE, 100).
@@ -65,7 +78,7 @@ init({Parent, Options = #{nodes := Nodes}}) ->
         now => erlang:monotonic_time(millisecond) - Start,
         connected => [{Node, visible} || Node <- nodes(visible)] ++ [{Node, hidden} || Node <- nodes(hidden)]
     }),
-    heal_table:keep(call_timeout, maps:get(edit_timeout, Settings) + maps:get(exchange_timeout, Settings) + ?PATIENCE),
+    heal_table:keep_patience(maps:get(edit_timeout, Settings) + maps:get(exchange_timeout, Settings) + ?PATIENCE),
     {Actions, Part} = heal_part:new(Settings),
     State = #server{
         part = Part,
@@ -185,90 +198,146 @@ unlogged(State = #server{dir = Dir}) ->
 %% ---- Calls and messages ----
 
 %% @private
-handle_call(status, _From, State = #server{part = Part}) ->
-    {reply, (heal_part:status(Part))#{names => heal_table:count(), problems => heal_problems:all()}, State};
-handle_call(sync, From, State) ->
-    {noreply, event({sync, From}, State)};
-handle_call({subscribe, Pid}, _From, State = #server{subscribers = Subscribers}) when is_pid(Pid) ->
-    {reply, ok, State#server{subscribers = heal_events:add(Pid, Subscribers)}};
-handle_call({unsubscribe, Pid}, _From, State = #server{subscribers = Subscribers}) ->
-    {reply, ok, State#server{subscribers = heal_events:remove(Pid, Subscribers)}};
-handle_call({edit, Edit}, From, State) ->
-    case heal_wire:edit(Edit) of
-        bad -> {reply, {error, bad_edit}, State};
-        Valid -> {noreply, event({call, From, Valid}, released(Valid, State))}
-    end;
-handle_call(_Unknown, _From, State) ->
-    {reply, {error, unknown_call}, State}.
+handle_call(Request, From, State) ->
+    next(called(Request, From, State)).
 
 %% @private
 handle_cast(_Message, State) ->
-    {noreply, State}.
+    next(State).
 
 %% @private
-handle_info(tick, State = #server{part = Part}) ->
+handle_info(timeout, State) ->
+    {noreply, drained(State)};
+handle_info(Message, State) ->
+    next(informed(Message, State)).
+
+%% Waits for the next message. What waits to be sent is sent first if none has arrived, or after some turns.
+next(State = #server{outbox = Outbox}) ->
+    case heal_outbox:turn(Outbox) of
+        drained -> {noreply, State};
+        now -> {noreply, drained(State)};
+        {wait, Later} -> {noreply, State#server{outbox = Later}, 0}
+    end.
+
+called(status, From, State = #server{part = Part}) ->
+    answered(From, (heal_part:status(Part))#{names => heal_table:count(), problems => heal_problems:all()}, State);
+called(sync, From, State) ->
+    event({sync, From}, State);
+called({subscribe, Pid}, From, State = #server{subscribers = Subscribers}) when is_pid(Pid) ->
+    answered(From, ok, State#server{subscribers = heal_events:add(Pid, Subscribers)});
+called({unsubscribe, Pid}, From, State = #server{subscribers = Subscribers}) ->
+    answered(From, ok, State#server{subscribers = heal_events:remove(Pid, Subscribers)});
+called({edit, Edit}, From, State) ->
+    case heal_wire:edit(Edit) of
+        bad -> answered(From, {error, bad_edit}, State);
+        Valid -> event({call, From, Valid}, released(Valid, State))
+    end;
+called(_Unknown, From, State) ->
+    answered(From, {error, unknown_call}, State).
+
+answered(From, Answer, State) ->
+    reply(From, Answer),
+    State.
+
+informed(tick, State = #server{part = Part}) ->
     _ = erlang:send_after(heal_part:tick(Part), self(), tick),
     Next = #server{part = Now, heap = Heap} = event(tick, State),
-    {noreply, Next#server{heap = heal_heap:tick(heal_part:is_idle(Now), Heap)}};
-handle_info({nodeup, Node, #{node_type := Type}}, State) ->
-    {noreply, up(Node, Type, State)};
-handle_info({nodedown, Node, _}, State) ->
-    {noreply, down(Node, State)};
-handle_info({?REGISTRY, ended, Node, Watch, Reason}, State = #server{watches = Watches}) ->
-    case Watches of
-        #{Node := Watch} -> {noreply, ended(Node, Reason, State#server{watches = maps:remove(Node, Watches)})};
-        _ -> {noreply, State}
-    end;
-handle_info({?REGISTRY, unreachable, Node}, State) ->
-    {noreply, event({unreachable, Node}, State)};
-handle_info({?REGISTRY, disk, Log, Ids, Lacking, Problem}, State = #server{log = {Log, _}}) ->
-    {noreply, event({disk, Ids, Lacking, Problem}, State)};
-handle_info({?REGISTRY, log}, State = #server{dir = Dir, log = none}) ->
-    {noreply, logged(heal_table:kept(programs, #{}), State#server{log = log(Dir)})};
-handle_info({'DOWN', Monitor, process, _, _}, State = #server{log = {_, Monitor}}) ->
-    {noreply, unlogged(State)};
-handle_info({?REGISTRY, quiet, Changed}, State = #server{part = Part, heap = Heap}) ->
-    {noreply, timed(State#server{heap = heal_heap:quiet(Changed, heal_part:is_idle(Part), Heap)})};
-handle_info({timeout, _Timer, reconnect}, State = #server{reconnect = Reconnect}) ->
+    Next#server{heap = heal_heap:tick(heal_part:is_idle(Now), Heap)};
+informed({nodeup, Node, #{node_type := Type}}, State) ->
+    up(Node, Type, State);
+informed({nodedown, Node, _}, State) ->
+    down(Node, State);
+informed({'DOWN', Monitor, process, Pid, _}, State) ->
+    ended(Monitor, Pid, State);
+informed({timeout, _Timer, reconnect}, State = #server{reconnect = Reconnect}) ->
     {_Attempts, Next} = heal_reconnect:attempt(heal_reconnect:expired(Reconnect)),
-    {noreply, State#server{reconnect = Next}};
-handle_info({'ETS-TRANSFER', _, _, inherited}, State = #server{parent = Parent}) ->
+    State#server{reconnect = Next};
+informed({'ETS-TRANSFER', _, _, inherited}, State = #server{parent = Parent}) ->
     _ = is_process_alive(Parent) andalso heal_keeper:restart(Parent),
-    {noreply, State};
-handle_info({'DOWN', Monitor, process, Pid, _}, State = #server{reconnect = Reconnect, subscribers = Subscribers}) ->
-    case heal_reconnect:attempted(Monitor, Reconnect) of
-        {Node, Next} -> {noreply, event({attempted, Node}, State#server{reconnect = Next})};
-        none -> {noreply, died(Pid, State#server{subscribers = heal_events:gone(Monitor, Pid, Subscribers)})}
-    end;
-handle_info(Message, State) ->
-    {noreply, message(heal_wire:read(Message), State)}.
+    State;
+informed(Message, State) when element(1, Message) =:= ?REGISTRY, is_atom(element(2, Message)) ->
+    own(Message, State);
+informed(Message, State) ->
+    message(heal_wire:read(Message), State).
 
-message({ok, Node, Body}, State) ->
-    case heal_wire:body(Body) of
-        {ok, Valid} -> heard(Node, Valid, State);
-        error -> State
+%% A process that is monitored has ended.
+ended(Monitor, _Pid, State = #server{log = {_, Monitor}}) ->
+    unlogged(State);
+ended(_Monitor, Pid, State = #server{waiters = Waiters, part = Part}) when is_map_key(Pid, Waiters) ->
+    {Node, Rest} = maps:take(Pid, Waiters),
+    _ = erlang:send_after(max(?RESPITE, heal_part:count(Part) div ?NAMES_OF_RESPITE), self(), {?REGISTRY, reachable, Node}),
+    State#server{waiters = Rest};
+ended(Monitor, Pid, State = #server{reconnect = Reconnect, subscribers = Subscribers}) ->
+    case heal_reconnect:attempted(Monitor, Reconnect) of
+        {Node, Next} -> event({attempted, Node}, State#server{reconnect = Next});
+        none -> died(Pid, State#server{subscribers = heal_events:gone(Monitor, Pid, Subscribers)})
+    end.
+
+%% Messages of this registry and of its processes.
+own({?REGISTRY, ended, Node, Watch, Reason}, State = #server{watches = Watches}) ->
+    case Watches of
+        #{Node := Watch} -> registry_ended(Node, Reason, State#server{watches = maps:remove(Node, Watches)});
+        _ -> State
     end;
+own({?REGISTRY, unreachable, Node}, State) ->
+    event({unreachable, Node}, waiting(Node, State));
+own({?REGISTRY, reachable, Node}, State) ->
+    event({reachable, Node}, State);
+own({?REGISTRY, disk, Log, Ids, Lacking, Problem}, State = #server{log = {Log, _}}) ->
+    event({disk, Ids, Lacking, Problem}, State);
+own({?REGISTRY, log}, State = #server{dir = Dir, log = none}) ->
+    logged(heal_table:kept(programs, #{}), State#server{log = log(Dir)});
+own({?REGISTRY, post}, State = #server{outbox = Outbox}) ->
+    {StartTimer, Next} = heal_outbox:expired(Outbox),
+    timed_post(StartTimer, State#server{outbox = Next});
+own({?REGISTRY, step, Step}, State) ->
+    event({continue, Step}, State);
+own({?REGISTRY, lost}, State) ->
+    lost(State);
+own({?REGISTRY, quiet, Changed}, State = #server{part = Part, heap = Heap}) ->
+    timed(State#server{heap = heal_heap:quiet(Changed, heal_part:is_idle(Part), Heap)});
+own(Message, State) ->
+    message(heal_wire:read(Message), State).
+
+message({ok, Node, {bundle, Bodies}}, State) when length(Bodies) >= 0 ->
+    lists:foldl(fun(Body, Sum) -> body(Node, Body, Sum) end, State, Bodies);
+message({ok, Node, Body}, State) ->
+    body(Node, Body, State);
 message({version, Node, Version}, State) ->
     event({version, Node, Version}, State);
 message(error, State) ->
     State.
 
+body(Node, Body, State) ->
+    case heal_wire:body(Body) of
+        {ok, Valid} -> heard(Node, Valid, State);
+        error -> State
+    end.
+
 heard(Node, Body = {adopt, _, Edit}, State) ->
     event({message, Node, Body}, released(Edit, State));
-heard(Node, Body = {here, _}, State) ->
-    event({message, Node, Body}, watched(Node, State));
-heard(Node, Body, State) when element(1, Body) =:= ask; element(1, Body) =:= hello; element(1, Body) =:= propose ->
+heard(Node, Body = {here, Here}, State = #server{outbox = Outbox}) ->
+    Bundles = maps:get(bundles, Here, false) =:= true,
+    event({message, Node, Body}, watched(Node, State#server{outbox = heal_outbox:bundles(Node, Bundles, Outbox)}));
+heard(Node, Body, State) when element(1, Body) =:= ask; element(1, Body) =:= hello ->
     %% The registry checks which processes are gone when the offers have come.
+    event({message, Node, Body}, cleaned(State));
+heard(Node, Body = {propose, _, _, _, _}, State) ->
     event({message, Node, Body}, roomy(0, State));
 heard(Node, Body = {offer, _, _, {_, Processes, _, _}, _}, State) ->
     event({message, Node, Body}, release_dead(roomy(map_size(Processes), State)));
-heard(Node, Body, State) when element(1, Body) =:= edit; element(1, Body) =:= answer; element(1, Body) =:= request ->
-    event({message, Node, Body}, State);
 heard(Node, Body, State) ->
-    event({message, Node, Body}, release_dead(State)).
+    case heal_wire:is_of_edit(Body) of
+        true -> event({message, Node, Body}, State);
+        false -> event({message, Node, Body}, release_dead(State))
+    end.
 
 roomy(Names, State = #server{part = Part, heap = Heap}) ->
     State#server{heap = heal_heap:roomy(max(heal_part:count(Part), Names), Heap)}.
+
+%% Makes room for an exchange before it is open, since edits wait then.
+cleaned(State = #server{part = Part, heap = Heap}) ->
+    State#server{heap = heal_heap:cleaned(heal_part:count(Part), Heap)}.
 
 timed(State = #server{part = Part, heap = Heap}) ->
     State#server{heap = heal_heap:timed(heal_part:count(Part), Heap)}.
@@ -278,7 +347,7 @@ timed(State = #server{part = Part, heap = Heap}) ->
 %% @private Takes the state of an earlier version over: the fields that it lacks are the last ones.
 code_change(_Version, State, _Extra) ->
     Lacks = record_info(size, server) - tuple_size(State),
-    Later = lists:nthtail(2 - Lacks, [none, none]),
+    Later = lists:nthtail(5 - Lacks, [none, none, heal_outbox:new(), [], #{}]),
     Server = #server{part = Part} = list_to_tuple(tuple_to_list(State) ++ Later),
     Monitors = element(#server.watched, State),
     {ok, relogged(rewatched(Monitors, element(#server.heap, State), Server#server{part = heal_part:upgrade(Part)}))}.
@@ -304,12 +373,23 @@ relogged(State) ->
 up(Node, Type, State = #server{reconnect = Reconnect}) ->
     event({up, Node, Type}, watched(Node, State#server{reconnect = heal_reconnect:up(Node, Reconnect)})).
 
-down(Node, State = #server{watches = Watches, reconnect = Reconnect}) ->
+down(Node, State = #server{watches = Watches, reconnect = Reconnect, outbox = Outbox}) ->
     case Watches of
         #{Node := Watch} -> unlink(Watch), exit(Watch, kill);
         _ -> ok
     end,
-    event({down, Node}, State#server{watches = maps:remove(Node, Watches), reconnect = heal_reconnect:down(Node, Reconnect)}).
+    event({down, Node}, State#server{watches = maps:remove(Node, Watches), reconnect = heal_reconnect:down(Node, Reconnect),
+                                     outbox = heal_outbox:forget(Node, Outbox)}).
+
+%% A process sends a message that the other registry ignores, and ends once the connection has taken it. It runs no code of this module, so
+%% that it holds up no upgrade.
+waiting(Node, State = #server{waiters = Waiters}) ->
+    case lists:member(Node, maps:values(Waiters)) of
+        true -> State;
+        false ->
+            {Pid, _} = spawn_monitor(erlang, send, [{?REGISTRY, Node}, heal_wire:message(nothing), [noconnect]]),
+            State#server{waiters = Waiters#{Pid => Node}}
+    end.
 
 %% A process monitors the registry of a node, since a monitor waits for a node that reads slowly.
 watched(Node, State = #server{watches = Watches}) when is_map_key(Node, Watches) ->
@@ -334,11 +414,11 @@ observing(Registry, Node, Monitor, Attempts) ->
     end.
 
 %% A registry has ended. Where it was stopped its names end too; where it failed it starts again soon.
-ended(Node, noproc, State) -> event({absent, Node}, State);
-ended(_Node, noconnection, State) -> State;
-ended(Node, Reason, State) when Reason =:= shutdown; Reason =:= normal; element(1, Reason) =:= shutdown ->
+registry_ended(Node, noproc, State) -> event({absent, Node}, State);
+registry_ended(_Node, noconnection, State) -> State;
+registry_ended(Node, Reason, State) when Reason =:= shutdown; Reason =:= normal; element(1, Reason) =:= shutdown ->
     event({stopped, Node}, State);
-ended(Node, _Failed, State = #server{watches = Watches}) ->
+registry_ended(Node, _Failed, State = #server{watches = Watches}) ->
     Watch = spawn_link(?MODULE, observe, [self(), Node, ?ATTEMPTS]),
     event({failed, Node}, State#server{watches = Watches#{Node => Watch}}).
 
@@ -354,8 +434,12 @@ perform(Actions, State = #server{subscribers = Subscribers}) ->
     ok = heal_events:report(Actions, Subscribers),
     timed(continued(Actions, positioned(acts(Actions, none, State)))).
 
+%% A step may take a while, so nothing waits for it to be sent.
 continued(Actions, State) ->
-    lists:foldl(fun event/2, State, [Step || Step = {continue, _} <- Actions]).
+    case [Step || Step = {continue, _} <- Actions] of
+        [] -> State;
+        Steps -> lists:foldl(fun event/2, drained(State), Steps)
+    end.
 
 %% Keeps the position of the replica after the rows that it has.
 positioned(State = #server{part = Part, view = View, operation = Last}) ->
@@ -373,19 +457,45 @@ positioned(State = #server{part = Part, view = View, operation = Last}) ->
 %% A body that several nodes receive is made a message once.
 acts([], _Last, State) ->
     State;
-acts([{send, Node, Body} | Rest], Last, State) ->
-    Sent = {_, Message} = case Last of {Body, _} -> Last; _ -> {Body, heal_wire:message(Body)} end,
-    ok = send(Node, Message, State),
-    acts(Rest, Sent, State);
+acts([{send, Node, Body} | Rest], Last, State = #server{outbox = Outbox}) ->
+    case heal_wire:is_of_edit(Body) of
+        true ->
+            {Bodies, Next} = heal_outbox:put(Node, Body, Outbox),
+            acts(Rest, sent(Bodies, Last, State), State#server{outbox = Next});
+        false ->
+            {Before, Next} = heal_outbox:flush(Node, Outbox),
+            _ = sent(Before, none, State),
+            acts(Rest, sent([{Node, Body}], Last, State), State#server{outbox = Next})
+    end;
 acts([Action | Rest], Last, State) ->
     acts(Rest, Last, act(Action, State)).
 
-send(Node, Message, #server{send = Send}) ->
-    case Send(Node, Message) of
-        nosuspend -> self() ! {?REGISTRY, unreachable, Node}, ok;
-        _ -> ok
-    end.
+%% Sends what waits.
+drained(State = #server{outbox = Outbox}) ->
+    {Bodies, Next} = heal_outbox:drain(Outbox),
+    _ = sent(Bodies, none, State),
+    State#server{outbox = Next}.
 
+%% Sends bodies. Returns the last one with its message.
+sent(Bodies, Last, #server{send = Send}) ->
+    lists:foldl(fun({Node, Body}, Made) ->
+        Sent = {_, Message} = case Made of {Body, _} -> Made; _ -> {Body, heal_wire:message(Body)} end,
+        _ = Send(Node, Message) =:= nosuspend andalso (self() ! {?REGISTRY, unreachable, Node}),
+        Sent
+    end, Last, Bodies).
+
+timed_post(true, State) ->
+    _ = erlang:send_after(?TOGETHER, self(), {?REGISTRY, post}),
+    State;
+timed_post(false, State) ->
+    State.
+
+act({post, Nodes, Entries}, State = #server{outbox = Outbox}) ->
+    {StartTimer, Next} = heal_outbox:post(Nodes, Entries, Outbox),
+    timed_post(StartTimer, State#server{outbox = Next});
+act({later, Step}, State) ->
+    self() ! {?REGISTRY, step, Step},
+    State;
 act({rows, Put, Drop}, State = #server{heap = Heap}) ->
     ok = heal_table:rows(Put, Drop),
     State#server{heap = heal_heap:changed(length(Put) + length(Drop), Heap)};
@@ -405,13 +515,10 @@ act({own, Name, #row{pid = Pid}}, State = #server{watched = Watched}) ->
     State#server{watched = heal_watching:watch(Name, Pid, Watched)};
 act({disown, Name, Row}, State) ->
     disown(Name, Row, State);
-act({lost, Losers}, State) ->
-    %% One after the other, so that a registry which is killed meanwhile has notified those that it answers for no more.
-    lists:foldl(fun({Name, Row, Loss}, Sum) ->
-        Next = disown(Name, Row, Sum),
-        _ = notify(Row, Loss),
-        Next
-    end, State, Losers);
+act({lost, Losers}, State = #server{losers = []}) ->
+    lost(State#server{losers = Losers});
+act({lost, Losers}, State = #server{losers = Others}) ->
+    State#server{losers = Others ++ Losers};
 act({problems, Problems}, State) ->
     ok = heal_problems:report(Problems),
     State;
@@ -434,6 +541,22 @@ reply(Caller, Answer) ->
 
 spelled({error, Number}) when is_integer(Number) -> {error, {Number, heal:refusal_words(Number)}};
 spelled(Answer) -> Answer.
+
+%% Notifies some losers. Other messages don't wait for the rest.
+lost(State = #server{losers = Losers}) ->
+    {Now, Later} = lists:split(min(?LOSERS, length(Losers)), Losers),
+    _ = Later =/= [] andalso (self() ! {?REGISTRY, lost}),
+    lists:foldl(fun lost/2, State#server{losers = Later}, Now).
+
+%% One after the other, so that a registry which is killed meanwhile has notified those that it answers for no more. Since the exchange
+%% this node may have come to answer for another registration of the name.
+lost({Name, Row = #row{pid = Pid}, Loss}, State = #server{part = Part, watched = Watched}) ->
+    ok = heal_table:disown(Name, Row),
+    _ = notify(Row, Loss),
+    case heal_part:own(Part) of
+        #{Name := #row{pid = Pid}} -> State;
+        _ -> State#server{watched = heal_watching:unwatch(Name, Pid, Watched)}
+    end.
 
 %% A process of a node without a registry may be hard to reach too.
 notify(Row = #row{pid = Pid}, Loss) when node(Pid) =:= node() ->
@@ -466,9 +589,9 @@ died(Name, Pid, State = #server{part = Part}) ->
     end.
 
 %% Releases a name whose process, of this node, is gone before its monitor reports so: a supervisor restarts it at once.
-released({adopt, Name, _, _, _, _}, State) ->
-    case heal_table:row(Name) of
-        {ok, Row = #row{pid = Pid}} when node(Pid) =:= node() ->
+released({adopt, Name, _, _, _, _}, State = #server{part = Part}) ->
+    case heal_part:own(Part) of
+        #{Name := Row = #row{pid = Pid}} when node(Pid) =:= node() ->
             case is_process_alive(Pid) of
                 true -> State;
                 false -> event({died, Name, heal_row:owner(Row)}, State)
@@ -479,8 +602,10 @@ released({adopt, Name, _, _, _, _}, State) ->
 released(_Edit, State) ->
     State.
 
-%% Releases the names of all processes of this node that are gone.
-release_dead(State = #server{part = Part}) ->
-    Dead = [{Name, heal_row:owner(Row)} || {Name, Row = #row{pid = Pid}} <- maps:to_list(heal_part:own(Part)), node(Pid) =:= node(),
-                                           not is_process_alive(Pid)],
-    lists:foldl(fun({Name, Owner}, Sum) -> event({died, Name, Owner}, Sum) end, State, Dead).
+%% Releases the names of the processes that are gone: this node watches them, so it has been informed.
+release_dead(State) ->
+    receive
+        Down = {'DOWN', _, process, _, _} -> release_dead(informed(Down, State))
+    after 0 ->
+        State
+    end.

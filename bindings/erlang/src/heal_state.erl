@@ -4,7 +4,7 @@
 -include("heal_part.hrl").
 
 -export([at/1, view/1, half/1, owner/2, life/1, is_primary/1, primary/1, patience/1, tick/1]).
--export([add/2, continue/2, send/3, send_all/3]).
+-export([add/2, continue/2, later/2, send/3, send_all/3]).
 
 %% Returns the position of this node's replica.
 -spec at(#part{}) -> heal_replica:position().
@@ -53,6 +53,10 @@ add(Action, Part = #part{out = Out}) -> Part#part{out = [Action | Out]}.
 %% Goes on with a step once the other actions are done: messages are on their way by then.
 -spec continue(heal_part:step(), #part{}) -> #part{}.
 continue(Step, Part) -> add({continue, Step}, Part).
+
+%% Goes on with a step once the messages that have arrived are handled.
+-spec later(heal_part:step(), #part{}) -> #part{}.
+later(Step, Part) -> add({later, Step}, Part).
 
 %% Sends a body to a node.
 -spec send(node(), Body :: term(), #part{}) -> #part{}.

@@ -7,12 +7,15 @@
 
 -include("heal_replica.hrl").
 
--export([create/0, give/1, bequeath/1, rows/2, hide/1, disown/1, kept/2, keep/2, keep_own/1, keep_position/3, keep_operation/1, restore/1]).
+-export([create/0, give/1, bequeath/1, rows/2, hide/1, disown/1, disown/2, kept/2, keep/2, keep_own/1]).
+-export([keep_position/3, keep_operation/1, keep_patience/1, patience/1, restore/1]).
 -export([is_running/0, find/2, names/0, names/1, count/0, info/2, row/1]).
 
 -define(ROWS, heal_registry).
 %% A counter: the operation of the replica's position, which each edit changes.
 -define(OPERATION, {?MODULE, operation}).
+%% How long a caller waits for the registry. Each call reads it, so it isn't in the table, which the registry writes meanwhile.
+-define(PATIENCE, {?MODULE, call_timeout}).
 
 %% A name. `ended' if its process has ended and its row is about to go. The other fields are those of the row, without what ETS would
 %% copy for each: extra bytes that are zero, a term that is the name, and a home that is the node of the process, of which it has the
@@ -124,6 +127,15 @@ disown(Name) ->
     true = ets:delete(?ROWS, {own, Name}),
     ok.
 
+%% The same, unless this node answers for another registration of the name by now.
+-spec disown(heal:name(), #row{}) -> ok.
+disown(Name, Row) ->
+    case ets:lookup(?ROWS, {own, Name}) of
+        [#kept{value = Value}] -> heal_row:upgrade(Name, Value) =/= Row orelse ets:delete(?ROWS, {own, Name});
+        [] -> true
+    end,
+    ok.
+
 %% Keeps a value.
 -spec keep(key(), Value :: term()) -> ok.
 keep(Key, Value) ->
@@ -142,6 +154,20 @@ kept(Key, Usual) ->
     case ets:lookup(?ROWS, Key) of
         [#kept{value = Value}] -> Value;
         [] -> Usual
+    end.
+
+%% Keeps how many milliseconds a caller waits for the registry.
+-spec keep_patience(pos_integer()) -> ok.
+keep_patience(Milliseconds) ->
+    persistent_term:put(?PATIENCE, Milliseconds).
+
+%% Returns it.
+-spec patience(Usual :: pos_integer()) -> pos_integer().
+patience(Usual) ->
+    case persistent_term:get(?PATIENCE, none) of
+        %% A registry that an earlier version has started keeps it in the table.
+        none -> case is_running() of true -> kept(call_timeout, Usual); false -> Usual end;
+        Milliseconds -> Milliseconds
     end.
 
 %% Returns the settings with which a registry of this life goes on: its replica, the registrations that it answers for, and so on.

@@ -8,7 +8,7 @@
 -include("heal_part.hrl").
 
 -export([resume/1, act/1, continue/1, is_settling/1, members/1, lead_alone/1, follow_merge/5, start/5]).
--export([snapshot/3, wanted/3, joined/3, settled/3, broadcast/2]).
+-export([reachable/2, snapshot/3, wanted/3, joined/3, settled/3, broadcast/3]).
 
 %% ---- Starting ----
 
@@ -139,18 +139,35 @@ continue(Part = #part{members = Members}) ->
             Part
     end.
 
-%% Sends a body to all members that miss no entry.
--spec broadcast(term(), #part{}) -> #part{}.
-broadcast(_Body, Part = #part{members = Members}) when Members =:= #{} ->
+%% Sends entries to all members that miss none. On nodes other than these nobody waits for them, nor needs the request.
+-spec broadcast({edit, heal_replica:position(), [heal_replica:edit()], By :: none | {node(), pos_integer()}, heal_edits:answer()},
+                Awaited :: [node()], #part{}) -> #part{}.
+broadcast(_Entries, _Awaited, Part = #part{members = Members}) when Members =:= #{} ->
     Part;
-broadcast(Body, Part = #part{members = Members}) ->
-    heal_state:send_all([Node || {Node, #member{is_lagging = false}} <- maps:to_list(Members)], Body, Part).
+broadcast(Entries = {edit, At, Edits, _By, _Answer}, Awaited, Part = #part{members = Members}) ->
+    Nodes = [Node || {Node, #member{is_lagging = false}} <- maps:to_list(Members)],
+    {Now, Soon} = lists:partition(fun(Node) -> lists:member(Node, Awaited) end, Nodes),
+    Sent = heal_state:send_all(Now, Entries, Part),
+    case Soon of
+        [] -> Sent;
+        _ -> heal_state:add({post, Soon, {edit, At, Edits, none, ok}}, Sent)
+    end.
 
 %% A node wants a snapshot of this view.
 -spec wanted(node(), heal_replica:view(), #part{}) -> #part{}.
 wanted(Node, View, Part = #part{heal = Heal, peers = Peers}) ->
     case heal_state:is_primary(Part) andalso heal_state:view(Part) =:= View andalso is_map_key(Node, Peers) of
         true when not is_record(Heal, open) -> welcome(Node, Part);
+        _ -> Part
+    end.
+
+%% A connection takes messages again that has refused one. A member that has missed an entry gets a snapshot, and a node that this one has
+%% given up announces itself.
+-spec reachable(node(), #part{}) -> #part{}.
+reachable(Node, Part = #part{heal = Heal, members = Members, peers = Peers, links = Links}) ->
+    case {Members, Links} of
+        {#{Node := #member{is_lagging = true}}, _} when not is_record(Heal, open), is_map_key(Node, Peers) -> welcome(Node, Part);
+        {_, #{Node := #link{state = absent}}} -> heal_peers:hurry(Node, Part);
         _ -> Part
     end.
 

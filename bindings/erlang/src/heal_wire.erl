@@ -6,7 +6,7 @@
 
 -include("heal_replica.hrl").
 
--export([message/1, send/2, read/1, body/1, edit/1]).
+-export([message/1, send/2, read/1, body/1, is_of_edit/1, edit/1]).
 
 -define(VERSION, 3).
 
@@ -24,6 +24,8 @@ sent({finished, Seq, At, Requests, Edits}) ->
     {finished, Seq, At, Requests, [sent_edit(Edit) || Edit <- Edits]};
 sent({request, View, Number, Edit}) ->
     {request, View, Number, sent_edit(Edit)};
+sent({bundle, Bodies}) ->
+    {bundle, [sent(Body) || Body <- Bodies]};
 sent(Body) ->
     Body.
 
@@ -41,6 +43,12 @@ read({heal_registry, ?VERSION, Node, Body}) when is_atom(Node) -> {ok, Node, Bod
 read({heal_registry, Version, Node, _Body}) when is_atom(Node) -> {version, Node, Version};
 read({heal_registry, Node, _Body}) when is_atom(Node) -> {version, Node, 1};
 read(_Other) -> error.
+
+%% Returns whether a body is that of an edit: such bodies are short and many. Several of them may go in one `{bundle, Bodies}'.
+-spec is_of_edit(Body :: tuple()) -> boolean().
+is_of_edit(Body) ->
+    Kind = element(1, Body),
+    Kind =:= edit orelse Kind =:= request orelse Kind =:= answer orelse Kind =:= adopt orelse Kind =:= adopted orelse Kind =:= released.
 
 %% Returns a body that another node has sent, if it is valid. An invalid edit is `bad', which the receiver refuses.
 -spec body(Sent :: term()) -> {ok, Body :: term()} | error.

@@ -10,7 +10,12 @@
 plan(Plan) ->
     persistent_term:put(?MODULE, Plan).
 
-%% The body is the last element of a message.
+%% The body is the last element of a message. Those of a bundle are sent one by one.
+send(Node, {Registry, Version, From, {bundle, Bodies}}) ->
+    case [nosuspend || Body <- Bodies, nosuspend <- [send(Node, {Registry, Version, From, Body})]] of
+        [] -> ok;
+        _ -> nosuspend
+    end;
 send(Node, Message) ->
     act(persistent_term:get(?MODULE, none), kind(element(tuple_size(Message), Message)), Node, Message).
 

@@ -45,6 +45,7 @@ hang_test_() ->
     {inparallel, 3, [
         heal_cluster:pair(#{edit_timeout => ?EDIT}, fun leader_hangs/2),
         heal_cluster:pair(#{edit_timeout => ?EDIT, exchange_timeout => 1000}, fun other_hangs/2),
+        heal_cluster:pair(#{exchange_timeout => 300000}, fun catches_up/2),
         heal_cluster:halves(#{edit_timeout => ?EDIT, exchange_timeout => 20000}, fun not_made/2),
         heal_cluster:halves(#{edit_timeout => ?EDIT, exchange_timeout => 500}, fun silent_leader/2),
         heal_cluster:halves(#{edit_timeout => ?EDIT, exchange_timeout => 500}, fun full_connection/2),
@@ -70,13 +71,19 @@ leader_hangs(A, B) ->
     ?assertEqual([{five, Five}, {one, One}], [Entry || Entry = {Name, _} <- Table, lists:member(Name, [one, five])]),
     ?assert(is_map_key(two, maps:from_list(Table))).
 
-%% The other node hangs: the leader's edits go on, also when the connection takes no more messages. Those are 80,000 for all nodes.
+%% The other node hangs: the leader's edits go on, also when the connection takes no more messages. Those are 240,000 for all nodes.
 other_hangs(A, B) ->
     One = own(A, one),
-    Churn = frozen(B, fun() -> within(40, fun() -> heal_cluster:call(A, ?MODULE, churn_here, [busy, 40000]) end) end),
+    Churn = frozen(B, fun() -> within(40, fun() -> heal_cluster:call(A, ?MODULE, churn_here, [busy, 120000]) end) end),
     ?assertEqual([ok], Churn),
     Two = own(A, two),
     ?assertEqual([{one, One}, {two, Two}], heal_cluster:alike(A, B)).
+
+%% A node that has read nothing for a while gets what it has missed once it reads again. The primary announces itself much later.
+catches_up(A, B) ->
+    ?assertEqual([ok], frozen(B, fun() -> heal_cluster:call(A, ?MODULE, churn_here, [busy, 120000]) end)),
+    ?assertEqual(ok, register_on(B, one)),
+    ?assertMatch([{one, _}], heal_cluster:alike(A, B)).
 
 churn_here(Name, Count) ->
     Pid = spawn(heal_cluster, serve, [[]]),

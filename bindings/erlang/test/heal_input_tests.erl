@@ -44,7 +44,7 @@ unknown_calls(A, B) ->
     [begin
          ok = heal_cluster:call(It, gen_server, cast, [heal_registry, Message]),
          Message = heal_cluster:call(It, erlang, send, [heal_registry, Message])
-     end || It <- [A, B], Message <- [hello, {edit, x}, {timeout, make_ref(), edits}, {'DOWN', make_ref(), process, self(), x}]].
+     end || It <- [A, B], Message <- [hello, timeout, {edit, x}, {timeout, make_ref(), edits}, {'DOWN', make_ref(), process, self(), x}]].
 
 %% The application's setting is checked in the caller.
 bad_setting(A, B) ->
@@ -88,7 +88,8 @@ bad_messages(A, B) ->
               {finished, x}, {finished, 1, x}, {finished, 1, x, 2, []}, {edit, 1, 2, 3, 4}, {edit, {{Life, 1}, 1}, [x], none, ok},
               {edit, {{Life, 1}, 1}, [{register, <<"x">>, y} | z], none, ok}, {request, x, y, z}, {answer, 1, x, ok},
               {snapshot, x}, {snapshot, {{{{Life, 1}, 1}, x}, []}}, {want, x}, {settled, x}, {adopt, x, y}, {adopted, x, y},
-              {released, 1, x}, {busy, x}, {ready, x}, {cancel, x}, [a | b], 7],
+              {released, 1, x}, {busy, x}, {ready, x}, {cancel, x}, {bundle, x}, {bundle, [x | y]},
+              {bundle, [x, {edit, 1, 2, 3, 4}, {bundle, []}]}, [a | b], 7],
     Send = fun(From, To, Body) ->
         Message = {heal_registry, 3, heal_cluster:node_of(From), Body},
         heal_cluster:call(From, erlang, send, [{heal_registry, heal_cluster:node_of(To)}, Message])

@@ -146,7 +146,7 @@ used() ->
     timer:sleep(200),
     erlang:memory(processes_used) + erlang:memory(ets) + erlang:memory(binary).
 
-%% An exchange has room for 170 words for each name. It leaves no such heap behind.
+%% An exchange has room for 300 words for each name. It leaves no such heap behind.
 after_a_heal(Nodes = [A, B]) ->
     heal_cluster:split_into([[A], [B]]),
     [heal_cluster:one_part([It]) || It <- Nodes],
@@ -155,14 +155,14 @@ after_a_heal(Nodes = [A, B]) ->
     heal_cluster:mesh(Nodes),
     ?assertEqual(2000, length(heal_cluster:one_part(Nodes))),
     [heal_cluster:eventually(fun() ->
-         #{heap := Words, least := Least, usual := Usual} = heal_cluster:call(It, ?MODULE, heap, []),
-         Words < 100 * 2000 andalso Least =:= Usual
+         #{heap := Words, least := Least} = heal_cluster:call(It, ?MODULE, heap, []),
+         Words < 100 * 2000 andalso Least < 100 * 2000
      end) || It <- Nodes].
 
 heap() ->
     [{total_heap_size, Words}, {garbage_collection, Settings}] =
         process_info(whereis(heal_registry), [total_heap_size, garbage_collection]),
-    #{heap => Words, least => proplists:get_value(min_heap_size, Settings), usual => element(2, erlang:system_info(min_heap_size))}.
+    #{heap => Words, least => proplists:get_value(min_heap_size, Settings)}.
 
 %% A process that registers and unregisters names all the time is watched once, and those that end aren't watched any more.
 many_edits([A, _]) ->

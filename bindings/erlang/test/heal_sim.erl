@@ -99,7 +99,7 @@ start_registry(Name, Sim = #sim{nodes = Nodes, count = Count, now = Now}) ->
             Common
     end,
     {Actions, Part} = heal_part:new(Settings),
-    Running = Sim#sim{nodes = Nodes#{Name := Node#node{part = Part, is_hung = false, backlog = []}}},
+    Running = Sim#sim{nodes = Nodes#{Name := Node#node{part = Part, is_hung = false, backlog = [], outbox = heal_outbox:new()}}},
     Begun = heal_sim_disk:started(Name, acted(Name, Actions, Running)),
     Ticking = heal_sim_trace:at(rand:uniform(100), {tick, Name, {Life, element(2, Life), Count}}, mark_run(Name, Count, Begun)),
     Dead = [{Term, heal_row:owner(Row)} || {Term, Row = #row{pid = Pid}} <- maps:to_list(Own),
@@ -109,7 +109,8 @@ start_registry(Name, Sim = #sim{nodes = Nodes, count = Count, now = Now}) ->
 connected(Name, #sim{nodes = Nodes, links = Links}) ->
     [Other || Other <- lists:sort(maps:keys(Nodes)), Other =/= Name, is_map_key(heal_sim_net:pair(Name, Other), Links)].
 
-acted(Name, Actions, Sim) -> heal_sim_acts:positioned(Name, heal_sim_acts:actions(Name, Actions, Sim)).
+acted(Name, Actions, Sim) ->
+    heal_sim_acts:drained(Name, heal_sim_acts:positioned(Name, heal_sim_acts:actions(Name, Actions, Sim))).
 
 mark_run(Name, Count, Sim = #sim{nodes = Nodes}) ->
     #{Name := Node = #node{life = Life, kept = Kept}} = Nodes,
@@ -159,6 +160,8 @@ step({tick, Name, Run}, Sim = #sim{nodes = Nodes}) ->
         _ ->
             Sim
     end;
+step({outbox, Name, What}, Sim) ->
+    heal_sim_acts:outbox(Name, What, Sim);
 step({died, Pid}, Sim) ->
     heal_sim_net:ended(Pid, Sim);
 step({up_again, Name}, Sim) ->
@@ -201,7 +204,7 @@ handled(Name, Node = #node{part = Part, offset = Offset, rate = Rate}, Event, Si
         _ -> heal_sim_trace:trace("~p <- ~s", [Name, {short, Event}], Sim)
     end,
     {Actions, Next} = heal_part:handle(Event, Offset + trunc(Now * Rate), Part),
-    Acted = heal_sim_acts:positioned(Name, heal_sim_acts:actions(Name, Actions, Traced#sim{nodes = Nodes#{Name := Node#node{part = Next}}})),
+    Acted = acted(Name, Actions, Traced#sim{nodes = Nodes#{Name := Node#node{part = Next}}}),
     Checked = case Next#part.replica =:= Part#part.replica of
         true -> Acted;
         false -> heal_sim_calls:check_position(Name, Acted)

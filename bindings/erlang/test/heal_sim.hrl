@@ -15,6 +15,9 @@
 -define(STEPS, 20).
 %% How many calls are made then.
 -define(CALM, 20).
+%% How many milliseconds a primary keeps entries that nobody waits for, and how long a node handles messages before it sends, at most.
+-define(POSTED, 100).
+-define(BUSY, 20).
 -define(TRACE, 60).
 
 %% `table' and `own' are what the registry keeps; `backlog' are the events of a node that hangs; `disk' is what outlives it.
@@ -26,6 +29,7 @@
     table = #{},
     own = #{},
     kept = #{},
+    outbox = heal_outbox:new() :: heal_outbox:outbox(),
     disk = #{} :: #{programs => #{binary() => binary()}, greatest => non_neg_integer()},
     offset = 0,
     rate = 1.0,

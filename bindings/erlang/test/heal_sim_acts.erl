@@ -3,13 +3,23 @@
 
 -include("heal_sim.hrl").
 
--export([actions/3, positioned/2, process/3, update/3]).
+-export([actions/3, drained/2, outbox/3, positioned/2, process/3, update/3]).
 
 actions(Name, Actions, Sim) ->
     lists:foldl(fun(Action, Sum) -> action(Action, Name, Sum) end, Sim, Actions).
 
-action({send, To, Body}, From, Sim) ->
-    heal_sim_net:send(From, To, Body, Sim);
+action({send, To, Body}, From, Sim = #sim{nodes = Nodes}) ->
+    #{From := #node{outbox = Outbox}} = Nodes,
+    case heal_wire:is_of_edit(Body) of
+        true -> sent(From, heal_outbox:put(To, Body, Outbox), Sim);
+        false -> heal_sim_net:send(From, To, Body, sent(From, heal_outbox:flush(To, Outbox), Sim))
+    end;
+action({post, To, Entries}, From, Sim = #sim{nodes = Nodes}) ->
+    #{From := #node{outbox = Outbox}} = Nodes,
+    timed(From, heal_outbox:post(To, Entries, Outbox), Sim);
+action({later, Step}, Name, Sim = #sim{nodes = Nodes}) ->
+    #{Name := #node{life = Life}} = Nodes,
+    heal_sim_trace:at(rand:uniform(?BUSY), {link, Name, Life, {continue, Step}}, Sim);
 action({reply, From, Answer}, Name, Sim) ->
     heal_sim_calls:reply(From, Answer, Name, Sim);
 action({rows, Put, Drop}, Name, Sim) ->
@@ -53,6 +63,36 @@ action({view, View, Members}, Name, Sim) ->
     heal_sim_trace:trace("~p is in view ~p of ~p", [Name, View, Members], Sim);
 action(_Reported, _Name, Sim) ->
     Sim.
+
+%% Sends what the outbox of a node has given out.
+sent(From, {Bodies, Outbox}, Sim) ->
+    Kept = update(From, fun(Node) -> Node#node{outbox = Outbox} end, Sim),
+    lists:foldl(fun({To, Body}, Sum) -> heal_sim_net:send(From, To, Body, Sum) end, Kept, Bodies).
+
+timed(Name, {StartTimer, Outbox}, Sim) ->
+    Kept = update(Name, fun(Node) -> Node#node{outbox = Outbox} end, Sim),
+    case StartTimer of
+        true -> heal_sim_trace:at(rand:uniform(?POSTED), {outbox, Name, expired}, Kept);
+        false -> Kept
+    end.
+
+%% The timer of a node's outbox has expired, or the node has handled all its messages. A node that hangs does so later.
+outbox(Name, What, Sim = #sim{nodes = Nodes}) ->
+    case Nodes of
+        #{Name := #node{part = none}} -> Sim;
+        #{Name := #node{is_hung = true}} -> heal_sim_trace:at(?POSTED, {outbox, Name, What}, Sim);
+        #{Name := #node{outbox = Outbox}} when What =:= expired -> drained(Name, timed(Name, heal_outbox:expired(Outbox), Sim));
+        #{Name := #node{outbox = Outbox}} -> sent(Name, heal_outbox:drain(Outbox), Sim)
+    end.
+
+%% After some of its events a node has more messages to handle before it sends.
+drained(Name, Sim = #sim{nodes = Nodes}) ->
+    #{Name := #node{outbox = Outbox}} = Nodes,
+    case heal_outbox:turn(Outbox) =:= drained orelse rand:uniform(3) of
+        true -> Sim;
+        1 -> heal_sim_trace:at(rand:uniform(?BUSY), {outbox, Name, drain}, Sim);
+        _ -> outbox(Name, drain, Sim)
+    end.
 
 notified(#row{pid = Pid, term = Term}, {{Kind, _}, _Rival}, Name, Sim = #sim{processes = Processes}) ->
     #{Pid := Process = #process{notices = Notices, node = On}} = Processes,

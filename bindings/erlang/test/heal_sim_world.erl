@@ -6,7 +6,7 @@
 -module(heal_sim_world).
 
 -export([start/1, end_process/1]).
--export([prepare/4, open/3, hear/2, withdraw/2, close/1, finish/3, seed/0, serial/0, is_alive/1]).
+-export([prepare/4, update/3, open/3, hear/2, withdraw/2, close/1, finish/3, seed/0, serial/0, is_alive/1]).
 
 -record(handle, {side, seed = none, names, other = none, withdrawn = [], is_closed = false}).
 
@@ -29,6 +29,10 @@ seed() ->
 
 prepare(Side, Names, _Programs, _Limit) ->
     {ok, #handle{side = Side, names = maps:map(fun(_, Row) -> heal_row:registration(Row) end, Names)}}.
+
+update(Put, Gone, Handle = #handle{names = Names}) ->
+    New = maps:from_list([{Name, heal_row:registration(Row)} || {Name, Row} <- Put]),
+    {ok, Handle#handle{names = maps:merge(maps:without(Gone, Names), New)}}.
 
 open(_Number, Seed, Handle = #handle{side = Side, names = Names}) ->
     {ok, {Side, Seed, Names}, Handle#handle{seed = Seed}}.

@@ -35,8 +35,13 @@ events([], _Lost, Parts) ->
     Parts;
 events([{Node, Event} | Later], Lost, Parts) ->
     {Actions, Next} = handled(Node, Event, maps:get(Node, Parts)),
-    Sent = [{To, {message, Node, Body}} || {send, To, Body} <- Actions, is_map_key(To, Parts), not Lost(Node, To, Body)],
+    Bodies = lists:append([bodies(Action) || Action <- Actions]),
+    Sent = [{To, {message, Node, Body}} || {To, Body} <- Bodies, is_map_key(To, Parts), not Lost(Node, To, Body)],
     events(Later ++ Sent, Lost, Parts#{Node := Next}).
+
+bodies({send, To, Body}) -> [{To, Body}];
+bodies({post, Nodes, Entries}) -> [{To, Entries} || To <- Nodes];
+bodies(_Other) -> [].
 
 %% Handles an event and the steps that follow it.
 handled(Node, Event, Part) ->
@@ -46,7 +51,7 @@ handled(Node, Event, Part) ->
     lists:foldl(fun(Step, {Before, Sum}) ->
         {More, Last} = handled(Node, Step, Sum),
         {Before ++ More, Last}
-    end, {Actions, Next}, [Step || Step = {continue, _} <- Actions]).
+    end, {Actions, Next}, [{continue, Step} || {Kind, Step} <- Actions, Kind =:= continue orelse Kind =:= later]).
 
 one_table_at_a_position(At, Names) ->
     ?assertEqual(Names, maps:get(At, get(tables), Names)),
@@ -68,6 +73,24 @@ joins_again_test() ->
     ?assertMatch(#part{members = #{b := #member{is_joined = true}}, settle_by = none}, A),
     _ = event(b, {call, 1, {unregister, ?NAME, any}}, fun none_lost/3, Back),
     ?assertEqual([{reply, 1, {error, 31}}], [Reply || Reply = {reply, _, _} <- done(b)]).
+
+%% A connection takes no entry, and later takes messages again: the member gets a snapshot, and what follows.
+reachable_test() ->
+    #{a := A} = Joined = connect(a, b, fun none_lost/3, start([{a, #{}}, {b, #{}}])),
+    {_, Full} = heal_part:handle({unreachable, b}, 3, A),
+    Called = event(a, {call, 1, {upload, <<1:256>>, <<1>>}}, fun none_lost/3, Joined#{a := Full}),
+    ?assertNotEqual(position(a, Called), position(b, Called)),
+    Reached = event(a, {reachable, b}, fun none_lost/3, Called),
+    ?assertEqual(position(a, Reached), position(b, Reached)),
+    %% It is a member like any other then.
+    Last = event(a, {call, 2, {upload, <<2:256>>, <<2>>}}, fun none_lost/3, event(a, {reachable, b}, fun none_lost/3, Reached)),
+    ?assertEqual(position(a, Last), position(b, Last)),
+    %% A member that has given its primary up heals with it.
+    #{b := B} = Last,
+    {_, Alone} = heal_part:handle({unreachable, a}, 3, B),
+    ?assertNotEqual(position(a, Last), element(1, heal_part:position(Alone))),
+    Healed = event(b, {reachable, a}, fun none_lost/3, Last#{b := Alone}),
+    ?assertEqual(position(a, Healed), position(b, Healed)).
 
 %% A registry fails before its loser has its notice. When it starts again, the name that it answers for is its own: another exchange
 %% decides.
@@ -123,6 +146,31 @@ ready_offer_test() ->
     ?assertMatch({#prepared{}, [?NAME]}, Offers(Changed)),
     %% The leader gives up.
     ?assertMatch({_, #part{prepared = none}}, heal_part:handle({message, a, {cancel, Reference}}, 902, Ready)).
+
+%% The leader has its offer ready before it opens the exchange. Edits that come in between are made, and the offer has them.
+leader_offer_test() ->
+    Silent = fun(From, _, Body) -> From =:= b andalso element(1, Body) =:= hello end,
+    #{a := Part = #part{heal = {asking, #asking{reference = Reference}}}} = connect(a, b, Silent, start([{a, #{}}, {b, #{}}])),
+    Members = [{{b, 1}, erlang:phash2(b, 1000)}],
+    %% Edits no longer wait for the other node.
+    {_, Alone} = heal_part:handle(tick, 900, Part),
+    {[{later, Step}], Ready} = heal_part:handle({message, b, {hello, Reference, 0, Members}}, 900, Alone),
+    Options = #{stamp => 1, weight => 0, extra => <<0:128>>, resolver => notify},
+    Adopt = fun(Name, Serial, Of) ->
+        {Actions, Next} = heal_part:handle({call, Serial, {adopt, Name, Name, Options, {pid, a, Serial}, a}}, 900, Of),
+        ?assertMatch([ok], [Answer || {reply, _, Answer} <- Actions]),
+        Next
+    end,
+    Two = Adopt(<<"n2">>, 2, Adopt(?NAME, 1, Ready)),
+    {_, Left} = heal_part:handle({call, 3, {unregister, <<"n2">>, any}}, 900, Two),
+    {[{keep, greatest, 1}, {send, b, {propose, 1, _, _, Reference}}, Open], Proposed} = heal_part:handle({continue, Step}, 900, Left),
+    {Actions, Opened} = heal_part:handle(Open, 900, Proposed),
+    ?assertMatch([{send, b, {offer, 1, _, {{a, _, #{?NAME := _}}, #{?NAME := {_, {pid, a, 1}, _, _}}, _, _}, Reference}}], Actions),
+    [{send, b, {offer, 1, _, {{a, _, Names}, Processes, _, _}, _}}] = Actions,
+    ?assertEqual({[?NAME], [?NAME]}, {maps:keys(Names), maps:keys(Processes)}),
+    ?assertMatch(#part{heal = #open{number = 1}, prepared = none}, Opened),
+    %% A step of another query changes nothing.
+    ?assertMatch({[], _}, heal_part:handle({continue, Step}, 900, Opened)).
 
 %% A primary declines the query of a part that it isn't fully connected with. Once it is, the parts heal without another tick. An earlier
 %% version sends no invitation.
