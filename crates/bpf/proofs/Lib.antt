@@ -2,4 +2,3 @@ pub mod Instructions
 pub mod Fronts
 pub mod Runs
 pub mod Loop
-pub mod Outcomes

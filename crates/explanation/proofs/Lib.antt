@@ -1,4 +1,3 @@
 pub mod Longer
 pub mod Listed
-pub mod Ahead
 pub mod SignedWords

@@ -1,9 +1,8 @@
 -- A listing of one more instruction.
-use Rattle.std.proofs.Common.{◌≡◌, ◌∙◌, ℕ, ◌+◌, ◌<◌, ◌≤◌, List, [], ◌∷◌, ◌++◌, length, get_or, take, Some, sym, ap, subst}
+use Rattle.std.proofs.Common.{◌≡◌, ◌∙◌, ℕ, ◌+◌, ◌<◌, ◌≤◌, List, [], ◌∷◌, ◌++◌, length, get_or, take, sym, ap, subst}
 use Rattle.std.proofs.lemmas.Grind.{take_at_read}
 use Rattle.std.proofs.lemmas.List.Sums.{sum_by_more_le}
-use Rattle.instruction_set.specs.Machine.{insn_at, slot_count, slots_of}
-use Rattle.instruction_set.specs.laws.Places.{insn_of_index}
+use Rattle.instruction_set.specs.Machine.{slot_count, slots_of}
 use Rattle.instruction_set.specs.declared.insn.Insn.{Insn}
 use Rattle.abstract_value.specs.Domain.{Ops}
 use Rattle.explanation.specs.Listings.{IsListed, IsSlotText, next}
@@ -17,12 +16,6 @@ one_more o code insns k i text more new h is listed slot new_is =
     (take_at_read insns k i h).1 ∙ ap (λ j. take k insns ++ j ∷ []) (sym is) in
     subst (λ front. IsListed o code front new) (sym e)
     (subst (IsListed o code (take k insns ++ i ∷ [])) (sym new_is) (next (take k insns) i text more listed slot))
-
-pub insn_here : (code insns : List Insn) (k slot : ℕ) (i : Insn) → insns ≡ code → slot ≡ slot_count (take k insns)
-    → k < length insns → i ≡ get_or insns k i → insn_at code slot ≡ Some i
-insn_here code insns k slot i same place h is =
-    ap (insn_at code) place ∙ sym (ap (λ (c : List Insn). insn_at c (slot_count (take k insns))) same)
-    ∙ insn_of_index insns k i h ∙ ap Some (sym is)
 
 pub end_inside : (insns : List Insn) (k : ℕ) (i : Insn) → k < length insns → i ≡ get_or insns k i
     → slot_count (take k insns) + slots_of i ≤ slot_count insns

@@ -18,4 +18,3 @@ pub mod OneVerdict
 pub mod LongerRecords
 pub mod Lifted
 pub mod StatesBefore
-pub mod Outcomes

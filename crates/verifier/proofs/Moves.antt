@@ -196,6 +196,31 @@ module _ {D : Type 0} {o : Ops D} (laws : Laws o) where
   stepped b u h = let q = laws.bounds_hold b u h in step_of (o.low b) (o.high b) u (steps_of o b)
       (steps_are (o.low b) (o.high b)) q.0 q.1 (laws.bounds_fit b)
 
+  -- an address that is moved
+  in_record : (op : AluOp) (k : ℤ) (u : ℕ) (r : Option Span) → Moved op k u r
+      → Result o W64 op (to_record r) (ptr the_record k) (num u)
+  in_record op k u r m = record {
+    tag = ptr the_record m.to;
+    covers = to_record_covers o r m.span m.to m.is m.above m.below;
+    word = λ p. m.word p.record_at;
+  }
+
+  in_stack : (op : AluOp) (k : ℤ) (u : ℕ) (r : Option Span) → Moved op k u r
+      → Result o W64 op (to_stack r) (ptr the_stack k) (num u)
+  in_stack op k u r m = record {
+    tag = ptr the_stack m.to;
+    covers = to_stack_covers o r m.span m.to m.is m.above m.below;
+    word = λ p. m.word (base_of p the_stack);
+  }
+
+  -- a sum has one result in both orders
+  swapped : (c : RegState D) (x y : Tag) → Result o W64 Add c x y → Result o W64 Add c y x
+  swapped c x y r = record {
+    tag = r.tag;
+    covers = r.covers;
+    word = λ p. add_swapped (raw p y) (raw p x) ∙ r.word p;
+  }
+
   -- what operations other than a move give
   pub binary : (w : Width) (op : AluOp) (a b : RegState D) (x y : Tag) → is_mov op ≡ false → IsTrue (is_readable a)
       → IsTrue (is_readable b) → Covers o a (Some x) → Covers o b (Some y)
@@ -203,53 +228,19 @@ module _ {D : Type 0} {o : Ops D} (laws : Laws o) where
       → Result o w op (result_of o w op a b) x y
   binary w Mov a b x y n r s h k f g = absurd (cc)
   binary W64 Add (Record a) (Scalar b) (ptr the_record k) (num u) n r s h c f g =
-      let m = add_moved a k u (steps_of o b) h.0 h.1 (stepped b u c) g in
-      record {
-        tag = ptr the_record m.to;
-        covers = to_record_covers o (moved_span o Add a b) m.span m.to m.is m.above
-            m.below;
-        word = λ p. m.word p.record_at;
-      }
+      in_record Add k u (moved_span o Add a b) (add_moved a k u (steps_of o b) h.0 h.1 (stepped b u c) g)
   binary W64 Add (Stack a) (Scalar b) (ptr the_stack k) (num u) n r s h c f g =
-      let m = add_moved a k u (steps_of o b) h.0 h.1 (stepped b u c) g in
-      record {
-        tag = ptr the_stack m.to;
-        covers = to_stack_covers o (moved_span o Add a b) m.span m.to m.is m.above
-            m.below;
-        word = λ p. m.word (base_of p the_stack);
-      }
+      in_stack Add k u (moved_span o Add a b) (add_moved a k u (steps_of o b) h.0 h.1 (stepped b u c) g)
   binary W64 Add (Scalar b) (Record a) (num u) (ptr the_record k) n r s c h f g =
-      let m = add_moved a k u (steps_of o b) h.0 h.1 (stepped b u c) g in
-      record {
-        tag = ptr the_record m.to;
-        covers = to_record_covers o (moved_span o Add a b) m.span m.to m.is m.above
-            m.below;
-        word = λ p. add_swapped u (raw p (ptr the_record k)) ∙ m.word p.record_at;
-      }
+      swapped (to_record (moved_span o Add a b)) (ptr the_record k) (num u)
+      (in_record Add k u (moved_span o Add a b) (add_moved a k u (steps_of o b) h.0 h.1 (stepped b u c) g))
   binary W64 Add (Scalar b) (Stack a) (num u) (ptr the_stack k) n r s c h f g =
-      let m = add_moved a k u (steps_of o b) h.0 h.1 (stepped b u c) g in
-      record {
-        tag = ptr the_stack m.to;
-        covers = to_stack_covers o (moved_span o Add a b) m.span m.to m.is m.above
-            m.below;
-        word = λ p. add_swapped u (raw p (ptr the_stack k)) ∙ m.word (base_of p the_stack);
-      }
+      swapped (to_stack (moved_span o Add a b)) (ptr the_stack k) (num u)
+      (in_stack Add k u (moved_span o Add a b) (add_moved a k u (steps_of o b) h.0 h.1 (stepped b u c) g))
   binary W64 Sub (Record a) (Scalar b) (ptr the_record k) (num u) n r s h c f g =
-      let m = sub_moved a k u (steps_of o b) h.0 h.1 (stepped b u c) g in
-      record {
-        tag = ptr the_record m.to;
-        covers = to_record_covers o (moved_span o Sub a b) m.span m.to m.is m.above
-            m.below;
-        word = λ p. m.word p.record_at;
-      }
+      in_record Sub k u (moved_span o Sub a b) (sub_moved a k u (steps_of o b) h.0 h.1 (stepped b u c) g)
   binary W64 Sub (Stack a) (Scalar b) (ptr the_stack k) (num u) n r s h c f g =
-      let m = sub_moved a k u (steps_of o b) h.0 h.1 (stepped b u c) g in
-      record {
-        tag = ptr the_stack m.to;
-        covers = to_stack_covers o (moved_span o Sub a b) m.span m.to m.is m.above
-            m.below;
-        word = λ p. m.word (base_of p the_stack);
-      }
+      in_stack Sub k u (moved_span o Sub a b) (sub_moved a k u (steps_of o b) h.0 h.1 (stepped b u c) g)
   binary w op (Scalar a) (Scalar b) (num v) (num u) n r s h c f g =
       record { tag = num (alu_of w op v u); covers = scalars w op a b v u n h c; word = λ p. refl }
     where

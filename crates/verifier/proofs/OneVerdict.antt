@@ -1,5 +1,5 @@
 -- Code is judged in one way: it fulfils the rules, or one rule is the first that fails.
-use Rattle.std.proofs.Common.{◌≡◌, ℕ, ◌+◌, ◌<◌, ◌≤◌, ◌⊎◌, Bool, true, false, ◌==◌, if◌then◌else◌, inl, inr, refl, ap, sym, subst, ◌∙◌, arith, List, Option, Some, None}
+use Rattle.std.proofs.Common.{◌≡◌, ℕ, ◌+◌, ◌<◌, ◌≤◌, ◌⊎◌, Bool, true, false, true≢false, ◌==◌, if◌then◌else◌, inl, inr, refl, ap, sym, subst, ◌∙◌, arith, List, Option, Some, None}
 use Rattle.std.specs.Prelude.{IsTrue}
 use Rattle.std.proofs.Math.Path.{fun_ext}
 use Rattle.std.proofs.lemmas.Bool.Decides.{nat_tests}
@@ -178,6 +178,15 @@ module _ {D : Type 0} {o : Ops D} (laws : Laws o) (len : ℕ) (code : List Insn)
   split slot FallsOff h = inl h
   split slot NoEdge h = inl h
   split slot _ h = inr h
+
+  -- a rule that fails in a state isn't one of structure
+  pub is_refused : (slot : ℕ) (rule : Rule) → IsUnfulfilledFor len o code slot rule → IsRefusedAtFor len o code slot rule
+  is_refused slot Backward h = absurd (true≢false h.fails.fails.fails)
+  is_refused slot Outside h = absurd (true≢false h.fails.fails.fails)
+  is_refused slot IntoWide h = absurd (true≢false h.fails.fails.fails)
+  is_refused slot FallsOff h = absurd (true≢false h.fails.fails.fails)
+  is_refused slot NoEdge h = absurd (true≢false h.fails.fails.fails)
+  is_refused slot _ h = h
 
   once : (s t : ℕ) (r q : Rule) → IsIllStructured code s r ⊎ IsUnfulfilledFor len o code s r
       → IsIllStructured code t q ⊎ IsUnfulfilledFor len o code t q → (s ≡ t) × (r ≡ q)

@@ -266,30 +266,14 @@ module _ {D : Type 0} {o : Ops D} (laws : Laws o) (len : ℕ) (s t : View D) (be
       → IsTrue (inside_stack (t.registers r.base) r) → IsTrue (g (t.registers r.base) r)
       → IsTrue (f (s.registers r.base) r))
       → IsTrue (of_access i t g) → IsTrue (of_access i s f)
-  reach_down (Load size dst base offset) f g p k h = k (record {
-    base = base.number;
-    offset = offset;
-    size = size;
-    is_store = false;
-  }) (first_at base.number [] (p UnreadableRule)) (p OutsideStack) h
-  reach_down (LoadSx size dst base offset) f g p k h = k (record {
-    base = base.number;
-    offset = offset;
-    size = size;
-    is_store = false;
-  }) (first_at base.number [] (p UnreadableRule)) (p OutsideStack) h
-  reach_down (Store size base offset src) f g p k h = k (record {
-    base = base.number;
-    offset = offset;
-    size = size;
-    is_store = true;
-  }) (first_at base.number (src.number ∷ []) (p UnreadableRule)) (p OutsideStack) h
-  reach_down (StoreImm size base offset imm) f g p k h = k (record {
-    base = base.number;
-    offset = offset;
-    size = size;
-    is_store = true;
-  }) (first_at base.number [] (p UnreadableRule)) (p OutsideStack) h
+  reach_down (Load size dst base offset) f g p k h =
+      k _ (first_at base.number [] (p UnreadableRule)) (p OutsideStack) h
+  reach_down (LoadSx size dst base offset) f g p k h =
+      k _ (first_at base.number [] (p UnreadableRule)) (p OutsideStack) h
+  reach_down (Store size base offset src) f g p k h =
+      k _ (first_at base.number (src.number ∷ []) (p UnreadableRule)) (p OutsideStack) h
+  reach_down (StoreImm size base offset imm) f g p k h =
+      k _ (first_at base.number [] (p UnreadableRule)) (p OutsideStack) h
   reach_down i f g p k h = refl
 
   -- what passes passes in each state below
@@ -455,19 +439,9 @@ module _ {D : Type 0} {o : Ops D} (laws : Laws o) (len : ℕ) (s t : View D) (be
       (Scalar (o.load size false)) below (laws.below_same (o.load size false))
   fall_up (LoadSx size dst base offset) l p = put_below o s t dst.number (Scalar (o.load size true))
       (Scalar (o.load size true)) below (laws.below_same (o.load size true))
-  fall_up (Store size base offset src) l p = stored_up s t (record {
-    base = base.number;
-    offset = offset;
-    size = size;
-    is_store = true;
-  }) below (first_at laws len s t below base.number (src.number ∷ []) (p UnreadableRule))
+  fall_up (Store size base offset src) l p = stored_up s t _ below (first_at laws len s t below base.number (src.number ∷ []) (p UnreadableRule))
       (p OutsideStack)
-  fall_up (StoreImm size base offset imm) l p = stored_up s t (record {
-    base = base.number;
-    offset = offset;
-    size = size;
-    is_store = true;
-  }) below (first_at laws len s t below base.number [] (p UnreadableRule)) (p OutsideStack)
+  fall_up (StoreImm size base offset imm) l p = stored_up s t _ below (first_at laws len s t below base.number [] (p UnreadableRule)) (p OutsideStack)
   fall_up (Jump distance) l p = tt
   fall_up (JumpLong distance) l p = tt
   fall_up (JumpIf w test dst src distance) l p = refined_up w test false dst src distance p

@@ -11,21 +11,21 @@ use Rattle.instruction_set.specs.laws.Places.{some_slots, none_within, end_withi
 use Rattle.abstract_value.specs.Counts.{count_below}
 use Rattle.abstract_value.specs.Domain.{Ops, Laws}
 use Rattle.abstract_value.specs.States.{View, entry, put}
-use Rattle.abstract_value.specs.Pending.{held, room, size, nothing, count_held, with_joined}
+use Rattle.abstract_value.specs.Pending.{held, room, size, peak_of, nothing, count_held, with_joined}
 use Rattle.abstract_value.specs.declared.pending.Pending.{Pending}
-use Rattle.abstract_value.specs.laws.Counting.{same_tells, count_one_more, count_none, count_some}
+use Rattle.abstract_value.specs.laws.Counting.{same_tells, count_more, count_one_more, count_none, count_some}
 use Rattle.verifier.specs.declared.rule.Rule.{Rule}
 use Rattle.verifier.specs.declared.rule.Rule.TheVariants.{FallsOff}
 use Rattle.verifier.specs.Structure.{leads_to, IsStructured}
 use Rattle.verifier.specs.Rules.{PassesFor, FailsFirstFor, fall, jump}
-use Rattle.verifier.specs.Assignments.{Assignment, FailsLeastFor}
+use Rattle.verifier.specs.Assignments.{Assignment, FailsLeastFor, IsTypableFor}
 use Rattle.verifier.specs.Width.{most_below, is_slot, jumps_to, is_target, targets_above, widest}
-use Rattle.verifier.specs.model.Flow.{flow, flow_edge}
+use Rattle.verifier.specs.model.Flow.{flow, flow_edge, sent_on}
 use Rattle.verifier.specs.Peak.{IsPeakFor, held_at, most_held}
-use Rattle.verifier.specs.model.Pending.{IsDue, IsPending}
+use Rattle.verifier.specs.model.Pending.{IsDue, IsPending, IsPassed}
 use Rattle.verifier.proofs.Tags.{tells}
 use Rattle.verifier.proofs.Pass.{fall_goes, leads_past, begun, skipped, passed, passed_same, over_insn}
-use Rattle.verifier.proofs.Peaks.{edge_is, sent_first, peak_first, sent_skipped, peak_skipped, sent_passed, peak_passed, sent_over, held_is}
+use Rattle.verifier.proofs.Peaks.{sent_first, peak_first, sent_skipped, peak_skipped, sent_passed, peak_passed, sent_over, held_is}
 
 -- ---- targets of jumps
 
@@ -216,66 +216,49 @@ pub next_inside : {D : Type 0} (o : Ops D) (code : List Insn) (n : ℕ) (i : Ins
     → insn_at code n ≡ Some i → fall o i s ≡ Some t → n + slots_of i < slot_count code
 next_inside o code n i s t structured is e = structured.meets n i FallsOff is (fall_goes o i s t e)
 
--- what is held once a state is taken, and what comes of it falls through
-pub fallen_is : {D : Type 0} (o : Ops D) (states taken fallen : Assignment D) (n slots : ℕ) (i : Insn) (s : View D)
-    (t : Option (View D)) → taken ≡ put states n None → fallen ≡ flow o taken (n + slots) t → slots ≡ slots_of i
-    → t ≡ fall o i s
-    → fallen ≡ flow o (put states n None) (n + slots_of i) (fall o i s)
-fallen_is o states taken fallen n slots i s t is_taken is_fallen wide is_fall =
-    is_fallen ∙ ap (λ x. flow o x (n + slots) t) is_taken ∙ ap (λ k. flow o (put states n None) (n + k) t) wide
-    ∙ ap (flow o (put states n None) (n + slots_of i)) is_fall
-
--- and once it has gone along the jump too
-pub jumped_is : {D : Type 0} (o : Ops D) (fallen last states : Assignment D) (n : ℕ) (i : Insn) (s : View D)
-    (to : Option ℕ) (t : Option (View D)) → fallen ≡ states → last ≡ flow_edge o fallen to t → to ≡ leads_to n i
-    → t ≡ jump o i s
-    → last ≡ flow_edge o states (leads_to n i) (jump o i s)
-jumped_is o fallen last states n i s to t is_fallen is_last leads is_jump =
-    is_last ∙ ap (λ x. flow_edge o x to t) is_fallen ∙ ap (λ x. flow_edge o states x t) leads
-    ∙ ap (flow_edge o states (leads_to n i)) is_jump
-
-pub size_within : {D : Type 0} (p : Pending D) (states : Assignment D) (n most : ℕ) → held p ≡ states → room p ≡ n
-    → count_held states n ≤ most → size p ≤ most
-size_within p states n most is_held is_room h =
-    subst (λ k. count_held (held p) k ≤ most) (sym is_room) (subst (λ x. count_held x n ≤ most) (sym is_held) h)
-
 -- the number of states held
 pub size_is : {D : Type 0} (p : Pending D) (states : Assignment D) (n : ℕ) → held p ≡ states → room p ≡ n
     → size p ≡ count_held states n
 size_is p states n is_held is_room = ap (count_held (held p)) is_room ∙ ap (λ x. count_held x n) is_held
 
--- along an edge no fewer are held
-pub more_carried : {D : Type 0} (o : Ops D) (states : Assignment D) (x : Option ℕ) (t : Option (View D)) (n : ℕ)
-    → count_held states n ≤ count_held (flow_edge o states x t) n
-more_carried o states x t n =
-    let c = count_one_more (λ slot. is_some (states slot)) (λ slot. is_some (flow_edge o states x t slot)) n n
-    (λ slot e. inr (edge_is o states x slot t
-    ∙ or_right (is_slot x slot && is_some t) (is_some (states slot)) e)) in
-    c.1 (omega arith)
+pub put_here : {X : Type 0} (f : ℕ → X) (i : ℕ) (v : X) → put f i v i ≡ v
+put_here f i v = elim (tells i i) [ inl p ↦ rw p.0 refl | inr p ↦ absurd (p.1 refl) ]
 
--- the peak after a state is taken and two are carried is that of the last count
-pub step_peak : (old taken one both size_one size_both : ℕ) → taken ≡ old → one ≡ max taken size_one
-    → both ≡ max one size_both → size_one ≤ size_both → both ≡ max old size_both
-step_peak old taken one both size_one size_both h i j k = omega arith
+-- a slot's state is taken: one fewer is held
+pub one_taken : {D : Type 0} (states : Assignment D) (at n : ℕ) (s : View D) → at < n → states at ≡ Some s
+    → count_held (put states at None) n < count_held states n
+one_taken states at n s within is =
+    let c : count_held states n ≡ count_held (put states at None) n + 1 =
+    count_more (λ slot. is_some (put states at None slot)) (λ slot. is_some (states slot)) n at within
+    (ap is_some (put_here states at None)) (ap is_some is)
+    (λ k other. elim (tells k at) [ inl p ↦ absurd (other p.1) | inr p ↦ rw p.0 refl ]) in
+    omega arith
 
--- a slot's state is taken: no more are held
-pub fewer_taken : {D : Type 0} (states : Assignment D) (at n : ℕ)
-    → count_held (put states at None) n ≤ count_held states n
-fewer_taken states at n =
-    let c = count_one_more (λ slot. is_some (put states at None slot)) (λ slot. is_some (states slot)) n n
-    (λ slot e. elim (tells slot at) [
-      | inl p ↦ let f : false ≡ true = rw p.0 at e in absurd (cc)
-      | inr p ↦ inr (rw p.0 at e)
-    ]) in
-    c.1 (omega arith)
+-- a state goes to a slot: at most one more is held
+pub one_sent : {D : Type 0} (o : Ops D) (states : Assignment D) (to : ℕ) (t : Option (View D)) (n : ℕ)
+    → count_held (flow o states to t) n ≤ count_held states n + 1
+one_sent o states to None n = omega arith
+one_sent o states to (Some t) n =
+    let c = count_one_more (λ slot. is_some (flow o states to (Some t) slot)) (λ slot. is_some (states slot)) n to
+    (λ slot e. elim (tells slot to) [ inl p ↦ inl p.1 | inr p ↦ inr (rw p.0 at e) ]) in
+    c.0
+
+-- so the peak stays where fewer were held
+pub peak_stays : {D : Type 0} (o : Ops D) (before after : Pending D) (to : ℕ) (t : Option (View D))
+    → held after ≡ flow o (held before) to t → room after ≡ room before
+    → peak_of after ≡ max (peak_of before) (size after) → size before < peak_of before
+    → peak_of after ≡ peak_of before
+peak_stays o before after to t is_held is_room peak fewer =
+    let one : count_held (flow o (held before) to t) (room before) ≤ size before + 1 =
+    one_sent o (held before) to t (room before) in
+    let size_after : size after ≡ count_held (flow o (held before) to t) (room before) =
+    size_is after (flow o (held before) to t) (room before) is_held is_room in
+    omega (arith, peak, fewer)
 
 -- a slot's state is put back: what was taken doesn't show
 pub put_back : {X : Type 0} (f : ℕ → X) (i : ℕ) (v w : X) → put (put f i v) i w ≡ put f i w
 put_back f i v w =
     fun_ext (λ k. elim (k == i) as (λ b. cond b w (cond b v (f k)) ≡ cond b w (f k)) [ true ↦ refl | false ↦ refl ])
-
-pub put_here : {X : Type 0} (f : ℕ → X) (i : ℕ) (v : X) → put f i v i ≡ v
-put_here f i v = elim (tells i i) [ inl p ↦ rw p.0 refl | inr p ↦ absurd (p.1 refl) ]
 
 -- at first one slot has a state
 pub one_at_first : {D : Type 0} (o : Ops D) (n : ℕ) → 0 < n → count_held (flow o nothing 0 (Some (entry {D = D}))) n ≡ 1
@@ -307,7 +290,7 @@ module _ {D : Type 0} {o : Ops D} (laws : Laws o) (len : ℕ) where
       }
 
   -- what is held stands where an instruction begins
-  inside : (code : List Insn) (n : ℕ) (states : Assignment D) (peak : ℕ) → IsPending len o code n states peak
+  pub inside : (code : List Insn) (n : ℕ) (states : Assignment D) (peak : ℕ) → IsPending len o code n states peak
       → (slot : ℕ) (s : View D) → states slot ≡ Some s → IsSome (insn_at code slot)
   inside code n states peak w slot s e =
       w.least.fulfils.inside slot s (sym (w.same slot (w.due slot s e).0) ∙ e)
@@ -329,50 +312,30 @@ module _ {D : Type 0} {o : Ops D} (laws : Laws o) (len : ℕ) where
         peaked = peak_skipped o code n i states w.whole peak at e none w.sent (λ slot s f. (due slot s f).0) w.peaked;
       }
 
-  pub fallen_due : (code : List Insn) (n : ℕ) (i : Insn) (states : Assignment D) (s : View D) (peak : ℕ)
+  sent_due : (code : List Insn) (n : ℕ) (i : Insn) (states : Assignment D) (s : View D) (peak : ℕ)
       → IsPending len o code n states peak → insn_at code n ≡ Some i
-      → AllDue code (n + slots_of i) (flow o (put states n None) (n + slots_of i) (fall o i s))
-  fallen_due code n i states s peak w at =
-      due_flow o code (n + slots_of i) (put states n None) (n + slots_of i) (fall o i s)
-      (due_taken code n i states at w.due (inside code n states peak w)) (λ u e. (omega arith, inl refl))
-
-  pub jumped_due : (code : List Insn) (n : ℕ) (i : Insn) (states : Assignment D) (s : View D) (peak : ℕ)
-      → IsPending len o code n states peak → insn_at code n ≡ Some i
-      → AllDue code (n + slots_of i)
-      (flow_edge o (flow o (put states n None) (n + slots_of i) (fall o i s)) (leads_to n i) (jump o i s))
-  jumped_due code n i states s peak w at =
+      → AllDue code (n + slots_of i) (sent_on o (put states n None) n i s)
+  sent_due code n i states s peak w at =
       due_edge o code (n + slots_of i) (flow o (put states n None) (n + slots_of i) (fall o i s)) (leads_to n i)
-      (jump o i s) (fallen_due code n i states s peak w at) (λ to e. jump_due code n i to at e)
+      (jump o i s)
+      (due_flow o code (n + slots_of i) (put states n None) (n + slots_of i) (fall o i s)
+      (due_taken code n i states at w.due (inside code n states peak w)) (λ u e. (omega arith, inl refl)))
+      (λ to e. jump_due code n i to at e)
 
   -- so few are held then
-  pub fallen_few : (code : List Insn) (n : ℕ) (i : Insn) (states : Assignment D) (s : View D) (old : ℕ)
-      (p : Pending D) → IsPending len o code n states old → insn_at code n ≡ Some i
-      → held p ≡ flow o (put states n None) (n + slots_of i) (fall o i s) → room p ≡ slot_count code
-      → size p ≤ 1 + widest code
-  fallen_few code n i states s old p w at is_held is_room =
-      let below = flow o (put states n None) (n + slots_of i) (fall o i s) in
-      size_within p below (slot_count code) (1 + widest code) is_held is_room
-      (few_due code n i below at (fallen_due code n i states s old w at))
-
-  pub jumped_few : (code : List Insn) (n : ℕ) (i : Insn) (states : Assignment D) (s : View D) (old : ℕ)
-      (p : Pending D) → IsPending len o code n states old → insn_at code n ≡ Some i
-      → held p ≡ flow_edge o (flow o (put states n None) (n + slots_of i) (fall o i s)) (leads_to n i) (jump o i s)
-      → room p ≡ slot_count code → size p ≤ 1 + widest code
-  jumped_few code n i states s old p w at is_held is_room =
-      let jumped = flow_edge o (flow o (put states n None) (n + slots_of i) (fall o i s)) (leads_to n i) (jump o i s) in
-      size_within p jumped (slot_count code) (1 + widest code) is_held is_room
-      (few_due code n i jumped at (jumped_due code n i states s old w at))
+  pub sent_few : (code : List Insn) (n : ℕ) (i : Insn) (states : Assignment D) (s : View D) (peak : ℕ)
+      → IsPending len o code n states peak → insn_at code n ≡ Some i
+      → count_held (sent_on o (put states n None) n i s) (slot_count code) ≤ 1 + widest code
+  sent_few code n i states s peak w at =
+      few_due code n i (sent_on o (put states n None) n i s) at (sent_due code n i states s peak w at)
 
   -- an instruction that passes: its state is taken, and what comes of it waits
   pub waits_passed : (code : List Insn) (n : ℕ) (i : Insn) (states : Assignment D) (s : View D) (old peak : ℕ)
       → IsCode code → IsStructured code → IsPending len o code n states old → insn_at code n ≡ Some i
       → states n ≡ Some s
       → PassesFor len o i s
-      → peak ≡ max old (count_held
-      (flow_edge o (flow o (put states n None) (n + slots_of i) (fall o i s)) (leads_to n i) (jump o i s))
-      (slot_count code))
-      → IsPending len o code (n + slots_of i)
-      (flow_edge o (flow o (put states n None) (n + slots_of i) (fall o i s)) (leads_to n i) (jump o i s)) peak
+      → peak ≡ max old (count_held (sent_on o (put states n None) n i s) (slot_count code))
+      → IsPending len o code (n + slots_of i) (sent_on o (put states n None) n i s) peak
   waits_passed code n i states s old peak is_code structured w at is p counted =
       let some = some_slots i in
       let next = n + slots_of i in
@@ -381,7 +344,7 @@ module _ {D : Type 0} {o : Ops D} (laws : Laws o) (len : ℕ) where
       let whole_fallen = flow o w.whole next (fall o i s) in
       let after = flow_edge o whole_fallen (leads_to n i) (jump o i s) in
       let here : w.whole n ≡ Some s = sym (w.same n (omega arith)) ∙ is in
-      let due = jumped_due code n i states s old w at in
+      let due = sent_due code n i states s old w at in
       let before : (k : ℕ) → k < n + 1 → after k ≡ w.whole k = passed_same laws len n i w.whole s in
       let sent = sent_passed o code n i s states w.whole after at here before w.sent in
       record {
@@ -426,3 +389,13 @@ module _ {D : Type 0} {o : Ops D} (laws : Laws o) (len : ℕ) where
       let m : peak ≡ most_held o code w.whole n = w.peaked in
       let a = most_above (held_at o code w.whole) (n + 1) n (omega arith) in
       omega arith
+
+  -- once all instructions are visited, the assignment fulfils the rules, and the peak is that of the whole pass
+  pub passed_all : (code : List Insn) (end peak : ℕ) (states : Assignment D) → end ≡ slot_count code
+      → IsPassed len o code end states peak → IsTypableFor len o code × IsPeakFor len o code (slot_count code) peak
+  passed_all code end peak states whole p =
+      let reached : end ≤ p.at = p.reached (omega (arith, whole)) in
+      let within : p.at ≤ slot_count code = p.within in
+      let last : p.at ≡ slot_count code = omega (arith, reached, within, whole) in
+      let w = subst (λ at. IsPending len o code at states peak) last p.pending in
+      ((w.whole, w.least.fulfils), waits_peak code (slot_count code) states peak w)

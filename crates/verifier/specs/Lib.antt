@@ -9,3 +9,4 @@ pub mod Peak
 pub mod LongerRecords
 pub mod Programs
 pub mod model
+pub mod laws

@@ -1,13 +1,12 @@
 //! The state before an instruction, which explains what the verifier knows there.
-ghost use Rattle.std.specs.Prelude.{◌≡◌, MatchOption, IfOk};
+ghost use Rattle.std.specs.Prelude.{◌≡◌, ◌<◌, MatchOption, IfOk};
 ghost use Rattle.instruction_set.specs.Machine.{slot_count};
-ghost use Rattle.abstract_value.specs.Pending.{boxed_view, held, peak_of, room};
+ghost use Rattle.abstract_value.specs.Pending.{boxed_view, held, nothing, peak_of, room};
 ghost use Rattle.verifier.specs.Structure.{IsStructured};
-ghost use Rattle.verifier.specs.model.Pending.{IsPending};
 ghost use Rattle.verifier.specs.Before.{HasNoState, HasNoStateFor, IsStateBefore, IsStateBeforeFor};
 
 use crate::structure::check_structure;
-use crate::verify_code::visit;
+use crate::verify_code::pass;
 use abstract_value::{Domain, Pending, State};
 use instruction_set::{Code, RECORD_LEN};
 use std::alloc::{AllocError, Global};
@@ -39,17 +38,17 @@ pub fn state_before_for<D: Domain>(
     ensures { IfOk result (λ found. MatchOption (boxed_view found)
         (HasNoStateFor context_len D.ops code.now slot) (IsStateBeforeFor context_len D.ops code.now slot)) }
 {
+    if slot >= code.slot_count() {
+        return Ok(None);
+    }
     if check_structure(code).is_some() {
         return Ok(None);
     }
-    // For the proof: it has few slots, and at least one.
-    code.known();
-    let mut pending: Pending<D> = Pending::new(alloc, code.slot_count())?;
-    pending.put(0, Box::new(alloc, State::entry())?);
+    let mut pending = Pending::new(alloc, code.slot_count())?;
     find_state(alloc, code, context_len, slot, &mut pending)
 }
 
-// Visits the instructions before a slot, and returns its state.
+// Passes over the instructions before a slot, and returns its state.
 fn find_state<D: Domain>(
     alloc: Global,
     code: &Code,
@@ -57,22 +56,16 @@ fn find_state<D: Domain>(
     slot: usize,
     pending: &mut Pending<D>,
 ) -> Result<Option<Box<State<D>>>, AllocError>
+    requires inside { slot < slot_count code.now }
     requires structured { IsStructured code.now }
     requires room { room pending.old ≡ slot_count code.now }
-    requires least { IsPending context_len D.ops code.now 0 (held pending.old) (peak_of pending.old) }
+    requires none { held pending.old ≡ nothing }
+    requires peak { peak_of pending.old ≡ 0 }
     ensures { IfOk result (λ found. MatchOption (boxed_view found)
         (HasNoStateFor context_len D.ops code.now slot) (IsStateBeforeFor context_len D.ops code.now slot)) }
 {
-    let insns = code.insns();
-    let mut at = 0;
-    for &insn in insns {
-        if at == slot {
-            return Ok(pending.take(at));
-        }
-        if visit(alloc, code, context_len, at, insn, pending)?.is_some() {
-            return Ok(None);
-        }
-        at += insn.slots();
+    match pass(alloc, code, context_len, slot, pending)? {
+        Some(_) => Ok(None),
+        None => Ok(pending.take(slot)),
     }
-    Ok(None)
 }

@@ -7,15 +7,15 @@ ghost use Rattle.instruction_set.specs.Slots.{IsSelected};
 ghost use Rattle.abstract_value.specs.States.{View, view};
 ghost use Rattle.abstract_value.specs.Pending.{boxed_view, held, room, size, peak_of, nothing};
 ghost use Rattle.verifier.specs.Stores.{code_for};
-ghost use Rattle.verifier.specs.Structure.{IsStructured};
+ghost use Rattle.verifier.specs.Structure.{IsStructured, leads_to};
 ghost use Rattle.verifier.specs.Rules.{of_access, inside_stack, fall, jump};
 ghost use Rattle.verifier.specs.Assignments.{FailsLeastFor, IsTypable, IsTypableFor};
 ghost use Rattle.verifier.specs.Width.{widest};
 ghost use Rattle.verifier.specs.Peak.{IsPeak, IsPeakFor, IsPeakAtFault, IsPeakAtFaultFor};
-ghost use Rattle.verifier.specs.model.Flow.{flow};
-ghost use Rattle.verifier.specs.model.Pending.{IsPending};
+ghost use Rattle.verifier.specs.model.Flow.{flow, flow_edge, sent_on};
+ghost use Rattle.verifier.specs.model.Pending.{IsPending, IsPassed, IsStopped};
 ghost use Rattle.refusals.specs.Answers.{HasCause};
-ghost use Rattle.verifier.specs.Refusals.{verify_fault_number, IsUnfulfilledFor, IsRefused, IsRefusedFor, IsRefusedAt, IsRefusedAtFor};
+ghost use Rattle.verifier.specs.Refusals.{verify_fault_number, IsRefused, IsRefusedFor, IsRefusedAt, IsRefusedAtFor};
 ghost use Rattle.verifier.specs.declared.refusal.Refusal.{Refusal};
 
 use crate::checks::check;
@@ -25,7 +25,7 @@ use crate::structure::{check_structure, leads_to};
 use crate::transfer::{fall, jump};
 use crate::verified::{Verified, VerifiedFor};
 use abstract_value::{Domain, Pending, State};
-use instruction_set::{Code, Insn, RECORD_LEN};
+use instruction_set::{Code, Insn, MAX_SLOTS, RECORD_LEN};
 use std::alloc::{AllocError, Global};
 
 // Returns a copy of the state that follows a jump, if any.
@@ -95,28 +95,57 @@ fn merge<D: Domain>(
     Ok(())
 }
 
-// Merges a state into the target of a jump, if there is one.
+// Merges the state that follows a jump into its target, if there is one.
 fn carry_over<D: Domain>(
     alloc: Global,
     pending: &mut Pending<D>,
-    to: usize,
+    to: Option<usize>,
     state: Option<State<D>>,
 ) -> Result<(), AllocError>
-    requires place { to < room pending.old }
+    requires place { (slot : ℕ) → to ≡ Some slot → slot < room pending.old }
     requires few { size pending.old ≤ peak_of pending.old }
-    ensures states { OnOk result (held pending.new ≡ flow D.ops (held pending.old) to (option_map view state)) }
+    ensures states { OnOk result (held pending.new ≡ flow_edge D.ops (held pending.old) to (option_map view state)) }
     ensures room { room pending.new ≡ room pending.old }
     ensures peak { OnOk result (peak_of pending.new ≡ max (peak_of pending.old) (size pending.new)) }
     ensures kept { OnErr result (peak_of pending.new ≡ peak_of pending.old) }
 {
-    if let Some(state) = state {
-        merge(alloc, pending, to, state)?;
+    let Some(to) = to else {
+        return Ok(());
+    };
+    match state {
+        Some(state) => merge(alloc, pending, to, state),
+        None => Ok(()),
     }
-    Ok(())
 }
 
-// Checks the instruction at a slot in its state, if the slot has one, drops that state, and puts its successors.
-pub(crate) fn visit<D: Domain>(
+// Sends the state that was taken of a slot to the next instruction and along the jump.
+fn send_on<D: Domain>(
+    alloc: Global,
+    pending: &mut Pending<D>,
+    at: usize,
+    insn: Insn,
+    state: Box<State<D>>,
+) -> Result<(), AllocError>
+    requires short { at < MAX_SLOTS }
+    requires selected { IsSelected insn }
+    requires inside { IsTrue (of_access insn (view state.value) inside_stack) }
+    requires next { (s : View D) → fall D.ops insn (view state.value) ≡ Some s
+        → at + slots_of insn < room pending.old }
+    requires target { (to : ℕ) → leads_to at insn ≡ Some to → to < room pending.old }
+    requires taken { size pending.old < peak_of pending.old }
+    ensures states { OnOk result (held pending.new ≡ sent_on D.ops (held pending.old) at insn (view state.value)) }
+    ensures room { room pending.new ≡ room pending.old }
+    ensures peak { OnOk result (peak_of pending.new ≡ max (peak_of pending.old) (size pending.new)) }
+    ensures kept { OnErr result (peak_of pending.new ≡ peak_of pending.old) }
+{
+    let to = leads_to(at, &insn);
+    let jumping = jumping(insn, &state);
+    carry(pending, at + insn.slots(), falling(insn, state));
+    carry_over(alloc, pending, to, jumping)
+}
+
+// Takes the state of a slot, if it has one, checks the instruction in it, and sends it on if the instruction passes.
+fn visit<D: Domain>(
     alloc: Global,
     code: &Code,
     context_len: u16,
@@ -140,28 +169,24 @@ pub(crate) fn visit<D: Domain>(
 {
     // For the proof: its instructions are listed.
     code.known();
-    let state = match pending.take(at) {
-        Some(state) => state,
-        None => return Ok(None),
-    };
-    if let Some(rule) = check(insn, &state, context_len) {
-        return Ok(Some(rule));
-    }
-    let Some(to) = leads_to(at, &insn) else {
-        carry(pending, at + insn.slots(), falling(insn, state));
+    let Some(state) = pending.take(at) else {
         return Ok(None);
     };
-    let jumping = jumping(insn, &state);
-    carry(pending, at + insn.slots(), falling(insn, state));
-    carry_over(alloc, pending, to, jumping)?;
-    Ok(None)
+    match check(insn, &state, context_len) {
+        Some(rule) => Ok(Some(rule)),
+        None => {
+            send_on(alloc, pending, at, insn, state)?;
+            Ok(None)
+        }
+    }
 }
 
-// Visits the instructions once, from first to last.
-fn pass<D: Domain>(
+// Visits the instructions that begin before a slot, from first to last, and returns the first refusal.
+pub(crate) fn pass<D: Domain>(
     alloc: Global,
     code: &Code,
     context_len: u16,
+    end: usize,
     pending: &mut Pending<D>,
 ) -> Result<Option<Refusal>, AllocError>
     requires structured { IsStructured code.now }
@@ -169,11 +194,9 @@ fn pass<D: Domain>(
     requires none { held pending.old ≡ nothing }
     requires peak { peak_of pending.old ≡ 0 }
     ensures answer { IfOk result (λ refusal. MatchOption refusal
-        (IsTypableFor context_len D.ops code.now)
-        (λ r. IsUnfulfilledFor context_len D.ops code.now r.slot r.rule)) }
-    ensures exact { IfOk result (λ refusal. MatchOption refusal
-        (IsPeakFor context_len D.ops code.now (slot_count code.now) (peak_of pending.new))
-        (λ r. IsPeakFor context_len D.ops code.now r.slot (peak_of pending.new))) }
+        (IsPassed context_len D.ops code.now end (held pending.new) (peak_of pending.new))
+        (λ r. IsStopped context_len D.ops code.now end r.slot r.rule (peak_of pending.new))) }
+    ensures room { room pending.new ≡ room pending.old }
     ensures some { OnOk result (1 ≤ peak_of pending.new) }
     ensures peak { peak_of pending.new ≤ 1 + widest code.now }
 {
@@ -183,6 +206,9 @@ fn pass<D: Domain>(
     let insns = code.insns();
     let mut at = 0;
     for &insn in insns {
+        if at >= end {
+            return Ok(None);
+        }
         if let Some(rule) = visit(alloc, code, context_len, at, insn, pending)? {
             return Ok(Some(Refusal {
                 slot: at as u32,
@@ -222,7 +248,7 @@ pub fn verify_peak_for<D: Domain>(
         Ok(pending) => pending,
         Err(AllocError) => return (Err(VerifyFault::OutOfMemory), 0),
     };
-    let answer = pass(alloc, &code, context_len, &mut pending);
+    let answer = pass(alloc, &code, context_len, code.slot_count(), &mut pending);
     let peak = pending.peak();
     match answer {
         Ok(None) => (Ok(VerifiedFor::new(code, context_len)), peak),

@@ -1,10 +1,5 @@
-use Rattle.std.proofs.Common.{◌≡◌, take}
-use Rattle.instruction_set.specs.Machine.{slot_count}
-use Rattle.explanation.proofs.Ahead.{IsAhead}
+use Rattle.verifier.specs.laws.Walk.{IsBefore}
 use Rattle.explanation.proofs.listing.explain_at.Given as goal
 
 abbrev pub invariant-loop-insn : goal.invariant-loop-insn
-invariant-loop-insn g l = record {
-  place : l.at ≡ slot_count (take l.insn-index l.insns);
-  ahead : IsAhead l.code l.slot l.at;
-}
+invariant-loop-insn g l = record { walk : IsBefore l.code l.insns l.insn-index l.at l.slot }

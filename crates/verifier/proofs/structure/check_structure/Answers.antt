@@ -3,7 +3,7 @@ use Rattle.instruction_set.specs.Machine.{slot_count, slots_of}
 use Rattle.instruction_set.specs.laws.Places.{insn_within, slots_more, slots_all}
 use Rattle.verifier.specs.model.Edges.{IsSeen}
 use Rattle.verifier.proofs.Marks.{seen_none, structured}
-use Rattle.verifier.proofs.Places.{insn_here}
+use Rattle.verifier.specs.laws.Walk.{insn_here}
 use Rattle.verifier.proofs.structure.check_structure.Goals as goal
 
 pub loop-insn-init : goal.loop-insn-init

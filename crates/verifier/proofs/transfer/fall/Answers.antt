@@ -1,4 +1,4 @@
-use Rattle.std.proofs.Common.{rules, ap, true}
+use Rattle.std.proofs.Common.{rules, ap}
 use Rattle.std.specs.Prelude.{FitsSigned}
 use Rattle.std.specs.Int.{w16}
 use Rattle.abstract_value.specs.States.{view}
@@ -10,12 +10,7 @@ pub after_store-requires : goal.after_store-requires
 after_store-requires g c =
     let fits : FitsSigned w16 c.in-Store.offset = rw c.in-Store.is at c.known.ensures in (
       search rules,
-      λ a e. reach_inside c.args.insn (view c.args.state.now) (record {
-        base = c.in-Store.base.number;
-        offset = c.in-Store.offset;
-        size = c.in-Store.size;
-        is_store = true;
-      }) a fits
+      λ a e. reach_inside c.args.insn (view c.args.state.now) _ a fits
           (ap access_of c.in-Store.is) c.requires.inside e,
     )
 
@@ -23,11 +18,6 @@ pub after_store-requires-in-StoreImm : goal.after_store-requires-in-StoreImm
 after_store-requires-in-StoreImm g c =
     let fits = rw c.in-StoreImm.is at c.known.ensures in (
       search rules,
-      λ a e. reach_inside c.args.insn (view c.args.state.now) (record {
-        base = c.in-StoreImm.base.number;
-        offset = c.in-StoreImm.offset;
-        size = c.in-StoreImm.size;
-        is_store = true;
-      }) a
-          fits.0 (ap access_of c.in-StoreImm.is) c.requires.inside e,
+      λ a e. reach_inside c.args.insn (view c.args.state.now) _ a fits.0
+          (ap access_of c.in-StoreImm.is) c.requires.inside e,
     )

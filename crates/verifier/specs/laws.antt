@@ -1,0 +1,3 @@
+-- Statements that other crates cite.
+pub mod Walk
+pub mod OneAnswer
