@@ -21,10 +21,10 @@ use Rattle.exchange_codec.specs.Faults.{message_fault_number}
 use Rattle.exchange_codec.specs.Reading.{Fails, many_at}
 use Rattle.exchange_codec.specs.Rows.{RowText, row_at, texts_of}
 use Rattle.exchange_codec.specs.Offers.{is_above}
+use Rattle.exchange_codec.specs.laws.Firsts.{above_there, sorted_as}
 use Rattle.exchange_codec.specs.laws.Many.{with_front, starts, goes_on, is_done}
 use Rattle.exchange_codec.specs.model.Building.{Programs, AreProgramsOf, HasRow, IsBuiltOf, IsLast, IsLeastRowFault, IsRowsFault}
 use Rattle.exchange_codec.proofs.IdLaws.{texts_len, no_text}
-use Rattle.exchange_codec.proofs.OneFault.{above_there, to_true}
 
 abbrev Entry : Type 0
 Entry = Name × Row
@@ -51,12 +51,12 @@ and_false false = refl
 
 module _ (table : Table) (name last : Name) (is_last : IsLast table (Some last)) where
   sorted : is_sorted name_cmp (is_last.0 ++ (last, is_last.1) ∷ []) ≡ true
-  sorted = subst (λ (es : List Entry). is_sorted name_cmp es ≡ true) is_last.2 (to_true _ (entries_sorted table))
+  sorted = sorted_as name_cmp (entries_sorted table) is_last.2
 
   at_last : (b : Bool) → is_lt (name_cmp last name) ≡ b
       → (is_above is_last.0 name && is_above ((last, is_last.1) ∷ []) name) ≡ b
   at_last true here =
-      rw (above_further is_last.0 last name (above_there is_last.0 (last, is_last.1) [] sorted) here, here) refl
+      rw (above_further is_last.0 last name (above_there name_cmp is_last.0 (last, is_last.1) [] sorted) here, here) refl
   at_last false here = rw here (and_false (is_above is_last.0 name))
 
   -- a name is above those of the table if it is above the last one

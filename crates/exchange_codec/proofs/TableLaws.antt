@@ -122,10 +122,6 @@ pub table_text_fits : (table : Table) → IsTable table → AllByRecursion IsRow
 table_text_fits table kept fit =
     record { few = omega (arith, kept.few, len-entries table, texts_len [] (entries table)); each = fit }
 
-pub on_ok : {A F P Q : Type 0} (r : Result A F) → OnOk r P → (P → Q) → OnOk r Q
-on_ok (Ok x) h f = f h
-on_ok (Err e) h f = tt
-
 -- a table is written: the number of its rows, and the rows
 pub table_written : (table : Table) (n : ℕ) (out counted done : List ℕ) → n ≡ len table → counted ≡ out ++ to_le_bytes w32 n
     → done ≡ counted ++ flat_map row_bytes (table_text table) → done ≡ out ++ table_bytes (table_text table)

@@ -39,6 +39,10 @@ pub record RowText : Type 0 where
   pub extra : List ℕ
   pub resolver : ResolverText
 
+-- the code of a program
+abbrev pub sized_code : List ℕ → List ℕ
+sized_code code = to_le_bytes w32 (length code) ++ code
+
 abbrev pub resolver_bytes : ResolverText → List ℕ
 resolver_bytes (ByBuiltin b) = builtin_place b ∷ []
 resolver_bytes (Named id) = 3 ∷ id.0

@@ -6,3 +6,5 @@ pub mod Rows
 pub mod Tables
 pub mod Programs
 pub mod Code
+pub mod Decoding
+pub mod Firsts

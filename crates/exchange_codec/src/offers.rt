@@ -14,12 +14,11 @@ use crate::fault::{MessageFault, ReadError};
 use crate::fields::{header_at, push_u64, u64_at};
 use crate::names::{push_side, side_at};
 use crate::tables::{push_table, table_of};
+use crate::theorem::one_program_theorem;
 use clash_record::SideId;
 use exchange_core::Offer;
-use insn_codec::one_reading_theorem;
 use partition_table::Table;
 use std::alloc::{AllocError, Global};
-use verifier::{Profile, one_verdict_theorem};
 
 // "HEALXC", version 1, kind 1.
 pub(crate) const HEADER: u64 = 0x0101_4358_4C41_4548;
@@ -105,9 +104,8 @@ pub fn decode_offer(alloc: Global, bytes: &[u8]) -> Result<Offer, MessageFault>
     ensures told { (fault : MessageFault) → IsOfferFault bytes.now fault
         → ReturnsOrRunsOut message_fault_number result (Err fault) }
 {
-    // For the proof: bytes have one reading, and code has one verdict.
-    one_reading_theorem();
-    one_verdict_theorem::<Profile>();
+    // For the proof: code has one reading and one verdict.
+    one_program_theorem();
     match all(alloc, bytes) {
         Ok((head, built)) => begun(alloc, head, built),
         Err(error) => Err(error.told(bytes.len())),

@@ -1,14 +1,16 @@
 //! The rows of offers as bytes.
-ghost use Rattle.std.specs.Prelude.{◌≡◌, ◌++◌, List, Ok, IfOk, IfErr, OnOk};
+ghost use Rattle.std.specs.Prelude.{◌≡◌, ◌≤◌, ◌++◌, List, Ok, IfOk, IfErr, OnOk, length};
+ghost use Rattle.std.specs.List.{flat_map};
 ghost use Rattle.std.specs.Option.{option_map};
 ghost use Rattle.std.specs.Arc.{arc_value};
 ghost use Rattle.std.specs.Int.{w64, to_le_bytes};
+ghost use Rattle.insn_codec.specs.Encoding.{insn_bytes};
 ghost use Rattle.clash_record.specs.declared.registrations.ResolverId.TheVariants.{Program};
 ghost use Rattle.clash_record.specs.Orders.{builtin_place};
 ghost use Rattle.clash_record.specs.declared.registrations.ProgramId.{ProgramId};
 ghost use Rattle.exchange_codec.specs.Reading.{Fails, Gives, many_at, bytes_at};
 ghost use Rattle.exchange_codec.specs.Rows as texts;
-ghost use Rattle.exchange_codec.specs.Rows.{owner_at, resolver_at, row_at, row_bytes, owner_bytes, text_of, ids_after, fields_bytes, resolver_bytes, resolver_text, Code, code_bytes, IsRow, IsResolver, HasFields, AreIds};
+ghost use Rattle.exchange_codec.specs.Rows.{owner_at, resolver_at, row_at, row_bytes, owner_bytes, text_of, ids_after, fields_bytes, resolver_bytes, resolver_text, Code, code_bytes, sized_code, max_code, IsRow, IsResolver, HasFields, AreIds};
 ghost use Rattle.exchange_codec.specs.RowsText.{row_view, resolver_view};
 
 use crate::fault::{FieldFault, ReadError};
@@ -257,11 +259,11 @@ fn push_program(
         return out.extend_from_slice(&id.0);
     }
     before.insert(id)?;
-    push_code(alloc, out, program)
+    push_first(alloc, out, program)
 }
 
-// Writes the code of a program.
-fn push_code(
+// Writes a program where none with its id stands before.
+fn push_first(
     alloc: Global,
     out: &mut Vec<u8>,
     program: Option<&Arc<Verified>>,
@@ -271,9 +273,21 @@ fn push_code(
     ensures fits { OnOk result (IsResolver (Code (code_bytes (option_map (λ p. arc_value p.now) program.entry)))) }
 {
     out.push(4)?;
-    let Some(program) = program else {
-        return push_u32(out, 0);
-    };
+    match program {
+        Some(program) => push_code(alloc, out, program),
+        None => push_u32(out, 0),
+    }
+}
+
+/// Writes the code of a program at the end.
+pub fn push_code(
+    alloc: Global,
+    out: &mut Vec<u8>,
+    program: &Arc<Verified>,
+) -> Result<(), AllocError>
+    ensures written { OnOk result (out.new.items ≡ out.old.items ++ sized_code (flat_map insn_bytes (arc_value program.now))) }
+    ensures fits { OnOk result (length (flat_map insn_bytes (arc_value program.now)) ≤ max_code) }
+{
     let code = encode(alloc, program.code())?;
     push_u32(out, code.len() as u32)?;
     out.extend_from_slice(&code)

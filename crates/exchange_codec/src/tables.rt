@@ -14,11 +14,10 @@ use crate::building::table_at;
 use crate::fault::{FieldFault, MessageFault, ReadError};
 use crate::fields::{count_at, push_u32};
 use crate::rows::push_row;
-use insn_codec::one_reading_theorem;
+use crate::theorem::one_program_theorem;
 use partition_table::{NameLimit, Table};
 use std::alloc::{AllocError, Global};
 use std::collections::BTreeSet;
-use verifier::{Profile, one_verdict_theorem};
 
 /// Encodes a table as the last part of an offer. Fails only when out of memory.
 pub fn encode_table(alloc: Global, table: &Table) -> Result<Vec<u8>, AllocError>
@@ -69,9 +68,8 @@ pub fn decode_table(alloc: Global, bytes: &[u8]) -> Result<Table, MessageFault>
     ensures told { (fault : MessageFault) → IsTableFault bytes.now fault
         → ReturnsOrRunsOut message_fault_number result (Err fault) }
 {
-    // For the proof: bytes have one reading, and code has one verdict.
-    one_reading_theorem();
-    one_verdict_theorem::<Profile>();
+    // For the proof: code has one reading and one verdict.
+    one_program_theorem();
     match table_of(alloc, bytes) {
         Ok(built) => built,
         Err(error) => Err(error.told(bytes.len())),

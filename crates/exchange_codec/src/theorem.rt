@@ -6,9 +6,20 @@ ghost use Rattle.exchange_codec.specs.Withdrawals.{SpellsWithdrawals, list_of, l
 ghost use Rattle.partition_table.specs.Tables.{Table};
 ghost use Rattle.exchange_codec.specs.Tables.{SpellsTable, IsTableFault};
 ghost use Rattle.exchange_codec.specs.Offers.{SpellsOffer, IsOfferFault};
+ghost use Rattle.exchange_codec.specs.laws.Programs.{Readings};
 
 use insn_codec::one_reading_theorem;
 use verifier::{Profile, one_verdict_theorem};
+
+/// States that bytes spell at most one code, that accepted bytes have no fault, and that bytes have at most one fault as a
+/// program. Does nothing at run time.
+pub fn one_program_theorem()
+    ensures { Readings }
+{
+    // For the proof: bytes have one reading, and code has one verdict.
+    one_reading_theorem();
+    one_verdict_theorem::<Profile>();
+}
 
 /// States that bytes spell at most one message, that bytes that spell one have no fault, that bytes have at most one fault,
 /// and that a message has one spelling. Does nothing at run time.
@@ -32,9 +43,7 @@ pub fn one_message_theorem()
     ensures one_list_spelling { (bytes other : List ℕ) → (w : Withdrawals) → SpellsWithdrawals bytes w
         → SpellsWithdrawals other w → bytes ≡ other }
 {
-    // For the proof: bytes have one reading, and code has one verdict.
-    one_reading_theorem();
-    one_verdict_theorem::<Profile>();
+    one_program_theorem();
 }
 
 /// States the same of tables. Does nothing at run time.
@@ -47,7 +56,5 @@ pub fn one_table_theorem()
     ensures one_spelling { (bytes other : List ℕ) → (t : Table) → SpellsTable bytes t → SpellsTable other t
         → bytes ≡ other }
 {
-    // For the proof: bytes have one reading, and code has one verdict.
-    one_reading_theorem();
-    one_verdict_theorem::<Profile>();
+    one_program_theorem();
 }

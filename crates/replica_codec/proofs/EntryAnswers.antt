@@ -2,7 +2,7 @@
 use Rattle.std.proofs.Common.{◌≡◌, ℕ, List, ◌<◌, ◌≤◌, Result, Ok, Err, refl, sym, ap, subst, ◌∙◌, inl, inr}
 use Rattle.std.specs.Prelude.{◌⊎◌, IfOk, IfErr}
 use Rattle.std.specs.List.{flat_map}
-use Rattle.refusals.specs.Answers.{out_of_memory, HasCause, ReturnsOrRunsOut}
+use Rattle.refusals.specs.Answers.{out_of_memory, HasCause}
 use Rattle.instruction_set.specs.declared.insn.Insn.{Insn}
 use Rattle.insn_codec.specs.Encoding.{insn_bytes}
 use Rattle.verifier.specs.declared.program_fault.ProgramFault.{ProgramFault}
@@ -16,9 +16,9 @@ use Rattle.std.proofs.Math.Bridge.{le_prop}
 use mathlib.Core.HLevel.{is_prop→PathP}
 use Rattle.exchange_codec.specs.declared.fault.ItemFault.TheVariants as item
 use Rattle.exchange_codec.specs.declared.fault.MessageFault.TheVariants as message
+use Rattle.exchange_codec.specs.laws.Decoding.{AreExact, Decides, are_exact}
 use Rattle.exchange_codec.specs.laws.Fields.{IsBytes}
 use Rattle.exchange_codec.specs.laws.Programs.{Readings}
-use Rattle.replica_law.specs.declared.position.Position.{Position}
 use Rattle.replica.specs.declared.edit.Edit.{Edit}
 use Rattle.replica.specs.declared.edit.Edit.TheVariants.{Register, Unregister, Upload, Limit, Begin}
 use Rattle.replica.specs.declared.messages.Entry.{Entry}
@@ -85,32 +85,16 @@ module _ (known : Readings) where
 
 -- ---- entries
 
-abbrev reads : EntryText → Result EntryText ReplicaMessageFault
-reads t = Ok t
-
-abbrev fails : ReplicaMessageFault → Result EntryText ReplicaMessageFault
-fails f = Err f
-
-text_inj : (t u : EntryText) → reads t ≡ reads u → t ≡ u
-text_inj t u e = cc
-
-no_text : (t : EntryText) (f : ReplicaMessageFault) → reads t ≡ fails f → ⊥
-no_text t f e = cc
-
-fault_inj : (f g : ReplicaMessageFault) → fails f ≡ fails g → f ≡ g
-fault_inj f g e = cc
-
-pub spelled_text : (bytes : List ℕ) (e : Entry) → SpellsEntry bytes e → entry_of bytes ≡ Ok (entry_text e)
+spelled_text : (bytes : List ℕ) (e : Entry) → SpellsEntry bytes e → entry_of bytes ≡ Ok (entry_text e)
 spelled_text bytes e s = ap entry_of s.spelling ∙ entry_read (entry_text e) s.is_text
 
-module _ (known : Readings) (bytes : List ℕ) where
-  pub one_entry : (e f : Entry) → SpellsEntry bytes e → SpellsEntry bytes f → e ≡ f
-  one_entry e f s r =
-      let text : entry_text e ≡ entry_text f = text_inj _ _ (sym (spelled_text bytes e s) ∙ spelled_text bytes f r) in
-      let edit : e.edit ≡ f.edit = same_edit known e.edit f.edit s.kept r.kept (ap (λ (t : EntryText). t.edit) text) in
-      ap (λ (p : Position). record { at = p; edit = e.edit }) (ap (λ (t : EntryText). t.at) text)
-      ∙ ap (λ (d : Edit). record { at = f.at; edit = d }) edit
+same_entry : (e f : Entry) → e.at ≡ f.at → e.edit ≡ f.edit → e ≡ f
+same_entry e f at edit i = record { at = at i; edit = edit i }
 
+uploads : (x y : List ℕ) → Uploads x ≡ Uploads y → x ≡ y
+uploads x y e = cc
+
+module _ (known : Readings) where
   -- an accepted upload has no fault
   no_code_fault : (d : Edit) → IsKeptEdit d → (code : List ℕ) (g : ProgramFault) → edit_text d ≡ Uploads code
       → IsProgramFault code g → ⊥
@@ -122,42 +106,24 @@ module _ (known : Readings) (bytes : List ℕ) where
   no_code_fault (Limit l) kept code g is bad = absurd cc
   no_code_fault (Begin n) kept code g is bad = absurd cc
 
-  pub spelled_fault : (e : Entry) (f : ReplicaMessageFault) → SpellsEntry bytes e → IsEntryFault bytes f → ⊥
-  spelled_fault e f s (inl h) = no_text _ _ (sym (spelled_text bytes e s) ∙ h)
-  spelled_fault e f s (inr h) =
-      let text : h.0 ≡ entry_text e = text_inj _ _ (sym h.1 ∙ spelled_text bytes e s) in
-      let is : edit_text e.edit ≡ Uploads h.2.0 = sym (ap (λ (t : EntryText). t.edit) text) ∙ h.2.2 in
-      no_code_fault e.edit s.kept h.2.0 h.2.1 is h.2.4
+  one_text_fault : (t : EntryText) (f g : ReplicaMessageFault) → IsTextFault t f → IsTextFault t g → f ≡ g
+  one_text_fault t f g p q =
+      let code : q.0 ≡ p.0 = uploads _ _ (sym q.2 ∙ p.2) in
+      let same = known.one_fault p.0 p.1 q.1 p.4 (subst (λ (b : List ℕ). IsProgramFault b q.1) code q.4) in
+      p.3 ∙ ap (λ (x : ProgramFault). Message (message.Item (item.Program x) 0)) same ∙ sym q.3
 
-  upload_inj : (x y : List ℕ) → Uploads x ≡ Uploads y → x ≡ y
-  upload_inj x y e = cc
-
-  pub one_fault : (f g : ReplicaMessageFault) → IsEntryFault bytes f → IsEntryFault bytes g → f ≡ g
-  one_fault f g (inl p) (inl q) = fault_inj f g (sym p ∙ q)
-  one_fault f g (inl p) (inr q) = absurd (no_text _ _ (sym q.1 ∙ p))
-  one_fault f g (inr p) (inl q) = absurd (no_text _ _ (sym p.1 ∙ q))
-  one_fault f g (inr p) (inr q) =
-      let text : q.0 ≡ p.0 = text_inj _ _ (sym q.1 ∙ p.1) in
-      let code : q.2.0 ≡ p.2.0 =
-      upload_inj _ _ (sym q.2.2 ∙ ap (λ (t : EntryText). t.edit) text ∙ p.2.2) in
-      let same : p.2.1 ≡ q.2.1 =
-      known.one_fault p.2.0 p.2.1 q.2.1 p.2.4 (subst (λ (b : List ℕ). IsProgramFault b q.2.1) code q.2.4) in
-      p.2.3 ∙ ap (λ (x : ProgramFault). Message (message.Item (item.Program x) 0)) same ∙ sym q.2.3
-
-  -- an answer with its cause is the only one
-  pub is_taken : (r : Result Entry ReplicaMessageFault) → IfOk r (SpellsEntry bytes)
-      → IfErr r (HasCause replica_message_fault_number (IsEntryFault bytes)) → (e : Entry) → SpellsEntry bytes e
-      → ReturnsOrRunsOut replica_message_fault_number r (Ok e)
-  is_taken (Ok f) spelled refused e s = inl (ap Ok (one_entry f e spelled s))
-  is_taken (Err f) spelled (inl cause) e s = absurd (spelled_fault e f s cause)
-  is_taken (Err f) spelled (inr out) e s = inr out
-
-  pub is_told : (r : Result Entry ReplicaMessageFault) → IfOk r (SpellsEntry bytes)
-      → IfErr r (HasCause replica_message_fault_number (IsEntryFault bytes)) → (f : ReplicaMessageFault)
-      → IsEntryFault bytes f → ReturnsOrRunsOut replica_message_fault_number r (Err f)
-  is_told (Ok e) spelled refused f h = absurd (spelled_fault e f spelled h)
-  is_told (Err g) spelled (inl cause) f h = inl (ap Err (one_fault g f cause h))
-  is_told (Err g) spelled (inr out) f h = inr out
+  -- bytes spell one entry, or have one fault
+  pub entries : (bytes : List ℕ) → AreExact (SpellsEntry bytes) (IsEntryFault bytes)
+  entries bytes =
+      let by : Decides (entry_of bytes) entry_text (SpellsEntry bytes) (IsEntryFault bytes) IsTextFault = record {
+        reads = spelled_text bytes;
+        cause = λ f h. h;
+        one = λ e f s r same. same_entry e f (ap (λ (t : EntryText). t.at) same)
+            (same_edit known e.edit f.edit s.kept r.kept (ap (λ (t : EntryText). t.edit) same));
+        either = λ e f s h. no_code_fault e.edit s.kept h.0 h.1 h.2 h.4;
+        one_fault = one_text_fault;
+      } in
+      are_exact by
 
 -- the entry that is built of the text
 pub is_spelled : (bytes : List ℕ) (t : EntryText) (r : Result Entry ReplicaMessageFault) → IsBytes bytes

@@ -15,13 +15,13 @@ use Rattle.exchange_codec.specs.declared.fault.FieldFault.TheVariants as wrongs
 use Rattle.exchange_codec.specs.Reading.{◌>>=◌, number_at, bytes_at, count_at, ended}
 use Rattle.exchange_codec.specs.Names.{name_bytes, name_at}
 use Rattle.exchange_codec.specs.Rows.{max_code, ResolverText, ByBuiltin, Named, Code, RowText, row_bytes, row_at, IsRow}
-use Rattle.exchange_codec.specs.laws.Fields.{IsBytes, IsBytes-rest, bind_ok, guard_met, ok_is, Takes, Takes-then, wide32, wide64, number_takes, number_again, count_takes, count_again, ended_ok}
+use Rattle.exchange_codec.specs.laws.Fields.{IsBytes, IsBytes-rest, bind_ok, guard_met, ok_is, Takes, Takes-then, wide32, wide64, number_takes, number_again, count_again, ended_ok}
 use Rattle.exchange_codec.specs.laws.Names.{name_takes, name_again}
-use Rattle.exchange_codec.specs.laws.Rows.{bytes_take, bytes_again, behind, row_takes, row_again}
+use Rattle.exchange_codec.specs.laws.Rows.{sized_takes, bytes_again, behind, row_takes, row_again}
 use Rattle.replica.specs.declared.messages.Entry.{Entry}
 use Rattle.replica_codec.specs.declared.fault.ReplicaMessageFault.{ReplicaMessageFault}
 use Rattle.replica_codec.specs.Frames.{entry_header, frame_bytes, no_head, in_message, body_of}
-use Rattle.replica_codec.specs.Entries.{EditText, EntryText, edit_text, entry_text, IsKeptEdit, SpellsEntry, Registers, Unregisters, Uploads, Limits, Begins, position_bytes, plain, plain_row, registration_by, registers, edit_bytes, entry_bytes, IsPosition, IsEditText, IsEntryText, position_at, register_at, limit_at, edit_at, entry_at, entry_in, entry_due, entry_of}
+use Rattle.replica_codec.specs.Entries.{sized_code, EditText, EntryText, edit_text, entry_text, IsKeptEdit, SpellsEntry, Registers, Unregisters, Uploads, Limits, Begins, position_bytes, plain, plain_row, registration_by, registers, edit_bytes, entry_bytes, IsPosition, IsEditText, IsEntryText, position_at, register_at, limit_at, edit_at, entry_at, entry_in, entry_due, entry_of}
 use Rattle.replica_codec.proofs.FrameLaws.{in_ok, body_spelled, body_read, body_fits, body_written, behind_head}
 
 -- ---- positions
@@ -148,12 +148,8 @@ edit_takes (suc zero ∷ rest) x fits e =
 edit_takes (suc (suc zero) ∷ rest) x fits e =
     let a = bind_ok (count_at max_code rest) (λ len. bytes_at len.0 len.1 >>= λ code. Ok (Uploads code.0, code.1)) x e in
     let b = bind_ok (bytes_at a.0.0 a.0.1) (λ code. Ok (Uploads code.0, code.1)) x a.2 in
-    let t0 = count_takes max_code rest a.0.0 a.0.1 (IsBytes-rest 2 rest fits) a.1 in
-    let t1 = bytes_take a.0.0 a.0.1 b.0 t0.0.rest_fits b.1 in
-    let counted : Takes rest (to_le_bytes w32 (length b.0.0)) a.0.1 = subst (λ (k : ℕ). Takes rest (to_le_bytes w32 k) a.0.1) (sym t1.1) t0.0 in
-    let few : length b.0.0 ≤ max_code = omega (arith, t0.1, t1.1) in
-    subst (Read (2 ∷ rest)) (ok_is (Uploads b.0.0, b.0.1) x b.2)
-    (behind 2 rest (to_le_bytes w32 (length b.0.0) ++ b.0.0) b.0.1 (Takes-then rest (to_le_bytes w32 (length b.0.0)) a.0.1 b.0.0 b.0.1 counted t1.0), few)
+    let t = sized_takes rest a.0 b.0 (IsBytes-rest 2 rest fits) a.1 b.1 in
+    subst (Read (2 ∷ rest)) (ok_is (Uploads b.0.0, b.0.1) x b.2) (behind 2 rest (sized_code b.0.0) b.0.1 t.0, t.1)
 edit_takes (suc (suc (suc zero)) ∷ rest) x fits e =
     let a = bind_ok (limit_at rest) (λ n. Ok (Limits n.0, n.1)) x e in
     let t = limit_takes rest a.0 (IsBytes-rest 3 rest fits) a.1 in

@@ -10,7 +10,7 @@ use Rattle.exchange_codec.specs.laws.Fields.{IsBytes, IsBytes-rest, bind_ok, ok_
 use Rattle.exchange_codec.specs.laws.Rows.{bytes_take, bytes_again}
 use Rattle.replica_codec.specs.declared.fault.ReplicaMessageFault.{ReplicaMessageFault}
 use Rattle.replica_codec.specs.declared.fault.ReplicaMessageFault.TheVariants.{Checksum}
-use Rattle.replica_codec.specs.Frames.{checksum, summed, head_bytes, front_bytes, frame_bytes, head_at, head_due, head_of, tail_at, tail_of, tail_due, in_message, checked, body_due, body_of, no_head}
+use Rattle.replica_codec.specs.Frames.{checksum, head_bytes, front_bytes, frame_bytes, head_at, head_due, head_of, tail_at, tail_of, tail_due, in_message, checked, body_due, body_of, no_head}
 use Rattle.replica_codec.proofs.SumLaws.{sum_fits}
 
 -- ---- checksums

@@ -1,6 +1,7 @@
 pub mod SumLaws
 pub mod FrameLaws
 pub mod EntryLaws
+pub mod Reports
 pub mod EntryAnswers
 pub mod LogLaws
 pub mod LogMessages

@@ -1,10 +1,10 @@
 -- The front of a log that begins with a message, whole, cut or damaged.
-use Rattle.std.proofs.Common.{◌≡◌, ℕ, ◌-◌, ◌^◌, ◌<◌, Bool, false, true≢false, List, [], ◌∷◌, ◌++◌, length, cond, eqb, Result, Ok, Err, refl, sym, ap, subst, ◌∙◌, append_assoc, arith, lit<, inl, inr}
+use Rattle.std.proofs.Common.{◌≡◌, ℕ, ◌-◌, ◌^◌, ◌<◌, Bool, false, true≢false, List, [], ◌∷◌, ◌++◌, length, eqb, Result, Ok, Err, refl, sym, ap, subst, ◌∙◌, append_assoc, arith, lit<, inl, inr}
 use Rattle.std.specs.Prelude.{◌⊎◌}
 use Rattle.std.specs.Int.{w64, to_le_bytes}
 use Rattle.std.proofs.lemmas.Bool.{lt-ltb}
 use Rattle.std.proofs.lemmas.List.{length-append}
-use Rattle.refusals.specs.Answers.{out_of_memory, ReturnsOrRunsOut}
+use Rattle.refusals.specs.Answers.{ReturnsOrRunsOut}
 use Rattle.exchange_codec.specs.declared.fault.Fault.{Fault}
 use Rattle.exchange_codec.specs.declared.fault.FieldFault.TheVariants as wrongs
 use Rattle.exchange_codec.specs.declared.fault.MessageFault.TheVariants as message
@@ -16,7 +16,7 @@ use Rattle.replica_codec.specs.declared.fault.ReplicaMessageFault.TheVariants.{M
 use Rattle.replica_codec.specs.declared.log.LogFront.{LogFront}
 use Rattle.replica_codec.specs.declared.log.LogFront.TheVariants as front
 use Rattle.replica_codec.specs.Faults.{replica_message_fault_number}
-use Rattle.replica_codec.specs.Frames.{entry_header, snapshot_header, checksum, head_bytes, front_bytes, frame_bytes, head_at, head_due, head_of, tail_at, in_message, checked, IsReadAs}
+use Rattle.replica_codec.specs.Frames.{entry_header, snapshot_header, checksum, head_bytes, front_bytes, frame_bytes, head_at, head_due, head_of, tail_at, in_message, IsReadAs}
 use Rattle.replica_codec.specs.Logs.{IsDamaged, after_at, after_due, front_at, front_of, kind_at, kind_due, kind_or_wrong, or_cut, whole, whole_due}
 use Rattle.replica_codec.proofs.SumLaws.{sum_fits}
 use Rattle.replica_codec.proofs.FrameLaws.{sized, head_parts, head_in, head_found, head_read, tail_again, checked_unmet}

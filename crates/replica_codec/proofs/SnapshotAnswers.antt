@@ -1,13 +1,11 @@
 -- The answers of `decode_snapshot`.
-use Rattle.std.proofs.Common.{Vec, Global, append_assoc, ◌≡◌, ℕ, zero, suc, ◌-◌, ◌+◌, ◌^◌, ◌<◌, ◌≤◌, Bool, true, false, List, [], ◌∷◌, ◌++◌, length, take, drop, Some, Result, Ok, Err, refl, sym, ap, subst, ◌∙◌, arith, inl, inr}
+use Rattle.std.proofs.Common.{Vec, Global, append_assoc, ◌≡◌, ℕ, zero, suc, ◌-◌, ◌+◌, ◌^◌, ◌<◌, ◌≤◌, true, false, List, [], ◌∷◌, ◌++◌, length, take, drop, Some, Result, Ok, Err, refl, sym, ap, subst, ◌∙◌, arith, inl, inr}
 use Rattle.std.specs.Prelude.{◌⊎◌, ◌&&◌, IsTrue, nat_lt, nat_le, IfOk, IfErr, map, slice_get}
 use Rattle.std.specs.List.{flat_map, AllByRecursion}
 use Rattle.std.specs.Int.{w32, to_le_bytes}
-use Rattle.std.specs.Ordering.{is_lt}
 use Rattle.std.specs.FinMap.{entries, entries_sorted}
-use Rattle.std.specs.FinMap.Entries.{is_sorted, below_all}
-use Rattle.std.proofs.lemmas.Bool.{and_parts, and_from, lt-ltb, le-leb}
-use Rattle.refusals.specs.Answers.{out_of_memory, HasCause, ReturnsOrRunsOut}
+use Rattle.std.proofs.lemmas.Bool.{and_from, lt-ltb, le-leb}
+use Rattle.refusals.specs.Answers.{out_of_memory, HasCause}
 use Rattle.instruction_set.specs.declared.insn.Insn.{Insn}
 use Rattle.insn_codec.specs.Encoding.{insn_bytes}
 use Rattle.verifier.specs.Programs.{IsAccepted}
@@ -21,6 +19,8 @@ use Rattle.exchange_codec.specs.declared.fault.ItemFault.{ItemFault}
 use Rattle.exchange_codec.specs.declared.fault.ItemFault.TheVariants as item
 use Rattle.exchange_codec.specs.declared.fault.MessageFault.{MessageFault}
 use Rattle.exchange_codec.specs.declared.fault.MessageFault.TheVariants as message
+use Rattle.exchange_codec.specs.laws.Decoding.{AreExact, Decides, are_exact}
+use Rattle.exchange_codec.specs.laws.Firsts.{IsFirst, one_first, some_inj, above_there, sorted_as}
 use Rattle.exchange_codec.specs.laws.Fields.{IsBytes}
 use Rattle.exchange_codec.specs.laws.Programs.{Readings}
 use Rattle.exchange_codec.specs.Tables.{table_bytes, table_text, IsTableText, SpellsTable, IsTableFault}
@@ -35,33 +35,12 @@ use Rattle.replica_codec.specs.Frames.{snapshot_header, frame_bytes, no_head}
 use Rattle.replica_codec.proofs.FrameLaws.{body_written, behind_head}
 use Rattle.replica_codec.specs.Entries.{position_bytes}
 use Rattle.replica_codec.specs.Snapshots.{latest_bytes, codes_bytes, SnapshotText, snapshot_text, snapshot_bytes, text_bytes, store_codes, AreStored, IsStoreOf, IsStoredFault, IsFirstStoredFault, SpellsSnapshot, IsSnapshotText, IsSnapshotFault, text_of, is_above, behind}
-use Rattle.replica_codec.specs.Stores.{FitsBehind, IsPartsFault, IsSnapshotOf}
+use Rattle.replica_codec.specs.Stores.{FitsBehind, IsCodesFault, IsPartsFault, IsSnapshotOf}
 use Rattle.replica_codec.proofs.SnapshotLaws.{text_spelled, text_read}
-use Rattle.replica_codec.proofs.StoreLaws.{Entry, to_true, below_at, heads, code_text, same_entries, same_store}
-
--- what the theorem on tables states
-pub record Tables : Type 0 where
-  pub one : (bytes : List ℕ) (s t : Table) → SpellsTable bytes s → SpellsTable bytes t → s ≡ t
-  pub either : (bytes : List ℕ) (t : Table) (f : MessageFault) → SpellsTable bytes t → IsTableFault bytes f → ⊥
-  pub one_fault : (bytes : List ℕ) (f g : MessageFault) → IsTableFault bytes f → IsTableFault bytes g → f ≡ g
+use Rattle.replica_codec.proofs.StoreLaws.{Entry, heads, code_text, same_entries, same_store}
 
 abbrev Read : Type 0
 Read = SnapshotText × List ℕ
-
-abbrev reads : Read → Result Read ReplicaMessageFault
-reads t = Ok t
-
-abbrev fails : ReplicaMessageFault → Result Read ReplicaMessageFault
-fails f = Err f
-
-read_inj : (t u : Read) → reads t ≡ reads u → t ≡ u
-read_inj t u e = cc
-
-no_read : (t : Read) (f : ReplicaMessageFault) → reads t ≡ fails f → ⊥
-no_read t f e = cc
-
-fault_inj : (f g : ReplicaMessageFault) → fails f ≡ fails g → f ≡ g
-fault_inj f g e = cc
 
 -- ---- codes of a store have no fault
 
@@ -76,9 +55,6 @@ record IsPlaced (es : List Entry) (codes : List (List ℕ)) (at : ℕ) (code : L
   parts : es ≡ done ++ entry ∷ rest
   told : take at codes ≡ map code_text done
   is : code ≡ code_text entry
-
-some_inj : (x y : List ℕ) → Some x ≡ Some y → x ≡ y
-some_inj x y e = cc
 
 placed_at : (es : List Entry) (codes : List (List ℕ)) (at : ℕ) (code : List ℕ) → codes ≡ map code_text es
     → slice_get codes at ≡ Some code → IsPlaced es codes at code
@@ -106,13 +82,6 @@ each_at : (ds : List Entry) (e : Entry) (rest : List Entry) → Each (ds ++ e �
 each_at [] e rest h = h.0
 each_at (d ∷ ds) e rest h = each_at ds e rest h.1
 
-above_there : (ds : List Entry) (e : Entry) (rest : List Entry) → is_sorted id_cmp (ds ++ e ∷ rest) ≡ true
-    → is_above ds e.0 ≡ true
-above_there [] e rest h = refl
-above_there (d ∷ ds) e rest h =
-    let parts = and_parts (below_all id_cmp d.0 (ds ++ e ∷ rest)) (is_sorted id_cmp (ds ++ e ∷ rest)) h in
-    rw (below_at d.0 ds e rest parts.0, above_there ds e rest parts.1) refl
-
 not_both : true ≡ false → ⊥
 not_both e = cc
 
@@ -129,42 +98,20 @@ module _ (known : Readings) where
   no_stored_fault store id program code item.NoProgram p is above h = h
   no_stored_fault store id program code item.ProgramAgain p is above h = h
 
+  abbrev First : List (List ℕ) → ItemFault → ℕ → Type 0
+  First = IsFirst store_codes AreStored IsStoredFault
+
   -- codes of a store have none
-  no_first : (store : Programs) → AreStored store → (codes : List (List ℕ)) → codes ≡ store_codes store → (other : Programs)
-      → AreStored other → (at : ℕ) → take at codes ≡ store_codes other → (code : List ℕ) → slice_get codes at ≡ Some code
-      → (f : ItemFault) → IsStoredFault other code f → ⊥
-  no_first store stored codes told other kept at before code there f h =
-      let p = placed_at (entries store) codes at code told there in
+  no_first : (store : Programs) → AreStored store → (codes : List (List ℕ)) → codes ≡ store_codes store → (f : ItemFault) (at : ℕ)
+      → First codes f at → ⊥
+  no_first store stored codes told f at first =
+      let p = placed_at (entries store) codes at first.item told first.there in
       let all = subst Each p.parts stored in
-      let same : entries other ≡ p.done =
-      same_entries known (entries other) p.done kept (front_of p.done (p.entry ∷ p.rest) all) (sym before ∙ p.told) in
-      let sorted = subst (λ (es : List Entry). is_sorted id_cmp es ≡ true) p.parts (to_true _ (entries_sorted store)) in
-      let above = ap (λ (es : List Entry). is_above es p.entry.0) same ∙ above_there p.done p.entry p.rest sorted in
-      no_stored_fault other p.entry.0 p.entry.1 code f (each_at p.done p.entry p.rest all) p.is above h
-
-  no_codes_fault : (store : Programs) (codes : List (List ℕ)) → IsStoreOf codes store → (f : ItemFault) (at : ℕ)
-      → IsFirstStoredFault codes f at → ⊥
-  no_codes_fault store codes is f at h =
-      no_first store is.stored codes is.told h.store h.stored at h.before h.code h.there f h.has
-
-  -- ---- one fault
-
-  taken_within : {A : Type 0} (xs : List A) (a b : ℕ) → a < b → (take a (take b xs) ≡ take a xs) × (slice_get (take b xs) a ≡ slice_get xs a)
-  taken_within [] zero zero h = absurd (omega (arith, h))
-  taken_within [] (suc a) zero h = absurd (omega (arith, h))
-  taken_within [] zero (suc b) h = (refl, refl)
-  taken_within [] (suc a) (suc b) h = (refl, refl)
-  taken_within (x ∷ xs) zero zero h = absurd (omega (arith, h))
-  taken_within (x ∷ xs) (suc a) zero h = absurd (omega (arith, h))
-  taken_within (x ∷ xs) zero (suc b) h = (refl, refl)
-  taken_within (x ∷ xs) (suc a) (suc b) h =
-      let rest = taken_within xs a b (omega (arith, h)) in (ap (λ ys. x ∷ ys) rest.0, rest.1)
-
-  not_before : (codes : List (List ℕ)) (f g : ItemFault) (a b : ℕ) → a < b → IsFirstStoredFault codes f a
-      → IsFirstStoredFault codes g b → ⊥
-  not_before codes f g a b lt p q =
-      let within = taken_within codes a b lt in
-      no_first q.store q.stored (take b codes) q.before p.store p.stored a (within.0 ∙ p.before) p.code (within.1 ∙ p.there) f p.has
+      let same : entries first.built ≡ p.done =
+      same_entries known (entries first.built) p.done first.kept (front_of p.done (p.entry ∷ p.rest) all) (sym first.before ∙ p.told) in
+      let above = ap (λ (es : List Entry). is_above es p.entry.0) same
+      ∙ above_there id_cmp p.done p.entry p.rest (sorted_as id_cmp (entries_sorted store) p.parts) in
+      no_stored_fault first.built p.entry.0 p.entry.1 first.item f (each_at p.done p.entry p.rest all) p.is above first.has
 
   same_item : (store : Programs) (code : List ℕ) (f g : ItemFault) → IsStoredFault store code f → IsStoredFault store code g → f ≡ g
   same_item store code (item.Program f) (item.Program g) p q = ap item.Program (known.one_fault code f g p q)
@@ -178,122 +125,93 @@ module _ (known : Readings) where
   same_item store code f item.NoProgram p q = absurd q
   same_item store code f item.ProgramAgain p q = absurd q
 
-  data Compared (m n : ℕ) : Type 0 where
-    Below : m < n → Compared m n
-    Same : m ≡ n → Compared m n
-    Above : n < m → Compared m n
+  as_first : (codes : List (List ℕ)) (f : ItemFault) (at : ℕ) → IsFirstStoredFault codes f at → First codes f at
+  as_first codes f at h =
+      record { built = h.store; kept = h.stored; before = h.before; item = h.code; there = h.there; has = h.has }
 
-  compared : (m n : ℕ) → Compared m n
-  compared zero zero = Same refl
-  compared zero (suc n) = Below (omega arith)
-  compared (suc m) zero = Above (omega arith)
-  compared (suc m) (suc n) = lift (compared m n)
-    where
-      lift : Compared m n → Compared (suc m) (suc n)
-      lift (Below h) = Below (omega (arith, h))
-      lift (Same h) = Same (ap suc h)
-      lift (Above h) = Above (omega (arith, h))
+  no_codes_fault : (store : Programs) (codes : List (List ℕ)) → IsStoreOf codes store → (f : ReplicaMessageFault)
+      → IsCodesFault codes f → ⊥
+  no_codes_fault store codes is f h = no_first store is.stored codes is.told h.0 h.1 (as_first codes h.0 h.1 h.3)
 
-  one_first : (codes : List (List ℕ)) (f g : ItemFault) (a b : ℕ) → IsFirstStoredFault codes f a → IsFirstStoredFault codes g b
-      → (f ≡ g) × (a ≡ b)
-  one_first codes f g a b p q = by_place (compared a b)
-    where
-      same_place : a ≡ b → f ≡ g
-      same_place e =
-          let store : q.store ≡ p.store = same_store known q.store p.store q.stored p.stored
-          (sym q.before ∙ ap (λ (k : ℕ). take k codes) (sym e) ∙ p.before) in
-          let code : q.code ≡ p.code = some_inj _ _ (sym q.there ∙ ap (slice_get codes) (sym e) ∙ p.there) in
-          same_item p.store p.code f g p.has
-          (subst (λ (c : List ℕ). IsStoredFault p.store c g) code
-          (subst (λ (s : Programs). IsStoredFault s q.code g) store q.has))
-
-      by_place : Compared a b → (f ≡ g) × (a ≡ b)
-      by_place (Below h) = absurd (not_before codes f g a b h p q)
-      by_place (Same h) = (same_place h, h)
-      by_place (Above h) = absurd (not_before codes g f b a h q p)
+  one_codes_fault : (codes : List (List ℕ)) (f g : ReplicaMessageFault) → IsCodesFault codes f → IsCodesFault codes g → f ≡ g
+  one_codes_fault codes f g p q =
+      let same = one_first (same_store known) no_first same_item codes p.0 q.0 p.1 q.1
+      (as_first codes p.0 p.1 p.3) (as_first codes q.0 q.1 q.3) in
+      p.2 ∙ ap (λ (w : ItemFault). Message (message.Item w p.1)) same.0
+      ∙ ap (λ (k : ℕ). Message (message.Item q.0 k)) same.1 ∙ sym q.2
 
 -- ---- snapshots
 
 table_there : (bytes : List ℕ) (s : Snapshot Half) → SpellsSnapshot bytes s → SpellsTable (table_bytes (table_text s.state.table)) s.state.table
 table_there bytes s h = record { is_text = h.rows; kept = h.kept; spelling = refl }
 
-pub spelled_text : (bytes : List ℕ) (s : Snapshot Half) → SpellsSnapshot bytes s
-    → text_of bytes ≡ Ok (snapshot_text s, table_bytes (table_text s.state.table))
+abbrev read_text : Snapshot Half → Read
+read_text s = (snapshot_text s, table_bytes (table_text s.state.table))
+
+spelled_text : (bytes : List ℕ) (s : Snapshot Half) → SpellsSnapshot bytes s → text_of bytes ≡ Ok (read_text s)
 spelled_text bytes s h =
     ap text_of h.spelling ∙ text_read (snapshot_text s) (table_bytes (table_text s.state.table)) h.is_text h.short
 
 store_there : (bytes : List ℕ) (s : Snapshot Half) → SpellsSnapshot bytes s → IsStoreOf (store_codes s.state.store) s.state.store
 store_there bytes s h = record { stored = h.stored; told = refl }
 
-module _ (known : Readings) (tables : Tables) (bytes : List ℕ) where
-  same_half : (s t : Half) → s.store ≡ t.store → s.table ≡ t.table → s.limit ≡ t.limit → s.latest ≡ t.latest → s ≡ t
-  same_half s t store table limit latest i = record { store = store i; table = table i; limit = limit i; latest = latest i }
+same_snapshot : (s t : Snapshot Half) → s.at ≡ t.at → s.state.store ≡ t.state.store → s.state.table ≡ t.state.table
+    → s.state.limit ≡ t.state.limit → s.state.latest ≡ t.state.latest → s ≡ t
+same_snapshot s t at store table limit latest i = record {
+  at = at i;
+  state = record { store = store i; table = table i; limit = limit i; latest = latest i };
+}
 
-  same_snapshot : (s t : Snapshot Half) → s.at ≡ t.at → s.state ≡ t.state → s ≡ t
-  same_snapshot s t at state i = record { at = at i; state = state i }
+-- what the theorem on tables states
+abbrev Tables : Type 0
+Tables = (bytes : List ℕ) → AreExact (SpellsTable bytes) (IsTableFault bytes)
 
-  pub one_snapshot : (s t : Snapshot Half) → SpellsSnapshot bytes s → SpellsSnapshot bytes t → s ≡ t
-  one_snapshot s t p q =
-      let both : _ ≡ _ = read_inj (snapshot_text s, table_bytes (table_text s.state.table)) (snapshot_text t, table_bytes (table_text t.state.table))
-      (sym (spelled_text bytes s p) ∙ spelled_text bytes t q) in
-      let store = same_store known s.state.store t.state.store p.stored q.stored (ap (λ (x : Read). x.0.codes) both) in
-      let table = tables.one (table_bytes (table_text t.state.table)) s.state.table t.state.table
-      (subst (λ (b : List ℕ). SpellsTable b s.state.table) (ap (λ (x : Read). x.1) both) (table_there bytes s p)) (table_there bytes t q) in
-      same_snapshot s t (ap (λ (x : Read). x.0.at) both)
-      (same_half s.state t.state store table (ap (λ (x : Read). x.0.limit) both) (ap (λ (x : Read). x.0.latest) both))
+pub tables : ((bytes : List ℕ) (s t : Table) → SpellsTable bytes s → SpellsTable bytes t → s ≡ t)
+    → ((bytes : List ℕ) (t : Table) (f : MessageFault) → SpellsTable bytes t → IsTableFault bytes f → ⊥)
+    → ((bytes : List ℕ) (f g : MessageFault) → IsTableFault bytes f → IsTableFault bytes g → f ≡ g) → Tables
+tables one either one_fault bytes = record { one = one bytes; either = either bytes; one_fault = one_fault bytes }
 
-  pub spelled_fault : (s : Snapshot Half) (f : ReplicaMessageFault) → SpellsSnapshot bytes s → IsSnapshotFault bytes f → ⊥
-  spelled_fault s f p (inl h) = no_read _ _ (sym (spelled_text bytes s p) ∙ h)
-  spelled_fault s f p (inr (inl h)) =
-      let text : h.text ≡ (snapshot_text s, table_bytes (table_text s.state.table)) =
-      read_inj _ _ (sym h.read ∙ spelled_text bytes s p) in
-      no_codes_fault known s.state.store h.text.0.codes
-      (record { stored = p.stored; told = ap (λ (x : Read). x.0.codes) text }) h.what h.at h.first
-  spelled_fault s f p (inr (inr h)) =
-      let text : h.text ≡ (snapshot_text s, table_bytes (table_text s.state.table)) =
-      read_inj _ _ (sym h.read ∙ spelled_text bytes s p) in
-      tables.either (table_bytes (table_text s.state.table)) s.state.table h.what (table_there bytes s p)
-      (subst (λ (x : Read). IsTableFault x.1 h.what) text h.table)
+module _ (known : Readings) (of_tables : Tables) (bytes : List ℕ) where
+  abbrev IsReadFault : Read → ReplicaMessageFault → Type 0
+  IsReadFault x = IsPartsFault x.0 x.1 (length bytes - 8 - length x.1)
 
-  pub one_fault : (f g : ReplicaMessageFault) → IsSnapshotFault bytes f → IsSnapshotFault bytes g → f ≡ g
-  one_fault f g (inl p) (inl q) = fault_inj f g (sym p ∙ q)
-  one_fault f g (inl p) (inr (inl q)) = absurd (no_read _ _ (sym q.read ∙ p))
-  one_fault f g (inl p) (inr (inr q)) = absurd (no_read _ _ (sym q.read ∙ p))
-  one_fault f g (inr (inl p)) (inl q) = absurd (no_read _ _ (sym p.read ∙ q))
-  one_fault f g (inr (inr p)) (inl q) = absurd (no_read _ _ (sym p.read ∙ q))
-  one_fault f g (inr (inl p)) (inr (inl q)) =
-      let text : q.text ≡ p.text = read_inj _ _ (sym q.read ∙ p.read) in
-      let same = one_first known p.text.0.codes p.what q.what p.at q.at p.first
-      (subst (λ (x : Read). IsFirstStoredFault x.0.codes q.what q.at) text q.first) in
-      p.is ∙ ap (λ (w : ItemFault). Message (message.Item w p.at)) same.0
-      ∙ ap (λ (k : ℕ). Message (message.Item q.what k)) same.1 ∙ sym q.is
-  one_fault f g (inr (inl p)) (inr (inr q)) =
-      let text : q.text ≡ p.text = read_inj _ _ (sym q.read ∙ p.read) in
-      absurd (no_codes_fault known q.store p.text.0.codes (subst (λ (x : Read). IsStoreOf x.0.codes q.store) text q.stored) p.what p.at p.first)
-  one_fault f g (inr (inr p)) (inr (inl q)) =
-      let text : p.text ≡ q.text = read_inj _ _ (sym p.read ∙ q.read) in
-      absurd (no_codes_fault known p.store q.text.0.codes (subst (λ (x : Read). IsStoreOf x.0.codes p.store) text p.stored) q.what q.at q.first)
-  one_fault f g (inr (inr p)) (inr (inr q)) =
-      let text : q.text ≡ p.text = read_inj _ _ (sym q.read ∙ p.read) in
-      let same : p.what ≡ q.what = tables.one_fault p.text.1 p.what q.what p.table
-      (subst (λ (x : Read). IsTableFault x.1 q.what) text q.table) in
-      p.is ∙ ap (λ (w : MessageFault). Message (behind (length bytes - 8 - length p.text.1) (length p.text.0.codes) w)) same
-      ∙ ap (λ (x : Read). Message (behind (length bytes - 8 - length x.1) (length x.0.codes) q.what)) (sym text) ∙ sym q.is
+  cause : (f : ReplicaMessageFault) → IsSnapshotFault bytes f
+      → (text_of bytes ≡ Err f) ⊎ ((x : Read) × (text_of bytes ≡ Ok x) × IsReadFault x f)
+  cause f (inl h) = inl h
+  cause f (inr (inl h)) = inr (h.text, h.read, inl (h.what, h.at, h.is, h.first))
+  cause f (inr (inr h)) = inr (h.text, h.read, inr (h.store, h.what, h.stored, h.is, h.table))
 
-  -- an answer with its cause is the only one
-  pub is_taken : (r : Result (Snapshot Half) ReplicaMessageFault) → IfOk r (SpellsSnapshot bytes)
-      → IfErr r (HasCause replica_message_fault_number (IsSnapshotFault bytes)) → (s : Snapshot Half) → SpellsSnapshot bytes s
-      → ReturnsOrRunsOut replica_message_fault_number r (Ok s)
-  is_taken (Ok t) spelled refused s h = inl (ap Ok (one_snapshot t s spelled h))
-  is_taken (Err f) spelled (inl cause) s h = absurd (spelled_fault s f h cause)
-  is_taken (Err f) spelled (inr out) s h = inr out
+  no_parts_fault : (s : Snapshot Half) (f : ReplicaMessageFault) → SpellsSnapshot bytes s → IsReadFault (read_text s) f → ⊥
+  no_parts_fault s f p (inl h) = no_codes_fault known s.state.store (store_codes s.state.store) (store_there bytes s p) f h
+  no_parts_fault s f p (inr h) = (of_tables (table_bytes (table_text s.state.table))).either s.state.table h.1 (table_there bytes s p) h.4
 
-  pub is_told : (r : Result (Snapshot Half) ReplicaMessageFault) → IfOk r (SpellsSnapshot bytes)
-      → IfErr r (HasCause replica_message_fault_number (IsSnapshotFault bytes)) → (f : ReplicaMessageFault)
-      → IsSnapshotFault bytes f → ReturnsOrRunsOut replica_message_fault_number r (Err f)
-  is_told (Ok s) spelled refused f h = absurd (spelled_fault s f spelled h)
-  is_told (Err g) spelled (inl cause) f h = inl (ap Err (one_fault g f cause h))
-  is_told (Err g) spelled (inr out) f h = inr out
+  one_parts_fault : (x : Read) (f g : ReplicaMessageFault) → IsReadFault x f → IsReadFault x g → f ≡ g
+  one_parts_fault x f g (inl p) (inl q) = one_codes_fault known x.0.codes f g p q
+  one_parts_fault x f g (inl p) (inr q) = absurd (no_codes_fault known q.0 x.0.codes q.2 f p)
+  one_parts_fault x f g (inr p) (inl q) = absurd (no_codes_fault known p.0 x.0.codes p.2 g q)
+  one_parts_fault x f g (inr p) (inr q) =
+      p.3 ∙ ap (λ (w : MessageFault). Message (behind (length bytes - 8 - length x.1) (length x.0.codes) w))
+      ((of_tables x.1).one_fault p.1 q.1 p.4 q.4) ∙ sym q.3
+
+  one : (s t : Snapshot Half) → SpellsSnapshot bytes s → SpellsSnapshot bytes t → read_text s ≡ read_text t → s ≡ t
+  one s t p q same =
+      same_snapshot s t (ap (λ (x : Read). x.0.at) same)
+      (same_store known s.state.store t.state.store p.stored q.stored (ap (λ (x : Read). x.0.codes) same))
+      ((of_tables (table_bytes (table_text t.state.table))).one s.state.table t.state.table
+      (subst (λ (b : List ℕ). SpellsTable b s.state.table) (ap (λ (x : Read). x.1) same) (table_there bytes s p)) (table_there bytes t q))
+      (ap (λ (x : Read). x.0.limit) same) (ap (λ (x : Read). x.0.latest) same)
+
+  -- bytes spell one snapshot, or have one fault
+  pub snapshots : AreExact (SpellsSnapshot bytes) (IsSnapshotFault bytes)
+  snapshots =
+      let by : Decides (text_of bytes) read_text (SpellsSnapshot bytes) (IsSnapshotFault bytes) IsReadFault = record {
+        reads = spelled_text bytes;
+        cause = cause;
+        one = one;
+        either = no_parts_fault;
+        one_fault = one_parts_fault;
+      } in
+      are_exact by
 
 -- the snapshot that is built of the text and the table
 pub is_spelled : (bytes : List ℕ) (x : SnapshotText × List ℕ) (r : Result (Snapshot Half) ReplicaMessageFault) → IsBytes bytes

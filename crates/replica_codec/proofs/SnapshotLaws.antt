@@ -4,12 +4,11 @@ use Rattle.std.specs.Prelude.{IfSome}
 use Rattle.std.specs.Int.{w32, w64, to_le_bytes}
 use Rattle.std.specs.List.{flat_map, AllByRecursion}
 use Rattle.upload_store.specs.Programs.{max_programs}
-use Rattle.exchange_codec.specs.declared.fault.Fault.{Fault}
 use Rattle.exchange_codec.specs.Reading.{◌>>=◌, number_at, bytes_at, count_at, many_at}
 use Rattle.exchange_codec.specs.Rows.{max_code}
 use Rattle.exchange_codec.specs.laws.Fields.{IsBytes, IsBytes-rest, bind_ok, ok_is, Takes, Takes-then, wide64, number_takes, number_again, count_takes, count_again}
 use Rattle.exchange_codec.specs.laws.Many.{many_take, many_again}
-use Rattle.exchange_codec.specs.laws.Rows.{bytes_take, bytes_again, behind}
+use Rattle.exchange_codec.specs.laws.Rows.{sized_takes, bytes_again, behind}
 use Rattle.replica_codec.specs.declared.fault.ReplicaMessageFault.{ReplicaMessageFault}
 use Rattle.replica_codec.specs.Entries.{position_bytes, sized_code, position_at, limit_at}
 use Rattle.replica_codec.specs.Frames.{snapshot_header, frame_bytes, in_message, body_of}
@@ -47,10 +46,7 @@ code_takes : (bytes : List ℕ) (x : List ℕ × List ℕ) → IsBytes bytes →
 unfolding code_at
 code_takes bytes x fits e =
     let a = bind_ok (count_at max_code bytes) (λ len. bytes_at len.0 len.1) x e in
-    let t0 = count_takes max_code bytes a.0.0 a.0.1 fits a.1 in
-    let t1 = bytes_take a.0.0 a.0.1 x t0.0.rest_fits a.2 in
-    let counted : Takes bytes (to_le_bytes w32 (length x.0)) a.0.1 = subst (λ (k : ℕ). Takes bytes (to_le_bytes w32 k) a.0.1) (sym t1.1) t0.0 in
-    (Takes-then bytes (to_le_bytes w32 (length x.0)) a.0.1 x.0 x.1 counted t1.0, omega (arith, t0.1, t1.1))
+    sized_takes bytes a.0 x fits a.1 a.2
 
 code_again : (code rest : List ℕ) → length code ≤ max_code → code_at (sized_code code ++ rest) ≡ Ok (code, rest)
 unfolding code_at

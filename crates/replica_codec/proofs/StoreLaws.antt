@@ -1,6 +1,6 @@
 -- The programs of a store, in the order of their ids.
-use Rattle.std.proofs.Common.{◌≡◌, ℕ, zero, suc, ◌+◌, ◌<◌, ◌≤◌, Bool, true, false, cond, List, [], ◌∷◌, ◌++◌, length, take, get_or, Option, Some, None, Result, Ok, Err, refl, sym, ap, subst, ◌∙◌, append_assoc, append-nil, arith, inl, inr, length-take}
-use Rattle.std.specs.Prelude.{map, slice_get, IfSome, OnOk}
+use Rattle.std.proofs.Common.{◌≡◌, ℕ, zero, suc, ◌+◌, ◌<◌, ◌≤◌, Bool, true, false, cond, List, [], ◌∷◌, ◌++◌, length, take, get_or, Option, Some, None, refl, sym, ap, subst, ◌∙◌, append_assoc, append-nil, arith, inl, inr, length-take}
+use Rattle.std.specs.Prelude.{map, slice_get, IfSome}
 use Rattle.std.specs.Option.{option_map}
 use Rattle.std.specs.Int.{w32, to_le_bytes}
 use Rattle.std.specs.List.{flat_map, AllByRecursion}
@@ -11,7 +11,6 @@ use Rattle.std.specs.FinMap.{get, insert, empty, len, entries, entries_sorted, g
 use Rattle.std.specs.FinMap.Entries.{find, put, is_sorted, below_all}
 use Rattle.std.proofs.lemmas.Bool.{and_parts}
 use Rattle.std.proofs.lemmas.List.Concat.{flat_map-append}
-use lib.Dec.{T}
 use Rattle.std.specs.Borrow.{Bor}
 use Rattle.std.proofs.lemmas.List.{nil_from_length, take_all}
 use Rattle.replica_codec.specs.SnapshotsText.{codes_view}
@@ -23,6 +22,7 @@ use Rattle.clash_record.specs.Orders.{id_cmp}
 use Rattle.clash_record.specs.laws.Orders.{ids_total}
 use Rattle.upload_store.specs.Programs.{Programs, IsProgram, id_of, mapped, max_programs}
 use Rattle.exchange_codec.specs.Rows.{max_code}
+use Rattle.exchange_codec.specs.laws.Firsts.{below_there, sorted_as}
 use Rattle.exchange_codec.specs.laws.Programs.{Readings}
 use Rattle.replica_codec.specs.Entries.{sized_code}
 use Rattle.replica_codec.specs.Snapshots.{AreStored, IsStoreOf, codes_bytes, store_codes, is_above}
@@ -35,10 +35,6 @@ Entry = ProgramId × List Insn
 
 abbrev pub code_text : Entry → List ℕ
 code_text e = flat_map insn_bytes e.1
-
-pub to_true : (b : Bool) → T b → b ≡ true
-to_true true h = refl
-to_true false h = absurd h
 
 -- ---- the program under an id
 
@@ -58,26 +54,19 @@ itself Greater e = cc
 same : (a : ProgramId) → eq_by_cmp id_cmp a a ≡ true
 same a = itself (id_cmp a a) (ids_total.antisymm a a)
 
-pub below_at : (x : ProgramId) (ds : List Entry) (e : Entry) (rest : List Entry)
-    → below_all id_cmp x (ds ++ e ∷ rest) ≡ true → is_lt (id_cmp x e.0) ≡ true
-below_at x [] e rest h = (and_parts (is_lt (id_cmp x e.0)) (below_all id_cmp x rest) h).0
-below_at x (d ∷ ds) e rest h =
-    below_at x ds e rest (and_parts (is_lt (id_cmp x d.0)) (below_all id_cmp x (ds ++ e ∷ rest)) h).1
-
 found_at : (ds : List Entry) (e : Entry) (rest : List Entry) → is_sorted id_cmp (ds ++ e ∷ rest) ≡ true
     → find id_cmp e.0 (ds ++ e ∷ rest) ≡ Some e.1
 found_at [] e rest h = ap (λ (b : Bool). cond b (Some e.1) (find id_cmp e.0 rest)) (same e.0)
 found_at (d ∷ ds) e rest h =
     let parts = and_parts (below_all id_cmp d.0 (ds ++ e ∷ rest)) (is_sorted id_cmp (ds ++ e ∷ rest)) h in
     ap (λ (b : Bool). cond b (Some d.1) (find id_cmp e.0 (ds ++ e ∷ rest)))
-    (apart d.0 e.0 (below_at d.0 ds e rest parts.0))
+    (apart d.0 e.0 (below_there id_cmp d.0 ds e rest parts.0))
     ∙ found_at ds e rest parts.1
 
 has_program : (store : Programs) (ds : List Entry) (e : Entry) (rest : List Entry) → entries store ≡ ds ++ e ∷ rest
     → get store e.0 ≡ Some e.1
 has_program store ds e rest parts =
-    let sorted = subst (λ (es : List Entry). is_sorted id_cmp es ≡ true) parts (to_true _ (entries_sorted store)) in
-    get-entries store e.0 ∙ ap (find id_cmp e.0) parts ∙ found_at ds e rest sorted
+    get-entries store e.0 ∙ ap (find id_cmp e.0) parts ∙ found_at ds e rest (sorted_as id_cmp (entries_sorted store) parts)
 
 -- ---- a program above those of a store
 
@@ -290,10 +279,6 @@ module _ (known : Readings) where
   same_store s t p q e = same_entries_map s t (same_entries (entries s) (entries t) p q e)
 
 -- ---- a store that is written
-
-pub on_ok : {A F P Q : Type 0} (r : Result A F) → OnOk r P → (P → Q) → OnOk r Q
-on_ok (Ok x) h f = f h
-on_ok (Err e) h f = tt
 
 pub codes_len : (store : Programs) → length (store_codes store) ≡ len store
 codes_len store = mapped_len code_text (entries store) ∙ sym (len-entries store)

@@ -18,6 +18,7 @@ use Rattle.exchange_codec.specs.declared.fault.ItemFault.TheVariants as item
 use Rattle.exchange_codec.specs.declared.fault.MessageFault.TheVariants as message
 use Rattle.exchange_codec.specs.Reading.{◌>>=◌, wrong, number_at, bytes_at, count_at, ended}
 use Rattle.exchange_codec.specs.Names.{name_bytes, name_at}
+pub use Rattle.exchange_codec.specs.Rows.{sized_code}
 use Rattle.exchange_codec.specs.Rows.{max_code, ResolverText, ByBuiltin, Named, Code, RowText, row_bytes, row_at, IsRow}
 use Rattle.replica.specs.declared.edit.Edit.{Edit}
 use Rattle.replica.specs.declared.edit.Edit.TheVariants.{Register, Unregister, Upload, Limit, Begin}
@@ -71,10 +72,6 @@ plain_row name r = record {
   extra = r.extra;
   resolver = plain r.resolver;
 }
-
--- the code of a program
-abbrev pub sized_code : List ℕ → List ℕ
-sized_code code = to_le_bytes w32 (length code) ++ code
 
 abbrev pub edit_bytes : EditText → List ℕ
 edit_bytes (Registers name registration) = 0 ∷ row_bytes (plain_row name registration)

@@ -1,20 +1,16 @@
 //! The fields of an entry, written.
-ghost use Rattle.std.specs.Prelude.{◌≡◌, ◌≤◌, ◌++◌, OnOk, length};
-ghost use Rattle.std.specs.Arc.{arc_value};
+ghost use Rattle.std.specs.Prelude.{◌≡◌, ◌++◌, OnOk};
 ghost use Rattle.std.specs.List.{flat_map};
 ghost use Rattle.insn_codec.specs.Encoding.{insn_bytes};
 ghost use Rattle.upload_store.specs.Programs.{IsProgram};
-ghost use Rattle.exchange_codec.specs.Rows.{IsResolver, max_code, resolver_bytes};
-ghost use Rattle.replica_codec.specs.Entries.{IsEditText, IsKeptEdit, IsPosition, Registers, Uploads, edit_bytes, edit_text, plain, position_bytes, sized_code};
+ghost use Rattle.exchange_codec.specs.Rows.{IsResolver, resolver_bytes};
+ghost use Rattle.replica_codec.specs.Entries.{IsEditText, IsKeptEdit, IsPosition, Registers, Uploads, edit_bytes, edit_text, plain, position_bytes};
 
 use clash_record::{Name, Registration, ResolverId};
-use exchange_codec::{place_of, push_fields, push_name, push_u32, push_u64};
-use insn_codec::encode;
+use exchange_codec::{place_of, push_code, push_fields, push_name, push_u32, push_u64};
 use replica::{Edit, Position};
 use std::alloc::{AllocError, Global};
-use std::sync::Arc;
 use upload_store::Upload;
-use verifier::Verified;
 
 /// Writes a position at the end.
 pub(crate) fn push_position(out: &mut Vec<u8>, at: Position) -> Result<(), AllocError>
@@ -93,18 +89,4 @@ fn push_upload(alloc: Global, out: &mut Vec<u8>, upload: &Upload) -> Result<(), 
     upload.id();
     out.push(2)?;
     push_code(alloc, out, upload.program())
-}
-
-/// Writes the code of a program at the end.
-pub(crate) fn push_code(
-    alloc: Global,
-    out: &mut Vec<u8>,
-    program: &Arc<Verified>,
-) -> Result<(), AllocError>
-    ensures written { OnOk result (out.new.items ≡ out.old.items ++ sized_code (flat_map insn_bytes (arc_value program.now))) }
-    ensures fits { OnOk result (length (flat_map insn_bytes (arc_value program.now)) ≤ max_code) }
-{
-    let code = encode(alloc, program.code())?;
-    push_u32(out, code.len() as u32)?;
-    out.extend_from_slice(&code)
 }

@@ -11,10 +11,9 @@ use crate::edits::{push_edit, push_position};
 use crate::fault::ReplicaMessageFault;
 use crate::frames::{ENTRY, framed, started};
 use crate::texts::entry_of;
-use insn_codec::one_reading_theorem;
+use exchange_codec::one_program_theorem;
 use replica::Entry;
 use std::alloc::{AllocError, Global};
-use verifier::{Profile, one_verdict_theorem};
 
 // The most bytes in the body of an entry without code: a position, and a registration by a program.
 const ROOM: usize = 28 + 1 + 33 + 40 + 33;
@@ -51,9 +50,8 @@ pub fn decode_entry(alloc: Global, bytes: &[u8]) -> Result<Entry, ReplicaMessage
     ensures reported { (fault : ReplicaMessageFault) → IsEntryFault bytes.now fault
         → ReturnsOrRunsOut replica_message_fault_number result (Err fault) }
 {
-    // For the proof: bytes have one reading, and code has one verdict.
-    one_reading_theorem();
-    one_verdict_theorem::<Profile>();
+    // For the proof: code has one reading and one verdict.
+    one_program_theorem();
     match entry_of(bytes) {
         Ok(text) => entry_by(alloc, &text),
         Err(fault) => Err(fault),

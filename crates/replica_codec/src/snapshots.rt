@@ -18,12 +18,11 @@ use crate::frames::{SNAPSHOT, SUM, framed, started};
 use crate::snapshot_texts::{SnapshotText, text_of};
 use crate::stores::{push_codes, store_of};
 use exchange_codec::{
-    MessageFault, decode_table, one_table_theorem, push_table, push_u32, push_u64,
+    MessageFault, decode_table, one_program_theorem, one_table_theorem, push_table, push_u32,
+    push_u64,
 };
-use insn_codec::one_reading_theorem;
 use replica::{Half, Snapshot};
 use std::alloc::{AllocError, Global};
-use verifier::{Profile, one_verdict_theorem};
 
 // The bytes of a row with a name of 22 bytes and a built-in resolver: the room that a row gets before it is written.
 const ROW: usize = 64;
@@ -79,9 +78,8 @@ pub fn decode_snapshot(alloc: Global, bytes: &[u8]) -> Result<Snapshot, ReplicaM
     ensures reported { (fault : ReplicaMessageFault) → IsSnapshotFault bytes.now fault
         → ReturnsOrRunsOut replica_message_fault_number result (Err fault) }
 {
-    // For the proof: bytes have one reading, code has one verdict, and bytes spell one table.
-    one_reading_theorem();
-    one_verdict_theorem::<Profile>();
+    // For the proof: code has one reading and one verdict, and bytes spell one table.
+    one_program_theorem();
     one_table_theorem();
     match text_of(alloc, bytes) {
         Ok((text, rest)) => {

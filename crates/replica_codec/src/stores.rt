@@ -12,10 +12,9 @@ ghost use Rattle.replica_codec.specs.SnapshotsText.{codes_view};
 ghost use Rattle.replica_codec.specs.Stores.{IsStoresFault, IsCodesFault, HasCode};
 
 use crate::building::upload_of;
-use crate::edits::push_code;
 use crate::fault::ReplicaMessageFault;
 use clash_record::ProgramId;
-use exchange_codec::{ItemFault, MessageFault, push_u32};
+use exchange_codec::{ItemFault, MessageFault, push_code, push_u32};
 use std::alloc::{AllocError, Global};
 use upload_store::UploadStore;
 

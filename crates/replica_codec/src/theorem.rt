@@ -7,9 +7,7 @@ ghost use Rattle.replica.specs.Halves as halves;
 ghost use Rattle.replica_codec.specs.Entries.{SpellsEntry, IsEntryFault};
 ghost use Rattle.replica_codec.specs.Snapshots.{SpellsSnapshot, IsSnapshotFault};
 
-use exchange_codec::one_table_theorem;
-use insn_codec::one_reading_theorem;
-use verifier::{Profile, one_verdict_theorem};
+use exchange_codec::{one_program_theorem, one_table_theorem};
 
 /// States that bytes spell at most one entry, that bytes that spell one have no fault, that bytes have at most one fault, and
 /// that an entry has one spelling. Does nothing at run time.
@@ -22,9 +20,8 @@ pub fn one_entry_theorem()
     ensures one_spelling { (bytes other : List ℕ) → (e : Entry) → SpellsEntry bytes e → SpellsEntry other e
         → bytes ≡ other }
 {
-    // For the proof: bytes have one reading, and code has one verdict.
-    one_reading_theorem();
-    one_verdict_theorem::<Profile>();
+    // For the proof: code has one reading and one verdict.
+    one_program_theorem();
 }
 
 /// States the same of snapshots. Does nothing at run time.
@@ -38,8 +35,7 @@ pub fn one_snapshot_theorem()
     ensures one_spelling { (bytes other : List ℕ) → (s : law.Snapshot halves.Half) → SpellsSnapshot bytes s
         → SpellsSnapshot other s → bytes ≡ other }
 {
-    // For the proof: bytes have one reading, code has one verdict, and bytes spell one table.
-    one_reading_theorem();
-    one_verdict_theorem::<Profile>();
+    // For the proof: code has one reading and one verdict, and bytes spell one table.
+    one_program_theorem();
     one_table_theorem();
 }

@@ -8,7 +8,7 @@ use Rattle.clash_record.specs.declared.registrations.Builtin.TheVariants.{Exit, 
 use Rattle.exchange_codec.specs.declared.fault.FieldFault.TheVariants as wrongs
 use Rattle.exchange_codec.specs.Reading.{◌>>=◌, number_at, bytes_at, count_at}
 use Rattle.exchange_codec.specs.Names.{name_bytes, name_at}
-use Rattle.exchange_codec.specs.Rows.{max_code, ResolverText, ByBuiltin, Named, Code, RowText, resolver_bytes, owner_bytes, row_bytes, IsResolver, IsRow, resolver_at, owner_at, row_at}
+use Rattle.exchange_codec.specs.Rows.{max_code, ResolverText, ByBuiltin, Named, Code, RowText, sized_code, resolver_bytes, owner_bytes, row_bytes, IsResolver, IsRow, resolver_at, owner_at, row_at}
 use Rattle.exchange_codec.specs.laws.Fields.{IsBytes, IsBytes-drop, IsBytes-rest, bind_ok, guard_ok, ok_is, Takes, Takes-then, wide32, wide64, number_takes, number_again, count_takes, count_again}
 use Rattle.exchange_codec.specs.laws.Names.{name_takes, name_again}
 
@@ -26,6 +26,17 @@ pub bytes_again : (n : ℕ) (text rest : List ℕ) → length text ≡ n → byt
 bytes_again n text rest e =
     let long : ltb (length (text ++ rest)) n ≡ false = le-ltb _ _ (omega (arith, length-append text rest)) in
     rw (long, take_at text rest n e, drop_at text rest n e) refl
+
+-- ---- code
+
+pub sized_takes : (bytes : List ℕ) (len : ℕ × List ℕ) (code : List ℕ × List ℕ) → IsBytes bytes
+    → count_at max_code bytes ≡ Ok len → bytes_at len.0 len.1 ≡ Ok code
+    → Takes bytes (sized_code code.0) code.1 × (length code.0 ≤ max_code)
+sized_takes bytes len code fits counted read =
+    let t0 = count_takes max_code bytes len.0 len.1 fits counted in
+    let t1 = bytes_take len.0 len.1 code t0.0.rest_fits read in
+    let size = subst (λ (k : ℕ). Takes bytes (to_le_bytes w32 k) len.1) (sym t1.1) t0.0 in
+    (Takes-then bytes (to_le_bytes w32 (length code.0)) len.1 code.0 code.1 size t1.0, omega (arith, t0.1, t1.1))
 
 -- ---- owners
 
@@ -76,12 +87,8 @@ resolver_takes (suc (suc (suc zero)) ∷ rest) x fits e =
 resolver_takes (suc (suc (suc (suc zero))) ∷ rest) x fits e =
     let a = bind_ok (count_at max_code rest) (λ len. bytes_at len.0 len.1 >>= λ code. Ok (Code code.0, code.1)) x e in
     let b = bind_ok (bytes_at a.0.0 a.0.1) (λ code. Ok (Code code.0, code.1)) x a.2 in
-    let t0 = count_takes max_code rest a.0.0 a.0.1 (IsBytes-rest 4 rest fits) a.1 in
-    let t1 = bytes_take a.0.0 a.0.1 b.0 t0.0.rest_fits b.1 in
-    let counted : Takes rest (to_le_bytes w32 (length b.0.0)) a.0.1 = subst (λ (k : ℕ). Takes rest (to_le_bytes w32 k) a.0.1) (sym t1.1) t0.0 in
-    let few : length b.0.0 ≤ max_code = omega (arith, t0.1, t1.1) in
-    subst (Read (4 ∷ rest)) (ok_is (Code b.0.0, b.0.1) x b.2)
-    (behind 4 rest (to_le_bytes w32 (length b.0.0) ++ b.0.0) b.0.1 (Takes-then rest (to_le_bytes w32 (length b.0.0)) a.0.1 b.0.0 b.0.1 counted t1.0), few)
+    let t = sized_takes rest a.0 b.0 (IsBytes-rest 4 rest fits) a.1 b.1 in
+    subst (Read (4 ∷ rest)) (ok_is (Code b.0.0, b.0.1) x b.2) (behind 4 rest (sized_code b.0.0) b.0.1 t.0, t.1)
 resolver_takes (suc (suc (suc (suc (suc n)))) ∷ rest) x fits e = absurd cc
 
 resolver_again : (r : ResolverText) (rest : List ℕ) → IsResolver r → resolver_at (resolver_bytes r ++ rest) ≡ Ok (r, rest)

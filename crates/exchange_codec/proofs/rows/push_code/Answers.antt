@@ -15,4 +15,4 @@ pub returns-clause-fits : goal.returns-clause-fits
 returns-clause-fits c =
     let same = c.code.ensures.code ∙ c.deref.ensures in
     let len = ap (λ code. length (flat_map insn_bytes code)) (sym same) ∙ code_len c.code.result.now in
-    on_any c.extend_from_slice.result (rw c.in-Some.is (omega (arith, len, c.in_ok-code.ensures.spelled.is_code.few)))
+    on_any c.extend_from_slice.result (omega (arith, len, c.in_ok-code.ensures.spelled.is_code.few))

@@ -1,12 +1,13 @@
-use Rattle.exchange_codec.proofs.TableLaws.{on_ok, table_written, table_text_fits}
+use Rattle.std.proofs.lemmas.Result.{on_ok_weaker}
+use Rattle.exchange_codec.proofs.TableLaws.{table_written, table_text_fits}
 use Rattle.exchange_codec.proofs.tables.push_table.Goals as goal
 
 pub returns-clause-written : goal.returns-clause-written
 returns-clause-written c =
-    on_ok c.push_rows.result c.push_rows.ensures.written (λ wrote.
+    on_ok_weaker c.push_rows.result (λ wrote.
     table_written c.args.table.now c.len.result c.args.out.now.items c.push_u32.new.out.items c.push_rows.new.out.items
-    c.len.ensures.count c.in_ok-push_u32.ensures wrote)
+    c.len.ensures.count c.in_ok-push_u32.ensures wrote) c.push_rows.ensures.written
 
 pub returns-clause-fits : goal.returns-clause-fits
 returns-clause-fits c =
-    on_ok c.push_rows.result c.push_rows.ensures.fit (λ fit. table_text_fits c.args.table.now c.len.ensures.kept fit)
+    on_ok_weaker c.push_rows.result (λ fit. table_text_fits c.args.table.now c.len.ensures.kept fit) c.push_rows.ensures.fit

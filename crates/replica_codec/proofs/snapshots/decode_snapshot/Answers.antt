@@ -1,12 +1,10 @@
-use Rattle.std.proofs.Common.{ℕ, ◌-◌, length, Err, arith, ap, ◌∙◌}
-use Rattle.refusals.specs.Answers.{HasCause}
-use Rattle.exchange_codec.specs.laws.Programs.{readings}
-use Rattle.replica_codec.specs.Faults.{replica_message_fault_number}
-use Rattle.replica_codec.specs.Snapshots.{IsSnapshotFault}
+use Rattle.std.proofs.Common.{ℕ, ◌-◌, List, length, Err, arith, ap, ◌∙◌}
+use Rattle.replica_codec.specs.Snapshots.{SnapshotText}
 use Rattle.replica_codec.specs.SnapshotsText.{text_view}
 use Rattle.replica_codec.proofs.StoreLaws.{views_len}
 use Rattle.replica_codec.proofs.SnapshotLaws.{text_spelled}
-use Rattle.replica_codec.proofs.SnapshotAnswers.{Tables, is_spelled, is_refused, is_taken, is_told, read_fault}
+use Rattle.replica_codec.proofs.SnapshotAnswers.{tables, snapshots, is_spelled, is_refused, read_fault}
+use Rattle.replica_codec.proofs.Reports.{reports}
 use Rattle.replica_codec.proofs.snapshots.decode_snapshot.Goals as goal
 
 pub snapshot_by-requires-clause-few : goal.snapshot_by-requires-clause-few
@@ -23,38 +21,18 @@ snapshot_by-requires-clause-limit c =
 
 pub returns-in-Ok : goal.returns-in-Ok
 returns-in-Ok c =
-    let reading = c.one_reading_theorem.ensures in
-    let verdict = c.one_verdict_theorem.ensures in
-    let known = readings reading.either reading.one_code reading.one_fault verdict.either verdict.one_refusal in
-    let table = c.one_table_theorem.ensures in
-    let tables : Tables = record { one = table.tables; either = table.either; one_fault = table.one_fault } in
     let bytes = c.args.bytes.now in
-    let spelled = is_spelled bytes (text_view c.in-Ok.text, c.in-Ok.rest.now) c.snapshot_by.result (λ i. omega (arith, c.type_inv.bytes i))
-    c.in-Ok.ensures c.snapshot_by.ensures.built in
-    let refused = is_refused bytes (text_view c.in-Ok.text, c.in-Ok.rest.now) c.saturating_sub-place.result c.snapshot_by.result
-    c.in-Ok.ensures
+    let table = c.one_table_theorem.ensures in
+    let text : SnapshotText × List ℕ = (text_view c.in-Ok.text, c.in-Ok.rest.now) in
+    reports (snapshots c.one_program_theorem.ensures (tables table.tables table.either table.one_fault) bytes) c.snapshot_by.result
+    (is_spelled bytes text c.snapshot_by.result (λ i. omega (arith, c.type_inv.bytes i)) c.in-Ok.ensures c.snapshot_by.ensures.built)
+    (is_refused bytes text c.saturating_sub-place.result c.snapshot_by.result c.in-Ok.ensures
     (c.saturating_sub-place.ensures ∙ ap (λ (k : ℕ). k - length c.in-Ok.rest.now) c.saturating_sub.ensures)
-    c.snapshot_by.ensures.refused in
-    record {
-      spelled = spelled;
-      taken = λ snapshot s. is_taken known tables bytes c.snapshot_by.result spelled refused snapshot s;
-      refused = refused;
-      reported = λ fault h. is_told known tables bytes c.snapshot_by.result spelled refused fault h;
-    }
+    c.snapshot_by.ensures.refused)
 
 pub returns-in-Err : goal.returns-in-Err
 returns-in-Err c =
-    let reading = c.one_reading_theorem.ensures in
-    let verdict = c.one_verdict_theorem.ensures in
-    let known = readings reading.either reading.one_code reading.one_fault verdict.either verdict.one_refusal in
-    let table = c.one_table_theorem.ensures in
-    let tables : Tables = record { one = table.tables; either = table.either; one_fault = table.one_fault } in
     let bytes = c.args.bytes.now in
-    let refused : HasCause replica_message_fault_number (IsSnapshotFault bytes) c.in-Err.fault =
-    read_fault bytes c.in-Err.fault c.in-Err.ensures in
-    record {
-      spelled = tt;
-      taken = λ snapshot s. is_taken known tables bytes (Err c.in-Err.fault) tt refused snapshot s;
-      refused = refused;
-      reported = λ fault h. is_told known tables bytes (Err c.in-Err.fault) tt refused fault h;
-    }
+    let table = c.one_table_theorem.ensures in
+    reports (snapshots c.one_program_theorem.ensures (tables table.tables table.either table.one_fault) bytes) (Err c.in-Err.fault) tt
+    (read_fault bytes c.in-Err.fault c.in-Err.ensures)
