@@ -1,21 +1,21 @@
 //! The words that narrate a healing to a person.
 ghost use Rattle.std.specs.Prelude.{◌≡◌, ◌++◌, codes};
-ghost use Rattle.std.specs.List.{flat_map};
 ghost use Rattle.std.specs.Fmt.{decimal};
 ghost use Rattle.device.specs.Sending.{SendsOn};
 ghost use Rattle.cluster.specs.Healings.{healing_of};
-ghost use Rattle.scripts.specs.Healed.{each_text, notices_by};
+ghost use Rattle.scripts.specs.Healed.{each_text};
 ghost use Rattle.scripts.specs.Machines.{machine_of};
 ghost use Rattle.scripts.specs.Narrated.{keeper_words, narration, notice_words, owners_words, registration_words, verdict_words};
 
+use crate::healed::{Form, print_clashes};
 use crate::labels::{Label, resolver_text};
 use crate::machine::Machine;
-use builtin_resolvers::{Notice, Verdict3, notices};
-use clash_record::{Name, Registration, ResolverId};
+use builtin_resolvers::{Notice, Verdict3};
+use clash_record::{Name, Registration};
 use cluster::Healing;
 use device::{DeviceFault, send_after};
 use exchange_core::Judged;
-use partition_table::{Clash, ClashList};
+use partition_table::Clash;
 use script_text::{print_notice, print_number, print_owner};
 use std::io::Write;
 
@@ -32,48 +32,29 @@ impl Machine {
             (narration (machine_of self.now).labels) (healing_of healing.now).clashes (healing_of healing.now).rulings)
             result }
     {
-        narrate_clashes(
+        print_clashes(
             sent,
             writer,
-            &self.labels,
+            Form::Narration(&self.labels),
             healing.clashes(),
             healing.rulings(),
         )
     }
 }
 
-// Narrates the clashes, each with its ruling.
-fn narrate_clashes<W: Write>(
-    sent: Result<(), DeviceFault>,
-    writer: &mut W,
-    labels: &[Label],
-    clashes: &ClashList,
-    rulings: &[Judged],
-) -> Result<(), DeviceFault>
-    ensures { SendsOn sent (W.contents writer.old) (W.contents writer.new)
-        (each_text (narration labels.now) clashes.now rulings.now) result }
-{
-    let mut sent = sent;
-    for (clash, judged) in clashes.iter().zip(rulings) {
-        sent = narrate_clash(sent, writer, labels, clash, *judged);
-    }
-    sent
-}
-
 // Narrates a clash with its ruling.
-fn narrate_clash<W: Write>(
+pub(crate) fn narrate_ruling<W: Write>(
     sent: Result<(), DeviceFault>,
     writer: &mut W,
     labels: &[Label],
     clash: &Clash,
     judged: Judged,
 ) -> Result<(), DeviceFault>
-    ensures { SendsOn sent (W.contents writer.old) (W.contents writer.new) (narration labels.now clash.now judged)
-        result }
+    ensures { SendsOn sent (W.contents writer.old) (W.contents writer.new)
+        (owners_words clash.now ++ verdict_words labels.now clash.now judged) result }
 {
-    let mut sent = narrate_owners(sent, writer, clash);
-    sent = narrate_verdict(sent, writer, labels, clash, judged);
-    narrate_notices(sent, writer, clash, judged.answer)
+    let sent = narrate_owners(sent, writer, clash);
+    narrate_verdict(sent, writer, labels, clash, judged)
 }
 
 // Narrates the two registrations of a clash.
@@ -140,31 +121,8 @@ fn keeper_words(verdict: Verdict3) -> &'static [u8]
     }
 }
 
-// Narrates the notices of this verdict.
-fn narrate_notices<W: Write>(
-    sent: Result<(), DeviceFault>,
-    writer: &mut W,
-    clash: &Clash,
-    verdict: Verdict3,
-) -> Result<(), DeviceFault>
-    ensures { SendsOn sent (W.contents writer.old) (W.contents writer.new)
-        (flat_map (notice_words clash.now.name) (notices_by clash.now.first.resolver clash.now verdict)) result }
-{
-    let ResolverId::Builtin(builtin) = clash.resolver() else {
-        return sent;
-    };
-    let name = clash.name();
-    let (first, second) = (clash.first().owner, clash.second().owner);
-    let told = notices(builtin, name, first, second, verdict);
-    let mut sent = sent;
-    for notice in told.as_slice() {
-        sent = narrate_notice(sent, writer, name, notice);
-    }
-    sent
-}
-
 // Narrates a notice.
-fn narrate_notice<W: Write>(
+pub(crate) fn narrate_notice<W: Write>(
     sent: Result<(), DeviceFault>,
     writer: &mut W,
     name: &Name,

@@ -1,6 +1,7 @@
 //! A line and its answer.
 ghost use Rattle.std.specs.Prelude.{◌≡◌, ◌<◌, ◌-◌, ◌^◌, ℕ, List, Option, IfOk};
 ghost use Rattle.device.specs.Sending.{FlushesOn, Sends};
+ghost use Rattle.script_text.specs.Lines.{Short};
 ghost use Rattle.script_text.specs.Reading.{seen_line};
 ghost use Rattle.script_text.specs.Commands.{asked};
 ghost use Rattle.script_text.specs.Asking.{Heal, Upload};
@@ -43,26 +44,25 @@ pub(crate) fn serve<
         (W.contents writer.old) (W.contents writer.new) result }
 {
     machine.renew_long();
-    answer(crew, machine, writer, number, line, is_long)
+    if is_long {
+        return say(crew.narrator, writer, number, &Reply::refused(&LineTooLong));
+    }
+    answer(crew, machine, writer, number, line.as_slice())
 }
 
-// Carries out a line on a machine whose long journals are renewed, and writes its answer.
+// Carries out a line that fits on a machine whose long journals are renewed, and writes its answer.
 fn answer<T: Files + Threads + Wait + Sync + AllocGlobal, G: Gate + Sync, N: Narrator, W: Write>(
     crew: &Crew<'_, T, G, N>,
     machine: &mut Machine,
     writer: &mut W,
     number: u64,
-    line: &LineBuffer,
-    is_long: bool,
+    line: &[u8],
 ) -> Result<u8, DeviceFault>
     requires { (machine_of machine.old).latest < 2 ^ 64 - 1 }
-    ensures { ServesLine (machine_of machine.old) (machine_of machine.new) (seen_line is_long line.now) number
+    ensures { ServesLine (machine_of machine.old) (machine_of machine.new) (Short line.now) number
         (W.contents writer.old) (W.contents writer.new) result }
 {
-    if is_long {
-        return say(crew.narrator, writer, number, &Reply::refused(&LineTooLong));
-    }
-    match command_of(crew.rt.alloc(), line.as_slice()) {
+    match command_of(crew.rt.alloc(), line) {
         Err(fault) => say(crew.narrator, writer, number, &Reply::refused(&fault)),
         Ok(None) => say(crew.narrator, writer, number, &Reply::Silent),
         Ok(Some(command)) => obey(crew, machine, writer, number, &command),

@@ -4,7 +4,8 @@ use Rattle.std.proofs.lemmas.Slice.Zip.{zip_turn, zip_end}
 use Rattle.std.specs.Iterator.Adapters.{zip_first, zip_second}
 use Rattle.std.specs.Slice.Iter.{iter_rest}
 use Rattle.device.specs.Sending.{SendsOn}
-use Rattle.scripts.specs.Healed.{judged_text, clashes_text}
+use Rattle.scripts.specs.Healed.{each_text}
+use Rattle.scripts.specs.model.Forms.{judged_in}
 use Rattle.scripts.proofs.Judged.{one_judged, all_judged}
 use Rattle.scripts.proofs.Pieces.{then_sent}
 use Rattle.scripts.proofs.healed.print_clashes.Goals as goal
@@ -27,10 +28,10 @@ loop-clash-preserved g c =
     let clash = c.in-Some.clash.now in
     let judged = c.in-Some.judged.now in
     let both = then_sent c.args.sent c.loop-clash.sent c.print_judged-sent.result old middle new
-    (clashes_text (take n clashes) (take n rulings)) (judged_text clash judged) c.loop-clash.invariant
+    (each_text (judged_in c.args.form) (take n clashes) (take n rulings)) (judged_in c.args.form clash judged) c.loop-clash.invariant
     c.print_judged-sent.ensures in
-    let more = one_judged judged_text n clashes rulings clash judged turn.0 turn.1 (turn.2 clash) (turn.3 judged)
-    ∙ ap (λ (m : ℕ). clashes_text (take m clashes) (take m rulings))
+    let more = one_judged (judged_in c.args.form) n clashes rulings clash judged turn.0 turn.1 (turn.2 clash) (turn.3 judged)
+    ∙ ap (λ (m : ℕ). each_text (judged_in c.args.form) (take m clashes) (take m rulings))
     (sym (length_push c.loop-clash.yielded (c.in-Some.clash, c.in-Some.judged))) in
     subst (λ (l : List ℕ). SendsOn c.args.sent old new l c.print_judged-sent.result) more both
 
@@ -47,4 +48,4 @@ returns g c =
     c.next.ensures.steps in
     subst (λ (l : List ℕ). SendsOn c.args.sent (g.W.Write.contents c.args.writer.now)
     (g.W.Write.contents c.loop-clash.writer) l c.loop-clash.sent)
-    (all_judged judged_text (length c.loop-clash.yielded) clashes rulings all) c.loop-clash.invariant
+    (all_judged (judged_in c.args.form) (length c.loop-clash.yielded) clashes rulings all) c.loop-clash.invariant
