@@ -1,5 +1,7 @@
 -- How names' owners, sides and resolvers are printed.
-use Rattle.std.specs.Prelude.{ℕ, List, ◌++◌, codes}
+use Rattle.std.specs.Prelude.{ℕ, List, [], ◌∷◌, ◌++◌, Option, codes}
+use Rattle.std.specs.List.{find}
+use Rattle.std.specs.Str.{bytes_eq}
 use Rattle.std.specs.Fmt.{decimal}
 use Rattle.clash_record.specs.declared.registrations.Owner.{Owner}
 use Rattle.clash_record.specs.declared.registrations.Builtin.{Builtin}
@@ -16,6 +18,10 @@ abbrev pub builtin_text : Builtin → List ℕ
 builtin_text Exit = codes "exit"
 builtin_text Notify = codes "notify"
 builtin_text NotifyAll = codes "notify-all"
+
+-- the built-in resolver of a word
+abbrev pub builtin_of : List ℕ → Option Builtin
+builtin_of word = find (λ builtin. bytes_eq word (builtin_text builtin)) (Exit ∷ Notify ∷ NotifyAll ∷ [])
 
 -- a side
 abbrev pub side_text : SideId → List ℕ

@@ -1,7 +1,7 @@
 //! Registrations of names.
 ghost use Rattle.std.specs.Prelude.{◌≡◌, ◌↔◌, IsTrue, Some};
 ghost use Rattle.std.specs.declared.cmp.Ordering.TheVariants.{Less};
-ghost use Rattle.clash_record.specs.Texts.{builtin_text, owner_text};
+ghost use Rattle.clash_record.specs.Texts.{builtin_of, builtin_text, owner_text};
 
 use std::fmt;
 
@@ -48,15 +48,33 @@ pub enum Builtin {
     NotifyAll,
 }
 
+impl Builtin {
+    /// Returns its word: `exit`, `notify` or `notify-all`.
+    pub fn as_str(self) -> &'static str
+        ensures { result.now ≡ builtin_text self }
+    {
+        match self {
+            Builtin::Exit => "exit",
+            Builtin::Notify => "notify",
+            Builtin::NotifyAll => "notify-all",
+        }
+    }
+
+    /// Returns the built-in resolver of this word, if any.
+    pub fn of_word(word: &[u8]) -> Option<Builtin>
+        ensures { result ≡ builtin_of word.now }
+    {
+        let all = [Builtin::Exit, Builtin::Notify, Builtin::NotifyAll];
+        all.into_iter()
+            .find(|builtin| builtin.as_str().as_bytes() == word)
+    }
+}
+
 impl fmt::Display for Builtin {
     ghost output = { λ builtin. Some (builtin_text builtin) };
 
     fn fmt<W: fmt::Write>(&self, f: &mut fmt::Formatter<W>) -> fmt::Result {
-        match self {
-            Builtin::Exit => f.write_str("exit"),
-            Builtin::Notify => f.write_str("notify"),
-            Builtin::NotifyAll => f.write_str("notify-all"),
-        }
+        f.write_str(self.as_str())
     }
 }
 

@@ -139,10 +139,8 @@ impl Half {
 
 // The resolver that a word names: a built-in one, or a program by its id in hex digits.
 fn resolver_id(text: &str) -> Result<ResolverId, Refused> {
-    Ok(match text {
-        "exit" => ResolverId::Builtin(Builtin::Exit),
-        "notify" => ResolverId::Builtin(Builtin::Notify),
-        "notify-all" => ResolverId::Builtin(Builtin::NotifyAll),
-        _ => ResolverId::Program(program_id(text)?),
+    Ok(match Builtin::of_word(text.as_bytes()) {
+        Some(builtin) => ResolverId::Builtin(builtin),
+        None => ResolverId::Program(program_id(text)?),
     })
 }

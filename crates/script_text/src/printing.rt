@@ -137,7 +137,7 @@ pub fn print_withdrawal<W: Write>(
     ensures { SendsOn sent (W.contents writer.old) (W.contents writer.new) (withdrawal_line side name.now) result }
 {
     let mut sent = send_after(sent, writer, b"withdrew ");
-    sent = send_after(sent, writer, side_text(side));
+    sent = send_after(sent, writer, side.as_str().as_bytes());
     sent = send_after(sent, writer, b" ");
     sent = send_after(sent, writer, name.bytes());
     send_after(sent, writer, b"\n")
@@ -300,15 +300,6 @@ pub fn print_number<W: Write>(
 {
     let mut buffer = Buffer::new();
     send_after(sent, writer, buffer.format(number).as_bytes())
-}
-
-fn side_text(side: SideId) -> &'static [u8]
-    ensures { result.now ≡ side_text side }
-{
-    match side {
-        SideId::A => b"a",
-        SideId::B => b"b",
-    }
 }
 
 // Returns the text between the name of a clash and its word.

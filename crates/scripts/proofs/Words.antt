@@ -4,8 +4,9 @@ use Rattle.std.specs.Option.{option_map}
 use Rattle.std.specs.List.{find}
 use Rattle.clash_record.specs.declared.registrations.ProgramId.{ProgramId}
 use Rattle.clash_record.specs.declared.registrations.ResolverId.TheVariants.{Program}
+use Rattle.clash_record.specs.Texts.{builtin_of}
 use Rattle.scripts.specs.declared.labels.Label.{Label}
-use Rattle.scripts.specs.Machines.{builtin_of, labelled, or_label, resolver_of, resolver_text, is_program, label_text}
+use Rattle.scripts.specs.Machines.{labelled, or_label, resolver_of, resolver_text, is_program, label_text}
 
 pub by_label : (labels : List Label) (word : List ℕ) (found : Option Label)
     → builtin_of word ≡ None → found ≡ find (labelled word) labels

@@ -1,12 +1,13 @@
 -- The state of a script between its lines.
-use Rattle.std.specs.Prelude.{ℕ, Bool, List, [], if◌then◌else◌, codes, Option, Some, None}
+use Rattle.std.specs.Prelude.{ℕ, Bool, List, [], Option, Some, None}
 use Rattle.std.specs.Option.{option_map}
 use Rattle.std.specs.Ordering.{is_eq}
 use Rattle.std.specs.List.{find}
 use Rattle.std.specs.Str.{bytes_eq}
 use Rattle.std.specs.FinMap.{empty}
 use Rattle.clash_record.specs.Orders.{id_cmp}
-use Rattle.clash_record.specs.declared.registrations.Builtin.TheVariants.{Exit, Notify, NotifyAll}
+use Rattle.clash_record.specs.Texts.{builtin_of, builtin_text}
+use Rattle.clash_record.specs.declared.registrations.Builtin as built_in
 use Rattle.clash_record.specs.declared.registrations.ProgramId.{ProgramId}
 use Rattle.clash_record.specs.declared.registrations.ResolverId.{ResolverId}
 use Rattle.clash_record.specs.declared.registrations.ResolverId.TheVariants.{Builtin, Program}
@@ -39,15 +40,8 @@ new_machine limit = record { labels = []; programs = empty; cluster = new_cluste
 abbrev pub labelled : List ℕ → Label → Bool
 labelled word label = bytes_eq label.text word
 
--- what the words for the resolvers that are built in mean
-abbrev pub builtin_of : List ℕ → Option ResolverId
-builtin_of word =
-    if bytes_eq word (codes "exit") then Some (Builtin Exit)
-    else (if bytes_eq word (codes "notify") then Some (Builtin Notify)
-    else (if bytes_eq word (codes "notify-all") then Some (Builtin NotifyAll) else None))
-
-abbrev pub or_label : Option ResolverId → Option Label → Option ResolverId
-or_label (Some resolver) found = Some resolver
+abbrev pub or_label : Option built_in.Builtin → Option Label → Option ResolverId
+or_label (Some builtin) found = Some (Builtin builtin)
 or_label None found = option_map (λ label. Program label.program) found
 
 -- the resolver that a word names
@@ -63,7 +57,5 @@ label_text None = []
 
 -- how a resolver is called: a program by its first label
 abbrev pub resolver_text : List Label → ResolverId → List ℕ
-resolver_text labels (Builtin Exit) = codes "exit"
-resolver_text labels (Builtin Notify) = codes "notify"
-resolver_text labels (Builtin NotifyAll) = codes "notify-all"
+resolver_text labels (Builtin builtin) = builtin_text builtin
 resolver_text labels (Program id) = label_text (find (is_program id) labels)

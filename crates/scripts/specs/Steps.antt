@@ -40,7 +40,8 @@ use Rattle.cluster.specs.declared.fault.HealFault.{HealFault}
 use Rattle.scripts.specs.declared.labels.Label.{Label}
 use Rattle.scripts.specs.declared.reply.Reply.{Reply}
 use Rattle.scripts.specs.declared.reply.Reply.TheVariants.{Silent, Uploaded, Registered, Unregistered, Owned, Undefined, Refused}
-use Rattle.scripts.specs.Machines.{Machine, labelled, builtin_of, resolver_of}
+use Rattle.clash_record.specs.Texts.{builtin_of}
+use Rattle.scripts.specs.Machines.{Machine, labelled, resolver_of}
 use Rattle.scripts.specs.Replies.{Answer, Says, Shows, Heals}
 
 -- the line is refused, and nothing changes

@@ -2,6 +2,7 @@
 ghost use Rattle.std.specs.Prelude.{◌≡◌, if◌then◌else◌, not, ◌&&◌, is_none, [], Some, None};
 ghost use Rattle.std.specs.List.{find, list_any};
 ghost use Rattle.std.specs.Option.{option_map};
+ghost use Rattle.clash_record.specs.Texts.{builtin_of};
 ghost use Rattle.clash_record.specs.declared.registrations.ResolverId.TheVariants as by;
 ghost use Rattle.scripts.specs.Machines as machines;
 ghost use Rattle.scripts.specs.Machines.{is_program, labelled, resolver_text};
@@ -47,9 +48,9 @@ pub(crate) fn free_label(labels: &[Label], word: &[u8]) -> Option<Name>
 
 // Checks whether the word is neither for a resolver that is built in nor a label.
 fn is_unused(labels: &[Label], word: &[u8]) -> bool
-    ensures { result ≡ (is_none (machines.builtin_of word.now) && not (list_any (labelled word.now) labels.now)) }
+    ensures { result ≡ (is_none (builtin_of word.now) && not (list_any (labelled word.now) labels.now)) }
 {
-    builtin_of(word).is_none() && !is_label(labels, word)
+    Builtin::of_word(word).is_none() && !is_label(labels, word)
 }
 
 // Checks whether the word is a label.
@@ -63,8 +64,8 @@ fn is_label(labels: &[Label], word: &[u8]) -> bool
 pub(crate) fn resolver_of(labels: &[Label], word: &[u8]) -> Option<ResolverId>
     ensures { result ≡ machines.resolver_of labels.now word.now }
 {
-    if let Some(resolver) = builtin_of(word) {
-        return Some(resolver);
+    if let Some(builtin) = Builtin::of_word(word) {
+        return Some(ResolverId::Builtin(builtin));
     }
     match label_of(labels, word) {
         Some(label) => Some(ResolverId::Program(label.program)),
@@ -84,7 +85,7 @@ pub(crate) fn resolver_text<'a>(labels: &'a [Label], resolver: &ResolverId) -> &
     ensures { result.now ≡ machines.resolver_text labels.now resolver.now }
 {
     match resolver {
-        ResolverId::Builtin(builtin) => builtin_text(*builtin),
+        ResolverId::Builtin(builtin) => builtin.as_str().as_bytes(),
         ResolverId::Program(program) => label_text(labels, program),
     }
 }
@@ -103,30 +104,5 @@ fn label_text<'a>(labels: &'a [Label], program: &ProgramId) -> &'a [u8]
     match first_label(labels, program) {
         Some(label) => label.text.bytes(),
         None => b"",
-    }
-}
-
-fn builtin_text(builtin: Builtin) -> &'static [u8]
-    ensures { result.now ≡ machines.resolver_text [] (by.Builtin builtin) }
-{
-    match builtin {
-        Builtin::Exit => b"exit",
-        Builtin::Notify => b"notify",
-        Builtin::NotifyAll => b"notify-all",
-    }
-}
-
-// Returns the built-in resolver that a word names.
-fn builtin_of(word: &[u8]) -> Option<ResolverId>
-    ensures { result ≡ machines.builtin_of word.now }
-{
-    if word == b"exit".as_slice() {
-        Some(ResolverId::Builtin(Builtin::Exit))
-    } else if word == b"notify".as_slice() {
-        Some(ResolverId::Builtin(Builtin::Notify))
-    } else if word == b"notify-all".as_slice() {
-        Some(ResolverId::Builtin(Builtin::NotifyAll))
-    } else {
-        None
     }
 }
