@@ -1,6 +1,6 @@
 -- A half after each call of an exchange.
-use Rattle.std.proofs.Common.{◌≡◌, ◌⊎◌, inl, inr, ℕ, zero, suc, Bool, true, false, ◌&&◌, if◌then◌else◌, List, [], ◌∷◌, ◌++◌, replicate, Option, Some, None, is_some, refl, sym, ap, ◌∙◌, subst, ⊎_elim, option_and_then}
-use Rattle.std.specs.Prelude.{slice_get, slice_set, unwrap_or}
+use Rattle.std.proofs.Common.{◌≡◌, ℕ, zero, suc, Bool, true, false, ◌&&◌, if◌then◌else◌, List, [], ◌∷◌, ◌++◌, Option, Some, None, is_some, refl, sym, ap, ◌∙◌, subst, option_and_then}
+use Rattle.std.specs.Prelude.{slice_get}
 use Rattle.std.specs.Option.{option_map_or}
 use Rattle.std.specs.List.{list_all}
 use Rattle.partition_table.specs.declared.judged.Judged.{Judged}
@@ -17,6 +17,7 @@ use Rattle.verdict_board.specs.Boards.{Pass}
 use Rattle.registry_lock.specs.Meeting.{AgreesWith}
 use Rattle.cluster.specs.model.Stages.{other, uptime_of, IsRested, offer_in, seen_by, HasHeard, IsUnderWay, IsTrying, HasFinished}
 use Rattle.exchange_law.specs.laws.Carried.{some_inj, when, unless, when_some, goes, found}
+use Rattle.exchange_law.specs.laws.Kept.{none_held, one_more_ruling}
 use Rattle.cluster.proofs.Held.{one_held}
 
 both_true : (a b : Bool) → (a && b) ≡ true → b ≡ true
@@ -24,35 +25,6 @@ both_true true b h = h
 both_true false b h = cc
 
 -- ---- the rulings that a half holds
-
-no_one : (n k : ℕ) (judged : Judged) → slice_get (replicate n None) k ≡ Some (Some judged) → ⊥
-no_one zero k judged e = cc
-no_one (suc n) zero judged e = cc (some_inj e)
-no_one (suc n) (suc k) judged e = no_one n k judged e
-
--- an element after a write is what was written, or stood there before
-at_set : {X : Type 0} (xs : List X) (i k : ℕ) (y z : X) → slice_get (slice_set xs i y) k ≡ Some z →
-    ((k ≡ i) × (y ≡ z)) ⊎ (slice_get xs k ≡ Some z)
-at_set [] i k y z e = inr e
-at_set (x ∷ xs) zero zero y z e = inl (refl, some_inj e)
-at_set (x ∷ xs) zero (suc k) y z e = inr e
-at_set (x ∷ xs) (suc i) zero y z e = inr e
-at_set (x ∷ xs) (suc i) (suc k) y z e = ⊎_elim (λ h. inl (ap suc h.0, h.1)) inr (at_set xs i k y z e)
-
--- a ruling more at its place
-put_holds : (holds : ℕ → Judged → Type 0) (rulings : List (Option Judged)) (k : ℕ) (judged : Judged) →
-    holds k judged → ((j : ℕ) (held : Judged) → slice_get rulings j ≡ Some (Some held) → holds j held) → (j : ℕ)
-    (held : Judged) → slice_get (put_ruling rulings k judged) j ≡ Some (Some held) → holds j held
-put_holds holds rulings k judged here before j held at =
-    by_test (is_some (unwrap_or (slice_get rulings k) None)) at
-  where
-    by_test : (b : Bool) → slice_get (if b then rulings else slice_set rulings k (Some judged)) j ≡ Some (Some held) →
-        holds j held
-    by_test true at = before j held at
-    by_test false at = ⊎_elim
-        (λ e. subst (λ (x : ℕ × Judged). holds x.0 x.1) (λ i. (sym e.0 i, some_inj e.1 i)) here)
-        (before j held)
-        (at_set rulings k j _ _ at)
 
 -- where a list has every ruling, these are they
 held_at : (rulings : List (Option Judged)) (k : ℕ) (judged : Judged) → list_all is_some rulings ≡ true →
@@ -139,7 +111,7 @@ module _ (plan : Plan) (was : Cluster) (holds : ℕ → Judged → Type 0) (id :
           (with_heard names before (heard_of side.id side.table before offer) u record {
             table = ap (λ (o : Offer). o.table) same;
             uptime = ap (λ (o : Offer). o.uptime) same;
-            rulings = λ k judged is. absurd (no_one _ k judged is);
+            rulings = λ k judged is. absurd (none_held _ k judged is);
           })
 
   pub takes : (names : List Name) (side new : Side) (number k : ℕ) (judged : Judged) → holds k judged →
@@ -158,7 +130,7 @@ module _ (plan : Plan) (was : Cluster) (holds : ℕ → Judged → Type 0) (id :
           (with_heard names before _ u record {
             table = h.table;
             uptime = h.uptime;
-            rulings = put_holds holds heard.rulings k judged one h.rulings;
+            rulings = one_more_ruling holds heard.rulings k judged one h.rulings;
           })
 
   pub withdraws : (names : List Name) (side new : Side) (name : Name) → withdraw side name ≡ Some new →

@@ -78,34 +78,29 @@ pub record BothOffers (number seed : ℕ) (all : List Clash) (past : Past) : Typ
   pub seed_b : b.seed ≡ seed
   pub all_is : clashes_between a b ≡ all
 
+found_both : {number seed uptime_a uptime_b : ℕ} {a b : Table} {past : Past} →
+    OfferFound A number seed uptime_a a past → OfferFound B number seed uptime_b b past →
+    BothOffers number seed (clashes a uptime_a b uptime_b) past
+found_both a b = record {
+  a = a.offer;
+  b = b.offer;
+  is_a = a.found;
+  is_b = b.found;
+  seed_a = a.seed_is;
+  seed_b = b.seed_is;
+  all_is = λ i. clashes (a.table_is i) (a.uptime_is i) (b.table_is i) (b.uptime_is i);
+}
+
 pub both_offers : (past : Past) → OneEach past → (id : SideId) (number seed uptime : ℕ) (own : Table)
     (other_uptime : ℕ) (others : Table) → Has past.offers (made id number seed uptime own) →
     Has past.offers (made (other id) number seed other_uptime others) →
     BothOffers number seed (clashes_for id own uptime others other_uptime) past
 both_offers past one A number seed uptime own other_uptime others ours theirs =
-    let a = found_offer past one A number seed uptime own ours in
-    let b = found_offer past one B number seed other_uptime others theirs in
-    record {
-      a = a.offer;
-      b = b.offer;
-      is_a = a.found;
-      is_b = b.found;
-      seed_a = a.seed_is;
-      seed_b = b.seed_is;
-      all_is = λ i. clashes (a.table_is i) (a.uptime_is i) (b.table_is i) (b.uptime_is i);
-    }
+    found_both (found_offer past one A number seed uptime own ours)
+    (found_offer past one B number seed other_uptime others theirs)
 both_offers past one B number seed uptime own other_uptime others ours theirs =
-    let a = found_offer past one A number seed other_uptime others theirs in
-    let b = found_offer past one B number seed uptime own ours in
-    record {
-      a = a.offer;
-      b = b.offer;
-      is_a = a.found;
-      is_b = b.found;
-      seed_a = a.seed_is;
-      seed_b = b.seed_is;
-      all_is = λ i. clashes (a.table_is i) (a.uptime_is i) (b.table_is i) (b.uptime_is i);
-    }
+    found_both (found_offer past one A number seed other_uptime others theirs)
+    (found_offer past one B number seed uptime own ours)
 
 module _ {number seed : ℕ} {all : List Clash} {past : Past} (o : BothOffers number seed all past) where
   -- what judging a clash of theirs in round 0 gives
