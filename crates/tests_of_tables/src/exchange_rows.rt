@@ -220,16 +220,10 @@ pub(crate) const HEARD_AGAIN: &[Row] = &[(A, Call::Hear(B, 1), None)];
 /// Side A takes the ruling of the only clash.
 pub(crate) const TAKEN: &[Row] = &[(A, Call::Take(1, 0, 0), None)];
 
-/// Side B takes the ruling, and both sides finish.
-pub(crate) const TAKEN_END: &[Row] = &[
+/// Side B takes the ruling.
+pub(crate) const TAKEN_ON_B: &[Row] = &[
     (B, Call::Hear(A, 1), None),
     (B, Call::Take(1, 0, 0), None),
-    (A, Call::CloseList, None),
-    (B, Call::CloseList, None),
-    (A, Call::HearList(B, 1), None),
-    (B, Call::HearList(A, 1), None),
-    (A, Call::Finish, None),
-    (B, Call::Finish, None),
 ];
 
 /// `db` is on both sides, `web` on side B alone.
@@ -295,7 +289,7 @@ pub(crate) const SETTLED: &[Row] = &[
 ];
 
 /// Both close and hear lists, and finish.
-pub(crate) const SETTLED_LEFT: &[Row] = &[
+pub(crate) const LISTS_AND_END: &[Row] = &[
     (A, Call::CloseList, None),
     (B, Call::CloseList, None),
     (A, Call::HearList(B, 1), None),

@@ -165,7 +165,8 @@ fn repeated_messages_change_nothing(rt: HostRuntime) {
         Part::Calls(rows::TAKEN),
         Part::Seen(Seen::Events(SideId::A, 6)),
         names,
-        Part::Calls(rows::TAKEN_END),
+        Part::Calls(rows::TAKEN_ON_B),
+        Part::Calls(rows::LISTS_AND_END),
         Part::Seen(Seen::Agreed),
         Part::Seen(Seen::Ruling(0, 0, Verdict3::First)),
         names,
@@ -235,7 +236,7 @@ fn sides_settle(rt: HostRuntime) {
         Part::Calls(rows::SETTLED),
         // Two names, the calls so far, and two rulings.
         Part::Seen(Seen::Events(SideId::A, 8)),
-        Part::Calls(rows::SETTLED_LEFT),
+        Part::Calls(rows::LISTS_AND_END),
         Part::Seen(Seen::Agreed),
         Part::Seen(Seen::Ruling(0, 1, Verdict3::Second)),
         Part::Seen(Seen::Ruling(1, 5, Verdict3::Second)),
