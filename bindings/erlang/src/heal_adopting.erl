@@ -12,7 +12,7 @@ place(On, #part{nodes = Nodes, links = Links}) ->
     case {Links, is_list(Nodes) andalso not lists:member(On, Nodes)} of
         {_, true} -> here;
         {#{On := #link{state = peer}}, _} -> {at, On};
-        {#{On := #link{state = unknown}}, _} -> unknown;
+        {#{On := #link{state = State}}, _} when State =:= unknown; State =:= deaf -> unknown;
         {#{On := _}, _} -> here;
         _ -> none
     end.

@@ -73,7 +73,7 @@ disown(Name, Part = #part{own = Own, lost = Lost}) ->
 -spec is_own(heal:name(), heal:owner(), #part{}) -> boolean().
 is_own(Name, Owner, #part{own = Own}) ->
     case Own of
-        #{Name := Row} -> owner(Row) =:= Owner;
+        #{Name := Row} -> heal_row:is_of(Owner, Row);
         _ -> false
     end.
 
@@ -95,7 +95,7 @@ conflicts(Losers, #half{names = Names}, Part = #part{own = Own}) ->
     end.
 
 is_rival(#row{pid = Pid}, #row{pid = Pid}) -> false;
-is_rival(Row, Other) -> owner(Row) =/= owner(Other).
+is_rival(Row, Other) -> not heal_row:are_of_one(Row, Other).
 
 %% Computes what changes on this node when its part takes this half from an exchange with these losers, or without one. The changes are
 %% those of its rows, unless they aren't known.
@@ -103,7 +103,7 @@ is_rival(Row, Other) -> owner(Row) =/= owner(Other).
 plan(Losers, #half{names = New}, Changes, Part = #part{own = Own}) ->
     #half{names = Old} = heal_state:half(Part),
     Lost = lost_by(Losers, Own),
-    Found = found(Own, New),
+    Found = found(Own, New, Lost),
     #plan{
         losers = Losers,
         own = Own,
@@ -117,13 +117,21 @@ plan(Losers, #half{names = New}, Changes, Part = #part{own = Own}) ->
         lacking = lacking(Found, Lost)
     }.
 
-%% The registrations, each with the row that the table has under its name.
-found(Own, Names) ->
-    [{Name, Row, maps:get(Name, Names, none)} || {Name, Row} <- maps:to_list(Own)].
+%% The registrations that the table doesn't have as they are, and those that an exchange has taken names from, each with the row that the
+%% table has under its name.
+found(Own, Names, Lost) ->
+    [{Name, Row, Other} || {Name, Row} <- maps:to_list(Own), Other <- other(Name, Row, Names, Lost)].
+
+other(Name, Row, Names, Lost) ->
+    case Names of
+        #{Name := Row} when not is_map_key(Name, Lost) -> [];
+        #{Name := Other} -> [Other];
+        _ -> [none]
+    end.
 
 %% The registrations that an exchange has taken names from.
 lost_by(Losers, Own) ->
-    maps:from_list([{Name, Loss} || {Name, Owner, Loss} <- Losers, #{Name := Row} <- [Own], owner(Row) =:= Owner]).
+    maps:from_list([{Name, Loss} || {Name, Owner, Loss} <- Losers, #{Name := Row} <- [Own], heal_row:is_of(Owner, Row)]).
 
 changes(Old, New) ->
     Put = [Entry || Entry = {Name, Row} <- maps:to_list(New), not (is_map_key(Name, Old) andalso map_get(Name, Old) =:= Row)],
@@ -154,12 +162,18 @@ swap(#plan{changes = {Put, Drop}, lost = Lost, moved = Moved, missing = Missing,
     lists:foldl(Hide, heal_state:add({keep, programs, All}, Shown), Strange).
 
 %% The rows that this node answered for and does no more.
-strange(Rows, Part) ->
+strange(Rows, Part = #part{own = Own}) ->
     Life = heal_state:life(Part),
-    [Entry || Entry = {Name, Row = #row{home = Home}} <- Rows, Home =:= Life, not is_own(Name, owner(Row), Part)].
+    [Entry || Entry = {Name, Row = #row{home = Home}} <- Rows, Home =:= Life, not is_one_of(Name, Row, Own)].
+
+is_one_of(Name, Row, Own) ->
+    case Own of
+        #{Name := Mine} -> heal_row:are_of_one(Mine, Row);
+        _ -> false
+    end.
 
 %% Another node answers for the same process under this name.
-is_moved(Row = #row{pid = Pid}, Other = #row{pid = Pid}) -> owner(Row) =/= owner(Other);
+is_moved(Row = #row{pid = Pid}, Other = #row{pid = Pid}) -> not heal_row:are_of_one(Row, Other);
 is_moved(_Row, _Other) -> false.
 
 %% Returns the edits that the part lacks: registrations and programs of this node, their changes, and names that it answers for no
@@ -167,7 +181,7 @@ is_moved(_Row, _Other) -> false.
 -spec differences(#part{}) -> [heal_edits:edit()].
 differences(Part = #part{own = Own, lost = Lost}) ->
     #half{names = Names} = heal_state:half(Part),
-    dropped(strange(maps:to_list(Names), Part)) ++ uploads(Part) ++ lacking(found(Own, Names), Lost).
+    dropped(strange(maps:to_list(Names), Part)) ++ uploads(Part) ++ lacking(found(Own, Names, Lost), Lost).
 
 %% The same right after a plan, of which most of it follows.
 -spec differences(plan(), #part{}) -> [heal_edits:edit()].
@@ -179,7 +193,7 @@ differences(_Plan, Part) ->
 lacking(Found, Lost) ->
     Restored = [{register, Name, Row} || {Name, Row, none} <- Found, not is_map_key(Name, Lost)],
     Changed = [{change, Name, owner(Row), maps:remove(owner, heal_row:registration(Row))}
-               || {Name, Row, Shown = #row{}} <- Found, Shown =/= Row, owner(Shown) =:= owner(Row), not is_map_key(Name, Lost)],
+               || {Name, Row, Shown = #row{}} <- Found, Shown =/= Row, heal_row:are_of_one(Shown, Row), not is_map_key(Name, Lost)],
     Restored ++ Changed.
 
 dropped(Strange) ->

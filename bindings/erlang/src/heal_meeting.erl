@@ -7,7 +7,7 @@
 
 -include("heal_part.hrl").
 
--export([meet/1, message/3, continue/2, touched/2, broken/1, failed_with/2, expired/1, withdraw/2, is_idle/1, name/1]).
+-export([meet/1, message/3, continue/2, touched/2, broken/1, announced/3, failed_with/2, expired/1, withdraw/2, is_idle/1, name/1]).
 -export_type([member/0, outcome/0]).
 
 -type member() :: {heal_replica:life(), Number :: non_neg_integer()}.
@@ -20,6 +20,11 @@
 
 %% A primary queries the smallest greater one that is connected, unless the last attempt has just failed.
 -spec meet(#part{}) -> #part{}.
+meet(Part = #part{heal = Heal}) when Heal =/= idle ->
+    case is_over(Heal, Part) of
+        true -> meet((cancel(Part))#part{heal = idle});
+        false -> Part
+    end;
 meet(Part = #part{heal = idle, prepared = #prepared{}}) ->
     meet(Part#part{prepared = none});
 meet(Part = #part{heal = idle, settle_by = none, limbo = none}) ->
@@ -30,14 +35,26 @@ meet(Part = #part{heal = idle, settle_by = none, limbo = none}) ->
 meet(Part) ->
     Part.
 
+%% The other node follows another one by now, and has given the exchange up.
+is_over(Heal, #part{peers = Peers}) ->
+    Node = with(Heal),
+    is_map_key(Node, Peers) andalso not heal_peers:is_primary(map_get(Node, Peers)).
+
+%% The other node of an exchange.
+with({_, #asking{node = Node}}) -> Node;
+with(#open{node = Node}) -> Node.
+
 %% Invites the primaries whose query this one has declined, now that it is ready. If the message is lost, they query again after a tick.
 invite(Part = #part{declined = Declined}) when Declined =:= #{} ->
     Part;
-invite(Part = #part{declined = Declined, peers = Peers}) ->
-    Left = maps:with(maps:keys(Peers), Declined),
-    Ready = maps:filter(fun(Node, {_, Members}) -> heal_peers:has_met(Members, maps:get(Node, Peers), Part) end, Left),
+invite(Part = #part{declined = Declined, links = Links, peers = Peers}) ->
+    Left = maps:with(maps:keys(Links), Declined),
+    Ready = maps:filter(fun(Node, {_, Members}) -> has_met(Node, Members, Part) end, maps:with(maps:keys(Peers), Left)),
     Send = fun(Node, {Reference, _}, Sum) -> heal_state:send(Node, {ready, Reference}, Sum) end,
     maps:fold(Send, Part#part{declined = maps:without(maps:keys(Ready), Left)}, Ready).
+
+has_met(Node, Members, Part = #part{peers = Peers}) ->
+    heal_peers:has_met(Members, maps:get(Node, Peers), Part).
 
 meet_one(Part = #part{node = Self, now = Now}) ->
     case [Node || {Node, Peer = #peer{retry = Retry, members = Members}} <- others(Part), Node > Self, Retry =< Now,
@@ -88,8 +105,13 @@ name(Part) -> case heal_view:members(Part) of [_] -> apart; _ -> joined end.
 
 %% Takes a message of an exchange. One that fits no open exchange is stale, and changes nothing.
 -spec message(node(), Body :: term(), #part{}) -> #part{}.
-message(Node, {ask, Reference, Members}, Part = #part{node = Self, peers = Peers}) when Node < Self, is_map_key(Node, Peers) ->
-    asked(Node, Reference, Members, Part);
+message(Node, {ask, Reference, Members}, Part = #part{node = Self, peers = Peers}) when Node < Self ->
+    Nodes = [Of || {{Of, _}, _} <- Members],
+    case Peers of
+        #{Node := _} -> asked(Node, Reference, Members, Nodes, Part);
+        %% It has heard of this node, and not the other way round.
+        _ -> heal_peers:hurry(Node, busy(Node, Reference, Nodes, Part))
+    end;
 message(Node, {hello, Reference, Greatest, Members}, Part = #part{heal = {asking, #asking{node = Node, reference = Reference}}}) ->
     %% Edits that have come meanwhile go first: they wait once the exchange is open.
     heal_state:later({begin_with, Reference, Greatest, Members}, ready_offer(a, [], Part));
@@ -144,9 +166,8 @@ continue(_Step, Part) ->
     Part.
 
 %% A smaller primary queries this one. It answers if it leads no exchange itself.
-asked(Node, Reference, Members, Part = #part{heal = Heal, settle_by = SettleBy, limbo = Limbo, peers = Peers}) ->
-    Nodes = [Of || {{Of, _}, _} <- Members],
-    HasMet = heal_peers:has_met(Nodes, maps:get(Node, Peers), Part),
+asked(Node, Reference, Members, Nodes, Part = #part{heal = Heal, settle_by = SettleBy, limbo = Limbo}) ->
+    HasMet = has_met(Node, Nodes, Part),
     case {Heal, heal_state:is_primary(Part)} of
         {#open{}, _} -> busy(Node, Reference, Nodes, Part);
         {{engaged, #asking{node = Other}}, _} when Other =/= Node -> busy(Node, Reference, Nodes, Part);
@@ -441,17 +462,23 @@ failed(Refusal, Node, Part = #part{exchange_timeout = Timeout}) ->
 broken(Part = #part{heal = idle}) ->
     Part;
 broken(Part = #part{heal = Heal, peers = Peers}) ->
-    Node = case Heal of {_, #asking{node = Asked}} -> Asked; #open{node = Other} -> Other end,
-    case Peers of
-        #{Node := _} -> Part;
-        _ -> Part#part{heal = idle}
+    case is_map_key(with(Heal), Peers) of
+        true -> Part;
+        false -> Part#part{heal = idle}
     end.
+
+%% A registry that starts has missed a query that was sent before: it is queried again.
+-spec announced(node(), heal_peers:here(), #part{}) -> #part{}.
+announced(Node, #{is_first := true}, Part = #part{heal = {asking, #asking{node = Node}}}) -> Part#part{heal = idle};
+announced(_Node, _Here, Part) -> Part.
 
 %% The registry of a node has failed, and starts again soon.
 -spec failed_with(node(), #part{}) -> #part{}.
-failed_with(Node, Part = #part{heal = #open{node = Node}}) -> Part#part{heal = idle};
-failed_with(Node, Part = #part{heal = {_, #asking{node = Node}}}) -> Part#part{heal = idle};
-failed_with(_Node, Part) -> Part.
+failed_with(Node, Part = #part{heal = Heal}) ->
+    case Heal =/= idle andalso with(Heal) of
+        Node -> Part#part{heal = idle};
+        _ -> Part
+    end.
 
 %% The other node doesn't answer in time.
 -spec expired(#part{}) -> #part{}.

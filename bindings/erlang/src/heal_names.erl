@@ -65,11 +65,15 @@ is_printable(Rest) -> Rest =:= <<>>.
 -spec options(map()) -> map().
 options(Options) when is_map(Options) ->
     case are_options(Options) of
-        true -> maps:merge(#{stamp => erlang:system_time(millisecond), weight => 0, extra => ?NOTHING}, resolved(Options));
+        true -> #{stamp => stamp(Options), weight => maps:get(weight, Options, 0), extra => maps:get(extra, Options, ?NOTHING),
+                  resolver => resolver(Options)};
         false -> error(badarg, [Options])
     end;
 options(Options) ->
     error(badarg, [Options]).
+
+stamp(#{stamp := Stamp}) -> Stamp;
+stamp(_Options) -> erlang:system_time(millisecond).
 
 %% Returns whether these are some of the options of a registration.
 -spec are_options(map()) -> boolean().
@@ -82,12 +86,12 @@ is_option({resolver, Builtin}) when is_atom(Builtin) -> lists:member(Builtin, [e
 is_option({resolver, {program, <<_:256>>}}) -> true;
 is_option(_Other) -> false.
 
-resolved(Options) when is_map_key(resolver, Options) ->
-    Options;
-resolved(Options) ->
+resolver(#{resolver := Resolver}) ->
+    Resolver;
+resolver(Options) ->
     Resolver = application:get_env(heal, resolver, exit),
     case is_option({resolver, Resolver}) of
-        true -> Options#{resolver => Resolver};
+        true -> Resolver;
         false -> error({bad_setting, resolver, Resolver}, [Options])
     end.
 

@@ -9,16 +9,15 @@
 -define(REMEMBERED, 1000).
 
 %% Decides what an edit does to the half: nothing, with this answer, or an edit of the replica.
-plan({register, Name, Row = #row{home = Home}}, Part = #part{lost = Lost}) ->
+plan({register, Name, Row = #row{home = Home}}, Part = #part{own = Own, lost = Lost}) ->
     Owner = heal_row:owner(Row),
-    case {heal_state:owner(Name, Part), heal_home:is_own(Name, Owner, Part), heal_home:is_taken(Name, Owner, Part)} of
-        {Owner, _, _} -> {answer, ok};
-        {_, true, _} -> {edit, {register, Name, Row}, ok};
-        {_, _, true} ->
-            %% Another registration of this node waits to be restored, or for its notice.
-            case not is_map_key(Name, Lost) orelse Home =:= heal_state:life(Part) of
-                true -> {answer, {error, 30}};
-                false -> {edit, {register, Name, Row}, ok}
+    case {heal_state:owner(Name, Part), Own} of
+        {Owner, _} -> {answer, ok};
+        {_, #{Name := Mine}} ->
+            %% Another registration of this node may wait to be restored, or for its notice.
+            case heal_row:is_of(Owner, Mine) orelse is_map_key(Name, Lost) andalso Home =/= heal_state:life(Part) of
+                true -> {edit, {register, Name, Row}, ok};
+                false -> {answer, {error, 30}}
             end;
         _ -> {edit, {register, Name, Row}, ok}
     end;

@@ -42,7 +42,10 @@
 }.
 -type event() ::
     {up, node(), visible | hidden}
-    | {down | stopped | absent | failed | unreachable | reachable, node()}
+    | {down | stopped | absent | failed, node()}
+    %% The connection has refused these bodies, the newest first; takes messages again; and has done so for a while.
+    | {refused, node(), Bodies :: [term()]}
+    | {drained | rested, node()}
     | {connecting | attempted, node()}
     | {version, node(), Version :: term()}
     | {message, node(), Body :: term()}
@@ -61,6 +64,8 @@
     | settle.
 -type action() ::
     {send, node(), Body :: term()}
+    %% What a connection has refused, which goes before what waits to be sent to the node.
+    | {again, node(), Bodies :: [term()]}
     %% Entries for these nodes, which may wait for later ones. A body that is sent to a node goes after them.
     | {post, [node()], Entries :: term()}
     | {reply, From :: term(), Answer :: term()}
@@ -115,11 +120,11 @@ taken(Part = #part{out = Out}) ->
 %% Takes the state of an earlier version over: the fields that it lacks are the last ones.
 -spec upgrade(Earlier :: part()) -> part().
 upgrade(Earlier) ->
-    Part = later(Earlier, record_info(size, part), [none, none, [], none, #{}, #{}]),
+    Part = later(Earlier, record_info(size, part), [none, none, [], none, #{}, #{}, #{}]),
     #part{replica = Replica, waiting = Waiting, requested = Requested, unreleased = Unreleased, adopting = Adopting} = Part,
     #part{arriving = Arriving, leaving = Leaving, storing = Storing, prepared = Prepared} = Part,
     Each = fun(_, Call) -> call(Call) end,
-    owned(tuple_size(Earlier) < tuple_size(Part), Part#part{
+    owned(tuple_size(Earlier) < #part.lost, Part#part{
         replica = heal_replica:upgrade(Replica),
         waiting = [call(Call) || Call <- Waiting],
         requested = maps:map(Each, Requested),
@@ -131,7 +136,7 @@ upgrade(Earlier) ->
         prepared = case Prepared of #prepared{} -> Prepared; _ -> none end
     }).
 
-%% A version before kept a registration that this node answers for with what became of it. Its exchange goes no further.
+%% A version before the field `lost' kept a registration that this node answers for with what became of it. Its exchange goes no further.
 owned(false, Part) ->
     Part;
 owned(true, Part = #part{own = Own, heal = Heal}) ->
@@ -178,8 +183,10 @@ event({Kind, Node}, Part) when Kind =:= connecting; Kind =:= attempted ->
     settled(heal_peers:Kind(Node, Part));
 event(Event = {Kind, Node}, Part) when Kind =:= down; Kind =:= stopped; Kind =:= absent ->
     act(heal_meeting:broken(heal_adopting:lost(Node, heal_peers:link(Event, Part))));
-event({reachable, Node}, Part) ->
-    act(heal_view:reachable(Node, Part));
+event({refused, Node, Bodies}, Part) ->
+    act(heal_congestion:refused(Node, Bodies, Part));
+event({Kind, Node}, Part) when Kind =:= drained; Kind =:= rested ->
+    act(heal_congestion:Kind(Node, Part));
 event({failed, Node}, Part) ->
     act(heal_meeting:failed_with(Node, Part));
 event(Event, Part) ->
@@ -198,11 +205,11 @@ message(Node, {adopted, Number, Answer}, Part) ->
 message(_Node, {released, Number, Owner}, Part) ->
     heal_arrivals:released(Number, Owner, Part);
 message(Node, {here, Here}, Part) ->
-    act(heal_peers:here(Node, Here, Part));
+    act(heal_view:heard(Node, Here, heal_meeting:announced(Node, Here, Part)));
 message(Node, {snapshot, Snapshot}, Part) ->
     act(heal_view:snapshot(Node, Snapshot, Part));
 message(Node, {want, View}, Part) ->
-    heal_view:wanted(Node, View, Part);
+    act(heal_view:wanted(Node, View, Part));
 message(Node, {finished, Seq, At, Requests, Edits}, Part) ->
     act(heal_view:joined(Node, {Seq, At, Requests, Edits}, Part));
 message(Node, {settled, At}, Part) ->

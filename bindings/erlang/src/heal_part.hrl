@@ -1,10 +1,10 @@
 %% What the modules of a part share: the state of one node's registry. It has no process, clock or table of its own.
 -include("heal_replica.hrl").
 
-%% A connected node: whether its registry has announced itself, has none, or is refused for this reason.
+%% A connected node: whether its registry has announced itself, has none, takes no requests, or is refused for this reason.
 -record(link, {
     type = visible :: visible | hidden,
-    state = unknown :: unknown | peer | absent | {refused, heal_peers:refusal(), Info :: term()}
+    state = unknown :: unknown | peer | absent | deaf | {refused, heal_peers:refusal(), Info :: term()}
 }).
 
 %% What another registry has announced last. `retry' is when to attempt the next exchange with it, and `failed' why the last one
@@ -109,10 +109,10 @@
     since = 0 :: non_neg_integer(),
     %% Of a backup: its primary is gone or has moved on, and it waits for another view until this time.
     limbo = none :: none | integer(),
-    %% The last announcement of its primary that it has acted on.
+    %% The last announcement of its primary that it has acted on, or knew when it entered the view.
     checked = 0 :: non_neg_integer(),
-    %% The operation after which an entry is missing, once a snapshot is on its way.
-    gap = none :: none | non_neg_integer(),
+    %% The operation after which an entry is missing, or the next view, once a snapshot is on its way.
+    gap = none :: none | non_neg_integer() | heal_replica:view(),
     %% Nodes that may have names, until which time edits wait for them.
     awaited = #{} :: #{node() => integer()},
     %% The greatest number of an exchange that this node began or took the outcome of.
@@ -140,5 +140,7 @@
     %% Primaries whose query this one has declined, with the nodes of their parts: it invites them once it is ready.
     declined = #{} :: #{node() => {Reference :: term(), [node()]}},
     %% Which of `own' an exchange gave to another process, while the notice waits.
-    lost = #{} :: #{heal:name() => heal_home:loss()}
+    lost = #{} :: #{heal:name() => heal_home:loss()},
+    %% Nodes whose connections are full, with the bodies that wait for them, the newest first; or have been a moment ago.
+    full = #{} :: #{node() => {refusing, Count :: non_neg_integer(), [Body :: term()]} | resting}
 }).

@@ -4,7 +4,8 @@
 -include("heal_part.hrl").
 
 -export([link/2, connecting/2, attempted/2, here/3, announce/1, announce_to/2, hurry/2, moved/4, pulse/1]).
--export([has_met/3, is_silent/2, is_connected/2, is_in_setting/2, is_primary/1, followers/1, retry/4, arrived/1, sync/1, report/1]).
+-export([has_met/3, is_silent/2, is_connected/2, is_in_setting/2, is_primary/1, followers/1, give_up/2, heard_of/2]).
+-export([retry/4, hopeful/2, arrived/1, sync/1, report/1]).
 -export_type([refusal/0, problems/0, here/0]).
 
 -define(STORE_FULL, 43).
@@ -36,18 +37,11 @@ link({up, Node, _Type}, Part = #part{links = Links}) when is_map_key(Node, Links
 link({up, Node, Type}, Part = #part{links = Links}) ->
     announce_to(Node, true, await(Node, Part#part{links = Links#{Node => #link{type = Type}}}));
 link({down, Node}, Part = #part{links = Links, awaited = Awaited}) ->
-    forget(Node, Part#part{links = maps:remove(Node, Links), awaited = maps:remove(Node, Awaited)});
+    forget(Node, heal_congestion:forget(Node, Part#part{links = maps:remove(Node, Links), awaited = maps:remove(Node, Awaited)}));
 link({version, Node, Version}, Part = #part{peers = Peers}) ->
     case Peers of
         #{Node := _} -> Part;
         _ -> announce_once(Node, {refused, version, Version}, Part)
-    end;
-link({unreachable, Node}, Part = #part{members = Members}) ->
-    %% The message is lost, and so are later ones until the node reads again.
-    case {heal_state:primary(Part), Members} of
-        {{Node, _}, _} -> forget(Node, mark(Node, absent, Part));
-        {_, #{Node := Member}} -> Part#part{members = Members#{Node := Member#member{is_lagging = true}}};
-        _ -> Part
     end;
 link({Kind, Node}, Part = #part{links = Links}) ->
     case {Kind, Links} of
@@ -55,6 +49,11 @@ link({Kind, Node}, Part = #part{links = Links}) ->
         {absent, #{Node := #link{state = {refused, _, _}}}} -> Part;
         _ -> forget(Node, mark(Node, absent, Part))
     end.
+
+%% Gives a node up that takes no requests, until it announces itself.
+-spec give_up(node(), #part{}) -> #part{}.
+give_up(Node, Part) ->
+    forget(Node, mark(Node, deaf, Part)).
 
 forget(Node, Part = #part{peers = Peers}) ->
     Part#part{peers = maps:remove(Node, Peers)}.
@@ -174,6 +173,12 @@ moved(Node, Seq, At, Part = #part{peers = Peers, now = Now}) ->
             false
     end.
 
+%% A message shows that a node doesn't hang.
+-spec heard_of(node(), #part{}) -> #part{}.
+heard_of(Node, Part = #part{peers = Peers, now = Now}) ->
+    #{Node := Peer} = Peers,
+    Part#part{peers = Peers#{Node := Peer#peer{heard = Now}}}.
+
 %% Returns why this node doesn't accept another one.
 refusal(_Node, #{scope := Other}, #part{scope = Own}) when Other =/= Own ->
     {scope, Other};
@@ -238,6 +243,14 @@ followers(Part = #part{peers = Peers}) ->
 retry(Node, Failed, After, Part = #part{peers = Peers, now = Now}) ->
     case Peers of
         #{Node := Peer} -> Part#part{peers = Peers#{Node := Peer#peer{retry = Now + After, failed = Failed}}};
+        _ -> Part
+    end.
+
+%% An exchange that has failed in silence is worth another attempt.
+-spec hopeful(node(), #part{}) -> #part{}.
+hopeful(Node, Part = #part{peers = Peers}) ->
+    case Peers of
+        #{Node := Peer = #peer{failed = silent}} -> Part#part{peers = Peers#{Node := Peer#peer{failed = none, retry = 0}}};
         _ -> Part
     end.
 

@@ -6,7 +6,7 @@
 
 -include("heal_replica.hrl").
 
--export([new/5, owner/1, resolver/1, registration/1, change/2, share/2, sent/1, received/2, upgrade/2]).
+-export([new/5, owner/1, is_of/2, are_of_one/2, resolver/1, registration/1, change/2, share/2, sent/1, received/2, upgrade/2]).
 -export_type([alike/0, sent/0, shared/0]).
 
 -define(NOTHING, <<0:128>>).
@@ -30,6 +30,16 @@ new(Name, Registration, Pid, Term, Home) ->
 %% Returns the owner.
 -spec owner(#row{}) -> heal:owner().
 owner(#row{serial = Serial, alike = {Node, _, _, _}}) -> {Node, Serial}.
+
+%% Returns whether this is the owner.
+-spec is_of(heal:owner(), #row{}) -> boolean().
+is_of({Node, Serial}, #row{serial = Serial, alike = {Node, _, _, _}}) -> true;
+is_of(_Owner, _Row) -> false.
+
+%% Returns whether two rows have one owner.
+-spec are_of_one(#row{}, #row{}) -> boolean().
+are_of_one(#row{serial = Serial, alike = {Node, _, _, _}}, #row{serial = Serial, alike = {Node, _, _, _}}) -> true;
+are_of_one(_Row, _Other) -> false.
 
 %% Returns the resolver.
 -spec resolver(#row{}) -> heal:resolver().

@@ -44,7 +44,9 @@
     %% Processes that have lost names, and aren't notified so far.
     losers = [] :: [{heal:name(), #row{}, heal_home:loss()}],
     %% Processes that wait until the connection to a node takes messages again.
-    waiters = #{} :: #{pid() => node()}
+    waiters = #{} :: #{pid() => node()},
+    %% What full connections have refused, the newest first.
+    refused = [] :: [{node(), Body :: term()}]
 }).
 
 %% Milliseconds until another attempt to start the process that writes.
@@ -265,8 +267,8 @@ ended(Monitor, _Pid, State = #server{log = {_, Monitor}}) ->
     unlogged(State);
 ended(_Monitor, Pid, State = #server{waiters = Waiters, part = Part}) when is_map_key(Pid, Waiters) ->
     {Node, Rest} = maps:take(Pid, Waiters),
-    _ = erlang:send_after(max(?RESPITE, heal_part:count(Part) div ?NAMES_OF_RESPITE), self(), {?REGISTRY, reachable, Node}),
-    State#server{waiters = Rest};
+    _ = erlang:send_after(max(?RESPITE, heal_part:count(Part) div ?NAMES_OF_RESPITE), self(), {?REGISTRY, rested, Node}),
+    event({drained, Node}, State#server{waiters = Rest});
 ended(Monitor, Pid, State = #server{reconnect = Reconnect, subscribers = Subscribers}) ->
     case heal_reconnect:attempted(Monitor, Reconnect) of
         {Node, Next} -> event({attempted, Node}, State#server{reconnect = Next});
@@ -279,10 +281,11 @@ own({?REGISTRY, ended, Node, Watch, Reason}, State = #server{watches = Watches})
         #{Node := Watch} -> registry_ended(Node, Reason, State#server{watches = maps:remove(Node, Watches)});
         _ -> State
     end;
-own({?REGISTRY, unreachable, Node}, State) ->
-    event({unreachable, Node}, waiting(Node, State));
-own({?REGISTRY, reachable, Node}, State) ->
-    event({reachable, Node}, State);
+own({?REGISTRY, refused}, State = #server{refused = Refused}) ->
+    ByNode = maps:groups_from_list(fun({Node, _}) -> Node end, fun({_, Body}) -> unbundled(Body) end, Refused),
+    lists:foldl(fun refused/2, State#server{refused = []}, maps:to_list(ByNode));
+own({?REGISTRY, rested, Node}, State) ->
+    event({rested, Node}, State);
 own({?REGISTRY, disk, Log, Ids, Lacking, Problem}, State = #server{log = {Log, _}}) ->
     event({disk, Ids, Lacking, Problem}, State);
 own({?REGISTRY, log}, State = #server{dir = Dir, log = none}) ->
@@ -347,7 +350,7 @@ timed(State = #server{part = Part, heap = Heap}) ->
 %% @private Takes the state of an earlier version over: the fields that it lacks are the last ones.
 code_change(_Version, State, _Extra) ->
     Lacks = record_info(size, server) - tuple_size(State),
-    Later = lists:nthtail(5 - Lacks, [none, none, heal_outbox:new(), [], #{}]),
+    Later = lists:nthtail(6 - Lacks, [none, none, heal_outbox:new(), [], #{}, []]),
     Server = #server{part = Part} = list_to_tuple(tuple_to_list(State) ++ Later),
     Monitors = element(#server.watched, State),
     {ok, relogged(rewatched(Monitors, element(#server.heap, State), Server#server{part = heal_part:upgrade(Part)}))}.
@@ -378,8 +381,20 @@ down(Node, State = #server{watches = Watches, reconnect = Reconnect, outbox = Ou
         #{Node := Watch} -> unlink(Watch), exit(Watch, kill);
         _ -> ok
     end,
-    event({down, Node}, State#server{watches = maps:remove(Node, Watches), reconnect = heal_reconnect:down(Node, Reconnect),
-                                     outbox = heal_outbox:forget(Node, Outbox)}).
+    event({down, Node}, empty(Node, State#server{watches = maps:remove(Node, Watches), reconnect = heal_reconnect:down(Node, Reconnect),
+                                                 outbox = heal_outbox:forget(Node, Outbox)})).
+
+%% The next connection to a node isn't full.
+empty(Node, State = #server{refused = Refused, waiters = Waiters}) ->
+    State#server{refused = [Entry || Entry = {Of, _} <- Refused, Of =/= Node],
+                 waiters = maps:filter(fun(_, Of) -> Of =/= Node end, Waiters)}.
+
+%% A connection has refused these bodies.
+refused({Node, Bodies}, State) ->
+    event({refused, Node, lists:append(Bodies)}, waiting(Node, State)).
+
+unbundled({bundle, Bodies}) -> lists:reverse(Bodies);
+unbundled(Body) -> [Body].
 
 %% A process sends a message that the other registry ignores, and ends once the connection has taken it. It runs no code of this module, so
 %% that it holds up no upgrade.
@@ -461,28 +476,50 @@ acts([{send, Node, Body} | Rest], Last, State = #server{outbox = Outbox}) ->
     case heal_wire:is_of_edit(Body) of
         true ->
             {Bodies, Next} = heal_outbox:put(Node, Body, Outbox),
-            acts(Rest, sent(Bodies, Last, State), State#server{outbox = Next});
+            {Made, Sent} = sent(Bodies, Last, State#server{outbox = Next}),
+            acts(Rest, Made, Sent);
         false ->
             {Before, Next} = heal_outbox:flush(Node, Outbox),
-            _ = sent(Before, none, State),
-            acts(Rest, sent([{Node, Body}], Last, State), State#server{outbox = Next})
+            {_, Flushed} = sent(Before, none, State#server{outbox = Next}),
+            {Made, Sent} = sent([{Node, Body}], Last, Flushed),
+            acts(Rest, Made, Sent)
     end;
+acts([{again, Node, Bodies} | Rest], Last, State) ->
+    {_, Sent} = sent([{Node, Body} || Body <- Bodies], none, State),
+    acts(Rest, Last, Sent);
 acts([Action | Rest], Last, State) ->
     acts(Rest, Last, act(Action, State)).
 
 %% Sends what waits.
 drained(State = #server{outbox = Outbox}) ->
     {Bodies, Next} = heal_outbox:drain(Outbox),
-    _ = sent(Bodies, none, State),
-    State#server{outbox = Next}.
+    {_, Sent} = sent(Bodies, none, State#server{outbox = Next}),
+    Sent.
 
 %% Sends bodies. Returns the last one with its message.
-sent(Bodies, Last, #server{send = Send}) ->
-    lists:foldl(fun({Node, Body}, Made) ->
-        Sent = {_, Message} = case Made of {Body, _} -> Made; _ -> {Body, heal_wire:message(Body)} end,
-        _ = Send(Node, Message) =:= nosuspend andalso (self() ! {?REGISTRY, unreachable, Node}),
-        Sent
-    end, Last, Bodies).
+sent(Bodies, Last, State) ->
+    lists:foldl(fun sent_one/2, {Last, State}, Bodies).
+
+%% A connection that has refused a body refuses those that follow, so that their order is kept.
+sent_one({Node, Body}, {Last, State = #server{send = Send}}) ->
+    case is_full(Node, State) of
+        true ->
+            {Last, unsent(Node, Body, State)};
+        false ->
+            Made = {_, Message} = case Last of {Body, _} -> Last; _ -> {Body, heal_wire:message(Body)} end,
+            case Send(Node, Message) of
+                nosuspend -> {Made, unsent(Node, Body, State)};
+                _ -> {Made, State}
+            end
+    end.
+
+is_full(_Node, #server{refused = [], waiters = Waiters}) when Waiters =:= #{} -> false;
+is_full(Node, #server{refused = Refused, waiters = Waiters}) ->
+    lists:keymember(Node, 1, Refused) orelse lists:member(Node, maps:values(Waiters)).
+
+unsent(Node, Body, State = #server{refused = Refused}) ->
+    _ = Refused =:= [] andalso (self() ! {?REGISTRY, refused}),
+    State#server{refused = [{Node, Body} | Refused]}.
 
 timed_post(true, State) ->
     _ = erlang:send_after(?TOGETHER, self(), {?REGISTRY, post}),

@@ -8,7 +8,7 @@
 -include("heal_part.hrl").
 
 -export([resume/1, act/1, continue/1, is_settling/1, members/1, lead_alone/1, follow_merge/5, start/5]).
--export([reachable/2, snapshot/3, wanted/3, joined/3, settled/3, broadcast/3]).
+-export([heard/3, snapshot/3, wanted/3, joined/3, join_again/2, settled/3, broadcast/3]).
 
 %% ---- Starting ----
 
@@ -53,8 +53,15 @@ act(Part) ->
         false -> backup(Part)
     end,
     case heal_state:is_primary(Acted) of
-        true -> settle(gone(followers(Acted)));
+        true -> settle(regarded(Acted, gone(followers(Acted))));
         false -> Acted
+    end.
+
+%% Announces the members of this primary, if they have changed.
+regarded(#part{members = Before}, Part = #part{members = Members}) ->
+    case maps:keys(Before) =:= maps:keys(Members) of
+        true -> Part;
+        false -> heal_peers:announce(Part)
     end.
 
 %% Returns the nodes of this node's part, as far as it knows.
@@ -74,11 +81,11 @@ followers(Part = #part{peers = Peers}) ->
     Behind = [Node || {Node, Peer} <- maps:to_list(Peers), is_behind(Node, Peer, Part), not heal_peers:is_silent(Peer, Part)],
     lists:foldl(fun send_once/2, Part, Behind).
 
-is_behind(Node, #peer{at = {{Life, Number}, _}}, Part = #part{members = Members}) ->
-    case heal_state:view(Part) of
-        _ when (map_get(Node, Members))#member.is_lagging, not (map_get(Node, Members))#member.is_joined -> true;
-        {Life, Number} -> not is_map_key(Node, Members);
-        {Life, Own} -> Number < Own;
+is_behind(Node, #peer{life = Of, at = {{Life, Number}, _}}, Part = #part{members = Members}) ->
+    case {heal_state:view(Part), Members} of
+        {_, #{Node := #member{life = Of, is_lagging = true}}} -> not heal_congestion:is_full(Node, Part);
+        {{Life, Number}, _} -> not is_map_key(Node, Members);
+        {{Life, Own}, _} -> Number < Own;
         _ -> false
     end.
 
@@ -153,21 +160,13 @@ broadcast(Entries = {edit, At, Edits, _By, _Answer}, Awaited, Part = #part{membe
         _ -> heal_state:add({post, Soon, {edit, At, Edits, none, ok}}, Sent)
     end.
 
-%% A node wants a snapshot of this view.
+%% A node wants a snapshot of this view. It gets one once no exchange is open.
 -spec wanted(node(), heal_replica:view(), #part{}) -> #part{}.
-wanted(Node, View, Part = #part{heal = Heal, peers = Peers}) ->
-    case heal_state:is_primary(Part) andalso heal_state:view(Part) =:= View andalso is_map_key(Node, Peers) of
-        true when not is_record(Heal, open) -> welcome(Node, Part);
-        _ -> Part
-    end.
-
-%% A connection takes messages again that has refused one. A member that has missed an entry gets a snapshot, and a node that this one has
-%% given up announces itself.
--spec reachable(node(), #part{}) -> #part{}.
-reachable(Node, Part = #part{heal = Heal, members = Members, peers = Peers, links = Links}) ->
-    case {Members, Links} of
-        {#{Node := #member{is_lagging = true}}, _} when not is_record(Heal, open), is_map_key(Node, Peers) -> welcome(Node, Part);
-        {_, #{Node := #link{state = absent}}} -> heal_peers:hurry(Node, Part);
+wanted(Node, View, Part = #part{heal = Heal, members = Members, peers = Peers}) ->
+    case heal_state:is_primary(Part) andalso heal_state:view(Part) =:= View andalso {Members, Peers} of
+        {#{Node := Member}, #{Node := _}} ->
+            heal_peers:heard_of(Node, Part#part{members = Members#{Node := Member#member{is_lagging = true}}});
+        {_, #{Node := _}} when not is_record(Heal, open) -> regarded(Part, welcome(Node, Part));
         _ -> Part
     end.
 
@@ -176,7 +175,8 @@ welcome(Node, Part = #part{members = Members, peers = Peers, now = Now, settle_b
     #{Node := #peer{life = Life, at = {Was, _}}} = Peers,
     case Members of
         #{Node := Member = #member{life = Life}} ->
-            send_snapshot(Node, Part#part{members = Members#{Node := Member#member{is_lagging = false}}});
+            Sent = send_snapshot(Node, Part#part{members = Members#{Node := Member#member{is_lagging = false}}}),
+            heal_peers:announce_to(Node, Sent);
         _ ->
             By = case SettleBy of none -> Now + heal_state:patience(Part); _ -> SettleBy end,
             Added = Members#{Node => #member{life = Life, was = Was}},
@@ -195,7 +195,7 @@ send_snapshot(Node, Part = #part{replica = Replica, losers = Losers}) ->
 joined(Node, {Seq, At = {View, Operation}, Requests, Edits}, Part) ->
     case {heal_peers:moved(Node, Seq, At, Part), heal_state:is_primary(Part) andalso heal_state:view(Part)} of
         {false, _} -> Part;
-        {{true, Moved}, View} -> join(Node, Requests, Edits, Operation, Moved);
+        {{true, Moved}, View} -> regarded(Moved, join(Node, Requests, Edits, Operation, Moved));
         {{true, Moved}, _} -> Moved
     end.
 
@@ -262,11 +262,55 @@ primary(Part = #part{peers = Peers, links = Links}) ->
     case {Peers, Links} of
         {#{Node := Peer = #peer{life = Life, at = {View, _}}}, _} ->
             case heal_peers:is_silent(Peer, Part) of true -> gone; false -> here end;
-        {#{Node := #peer{life = Life}}, _} -> moved;
+        {#{Node := #peer{life = Life}}, _} -> case next_view(Part) of left_out -> gone; _ -> moved end;
         {#{Node := _}, _} -> gone;
         {_, #{Node := #link{state = unknown}}} -> moved;
         _ -> gone
     end.
+
+%% The primary of this node's view is in another one now. Returns whether this node is a member of that one, as its primary has announced. A
+%% primary that starts another view takes the nodes in that follow its earlier one.
+next_view(Part = #part{peers = Peers, checked = Checked}) ->
+    {Before, _} = Own = heal_state:view(Part),
+    case announced(Before, Peers) of
+        #peer{at = {View = {Primary, _}, _}, seq = Seq} when View =/= Own, Seq > Checked ->
+            case {is_member(View, announced(Primary, Peers), Part), Primary} of
+                {true, _} -> {a_member, View};
+                {false, Before} -> unknown;
+                {false, _} -> left_out;
+                {unknown, _} -> unknown
+            end;
+        _ -> unknown
+    end.
+
+is_member(View, #peer{at = {View, _}, members = Members}, #part{node = Self}) -> lists:member(Self, Members);
+is_member(_View, _Announced, _Part) -> unknown.
+
+announced(Life = {Node, _}, Peers) ->
+    case Peers of
+        #{Node := Peer = #peer{life = Life}} -> Peer;
+        _ -> none
+    end.
+
+%% Takes what a node has announced. A primary sends snapshots of a view before it announces that view, so this node has missed one if it
+%% isn't in the view. A registry that starts sends one when it hears from this node.
+-spec heard(node(), heal_peers:here(), #part{}) -> #part{}.
+heard(Node, Here, Part = #part{gap = Gap}) ->
+    Heard = heal_peers:here(Node, Here, Part),
+    case missed(Heard) of
+        View when View =:= none; View =:= Gap; map_get(is_first, Here) -> Heard;
+        View -> want(View, Heard#part{gap = View})
+    end.
+
+%% The view whose snapshot this node has missed.
+missed(Part) ->
+    case not heal_state:is_primary(Part) andalso next_view(Part) of
+        {a_member, View} -> View;
+        _ -> none
+    end.
+
+want(View = {{Primary, _}, _}, Part) ->
+    heal_state:send(Primary, {want, View}, Part).
 
 %% The smallest node that is left of the part leads it. The others wait for its snapshot.
 successor(Part = #part{node = Node, now = Now, limbo = Limbo}) ->
@@ -283,13 +327,13 @@ successor(Part = #part{node = Node, now = Now, limbo = Limbo}) ->
 
 %% The primary has made entries that this node lacks, hasn't heard that it follows, or lacks what its home has.
 caught_up(Part = #part{peers = Peers, checked = Checked}) ->
-    {{Primary, _}, _} = View = heal_state:view(Part),
+    View = {{Primary, _}, _} = heal_state:view(Part),
     {_, Operation} = heal_state:at(Part),
     #{Primary := #peer{seq = Seq, at = At = {_, Last}, is_settled = IsSettled}} = Peers,
     Noted = Part#part{checked = Seq},
     if
         Seq =:= Checked -> Part;
-        Last > Operation -> heal_state:send(Primary, {want, View}, Noted);
+        Last > Operation -> want(View, Noted);
         IsSettled -> rejoin(settled(Primary, At, Noted));
         true -> join_with(heal_home:differences(Noted), Noted)
     end.
@@ -303,6 +347,16 @@ rejoin(Part) ->
 join_with(Edits, Part = #part{seq = Seq, requests = Requests}) ->
     {Primary, _} = heal_state:primary(Part),
     heal_state:send(Primary, {finished, Seq + 1, heal_state:at(Part), Requests, Edits}, Part#part{seq = Seq + 1}).
+
+%% The connection to a node takes messages again. It may have refused that this node wants a snapshot, or that it follows.
+-spec join_again(node(), #part{}) -> #part{}.
+join_again(Node, Part = #part{gap = Gap}) ->
+    case {missed(Part), heal_state:view(Part)} of
+        {Next = {{Node, _}, _}, _} -> want(Next, Part);
+        {none, {{Node, _}, _}} when Gap =:= none -> join_with(heal_home:differences(Part), Part);
+        {none, View = {{Node, _}, _}} -> want(View, Part);
+        _ -> Part
+    end.
 
 %% The primary has settled its view at this position.
 -spec settled(node(), heal_replica:position(), #part{}) -> #part{}.
@@ -356,7 +410,9 @@ follow_merge(View, Half, Plan, Node, Part) ->
     end,
     taken({{View, 0}, Half}, Current, fun entered/1, noted(View, Node, Part)).
 
-entered(Part) -> viewed(heal_entries:restart(Part)).
+entered(Part = #part{peers = Peers}) ->
+    Known = case announced(heal_state:primary(Part), Peers) of #peer{seq = Seq} -> Seq; none -> 0 end,
+    viewed(heal_entries:restart(Part#part{checked = Known})).
 
 noted({{_, Incarnation}, Number}, Node, Part = #part{followed = Followed}) ->
     Part#part{followed = Followed#{Node => {Incarnation, Number}}}.

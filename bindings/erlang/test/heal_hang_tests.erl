@@ -46,6 +46,7 @@ hang_test_() ->
         heal_cluster:pair(#{edit_timeout => ?EDIT}, fun leader_hangs/2),
         heal_cluster:pair(#{edit_timeout => ?EDIT, exchange_timeout => 1000}, fun other_hangs/2),
         heal_cluster:pair(#{exchange_timeout => 300000}, fun catches_up/2),
+        heal_cluster:cluster(4, #{exchange_timeout => 300000}, ["+zdbbl", "1"], fun full_of_snapshots/1),
         heal_cluster:halves(#{edit_timeout => ?EDIT, exchange_timeout => 20000}, fun not_made/2),
         heal_cluster:halves(#{edit_timeout => ?EDIT, exchange_timeout => 500}, fun silent_leader/2),
         heal_cluster:halves(#{edit_timeout => ?EDIT, exchange_timeout => 500}, fun full_connection/2),
@@ -84,6 +85,19 @@ catches_up(A, B) ->
     ?assertEqual([ok], frozen(B, fun() -> heal_cluster:call(A, ?MODULE, churn_here, [busy, 120000]) end)),
     ?assertEqual(ok, register_on(B, one)),
     ?assertMatch([{one, _}], heal_cluster:alike(A, B)).
+
+%% Snapshots fill the connections of a primary, and what follows them is refused: entries, and that the other nodes are members. These hear
+%% so once their connections have room. The primary announces itself much later.
+full_of_snapshots(Nodes = [A, B, C, D]) ->
+    heal_cluster:split_into([[A, B], [C, D]]),
+    [heal_cluster:one_part(Side) || Side <- [[A, B], [C, D]]],
+    heal_cluster:own_each(C, ?REGISTER, [{name, N} || N <- lists:seq(1, 3000)], #{}),
+    Churn = spawn_monitor(fun() -> exit(heal_cluster:call(A, ?MODULE, churn_here, [busy, 20000])) end),
+    heal_cluster:mesh(Nodes),
+    {Time, Table} = timer:tc(fun() -> heal_cluster:one_part(Nodes) end),
+    ?assert(Time < 30_000_000),
+    ?assertEqual(3000, length(Table -- [{busy, heal_cluster:call(A, heal_registry, whereis_name, [busy])}])),
+    receive {'DOWN', Monitor, process, Pid, Answers} when {Pid, Monitor} =:= Churn -> ?assertEqual([ok], Answers) end.
 
 churn_here(Name, Count) ->
     Pid = spawn(heal_cluster, serve, [[]]),

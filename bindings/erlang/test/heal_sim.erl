@@ -9,7 +9,7 @@
 
 -include("heal_sim.hrl").
 
--export([main/1, run/2, schedule/1, schedule/2, schedule/3, event/3, pairs/1, start_node/2, start_registry/2]).
+-export([main/1, run/2, schedule/1, schedule/2, schedule/3, event/3, pairs/1, start_node/2, start_registry/2, connected/2]).
 
 main([Count, Seed]) ->
     halt(case run(list_to_integer(Count), list_to_integer(Seed)) of ok -> 0; _ -> 1 end).
@@ -65,12 +65,20 @@ start(IsTraced) ->
         lost => element(Kind, {0, 0, 20, 60}),
         twice => element(Kind, {0, 30, 20, 60}),
         late => element(Kind, {0, 0, 20, 60}),
+        full => lists:nth(rand:uniform(3), [0, 0, 20]),
         delay => lists:nth(rand:uniform(3), [2, 20, 200])
     },
     Sim = #sim{faults = Faults, has_disks = rand:uniform(2) =:= 1, is_traced = IsTraced, nodes = maps:from_list([{Name, #node{}} || Name <- Names])},
-    Started = lists:foldl(fun start_node/2, Sim, Names),
+    Timed = patient(rand:uniform(4), Sim),
+    Started = lists:foldl(fun start_node/2, Timed, Names),
     Connected = lists:foldl(fun({A, B}, Sum) -> heal_sim_trace:at(rand:uniform(2000), {restore, A, B}, Sum) end, Started, pairs(Names)),
-    heal_sim_trace:at(1, fault, heal_sim_trace:at(5, client, heal_sim_trace:at(?FAULTY, quiet, Connected))).
+    Looking = heal_sim_trace:at(?FAULTY + ?PROMPT, prompt, Connected),
+    heal_sim_trace:at(1, fault, heal_sim_trace:at(5, client, heal_sim_trace:at(?FAULTY, quiet, Looking))).
+
+patient(1, Sim = #sim{faults = Faults}) ->
+    Sim#sim{is_patient = true, timeouts = {20000, 40000}, faults = Faults#{lost := 0, twice := 0, late := 0}};
+patient(_, Sim) ->
+    Sim.
 
 pairs(Names) ->
     [{A, B} || A <- Names, B <- Names, A < B].
@@ -84,11 +92,11 @@ start_node(Name, Sim = #sim{nodes = Nodes, now = Now}) ->
     New = #node{life = Life, runs = Runs + 1, offset = Offset, rate = Rate, disk = Disk},
     start_registry(Name, Sim#sim{nodes = Nodes#{Name := New}, now = Now}).
 
-start_registry(Name, Sim = #sim{nodes = Nodes, count = Count, now = Now}) ->
+start_registry(Name, Sim = #sim{nodes = Nodes, count = Count, now = Now, timeouts = {Edit, Exchange}}) ->
     #{Name := Node = #node{life = Life, offset = Offset, rate = Rate, table = Table, own = Own, kept = Kept}} = Nodes,
     Common = (heal_sim_disk:settings(Name, Sim))#{life => Life, number => erlang:phash2(Name, 1000), scope => sim, nodes => any, names => 4096,
                world => heal_sim_world, seq => Count * 1000, now => Offset + trunc(Now * Rate),
-               connected => [{Other, visible} || Other <- connected(Name, Sim)], edit_timeout => ?EDIT, exchange_timeout => ?EXCHANGE},
+               connected => [{Other, visible} || Other <- connected(Name, Sim)], edit_timeout => Edit, exchange_timeout => Exchange},
     Settings = case Kept of
         #{position := {At, Led, Latest}} ->
             Programs = maps:merge(maps:get(programs, Common, #{}), maps:get(programs, Kept, #{})),
@@ -100,8 +108,8 @@ start_registry(Name, Sim = #sim{nodes = Nodes, count = Count, now = Now}) ->
     end,
     {Actions, Part} = heal_part:new(Settings),
     Running = Sim#sim{nodes = Nodes#{Name := Node#node{part = Part, is_hung = false, backlog = [], outbox = heal_outbox:new()}}},
-    Begun = heal_sim_disk:started(Name, acted(Name, Actions, Running)),
-    Ticking = heal_sim_trace:at(rand:uniform(100), {tick, Name, {Life, element(2, Life), Count}}, mark_run(Name, Count, Begun)),
+    Begun = heal_sim_disk:started(Name, acted(Name, Actions, mark_run(Name, Count, Running))),
+    Ticking = heal_sim_trace:at(rand:uniform(100), {tick, Name, {Life, element(2, Life), Count}}, Begun),
     Dead = [{Term, heal_row:owner(Row)} || {Term, Row = #row{pid = Pid}} <- maps:to_list(Own),
                                            not heal_sim_world:is_alive(Pid)],
     lists:foldl(fun({Term, Owner}, Sum) -> event(Name, {died, Term, Owner}, Sum) end, Ticking, lists:sort(Dead)).
@@ -160,6 +168,10 @@ step({tick, Name, Run}, Sim = #sim{nodes = Nodes}) ->
         _ ->
             Sim
     end;
+step({refused, From, Run, To, Body}, Sim) ->
+    heal_sim_net:refused(From, Run, To, Body, Sim);
+step({drained, From, To, Epoch}, Sim) ->
+    heal_sim_net:drained(From, To, Epoch, Sim);
 step({outbox, Name, What}, Sim) ->
     heal_sim_acts:outbox(Name, What, Sim);
 step({died, Pid}, Sim) ->
@@ -176,9 +188,18 @@ step(client, Sim) ->
     heal_sim_trace:at(rand:uniform(60), client, heal_sim_calls:client(rand:uniform(12), Sim));
 step({restore, A, B}, Sim) ->
     heal_sim_net:restore(A, B, Sim);
+step(prompt, Sim = #sim{is_patient = false}) ->
+    Sim;
+step(prompt, Sim = #sim{nodes = Nodes}) ->
+    %% All nodes know that they are one part.
+    Names = lists:sort(maps:keys(Nodes)),
+    case lists:usort([{heal_state:view(Part), heal_view:members(Part)} || #node{part = Part} <- maps:values(Nodes)]) of
+        [{_, Names}] -> Sim;
+        Different -> heal_sim_trace:broken(prompt, Different, Sim)
+    end;
 step(quiet, Sim = #sim{nodes = Nodes}) ->
     Names = lists:sort(maps:keys(Nodes)),
-    Quiet = heal_sim_trace:trace("quiet", [], Sim#sim{is_quiet = true, faults = #{lost => 0, twice => 0, late => 0, delay => 2}}),
+    Quiet = heal_sim_trace:trace("quiet", [], Sim#sim{is_quiet = true, faults = #{lost => 0, twice => 0, late => 0, full => 0, delay => 2}}),
     Resumed = heal_sim_trace:at(?LOOK, {look, none}, lists:foldl(fun heal_sim_net:resume/2, Quiet, Names)),
     lists:foldl(fun({A, B}, Sum) -> heal_sim_net:restore(A, B, Sum) end, Resumed, pairs(Names)).
 
@@ -215,7 +236,7 @@ handled(Name, Node = #node{part = Part, offset = Offset, rate = Rate}, Event, Si
 steps(_Name, [], Sim) ->
     Sim;
 steps(Name, [Step | Later], Sim) ->
-    case not Sim#sim.is_quiet andalso rand:uniform(?STEPS) =:= 1 of
+    case not Sim#sim.is_quiet andalso rand:uniform(?STEPS) =:= 1 andalso heal_sim_net:may_crash(Name, Sim) of
         true -> heal_sim_net:crash(Name, Sim);
         false -> steps(Name, Later, event(Name, Step, Sim))
     end.

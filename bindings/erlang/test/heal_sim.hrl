@@ -1,14 +1,14 @@
 %% What the modules of the simulator share.
 -include("../src/heal_part.hrl").
 
--define(EDIT, 1000).
-%% An answer takes no longer: a node may hang for 8 seconds, and its timers may be 2 seconds late.
--define(SLOWEST, ?EDIT + 10000).
--define(EXCHANGE, 2000).
+%% An answer takes no longer than an edit's timeout and this: a node may hang for 8 seconds, and its timers may be 2 seconds late.
+-define(SLOWEST, 10000).
 -define(NAMES, 6).
 %% How long a schedule has faults, and how long the nodes have to become one part afterwards, in milliseconds.
 -define(FAULTY, 6000).
 -define(QUIET, 60000).
+%% How long they have in a patient schedule, in which all that a node does has to follow from events, and not from its timers.
+-define(PROMPT, 3000).
 %% How often to look whether the nodes are one part.
 -define(LOOK, 600).
 %% A registry fails after one step of this many.
@@ -18,6 +18,9 @@
 %% How many milliseconds a primary keeps entries that nobody waits for, and how long a node handles messages before it sends, at most.
 -define(POSTED, 100).
 -define(BUSY, 20).
+%% How long a connection is full, and how much longer a node sends no snapshot, in milliseconds and at most.
+-define(FULL, 400).
+-define(RESTED, 300).
 -define(TRACE, 60).
 
 %% `table' and `own' are what the registry keeps; `backlog' are the events of a node that hangs; `disk' is what outlives it.
@@ -46,7 +49,12 @@
     epoch = 0,
     %% When the last event of each channel arrives.
     last = #{},
+    %% The channels that take no messages, with the number of the connection.
+    full = #{},
     faults = #{},
+    %% The timeouts of edits and of exchanges. In patient schedules they are long, and no message is lost but by a full connection.
+    timeouts = {1000, 2000},
+    is_patient = false,
     %% Whether the nodes have a disk for programs and numbers.
     has_disks = false,
     is_quiet = false,

@@ -14,6 +14,8 @@ action({send, To, Body}, From, Sim = #sim{nodes = Nodes}) ->
         true -> sent(From, heal_outbox:put(To, Body, Outbox), Sim);
         false -> heal_sim_net:send(From, To, Body, sent(From, heal_outbox:flush(To, Outbox), Sim))
     end;
+action({again, To, Bodies}, From, Sim) ->
+    lists:foldl(fun(Body, Sum) -> heal_sim_net:send(From, To, Body, Sum) end, Sim, Bodies);
 action({post, To, Entries}, From, Sim = #sim{nodes = Nodes}) ->
     #{From := #node{outbox = Outbox}} = Nodes,
     timed(From, heal_outbox:post(To, Entries, Outbox), Sim);

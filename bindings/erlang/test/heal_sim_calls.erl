@@ -55,11 +55,11 @@ call(Name, Call, Edit, Sim = #sim{calls = Calls, next = Next, now = Now}) ->
     Called = Sim#sim{calls = Calls#{Next => {Name, Now, Call}}, next = Next + 1},
     heal_sim:event(Name, {call, Next, Edit}, Called).
 
-reply(From, Answer, Name, Sim = #sim{calls = Calls, now = Now}) ->
+reply(From, Answer, Name, Sim = #sim{calls = Calls, now = Now, timeouts = {Edit, _}}) ->
     case maps:take(From, Calls) of
         {{Name, Since, Call}, Rest} ->
             Traced = heal_sim_trace:trace("~p answers ~p ~p: ~p", [Name, From, Call, Answer], Sim#sim{calls = Rest}),
-            Now - Since =< ?SLOWEST orelse heal_sim_trace:broken(answer_in_time, {Call, Now - Since}, Traced),
+            Now - Since =< Edit + ?SLOWEST orelse heal_sim_trace:broken(answer_in_time, {Call, Now - Since}, Traced),
             answered(Call, Answer, Name, Traced#sim{since = Since});
         _ ->
             heal_sim_trace:broken(one_answer, {From, Answer}, Sim)

@@ -3,16 +3,55 @@
 
 -include("heal_sim.hrl").
 
--export([any/1, crash/2, ended/2, fault/2, names/1, pair/2, receive_message/5, restore/3, resume/2, send/4]).
+-export([any/1, crash/2, drained/4, ended/2, fault/2, may_crash/2, names/1, pair/2, receive_message/5, refused/5, restore/3, resume/2, send/4]).
 
 pair(A, B) when A < B -> {A, B};
 pair(A, B) -> {B, A}.
 
 send(From, To, Body, Sim = #sim{links = Links, faults = #{lost := Lost, twice := Twice, late := Late}}) ->
     case Links of
-        #{{From, To} := Epoch} -> transmit(From, To, Epoch, Body, {Lost, Twice, Late}, Sim);
-        #{{To, From} := Epoch} -> transmit(From, To, Epoch, Body, {Lost, Twice, Late}, Sim);
+        #{{From, To} := Epoch} -> offer(From, To, Epoch, Body, {Lost, Twice, Late}, Sim);
+        #{{To, From} := Epoch} -> offer(From, To, Epoch, Body, {Lost, Twice, Late}, Sim);
         _ -> Sim
+    end.
+
+%% A connection that is full refuses messages. Some messages fill it.
+offer(From, To, Epoch, Body, Rates, Sim = #sim{full = Full, nodes = Nodes, now = Now, last = Last}) ->
+    case Full of
+        #{{From, To} := Epoch} ->
+            #{From := #node{kept = #{run := Run}}} = Nodes,
+            Time = max(Now + rand:uniform(?BUSY), maps:get({From, refused}, Last, 0)),
+            Traced = heal_sim_trace:trace("~p -> ~p refused ~s", [From, To, {short, Body}], Sim#sim{last = Last#{{From, refused} => Time}}),
+            heal_sim_trace:at(Time - Now, {refused, From, Run, To, Body}, Traced);
+        _ ->
+            filled(From, To, Epoch, Body, transmit(From, To, Epoch, Body, Rates, Sim))
+    end.
+
+filled(From, To, Epoch, Body, Sim = #sim{faults = #{full := Rate}, full = Full}) ->
+    Fills = case element(1, Body) of Kind when Kind =:= snapshot; Kind =:= offer -> 10 * Rate; _ -> Rate end,
+    case rand:uniform(1000) =< Fills of
+        true -> heal_sim_trace:at(rand:uniform(?FULL), {drained, From, To, Epoch}, Sim#sim{full = Full#{{From, To} => Epoch}});
+        false -> Sim
+    end.
+
+%% The registry learns what was refused after the messages that had arrived.
+refused(From, Run, To, Body, Sim = #sim{nodes = Nodes}) ->
+    case Nodes of
+        #{From := #node{kept = #{run := Run}}} -> heal_sim:event(From, {refused, To, [Body]}, Sim);
+        _ -> Sim
+    end.
+
+%% A connection takes messages again, once the registry has learned what it refused.
+drained(From, To, Epoch, Sim = #sim{full = Full, now = Now, last = Last, nodes = Nodes}) ->
+    case {maps:take({From, To}, Full), maps:get({From, refused}, Last, 0) >= Now} of
+        {{Epoch, _}, true} ->
+            heal_sim_trace:at(1, {drained, From, To, Epoch}, Sim);
+        {{Epoch, Rest}, false} ->
+            #{From := #node{life = Life}} = Nodes,
+            Drained = heal_sim:event(From, {drained, To}, Sim#sim{full = Rest}),
+            heal_sim_trace:at(rand:uniform(?RESTED), {link, From, Life, {rested, To}}, Drained);
+        _ ->
+            Sim
     end.
 
 transmit(From, To, Epoch, Body, {Lost, Twice, Late}, Sim) ->
@@ -91,11 +130,17 @@ fault(N, Sim) when N =< 8 ->
 fault(9, Sim) ->
     Name = any(names(Sim)),
     heal_sim_trace:at(rand:uniform(4000), {up_again, Name}, kill(Name, Sim));
+fault(10, Sim = #sim{is_patient = true}) ->
+    Sim;
 fault(10, Sim) ->
     Name = any(names(Sim)),
     heal_sim_trace:at(rand:uniform(8000), {up_again, Name}, hang(Name, Sim));
 fault(11, Sim) ->
-    crash(any(names(Sim)), Sim);
+    Name = any(names(Sim)),
+    case may_crash(Name, Sim) of
+        true -> crash(Name, Sim);
+        false -> Sim
+    end;
 fault(13, Sim) ->
     %% All nodes end at once, as when the power fails.
     case rand:uniform(8) of
@@ -137,13 +182,25 @@ resume(Name, Sim = #sim{nodes = Nodes}) ->
             Sim
     end.
 
-%% The registry ends between two events and starts again.
-crash(Name, Sim = #sim{nodes = Nodes}) ->
+%% Returns whether a registry may fail. One that has never made an edit starts again at the same position: in a patient schedule a leader
+%% that counts on its merge would take it for one that is yet to follow.
+may_crash(Name, #sim{nodes = Nodes, is_patient = IsPatient}) ->
     case Nodes of
-        #{Name := #node{part = none}} -> Sim;
-        #{Name := #node{is_hung = true}} -> Sim;
-        _ -> heal_sim:start_registry(Name, forget_calls(Name, heal_sim_trace:trace("crash ~p", [Name], Sim)))
+        #{Name := #node{part = none}} -> false;
+        #{Name := #node{is_hung = true}} -> false;
+        #{Name := #node{part = Part}} -> not IsPatient orelse element(2, element(1, heal_state:at(Part))) > 1
     end.
+
+%% The registry ends between two events and starts again.
+crash(Name, Sim) ->
+    Crashed = forget_calls(Name, heal_sim_trace:trace("crash ~p", [Name], Sim)),
+    heal_sim:start_registry(Name, lists:foldl(fun(Other, Sum) -> failed(Name, Other, Sum) end, Crashed, heal_sim:connected(Name, Sim))).
+
+%% A node that is connected learns that a registry has failed, before it hears from the next one.
+failed(Name, Other, Sim = #sim{now = Now, last = Last, nodes = Nodes}) ->
+    Time = max(Now + rand:uniform(?BUSY), maps:get({Name, Other}, Last, 0)),
+    #{Other := #node{life = Life}} = Nodes,
+    heal_sim_trace:at(Time - Now, {link, Other, Life, {failed, Name}}, Sim#sim{last = Last#{{Name, Other} => Time}}).
 
 %% The callers of a node or registry that ends receive no answer.
 forget_calls(Name, Sim = #sim{calls = Calls}) ->

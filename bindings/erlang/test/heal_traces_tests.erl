@@ -40,6 +40,7 @@ events([{Node, Event} | Later], Lost, Parts) ->
     events(Later ++ Sent, Lost, Parts#{Node := Next}).
 
 bodies({send, To, Body}) -> [{To, Body}];
+bodies({again, To, Bodies}) -> [{To, Body} || Body <- Bodies];
 bodies({post, Nodes, Entries}) -> [{To, Entries} || To <- Nodes];
 bodies(_Other) -> [].
 
@@ -59,6 +60,9 @@ one_table_at_a_position(At, Names) ->
 
 none_lost(_From, _To, _Body) -> false.
 
+%% No node begins an exchange.
+unasked(_From, _To, Body) -> element(1, Body) =:= ask.
+
 done(Node) ->
     [Action || {Of, Action} <- get(done), Of =:= Node].
 
@@ -74,23 +78,92 @@ joins_again_test() ->
     _ = event(b, {call, 1, {unregister, ?NAME, any}}, fun none_lost/3, Back),
     ?assertEqual([{reply, 1, {error, 31}}], [Reply || Reply = {reply, _, _} <- done(b)]).
 
-%% A connection takes no entry, and later takes messages again: the member gets a snapshot, and what follows.
-reachable_test() ->
-    #{a := A} = Joined = connect(a, b, fun none_lost/3, start([{a, #{}}, {b, #{}}])),
-    {_, Full} = heal_part:handle({unreachable, b}, 3, A),
-    Called = event(a, {call, 1, {upload, <<1:256>>, <<1>>}}, fun none_lost/3, Joined#{a := Full}),
-    ?assertNotEqual(position(a, Called), position(b, Called)),
-    Reached = event(a, {reachable, b}, fun none_lost/3, Called),
-    ?assertEqual(position(a, Reached), position(b, Reached)),
+%% A node handles an event while its connection to another one is full.
+refuse(Node, Event, To, Parts) ->
+    {Actions, _} = heal_part:handle(Event, 2, maps:get(Node, Parts)),
+    Bodies = [Body || Action <- Actions, {Of, Body} <- bodies(Action), Of =:= To],
+    Lost = fun(From, Of, _) -> {From, Of} =:= {Node, To} end,
+    event(Node, {refused, To, lists:reverse(Bodies)}, fun none_lost/3, event(Node, Event, Lost, Parts)).
+
+kinds(Node, To) ->
+    [element(1, Body) || {send, Of, Body} <- done(Node), Of =:= To].
+
+upload(N) ->
+    {call, N, {upload, <<N:256>>, <<N>>}}.
+
+%% A connection takes no entries, and later takes messages again: the member gets them.
+waiting_entries_test() ->
+    Joined = connect(a, b, fun none_lost/3, start([{a, #{}}, {b, #{}}])),
+    put(done, []),
+    Refused = refuse(a, upload(2), b, refuse(a, upload(1), b, Joined)),
+    ?assertNotEqual(position(a, Refused), position(b, Refused)),
+    Drained = event(a, {drained, b}, fun none_lost/3, Refused),
+    ?assertEqual(position(a, Drained), position(b, Drained)),
+    ?assertEqual([here], kinds(a, b)).
+
+%% It takes no snapshot, or more entries than wait for it: the member gets a snapshot after a pause, and what follows. No snapshot is made
+%% before.
+full_connection_test() ->
+    Joined = connect(a, b, fun none_lost/3, start([{a, #{}}, {b, #{}}])),
+    Part = element(2, heal_part:handle({refused, b, [{snapshot, none}]}, 3, maps:get(a, Joined))),
+    Refused = event(a, upload(1), fun none_lost/3, Joined#{a := Part}),
+    ?assertNotEqual(position(a, Refused), position(b, Refused)),
+    put(done, []),
+    Drained = event(a, {drained, b}, fun none_lost/3, event(a, tick, fun none_lost/3, event(b, tick, fun none_lost/3, Refused))),
+    ?assertEqual([], [snapshot || snapshot <- kinds(a, b)]),
+    Rested = event(a, {rested, b}, fun none_lost/3, Drained),
+    ?assertEqual([snapshot], [snapshot || snapshot <- kinds(a, b)]),
+    ?assertEqual(position(a, Rested), position(b, Rested)),
     %% It is a member like any other then.
-    Last = event(a, {call, 2, {upload, <<2:256>>, <<2>>}}, fun none_lost/3, event(a, {reachable, b}, fun none_lost/3, Reached)),
+    Last = event(a, upload(2), fun none_lost/3, event(a, {rested, b}, fun none_lost/3, Rested)),
     ?assertEqual(position(a, Last), position(b, Last)),
-    %% A member that has given its primary up heals with it.
+    Entry = {edit, position(a, Last), lists:duplicate(5001, {unregister, ?NAME}), none, ok},
+    {_, Full} = heal_part:handle({refused, b, [Entry, Entry]}, 3, maps:get(a, Last)),
+    ?assertMatch(#part{members = #{b := #member{is_lagging = true}}, full = #{b := {refusing, 0, []}}}, Full),
+    %% A member whose requests its primary doesn't take gives it up, and heals with it.
     #{b := B} = Last,
-    {_, Alone} = heal_part:handle({unreachable, a}, 3, B),
+    {_, Alone} = heal_part:handle({refused, a, [{request, none, 1, bad}]}, 3, B),
     ?assertNotEqual(position(a, Last), element(1, heal_part:position(Alone))),
-    Healed = event(b, {reachable, a}, fun none_lost/3, Last#{b := Alone}),
+    Healed = event(b, {drained, a}, fun none_lost/3, Last#{b := Alone}),
     ?assertEqual(position(a, Healed), position(b, Healed)).
+
+%% An announcement that a full connection refuses is made good once the connection takes messages again, so that all nodes know who is in
+%% their part.
+refused_announcement_test() ->
+    Members = fun(Node, Parts) -> maps:get(members, heal_part:status(maps:get(Node, Parts))) end,
+    Pair = connect(c, d, fun none_lost/3, start([{a, #{}}, {c, #{}}, {d, #{}}])),
+    Linked = connect(a, d, fun none_lost/3, Pair),
+    ?assertEqual([c, d], Members(d, Linked)),
+    Deaf = fun(a, d, {here, #{is_settled := false}}) -> true; (_, _, _) -> false end,
+    Refused = event(a, {refused, d, [{here, #{}}]}, fun none_lost/3, connect(a, c, Deaf, Linked)),
+    ?assertEqual(position(a, Refused), position(d, Refused)),
+    ?assertNotEqual([a, c, d], Members(d, Refused)),
+    ?assertEqual([a, c, d], Members(d, event(a, {drained, d}, fun none_lost/3, Refused))).
+
+%% A member leaves: the others know so at once.
+members_change_test() ->
+    Pair = connect(a, b, fun none_lost/3, start([{a, #{}}, {b, #{}}, {c, #{}}])),
+    All = connect(b, c, fun none_lost/3, connect(a, c, fun none_lost/3, Pair)),
+    Members = fun(Parts) -> maps:get(members, heal_part:status(maps:get(b, Parts))) end,
+    ?assertEqual([a, b, c], Members(All)),
+    ?assertEqual([a, b], Members(event(a, {down, c}, fun none_lost/3, All))).
+
+%% A query finds no registry. The node is queried again when its registry announces that it has started.
+started_registry_test() ->
+    Asking = connect(a, b, fun unasked/3, start([{a, #{}}, {b, #{}}])),
+    {Actions, Started} = heal_part:new((settings(b))#{connected => [{a, visible}], seq => 100}),
+    Healed = events([{a, {message, b, Body}} || {send, a, Body} <- Actions], fun none_lost/3, Asking#{b := Started}),
+    ?assertEqual(position(a, Healed), position(b, Healed)).
+
+%% A snapshot of the view that an exchange has started is lost. The member hears of the view, and wants another one.
+missed_snapshot_test() ->
+    Pair = connect(c, d, fun none_lost/3, start([{a, #{}}, {c, #{}}, {d, #{}}])),
+    Linked = connect(a, d, fun none_lost/3, Pair),
+    put(lost, 0),
+    First = fun(a, d, {snapshot, _}) -> put(lost, get(lost) + 1) =:= 0; (_, _, _) -> false end,
+    Healed = connect(a, c, First, Linked),
+    ?assertEqual(2, get(lost)),
+    ?assertEqual(position(a, Healed), position(d, Healed)).
 
 %% A registry fails before its loser has its notice. When it starts again, the name that it answers for is its own: another exchange
 %% decides.
@@ -103,7 +176,7 @@ fails_before_its_notice_test() ->
 
 %% Two parts have one registration, one of them before a change. Both take the same row from the exchange.
 one_registration_in_two_parts_test() ->
-    Parts = connect(a, b, fun none_lost/3, start([{a, #{}}, {b, #{}}])),
+    Parts = connect(a, b, fun unasked/3, start([{a, #{}}, {b, #{}}])),
     [Of, Of] = [merged(Node, Side, Row, Other, maps:get(Node, Parts))
                 || {Node, Side, Row, Other} <- [{a, a, row(c, 1, c, 0), row(c, 1, c, 9)}, {b, b, row(c, 1, c, 9), row(c, 1, c, 0)}]].
 
@@ -115,6 +188,7 @@ merged(Node, Side, Row, Other = #row{pid = Pid, home = Home}, Part) ->
     {ok, Heard} = heal_sim_world:hear({Peer, 7, #{?NAME => heal_row:registration(Other)}}, Begun),
     Open = #open{node = Peer, number = 1, side = Side, from = position(Node, #{Node => Part}), handle = Heard, own = #{?NAME => Row},
                  others = #{?NAME => {heal_row:owner(Row), Pid, ?NAME, Home}}, begun = 1, deadline = 9,
+                 members = [{{Peer, 1}, erlang:phash2(Peer, 1000)}],
                  stage = case Side of a -> listed; b -> offered end},
     {_, Finished} = handled(Node, {message, Peer, {list, 1, {[], []}}}, Part#part{heal = Open}),
     case Finished of
@@ -125,8 +199,7 @@ merged(Node, Side, Row, Other = #row{pid = Pid, home = Home}, Part) ->
 %% The other node has its offer ready when the leader's comes, and sends it before it hears that one. It makes it anew if its half has
 %% changed meanwhile.
 ready_offer_test() ->
-    Unasked = fun(_, _, Body) -> element(1, Body) =:= ask end,
-    #{b := Part} = connect(a, b, Unasked, start([{a, #{}}, {b, #{}}])),
+    #{b := Part} = connect(a, b, fun unasked/3, start([{a, #{}}, {b, #{}}])),
     Reference = {{a, 1}, 9},
     Members = [{{a, 1}, erlang:phash2(a, 1000)}],
     {_, Alone} = heal_part:handle(tick, 900, Part),
@@ -200,7 +273,9 @@ upgraded_exchange_test() ->
     #{a := Part} = start([{a, #{}}]),
     Open = #open{node = b, number = 1, side = a, from = position(a, #{a => Part}), handle = make_ref(), begun = 1, deadline = 9},
     Begun = Part#part{heal = Open},
-    ?assertMatch(#part{heal = idle}, heal_part:upgrade(erlang:delete_element(tuple_size(Begun), Begun))),
+    Cut = fun(Size) -> list_to_tuple(lists:sublist(tuple_to_list(Begun), Size)) end,
+    ?assertMatch(#part{heal = idle}, heal_part:upgrade(Cut(#part.lost - 1))),
+    ?assertMatch(#part{heal = Open}, heal_part:upgrade(Cut(#part.full - 1))),
     ?assertMatch(#part{heal = Open}, heal_part:upgrade(Begun)).
 
 %% A change that was sent to a primary which is lost may have been made, so a refusal by the next one means nothing.

@@ -4,7 +4,7 @@
 -include_lib("eunit/include/eunit.hrl").
 -include("../src/heal_part.hrl").
 
--export([load_here/1, take_over_here/0]).
+-export([load_here/1, take_over_here/1]).
 
 -define(REGISTER, {heal_registry, register}).
 %% The sizes of the records server, part and call before the fields of later versions.
@@ -56,7 +56,7 @@ states(Nodes) ->
     Before = registries(Nodes),
     under_load(Nodes, fun() ->
         [begin
-             heal_cluster:call(It, ?MODULE, take_over_here, []),
+             [heal_cluster:call(It, ?MODULE, take_over_here, [Version]) || Version <- [earlier, last]],
              %% The new state does what it has to.
              Pid = heal_cluster:own(It, ?REGISTER, Name, #{}),
              ok = heal_cluster:call(It, heal_registry, set_resolver, [Name, notify]),
@@ -74,17 +74,21 @@ waiting(Nodes) ->
     Self = self(),
     spawn_link(fun() -> Self ! {waited, heal_cluster:own(Other, ?REGISTER, waits, #{})} end),
     heal_cluster:eventually(fun() -> heal_cluster:call(Other, heal_faults, held, []) =/= [] end),
-    heal_cluster:call(Other, ?MODULE, take_over_here, []),
+    heal_cluster:call(Other, ?MODULE, take_over_here, [earlier]),
     ok = heal_cluster:call(Other, heal_faults, plan, [none]),
     heal_cluster:call(Other, heal_faults, release, []),
     receive {waited, Pid} -> ?assertEqual(Pid, heal_cluster:call(Other, heal_registry, whereis_name, [waits])) end.
 
-%% Gives the registry the state that the version before had, and the new version takes it over.
-take_over_here() ->
+%% Gives the registry the state that an earlier version had, or the last one, and the new version takes it over.
+take_over_here(Version) ->
     ok = sys:suspend(heal_registry),
-    _ = sys:replace_state(heal_registry, fun(State) -> server(State) end),
+    _ = sys:replace_state(heal_registry, fun(State) -> case Version of earlier -> server(State); last -> last(State) end end),
     ok = sys:change_code(heal_registry, heal_server, undefined, []),
     ok = sys:resume(heal_registry).
+
+%% The last version had no messages that wait for full connections.
+last(State) ->
+    cut(setelement(?PART_OF, State, cut(element(?PART_OF, State), #part.full - 1)), tuple_size(State) - 1).
 
 server(State) ->
     Part = #part{own = Own} = element(?PART_OF, State),

@@ -1,0 +1,104 @@
+%% @private Connections that are full: what they refuse, and what follows once they take messages again.
+%%
+%% A message that a full connection refuses isn't sent. Entries, answers and what belongs to an exchange wait until the connection has room;
+%% then the node announces its position, since that may have been refused too. A member for which too many entries wait gets a snapshot
+%% instead, after a pause: a large one may fill the connection again.
+-module(heal_congestion).
+
+-include("heal_part.hrl").
+
+-export([refused/3, drained/2, rested/2, is_full/2, forget/2]).
+
+%% How many entries and other messages wait for a connection, at most.
+-define(MOST, 10000).
+
+%% A connection has refused these bodies, the newest first.
+-spec refused(node(), Bodies :: [term()], #part{}) -> #part{}.
+refused(Node, Bodies, Part = #part{full = Full, links = Links}) when is_map_key(Node, Links) ->
+    Unsent = case Full of #{Node := Waiting = {refusing, _, _}} -> Waiting; _ -> {refusing, 0, []} end,
+    lists:foldr(fun(Body, Sum) -> wait(Node, Body, Sum) end, Part#part{full = Full#{Node => Unsent}}, Bodies);
+refused(_Node, _Bodies, Part) ->
+    Part.
+
+wait(Node, Body, Part = #part{full = Full}) ->
+    #{Node := {refusing, Count, Bodies}} = Full,
+    Later = Count + weight(Body),
+    case Later =< ?MOST andalso is_due(Node, Body, Part) of
+        true -> Part#part{full = Full#{Node := {refusing, Later, [Body | Bodies]}}};
+        false -> missed(Node, Body, Part)
+    end.
+
+weight({edit, _, Edits, _, _}) -> length(Edits);
+weight(_Body) -> 1.
+
+%% Returns whether a body is to be sent later. What an exchange that is over has left behind would only hold up the next one.
+is_due(Node, {edit, {View, _}, _, _, _}, Part = #part{members = Members}) ->
+    case Members of
+        #{Node := #member{is_lagging = false}} -> heal_state:view(Part) =:= View;
+        _ -> false
+    end;
+is_due(_Node, {ask, Reference, _}, #part{heal = Heal}) -> is_query(Reference, Heal);
+is_due(_Node, {hello, Reference, _, _}, #part{heal = Heal}) -> is_query(Reference, Heal);
+is_due(_Node, {propose, Number, _, _, _}, #part{heal = Heal}) -> is_open(Number, Heal);
+is_due(_Node, {offer, Number, _, _, _}, #part{heal = Heal}) -> is_open(Number, Heal);
+is_due(_Node, {list, Number, _}, #part{heal = Heal}) -> is_open(Number, Heal);
+is_due(_Node, {finished, _, _}, _Part) -> true;
+is_due(_Node, {adopt, Number, _}, #part{adopting = Adopting}) -> is_map_key(Number, Adopting);
+is_due(_Node, Body, _Part) -> lists:member(element(1, Body), [busy, ready, cancel, abandon, answer, adopted, released]).
+
+is_query(Reference, {_, #asking{reference = Reference}}) -> true;
+is_query(_Reference, _Heal) -> false.
+
+is_open(Number, #open{number = Number}) -> true;
+is_open(_Number, _Heal) -> false.
+
+%% A primary that takes no requests is given up. A member that has missed an entry gets no other ones before a snapshot.
+missed(Node, Body, Part = #part{members = Members, full = Full}) ->
+    case {element(1, Body), heal_state:primary(Part), Members} of
+        {request, {Node, _}, _} -> heal_peers:give_up(Node, Part);
+        {Kind, _, #{Node := Member}} when Kind =:= edit; Kind =:= snapshot ->
+            #{Node := {refusing, _, Bodies}} = Full,
+            Others = [Other || Other <- Bodies, element(1, Other) =/= edit],
+            Part#part{members = Members#{Node := Member#member{is_lagging = true}},
+                      full = Full#{Node := {refusing, length(Others), Others}}};
+        _ -> Part
+    end.
+
+%% The connection takes messages again.
+-spec drained(node(), #part{}) -> #part{}.
+drained(Node, Part = #part{full = Full}) ->
+    case Full of
+        #{Node := {refusing, _, Bodies}} ->
+            Due = [Body || Body <- lists:reverse(Bodies), is_due(Node, Body, Part)],
+            Sent = heal_state:add({again, Node, Due}, Part#part{full = Full#{Node := resting}}),
+            told(Node, heal_peers:hopeful(Node, Sent));
+        _ ->
+            Part
+    end.
+
+%% The node may have missed an announcement, or that this one follows or wants a snapshot. A member that is to get a snapshot hears of the
+%% position after it.
+told(Node, Part = #part{peers = Peers, members = Members}) ->
+    case {Peers, Members} of
+        {#{Node := _}, #{Node := #member{is_lagging = true}}} -> Part;
+        {#{Node := _}, _} -> heal_view:join_again(Node, heal_peers:announce_to(Node, Part));
+        _ -> heal_peers:hurry(Node, Part)
+    end.
+
+%% The pause after which a member may get a snapshot is over.
+-spec rested(node(), #part{}) -> #part{}.
+rested(Node, Part = #part{full = Full}) ->
+    case Full of
+        #{Node := resting} -> forget(Node, Part);
+        _ -> Part
+    end.
+
+%% Returns whether the connection to a node takes no snapshot.
+-spec is_full(node(), #part{}) -> boolean().
+is_full(Node, #part{full = Full}) ->
+    is_map_key(Node, Full).
+
+%% The connection is gone, or has room.
+-spec forget(node(), #part{}) -> #part{}.
+forget(Node, Part = #part{full = Full}) ->
+    Part#part{full = maps:remove(Node, Full)}.
