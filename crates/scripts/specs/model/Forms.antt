@@ -17,8 +17,8 @@ ruling_in Answer clash judged = clash_line clash.name judged.answer judged.word
 ruling_in (Narration labels) clash judged = owners_words clash ++ verdict_words labels.now clash judged
 
 abbrev pub notice_in : Form → Name → Notice → List ℕ
-notice_in Answer name notice = notice_line notice
-notice_in (Narration labels) name notice = notice_words name notice
+notice_in Answer = λ name. notice_line
+notice_in (Narration labels) = notice_words
 
 -- and its notices
 abbrev pub judged_in : Form → Clash → Judged → List ℕ

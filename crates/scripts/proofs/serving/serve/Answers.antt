@@ -28,15 +28,16 @@ returns-then-is_long g c =
 pub returns : goal.returns
 returns g c =
     let fresh = machine_of c.renew_long.new.self in
+    let after = machine_of c.answer.new.machine in
     let line = c.answer.ensures in
     record {
       answer = line.answer;
       is_answer = record {
         fresh = fresh;
         renewed = c.renew_long.ensures;
-        answered = subst (λ (long : Bool). AnswersLine fresh (seen_line long c.args.line.now) line.answer _)
+        answered = subst (λ (long : Bool). AnswersLine fresh (seen_line long c.args.line.now) line.answer after)
             (sym c.if-is_long.false)
-            (subst (λ (text : List ℕ). AnswersLine fresh (Short text) line.answer _) c.as_slice.ensures line.is_answer);
+            (subst (λ (text : List ℕ). AnswersLine fresh (Short text) line.answer after) c.as_slice.ensures line.is_answer);
       };
       sends = line.sends;
       status = line.status;
