@@ -2,8 +2,8 @@
  * Times an exchange of two sides with many names: sizes NAMES [CLASHING [cold]]. Of 100 names CLASHING (100 by default) clash, and the
  * built-in `notify` judges; both sides register the others alike. With `cold`, each call that is timed begins with none of its memory
  * in the caches. Prints a line for each call, `CALL NANOSECONDS-A-NAME`, for one side; `rest` and `exchange`, the bytes that a side
- * holds for each name at rest and in an open exchange that heard the other's offer, without the messages; and `peak`, the most bytes for
- * each name that the process had, with both sides and their messages.
+ * holds for each name at rest and in an open exchange that heard the other's offer, without the messages; and, without `cold`, `peak`, the
+ * most bytes for each name that the process had, with both sides and their messages.
  */
 #include "heal.h"
 
@@ -165,6 +165,7 @@ int main(int argc, char **argv)
         fprintf(stderr, "%zu names are left, where notify keeps one of both owners\n", merged);
         return 1;
     }
-    printf("peak %.0f\n", (most() - least) / count);
+    if (other == NULL)
+        printf("peak %.0f\n", (most() - least) / count);
     return 0;
 }
