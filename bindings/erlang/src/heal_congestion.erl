@@ -31,7 +31,7 @@ wait(Node, Body, Part = #part{full = Full}) ->
 weight({edit, _, Edits, _, _}) -> length(Edits);
 weight(_Body) -> 1.
 
-%% Returns whether a body is to be sent later. What an exchange that is over has left behind would only hold up the next one.
+%% Returns whether a body is to be sent later. A message of an exchange that is over isn't: it would hold up the next exchange.
 is_due(Node, {edit, {View, _}, _, _, _}, Part = #part{members = Members}) ->
     case Members of
         #{Node := #member{is_lagging = false}} -> heal_state:view(Part) =:= View;
