@@ -69,7 +69,8 @@ EDITS = {
          "        self.gone_a.contains(name) || self.gone_b.contains(name)")],
     "words": [  # a clash is judged at the next word
         (TABLES, "(seed + round * n + k) % 2 ^ 64", "(seed + round * n + k + 1) % 2 ^ 64"),
-        ("partition_table/src/judging.rt", ".wrapping_add(u64::from(k))", ".wrapping_add(u64::from(k) + 1)")],
+        ("partition_table/src/judging.rt", ".wrapping_add(u64::from(k))", ".wrapping_add(u64::from(k) + 1)"),
+        ("partition_table/src/judging.rt", ".wrapping_sub(u64::from(k))", ".wrapping_sub(u64::from(k) + 1)")],
     "uptimes": [  # a script's uptimes change places
         ("script_text/specs/Asking.antt", "Ok (record { a = a; b = b })", "Ok (record { a = b; b = a })"),
         ("script_text/src/parsing.rt", "a: long(a)?,\n            b: long(b)?", "a: long(b)?,\n            b: long(a)?")],

@@ -16,7 +16,7 @@ use crate::messages::{Offer, Withdrawals};
 use crate::pairing::has_too_many;
 use crate::state::State;
 use clash_record::{Name, SideId};
-use partition_table::{Clash, NameLimit, Ruling, Table, TableFault, word};
+use partition_table::{Clash, NameLimit, Ruling, Table, TableFault, round_of};
 
 impl State {
     // Returns the refusal to register the name on a side with an open exchange or a full journal.
@@ -165,7 +165,7 @@ impl State {
             Some(compared) => compared.clashes.len() as u32,
             None => 0,
         };
-        is_one_of_four(at, exchange.seed(), count, k)
+        round_of(at, exchange.seed(), count, k).is_some()
     }
 
     // Returns the refusal to withdraw the name.
@@ -300,12 +300,4 @@ fn is_same_clash(a: &Clash, b: &Clash) -> bool
     ensures { result ≡ same_clash a.now b.now }
 {
     a == b
-}
-
-// Checks whether the word is one of the four of clash `k` of `n`.
-fn is_one_of_four(at: u64, seed: u64, n: u32, k: u32) -> bool
-    ensures { result ≡ is_one_of_four at seed n k }
-{
-    at == word(seed, 0, n, k)
-        || (at == word(seed, 1, n, k) || (at == word(seed, 2, n, k) || at == word(seed, 3, n, k)))
 }

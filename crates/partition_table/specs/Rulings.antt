@@ -1,5 +1,5 @@
 -- Rulings: a clash of an exchange, one of its four words, and what its resolver answers there.
-use Rattle.std.specs.Prelude.{ℕ, Bool, true, false, ◌&&◌, ◌==◌, List, [], ◌∷◌, length, slice_get}
+use Rattle.std.specs.Prelude.{ℕ, Bool, true, false, ◌&&◌, ◌==◌, List, [], ◌∷◌, length, slice_get, find, Option}
 use Rattle.std.specs.Option.{option_map_or}
 use Rattle.std.specs.List.{list_any}
 use Rattle.builtin_resolvers.specs.declared.verdicts.Verdict3.{Verdict3}
@@ -10,6 +10,10 @@ use Rattle.partition_table.specs.Tables.{Clash, answer, word_of}
 -- the test of IsOneOfFour
 abbrev pub is_one_of_four : ℕ → ℕ → ℕ → ℕ → Bool
 is_one_of_four word seed n k = list_any (λ round. word == word_of seed round n k) (0 ∷ 1 ∷ 2 ∷ 3 ∷ [])
+
+-- the least round, of the four, at whose word of clash k of n this is
+abbrev pub round_of : ℕ → ℕ → ℕ → ℕ → Option ℕ
+round_of word seed n k = find (λ round. word == word_of seed round n k) (0 ∷ 1 ∷ 2 ∷ 3 ∷ [])
 
 abbrev pub is_answer : Verdict3 → Verdict3 → Bool
 is_answer First First = true

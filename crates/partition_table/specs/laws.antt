@@ -1,1 +1,2 @@
+pub mod FourWords
 pub mod Sameness

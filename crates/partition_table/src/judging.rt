@@ -2,6 +2,7 @@
 ghost use Rattle.std.specs.Prelude.{◌≡◌};
 ghost use Rattle.partition_table.specs.Tables.{word_of};
 ghost use Rattle.partition_table.specs.Tables as tables;
+ghost use Rattle.partition_table.specs.Rulings as rulings;
 ghost use Rattle.partition_table.specs.Judged.{clash_of_verdict, word_of_verdict, answer_of_verdict};
 
 use crate::clash::Clash;
@@ -81,6 +82,25 @@ pub fn word(seed: u64, round: u32, n: u32, k: u32) -> u64
 {
     seed.wrapping_add(u64::from(round) * u64::from(n))
         .wrapping_add(u64::from(k))
+}
+
+/// Returns the least of rounds 0 to 3 in which this is the word of clash `k` of `n`, if any. Computes no word.
+pub fn round_of(word: u64, seed: u64, n: u32, k: u32) -> Option<u32>
+    ensures { result ≡ rulings.round_of word seed n k }
+{
+    let past = word.wrapping_sub(seed).wrapping_sub(u64::from(k));
+    let n = u64::from(n);
+    if past == 0 {
+        Some(0)
+    } else if past == n {
+        Some(1)
+    } else if past == 2 * n {
+        Some(2)
+    } else if past == 3 * n {
+        Some(3)
+    } else {
+        None
+    }
 }
 
 // Returns the answer of the first registration's resolver at the word. A program runs in the scratch memory.

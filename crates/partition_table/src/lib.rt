@@ -31,7 +31,7 @@ pub use fault::TableFault;
 pub use finder::Finder;
 pub use fitting::{fit, fit_within};
 pub use judged::Judged;
-pub use judging::word;
+pub use judging::{round_of, word};
 pub use laws::{clashes_theorem, fit_theorem, merge_theorem};
 pub use limit::{MAX_NAMES, NameLimit};
 pub use merging::{MergedTable, merge, merge_compared};

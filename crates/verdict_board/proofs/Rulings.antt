@@ -5,37 +5,8 @@ use Rattle.partition_table.specs.Tables.{Clash, IsOneOfFour, word_of, answer}
 use Rattle.partition_table.specs.Judged.{clash_of_verdict, word_of_verdict, answer_of_verdict}
 use Rattle.partition_table.specs.declared.verdict.Verdict.{Verdict}
 use Rattle.partition_table.specs.Rulings.{Ruling, ruling_of, is_one_of_four}
+use Rattle.partition_table.specs.laws.FourWords.{one_of_four, four_pass}
 use Rattle.verdict_board.specs.Boards.{Pass, Place, as_ruling_of, word_seen, seen, ruling_if, ruling_at}
-
--- ---- the test of a word
-
-by_either : (p q : Bool) {P : Type 0} → (p || q) ≡ true → (p ≡ true → P) → (q ≡ true → P) → P
-by_either true q e f g = f refl
-by_either false q e f g = g e
-
-one_of_four : (word seed n k : ℕ) → is_one_of_four word seed n k ≡ true → IsOneOfFour word seed n k
-one_of_four word seed n k e =
-    by_either _ _ e (λ t. (0, omega arith, eqb-true _ _ t)) (λ e.
-    by_either _ _ e (λ t. (1, omega arith, eqb-true _ _ t)) (λ e.
-    by_either _ _ e (λ t. (2, omega arith, eqb-true _ _ t)) (λ e.
-    by_either _ _ e (λ t. (3, omega arith, eqb-true _ _ t)) (λ e. absurd (cc)))))
-
-or_left : (p q : Bool) → p ≡ true → (p || q) ≡ true
-or_left p q e = ap (λ b. b || q) e
-
-or_right : (p q : Bool) → q ≡ true → (p || q) ≡ true
-or_right true q e = refl
-or_right false q e = e
-
-four_pass : (word seed n k round : ℕ) → round < 4 → word ≡ word_of seed round n k → is_one_of_four word seed n k ≡ true
-four_pass word seed n k zero early e = or_left _ _ (eq-eqb _ _ e)
-four_pass word seed n k (suc zero) early e = or_right (word == word_of seed 0 n k) _ (or_left _ _ (eq-eqb _ _ e))
-four_pass word seed n k (suc (suc zero)) early e =
-    or_right (word == word_of seed 0 n k) _ (or_right (word == word_of seed 1 n k) _ (or_left _ _ (eq-eqb _ _ e)))
-four_pass word seed n k (suc (suc (suc zero))) early e =
-    or_right (word == word_of seed 0 n k) _ (or_right (word == word_of seed 1 n k) _
-    (or_right (word == word_of seed 2 n k) _ (or_left _ _ (eq-eqb _ _ e))))
-four_pass word seed n k (suc (suc (suc (suc round)))) early e = absurd (omega arith)
 
 -- ---- the ruling at a word
 

@@ -3,7 +3,7 @@ ghost use Rattle.std.specs.Prelude.{◌≡◌, length, is_some, IfSome};
 ghost use Rattle.partition_table.specs.Tables.{word_of};
 ghost use Rattle.partition_table.specs.Rulings.{is_one_of_four};
 
-use partition_table::{ClashList, word};
+use partition_table::{ClashList, round_of};
 
 // The exchange whose clashes are judged.
 #[derive(Clone, Copy)]
@@ -20,18 +20,7 @@ impl<'p> Site<'p> {
         ensures word { IfSome result (λ round.
             found ≡ word_of self.entry.seed round (length self.entry.clashes.now) k) }
     {
-        let count = self.clashes.len() as u32;
-        if found == word(self.seed, 0, count, k) {
-            Some(0)
-        } else if found == word(self.seed, 1, count, k) {
-            Some(1)
-        } else if found == word(self.seed, 2, count, k) {
-            Some(2)
-        } else if found == word(self.seed, 3, count, k) {
-            Some(3)
-        } else {
-            None
-        }
+        round_of(found, self.seed, self.clashes.len() as u32, k)
     }
 
     // Checks whether the word is one of the four of clash k.

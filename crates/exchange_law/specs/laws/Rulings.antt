@@ -1,12 +1,12 @@
 -- The meaning of the tests of a ruling.
-use Rattle.std.proofs.Common.{◌≡◌, ℕ, zero, suc, ◌<◌, Bool, true, false, ◌&&◌, ◌||◌, List, [], ◌∷◌, length, Option, Some, None, slice_get, eqb-true, eq-eqb, ◌==◌, refl, sym, ap, ◌∙◌, arith}
+use Rattle.std.proofs.Common.{◌≡◌, ℕ, ◌<◌, Bool, true, false, ◌&&◌, List, [], length, Option, Some, None, slice_get, refl, sym, ap, ◌∙◌}
 use Rattle.std.proofs.Math.Bool.{and-true}
 use Rattle.std.proofs.lemmas.Bool.{and_parts}
 use Rattle.std.specs.Option.{option_map_or}
-use Rattle.std.specs.List.{list_any}
 use Rattle.builtin_resolvers.specs.declared.verdicts.Verdict3.{Verdict3}
 use Rattle.builtin_resolvers.specs.declared.verdicts.Verdict3.TheVariants.{First, Second, Neither}
 use Rattle.partition_table.specs.Tables.{Clash, same_clash, answer, word_of, IsOneOfFour}
+use Rattle.partition_table.specs.laws.FourWords.{one_of_four, four_pass}
 use Rattle.partition_table.specs.laws.Sameness.{clash_decides}
 use Rattle.exchange_law.specs.Sides.{Judged, Heard, Exchange, Side, is_answer, is_one_of_four, is_lawful, clashes_heard, clashes_of, has_clash}
 
@@ -27,18 +27,6 @@ is_answer_is Second Neither e = cc
 is_answer_is Neither First e = cc
 is_answer_is Neither Second e = cc
 is_answer_is Neither Neither e = refl
-
-by_either : (p q : Bool) {P : Type 0} → (p || q) ≡ true → (p ≡ true → P) → (q ≡ true → P) → P
-by_either true q e f g = f refl
-by_either false q e f g = g e
-
-one_of_four : (word seed n k : ℕ) → is_one_of_four word seed n k ≡ true →
-    IsOneOfFour word seed n k
-one_of_four word seed n k e =
-    by_either _ _ e (λ t. (0, omega arith, eqb-true _ _ t)) (λ e.
-    by_either _ _ e (λ t. (1, omega arith, eqb-true _ _ t)) (λ e.
-    by_either _ _ e (λ t. (2, omega arith, eqb-true _ _ t)) (λ e.
-    by_either _ _ e (λ t. (3, omega arith, eqb-true _ _ t)) (λ e. absurd (cc)))))
 
 pub record Lawful (all : List Clash) (seed k : ℕ) (judged : Judged) (clash : Clash) : Type 0 where
   pub of_clash : slice_get all k ≡ Some clash
@@ -80,27 +68,6 @@ has_clash_is side exchange heard k clash opened was e =
     by_clash (Some c) at t = at ∙ ap Some (sym (same_clash_is clash c t))
 
 -- the tests pass where they are to
-
-or_right : (p q : Bool) → q ≡ true → (p || q) ≡ true
-or_right true q e = refl
-or_right false q e = e
-
-abbrev at_one_of : ℕ → ℕ → ℕ → ℕ → List ℕ → Bool
-at_one_of word seed n k rounds = list_any (λ round. word == word_of seed round n k) rounds
-
-four_pass : (word seed n k round : ℕ) → round < 4 → word ≡ word_of seed round n k →
-    is_one_of_four word seed n k ≡ true
-four_pass word seed n k zero early e = ap (λ b. b || at_one_of word seed n k (1 ∷ 2 ∷ 3 ∷ [])) (eq-eqb _ _ e)
-four_pass word seed n k (suc zero) early e =
-    or_right (word == word_of seed 0 n k) _ (ap (λ b. b || at_one_of word seed n k (2 ∷ 3 ∷ [])) (eq-eqb _ _ e))
-four_pass word seed n k (suc (suc zero)) early e =
-    or_right (word == word_of seed 0 n k) _
-    (or_right (word == word_of seed 1 n k) _ (ap (λ b. b || at_one_of word seed n k (3 ∷ [])) (eq-eqb _ _ e)))
-four_pass word seed n k (suc (suc (suc zero))) early e =
-    or_right (word == word_of seed 0 n k) _
-    (or_right (word == word_of seed 1 n k) _
-    (or_right (word == word_of seed 2 n k) _ (ap (λ b. b || false) (eq-eqb _ _ e))))
-four_pass word seed n k (suc (suc (suc (suc round)))) early e = absurd (omega arith)
 
 answer_passes : (x : Verdict3) → is_answer x x ≡ true
 answer_passes First = refl
