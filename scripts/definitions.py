@@ -6,7 +6,8 @@ their signatures, to the definitions in crates/*/specs, and counts these with th
 and blank lines not). Definitions of the toolchain's crates are counted apart. It also copies the definitions that the page shows.
 
 Without an option it prints the table. --write puts the table and the definitions into docs/PROOFS.md, --check fails if they
-differ there, and --list NAME prints the definitions of the promises whose text contains NAME, by module.
+differ there, or if two crates define one word that SHARED doesn't list, and --list NAME prints the definitions of the promises whose
+text contains NAME, by module.
 """
 import collections
 import glob
@@ -18,6 +19,12 @@ TOP = os.path.join(os.path.dirname(os.path.abspath(__file__)), "..")
 PAGE = os.path.join(TOP, "docs", "PROOFS.md")
 # The definitions that the page shows, by name, with their modules.
 SHOWN = {"IsLawfulMerge": "Rattle.exchange_law.specs.History"}
+
+# The words that two crates or more define, each in a sense of its own.
+SHARED = {
+    "IsFirstFault", "IsKept", "IsRefused", "IsRejectedOver", "Keeps", "code_for", "entry", "fault_number", "fault_place", "is_in", "is_name",
+    "operand", "register_fault", "without", "word_of", "◌>>=◌",
+}
 
 # Each promise with the public functions whose contracts carry it.
 PROMISES = [
@@ -252,6 +259,17 @@ def table():
     return "\n".join(rows)
 
 
+def shared_words():
+    """The words that the public definitions of two crates or more have, in specs/*.antt."""
+    crates = collections.defaultdict(set)
+    for module, here in MODULES.items():
+        _, crate, *rest = module.split(".")
+        for name, lines in here.definitions.items():
+            if len(rest) == 2 and any(re.match(r"(abbrev |unfoldable )?pub (?!use|mod)", line) for line in lines):
+                crates[name].add(crate)
+    return {name for name, owners in crates.items() if len(owners) > 1}
+
+
 def list_promise(word):
     for promise, paths in PROMISES:
         if word not in promise:
@@ -285,6 +303,8 @@ def main():
     for name, module in SHOWN.items():
         new = with_part(new, name, "\n".join(["```", *MODULES[module].definitions[name], "```"]))
     if sys.argv[1] == "--check":
+        if shared_words() != SHARED:
+            sys.exit(f"definitions.py: SHARED differs from the words of two crates: {sorted(shared_words() ^ SHARED)}")
         sys.exit(0 if old == new else "definitions.py: parts of docs/PROOFS.md are stale; run scripts/definitions.py --write")
     open(PAGE, "w", encoding="utf-8").write(new)
 

@@ -11,15 +11,16 @@ use Rattle.exchange_law.specs.Sides.{Heard, Exchange, Side, clashes_for, clashes
 use Rattle.exchange_core.specs.Finished.{Finished, clashes_merged, finished_at, finished_in, finished_of, finished_from}
 use Rattle.exchange_core.specs.declared.side.Side as held
 use Rattle.exchange_law.specs.Calls.{Finish}
+use Rattle.exchange_core.specs.Faults.{side_fault_number}
 use Rattle.exchange_core.specs.Refusals.{finish_fault}
 use Rattle.exchange_core.specs.Shown.{shown, is_full, IsDone, IsUntouched}
 use Rattle.upload_store.specs.Programs.{Programs}
 use Rattle.c_calls.specs.declared.outcome.Outcome.{Outcome}
-use Rattle.c_calls.specs.Answers.{IsAnswer}
-use Rattle.c_calls.specs.Exchanges.{IsFinishedFrom, Finishes, FinishesSide, allowed}
-use Rattle.c_calls.specs.Halves.{half_of}
+use Rattle.c_calls.specs.Answers.{GivesDueOrRunsOut, allowed}
+use Rattle.c_calls.specs.Exchanges.{IsFinishedFrom, Finishes, FinishesSide}
+use Rattle.c_calls.specs.Halves.{side_and_store}
 use Rattle.c_calls.specs.Sides.{CarriesOut, Stays}
-use Rattle.c_calls.specs.Outcomes.{IsOutcome, IsRoomFor, gone_for, gone_of}
+use Rattle.c_calls.specs.Outcomes.{IsOutcome, IsRoomFor, gone_for, gone_from_both}
 
 by_side : (id : SideId) (own : Table) (x : Exchange) (h : Heard) (theirs : List Name) (rulings : List Judged) (table : Table)
     → clashes_for id own x.uptime h.table h.uptime ≡ clashes_merged (finished_at id own x h theirs rulings table)
@@ -51,7 +52,7 @@ gone_in s x (Some h) (Some theirs) f e =
 gone_in s x (Some h) None f e = absurd (cc)
 gone_in s x None theirs f e = absurd (cc)
 
-gone_at : (s : Side) (opened : Option Exchange) (f : Finished) → s.exchange ≡ opened → finished_from s ≡ Some f → gone_of s ≡ f.gone
+gone_at : (s : Side) (opened : Option Exchange) (f : Finished) → s.exchange ≡ opened → finished_from s ≡ Some f → gone_from_both s ≡ f.gone
 gone_at s None f is e = absurd (cc)
 gone_at s (Some x) f is e = rw is (gone_in s x x.heard x.their_list f (subst (λ (o : Option Exchange). option_and_then (λ y. finished_in s y y.heard y.their_list) o ≡ Some f) is e))
 
@@ -71,25 +72,25 @@ shared s list e = by_exchange s.exchange e
     by_exchange (Some x) e = by_heard x x.heard e
 
 -- the clashes and names of the room that was made before a finish are those that it merged
-pub room_fits : (s : Side) (f : Finished) (room : Outcome) → finished_from s ≡ Some f → IsRoomFor (clashes_of s) (gone_of s) room
+pub room_fits : (s : Side) (f : Finished) (room : Outcome) → finished_from s ≡ Some f → IsRoomFor (clashes_of s) (gone_from_both s) room
     → IsRoomFor (clashes_merged f) f.gone room
 room_fits s f room e fits = subst (λ gone. IsRoomFor (clashes_merged f) gone room) (gone_at s s.exchange f refl e)
-    (subst (λ clashes. IsRoomFor clashes (gone_of s) room) (at_side s s.exchange f refl e) fits)
+    (subst (λ clashes. IsRoomFor clashes (gone_from_both s) room) (at_side s s.exchange f refl e) fits)
 
 pub finishes : (s : Side) (f : Finished) (outcome : Outcome) → finished_from s ≡ Some f → IsOutcome f outcome → IsFinishedFrom s outcome
 finishes s f outcome e is = (f, e, is)
 
 -- a half finishes as its side does
 pub by_its_side : (old new : held.Side) (store : Programs) (outcome outcome' : Option Outcome) (n : ℕ)
-    → FinishesSide old new outcome outcome' n → Finishes (half_of old store) (half_of new store) outcome outcome' n
-by_its_side old new store outcome outcome' n = by (allowed (finish_fault (is_full old) (shown old)))
+    → FinishesSide old new outcome outcome' n → Finishes (side_and_store old store) (side_and_store new store) outcome outcome' n
+by_its_side old new store outcome outcome' n = by (allowed side_fault_number (finish_fault (is_full old) (shown old)))
   where
     by : (due : Result (Unit {0}) ℕ)
-        → IsAnswer due (λ _. IsDone old Finish new × IsSomeAnd outcome' (IsFinishedFrom (shown old)))
+        → GivesDueOrRunsOut due (λ _. IsDone old Finish new × IsSomeAnd outcome' (IsFinishedFrom (shown old)))
         (IsUntouched old new × (outcome' ≡ outcome)) n
-        → IsAnswer due (λ _. CarriesOut Finish (half_of old store) (half_of new store)
+        → GivesDueOrRunsOut due (λ _. CarriesOut Finish (side_and_store old store) (side_and_store new store)
         × IsSomeAnd outcome' (IsFinishedFrom (shown old)))
-        (Stays (half_of old store) (half_of new store) × (outcome' ≡ outcome)) n
+        (Stays (side_and_store old store) (side_and_store new store) × (outcome' ≡ outcome)) n
     by (Ok x) (inl h) = inl (h.0, (record { done = h.1.0; store = refl }, h.1.1))
     by (Ok x) (inr h) = inr (h.0, (record { side = h.1.0; store = refl }, h.1.1))
     by (Err m) h = (h.0, (record { side = h.1.0; store = refl }, h.1.1))

@@ -9,7 +9,7 @@ use Rattle.exchange_codec.specs.Faults.{message_fault_number}
 use Rattle.exchange_codec.specs.Offers.{SpellsOffer}
 use Rattle.exchange_codec.specs.Withdrawals.{SpellsWithdrawals, list_due}
 use Rattle.exchange_codec.specs.Withdrawals as lists
-use Rattle.c_calls.specs.Halves.{Half}
+use Rattle.c_calls.specs.Halves.{SideAndStore}
 use Rattle.c_calls.specs.Sides.{Stays}
 use Rattle.c_calls.specs.Exchanges.{HearsWhole, HearsOffer, HearsNames, HearsDue, HearsWholeList}
 use Rattle.c_calls.specs.laws.Reading.{boxed_spelled, spent, spent_answer}
@@ -27,18 +27,18 @@ list_spelled items (Ok v) message list e spells named = rw e (spells named)
 list_spelled items (Err f) message list e spells named = absurd e
 
 -- bytes that are no offer, or for which memory runs out
-pub unheard : (offer : sides.Offer) (old new : Half) (n : ℕ) → Stays old new → n ≡ out_of_memory → HearsOffer offer old new n
+pub unheard : (offer : sides.Offer) (old new : SideAndStore) (n : ℕ) → Stays old new → n ≡ out_of_memory → HearsOffer offer old new n
 unheard offer old new n stays e = spent_other _ _ _ _ _ e stays (spent_answer _ _ _ _ e stays)
 
 -- bytes that are no list, or for which memory runs out
-pub list_refused : (bytes : List ℕ) (old new : Half) (n : ℕ) (r : Result sides.Withdrawals MessageFault) (fault : MessageFault) → r ≡ Err fault
+pub list_refused : (bytes : List ℕ) (old new : SideAndStore) (n : ℕ) (r : Result sides.Withdrawals MessageFault) (fault : MessageFault) → r ≡ Err fault
     → ((w : sides.Withdrawals) → SpellsWithdrawals bytes w → ReturnsOrRunsOut message_fault_number r (Ok w))
-    → ReturnsOrRunsOut message_fault_number r (list_due (length bytes) (lists.list_of bytes))
+    → ReturnsOrRunsOut message_fault_number r (list_due (length bytes) (lists.whole_list bytes))
     → n ≡ message_fault_number fault → Stays old new → HearsWholeList bytes old new n
 list_refused bytes old new n (Ok w) fault e taken exact is stays = absurd (cc)
 list_refused bytes old new n (Err f) fault e taken exact is stays = record {
   taken = λ w spells. unheard w (taken w spells);
-  exact = due (list_due (length bytes) (lists.list_of bytes)) exact;
+  exact = due (list_due (length bytes) (lists.whole_list bytes)) exact;
 }
   where
     number_is : n ≡ message_fault_number f
@@ -54,13 +54,13 @@ list_refused bytes old new n (Err f) fault e taken exact is stays = record {
     due (Err m) (inr out) = (inr (number_is ∙ out), stays)
 
 -- every call may run out of memory
-pub spent_offer : (bytes : List ℕ) (old new : Half) (n : ℕ) → n ≡ out_of_memory → Stays old new → HearsWhole bytes old new n
+pub spent_offer : (bytes : List ℕ) (old new : SideAndStore) (n : ℕ) → n ≡ out_of_memory → Stays old new → HearsWhole bytes old new n
 spent_offer bytes old new n e stays = spent _ _ _ (λ offer. HearsOffer offer old new n) _ n e stays (λ offer. unheard offer old new n stays e)
 
-pub spent_list : (bytes : List ℕ) (old new : Half) (n : ℕ) → n ≡ out_of_memory → Stays old new → HearsWholeList bytes old new n
+pub spent_list : (bytes : List ℕ) (old new : SideAndStore) (n : ℕ) → n ≡ out_of_memory → Stays old new → HearsWholeList bytes old new n
 spent_list bytes old new n e stays = record {
   taken = λ w spells. names w;
-  exact = due (list_due (length bytes) (lists.list_of bytes));
+  exact = due (list_due (length bytes) (lists.whole_list bytes));
 }
   where
     names : (w : sides.Withdrawals) → HearsNames w old new n

@@ -7,9 +7,9 @@ use Rattle.refusals.specs.declared.place.Place.TheVariants.{Slot}
 -- ---- numbers of results
 
 -- 0, or the number of the refusal
-abbrev pub number_in : {A F : Type 0} → (F → ℕ) → Result A F → ℕ
-number_in number (Ok x) = 0
-number_in number (Err fault) = number fault
+abbrev pub returned_number : {A F : Type 0} → (F → ℕ) → Result A F → ℕ
+returned_number number (Ok x) = 0
+returned_number number (Err fault) = number fault
 
 -- the slot of a place, or 0
 abbrev pub slot_at : Option Place → ℕ
@@ -17,12 +17,16 @@ slot_at (Some (Slot slot)) = slot
 slot_at place = 0
 
 -- the slot of a refusal with this number and place, or 0; running out of memory has none
-abbrev pub slot_of : ℕ → Option Place → ℕ
-slot_of number place = if number == out_of_memory then 0 else slot_at place
+abbrev pub refusal_slot : ℕ → Option Place → ℕ
+refusal_slot number place = if number == out_of_memory then 0 else slot_at place
 
-abbrev pub slot_in : {A F : Type 0} → (F → ℕ) → (F → Option Place) → Result A F → ℕ
-slot_in number place (Ok x) = 0
-slot_in number place (Err fault) = slot_of (number fault) (place fault)
+abbrev pub returned_slot : {A F : Type 0} → (F → ℕ) → (F → Option Place) → Result A F → ℕ
+returned_slot number place (Ok x) = 0
+returned_slot number place (Err fault) = refusal_slot (number fault) (place fault)
+
+-- a call ran out of memory, which has no slot
+abbrev pub IsOutOfMemory : ℕ → ℕ → Type 0
+IsOutOfMemory n slot = (n ≡ out_of_memory) × (slot ≡ 0)
 
 -- ---- what is due to a call: a value, or the number of a refusal
 
@@ -31,6 +35,10 @@ abbrev pub unless : {F X : Type 0} → (F → ℕ) → Option F → X → Result
 unless number None x = Ok x
 unless number (Some fault) x = Err (number fault)
 
+-- nothing, or the refusal that is due
+abbrev pub allowed : {F : Type 0} → (F → ℕ) → Option F → Result (Unit {0}) ℕ
+allowed number fault = unless number fault (tt {0})
+
 abbrev pub and_then : {X Y : Type 0} → Result X ℕ → (X → Result Y ℕ) → Result Y ℕ
 and_then (Ok x) f = f x
 and_then (Err n) f = Err n
@@ -38,19 +46,19 @@ and_then (Err n) f = Err n
 -- ---- answers
 
 -- what a handle holds after a call that fills it: what was made, or what it held before if the call is refused
-abbrev pub filled : {A M : Type 0} → (M → A) → Option A → Result M ℕ → Option A
-filled value before (Ok made) = Some (value made)
-filled value before (Err n) = before
+abbrev pub held_after : {A M : Type 0} → (M → A) → Option A → Result M ℕ → Option A
+held_after value before (Ok made) = Some (value made)
+held_after value before (Err n) = before
 
 -- A call that may run out of memory: it returns 0 and is done, or returns its refusal or 90 and everything stays
-abbrev pub IsAnswer : {X : Type 0} → Result X ℕ → (X → Type 0) → Type 0 → ℕ → Type 0
-IsAnswer (Ok x) done stays n = ((n ≡ 0) × done x) ⊎ ((n ≡ out_of_memory) × stays)
-IsAnswer (Err m) done stays n = ((n ≡ m) ⊎ (n ≡ out_of_memory)) × stays
+abbrev pub GivesDueOrRunsOut : {X : Type 0} → Result X ℕ → (X → Type 0) → Type 0 → ℕ → Type 0
+GivesDueOrRunsOut (Ok x) done stays n = ((n ≡ 0) × done x) ⊎ ((n ≡ out_of_memory) × stays)
+GivesDueOrRunsOut (Err m) done stays n = ((n ≡ m) ⊎ (n ≡ out_of_memory)) × stays
 
 -- A call that allocates nothing: it returns 0 and is done, or returns its refusal and everything stays
-abbrev pub Gives : {X : Type 0} → Result X ℕ → (X → Type 0) → Type 0 → ℕ → Type 0
-Gives (Ok x) done stays n = (n ≡ 0) × done x
-Gives (Err m) done stays n = (n ≡ m) × stays
+abbrev pub GivesDue : {X : Type 0} → Result X ℕ → (X → Type 0) → Type 0 → ℕ → Type 0
+GivesDue (Ok x) done stays n = (n ≡ 0) × done x
+GivesDue (Err m) done stays n = (n ≡ m) × stays
 
 -- A call on a handle: an empty one stays empty, the call returns 91, and its results stay
 abbrev pub OnHandle : {A : Type 0} → Option A → Option A → (A → A → ℕ → Type 0) → Type 0 → ℕ → Type 0
@@ -70,7 +78,7 @@ abbrev pub Rejects : {F : Type 0} → (F → ℕ) → F → Type 0 → ℕ → T
 Rejects number fault stays n = ((n ≡ number fault) ⊎ (n ≡ out_of_memory)) × stays
 
 -- A call that reads bytes: it takes the value that they spell, or returns their fault, or runs out of memory
-pub record Takes (V F : Type 0) (Spells : V → Type 0) (IsFault : F → Type 0) (number : F → ℕ) (takes : V → Type 0)
+pub record TakesBytes (V F : Type 0) (Spells : V → Type 0) (IsFault : F → Type 0) (number : F → ℕ) (takes : V → Type 0)
     (stays : Type 0) (n : ℕ) : Type 0 where
   pub answer : ((value : V) × Spells value × takes value)
       ⊎ ((fault : F) × IsFault fault × Rejects number fault stays n)

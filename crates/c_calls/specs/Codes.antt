@@ -25,24 +25,24 @@ use Rattle.c_calls.specs.Answers.{and_then}
 -- ---- what C gives
 
 -- a name, or 44
-abbrev pub name_of : List ℕ → Result Name ℕ
-name_of bytes = if is_name bytes then Ok bytes else Err 44
+abbrev pub given_name : List ℕ → Result Name ℕ
+given_name bytes = if is_name bytes then Ok bytes else Err 44
 
 -- a resolver by its kind, or 76
-abbrev pub resolver_of : ℕ → List ℕ → Result ResolverId ℕ
-resolver_of kind program =
+abbrev pub given_resolver : ℕ → List ℕ → Result ResolverId ℕ
+given_resolver kind program =
     if kind == 0 then Ok (Builtin by.Exit)
     else (if kind == 1 then Ok (Builtin by.Notify)
     else (if kind == 2 then Ok (Builtin by.NotifyAll)
     else (if kind == 3 then Ok (Program (record { 0 = program })) else Err 76)))
 
-abbrev pub owner_of : HealOwner → Owner
-owner_of owner = record { node = owner.node; serial = owner.serial }
+abbrev pub given_owner : HealOwner → Owner
+given_owner owner = record { node = owner.node; serial = owner.serial }
 
 -- a registration, or 76
-abbrev pub registration_of : HealRegistration → Result Registration ℕ
-registration_of r = and_then (resolver_of r.resolver r.program) (λ resolver. Ok record {
-  owner = owner_of r.owner;
+abbrev pub given_registration : HealRegistration → Result Registration ℕ
+given_registration r = and_then (given_resolver r.resolver r.program) (λ resolver. Ok record {
+  owner = given_owner r.owner;
   stamp = r.stamp;
   weight = r.weight;
   extra = r.extra;
@@ -50,11 +50,12 @@ registration_of r = and_then (resolver_of r.resolver r.program) (λ resolver. Ok
 })
 
 -- a name and a registration; the name's fault is due first
-abbrev pub entry_of : List ℕ → HealRegistration → Result (Name × Registration) ℕ
-entry_of bytes r = and_then (name_of bytes) (λ name. and_then (registration_of r) (λ registration. Ok (name, registration)))
+abbrev pub given_entry : List ℕ → HealRegistration → Result (Name × Registration) ℕ
+given_entry bytes r =
+    and_then (given_name bytes) (λ name. and_then (given_registration r) (λ registration. Ok (name, registration)))
 
-abbrev pub facts_of : HealFacts → Facts
-facts_of facts = record { size = facts.size; uptime = facts.uptime }
+abbrev pub given_facts : HealFacts → Facts
+given_facts facts = record { size = facts.size; uptime = facts.uptime }
 
 -- ---- what C gets
 

@@ -58,8 +58,8 @@ gone_for B own theirs = record { of_a = theirs; of_b = own }
 abbrev pub theirs_of : Side → List Name
 theirs_of side = option_map_or (λ names. names) (option_and_then (λ exchange. exchange.their_list) side.exchange) []
 
-abbrev pub gone_of : Side → Gone
-gone_of side = gone_for side.id (withdrawn_by side) (theirs_of side)
+abbrev pub gone_from_both : Side → Gone
+gone_from_both side = gone_for side.id (withdrawn_by side) (theirs_of side)
 
 -- these clashes and withdrawn names, and a place for what is known of each clash
 pub record IsRoomFor (list : List Clash) (gone : Gone) (outcome : Outcome) : Type 0 where
@@ -76,8 +76,8 @@ notices_by (Builtin builtin) clash verdict = notices_of builtin clash.name clash
 notices_by (Program id) clash verdict = []
 
 -- who keeps the name: the winner, unless it was withdrawn
-abbrev pub keeper : Bool → Verdict3 → Verdict3
-keeper kept verdict = if kept then verdict else Neither
+abbrev pub name_keeper : Bool → Verdict3 → Verdict3
+name_keeper kept verdict = if kept then verdict else Neither
 
 -- a winner keeps the name
 abbrev pub wins : Verdict3 → Bool → Bool
@@ -93,18 +93,20 @@ abbrev pub mark_from : Bool → Bool → Mark
 mark_from kept of_a = record { kept = kept; of_a = of_a }
 
 -- the ruling and the mark of clash i
-abbrev pub ruling_at : Outcome → ℕ → Option (Judged × Mark)
-ruling_at outcome i = option_and_then (λ judged. option_and_then (λ kept. option_map (λ of_a. (judged, mark_from kept of_a))
+abbrev pub marked_ruling : Outcome → ℕ → Option (Judged × Mark)
+marked_ruling outcome i = option_and_then (λ judged. option_and_then (λ kept.
+    option_map (λ of_a. (judged, mark_from kept of_a))
     (slice_get outcome.of_a.items i)) (slice_get outcome.kept.items i)) (slice_get outcome.rulings.items i)
 
 -- clash i with its ruling and its mark
 abbrev pub judged_at : Outcome → ℕ → Option (Clash × (Judged × Mark))
 judged_at outcome i =
-    option_and_then (λ clash. option_map (λ ruling. (clash, ruling)) (ruling_at outcome i)) (slice_get (clashes_in outcome) i)
+    option_and_then (λ clash. option_map (λ ruling. (clash, ruling)) (marked_ruling outcome i))
+    (slice_get (clashes_in outcome) i)
 
 -- the half that registered the first of the two
-abbrev pub first_half : Mark → SideId
-first_half mark = if mark.of_a then A else B
+abbrev pub half_of_first : Mark → SideId
+half_of_first mark = if mark.of_a then A else B
 
 abbrev pub clash_code : Clash × (Judged × Mark) → HealClash
 clash_code x = record {
@@ -113,15 +115,15 @@ clash_code x = record {
   second = registration_code x.0.second;
   word = x.1.0.word;
   verdict = verdict_code x.1.0.answer;
-  keeps = verdict_code (keeper x.1.1.kept x.1.0.answer);
-  first_half = side_code (first_half x.1.1);
+  keeps = verdict_code (name_keeper x.1.1.kept x.1.0.answer);
+  first_half = side_code (half_of_first x.1.1);
   notices = length (notices_to x.0 x.1.0.answer x.1.1.kept);
   reserved = 0;
 }
 
 -- clash i, or 92
-abbrev pub clash_at : Outcome → ℕ → Result HealClash ℕ
-clash_at outcome i = ok_or (option_map clash_code (judged_at outcome i)) 92
+abbrev pub clash_code_at : Outcome → ℕ → Result HealClash ℕ
+clash_code_at outcome i = ok_or (option_map clash_code (judged_at outcome i)) 92
 
 -- notice n of clash i, or 92
 abbrev pub notice_at : Outcome → ℕ → ℕ → Result HealNotice ℕ
@@ -130,11 +132,11 @@ notice_at outcome i n = ok_or (option_and_then (λ (x : Clash × (Judged × Mark
 
 -- ---- withdrawn names
 
-abbrev pub names_of : SideId → Outcome → List Name
-names_of A outcome = outcome.gone_a.items
-names_of B outcome = outcome.gone_b.items
+abbrev pub gone_names : SideId → Outcome → List Name
+gone_names A outcome = outcome.gone_a.items
+gone_names B outcome = outcome.gone_b.items
 
 -- name i of those that a half withdrew, or 74 for neither half, or 92
 abbrev pub withdrawn_of : ℕ → ℕ → Outcome → Result HealName ℕ
 withdrawn_of half i outcome =
-    and_then (side_id half) (λ id. ok_or (option_map name_code (slice_get (names_of id outcome) i)) 92)
+    and_then (side_id half) (λ id. ok_or (option_map name_code (slice_get (gone_names id outcome) i)) 92)

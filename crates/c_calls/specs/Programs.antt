@@ -1,6 +1,5 @@
 -- Programs: what loading bytes gives, and what judging returns.
 use Rattle.std.specs.Prelude.{◌≡◌, ◌≤◌, ◌⊎◌, ℕ, List, length, Option, Some}
-use Rattle.refusals.specs.Answers.{out_of_memory}
 use Rattle.instruction_set.specs.declared.insn.Insn.{Insn}
 use Rattle.instruction_set.specs.Machine.{Ends, meaning}
 use Rattle.upload_store.specs.Programs.{id_of}
@@ -8,10 +7,10 @@ use Rattle.verifier.specs.Programs.{IsAccepted, IsProgramFault, program_fault_nu
 use Rattle.verifier.specs.declared.program_fault.ProgramFault.{ProgramFault}
 use Rattle.upload_store.specs.Programs.{Upload}
 use Rattle.c_calls.specs.declared.codes.HealEnded.{HealEnded}
-use Rattle.c_calls.specs.Answers.{slot_of}
+use Rattle.c_calls.specs.Answers.{refusal_slot, IsOutOfMemory}
 
 -- the bytes spell accepted code, which is kept with their id
-pub record IsLoaded (bytes : List ℕ) (program : Upload) : Type 0 where
+pub record IsLoadedResolver (bytes : List ℕ) (program : Upload) : Type 0 where
   pub accepted : IsAccepted bytes program.code
   pub named : program.id ≡ id_of bytes
 
@@ -23,33 +22,30 @@ pub record Loads {V : Type 0} (IsLoaded : V → Type 0) (new : Option V) (n slot
   pub no_refusal : n ≡ 0
   pub no_slot : slot ≡ 0
 
--- the call ran out of memory
-abbrev pub RanOut : ℕ → ℕ → Type 0
-RanOut n slot = (n ≡ out_of_memory) × (slot ≡ 0)
-
 -- the number and the slot are those of the fault
 abbrev pub IsNumbered : ProgramFault → ℕ → ℕ → Type 0
-IsNumbered fault n slot = (n ≡ program_fault_number fault) × (slot ≡ slot_of (program_fault_number fault) (program_fault_place fault))
+IsNumbered fault n slot =
+    (n ≡ program_fault_number fault) × (slot ≡ refusal_slot (program_fault_number fault) (program_fault_place fault))
 
 -- the refusal is a fault of the bytes, or the call ran out of memory
 abbrev pub IsRefusal : (ProgramFault → Type 0) → ℕ → ℕ → Type 0
-IsRefusal IsFault n slot = ((fault : ProgramFault) × IsFault fault × IsNumbered fault n slot) ⊎ RanOut n slot
+IsRefusal IsFault n slot = ((fault : ProgramFault) × IsFault fault × IsNumbered fault n slot) ⊎ IsOutOfMemory n slot
 
 -- what loading bytes returns and leaves, where bytes have this code or this fault
 pub record IsLoadOf {V : Type 0} (HasCode : List Insn → Type 0) (IsFault : ProgramFault → Type 0) (IsLoaded : V → Type 0)
     (old new : Option V) (n slot : ℕ) : Type 0 where
   pub answer : Loads IsLoaded new n slot ⊎ (IsRefusal IsFault n slot × (new ≡ old))
   -- accepted code is loaded, unless memory runs out
-  pub taken : (code : List Insn) → HasCode code → Loads IsLoaded new n slot ⊎ (RanOut n slot × (new ≡ old))
+  pub taken : (code : List Insn) → HasCode code → Loads IsLoaded new n slot ⊎ (IsOutOfMemory n slot × (new ≡ old))
   -- a fault of the bytes is returned, unless memory runs out
-  pub reported : (fault : ProgramFault) → IsFault fault → (IsNumbered fault n slot ⊎ RanOut n slot) × (new ≡ old)
+  pub reported : (fault : ProgramFault) → IsFault fault → (IsNumbered fault n slot ⊎ IsOutOfMemory n slot) × (new ≡ old)
 
 -- what loading bytes as a resolver returns and leaves
 abbrev pub IsLoad : List ℕ → Option Upload → Option Upload → ℕ → ℕ → Type 0
-IsLoad bytes = IsLoadOf (IsAccepted bytes) (IsProgramFault bytes) (IsLoaded bytes)
+IsLoad bytes = IsLoadOf (IsAccepted bytes) (IsProgramFault bytes) (IsLoadedResolver bytes)
 
 -- what a program answers to a record
-pub record IsJudged (program : Upload) (bytes : List ℕ) (ended : HealEnded) : Type 0 where
+pub record AnswersRecord (program : Upload) (bytes : List ℕ) (ended : HealEnded) : Type 0 where
   pub ends : Ends program.code bytes ended.r0 ended.steps
   pub means : ended.r0 ≡ meaning program.code bytes
   pub few : ended.steps ≤ length program.code

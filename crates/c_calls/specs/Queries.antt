@@ -11,19 +11,19 @@ use Rattle.exchange_core.specs.Refusals.{missing_of}
 use Rattle.exchange_core.specs.declared.fault.MissingPart.{MissingPart}
 use Rattle.exchange_core.specs.declared.fault.MissingPart.TheVariants.{TheirOffer, Ruling, OwnList, OtherList}
 use Rattle.exchange_law.specs.Sides as sides
-use Rattle.c_calls.specs.Halves.{Half}
+use Rattle.c_calls.specs.Halves.{SideAndStore}
 use Rattle.c_calls.specs.declared.codes.HealName.{HealName}
 use Rattle.c_calls.specs.declared.codes.HealRow.{HealRow}
 use Rattle.c_calls.specs.Answers.{and_then}
 use Rattle.c_calls.specs.declared.knowledge.HealSideState.{HealSideState}
-use Rattle.c_calls.specs.Codes.{name_of, name_code, row_code, side_code}
+use Rattle.c_calls.specs.Codes.{given_name, name_code, row_code, side_code}
 
 -- withdrawn name i, or 92
-abbrev pub withdrawn_at : ℕ → Half → Result HealName ℕ
+abbrev pub withdrawn_at : ℕ → SideAndStore → Result HealName ℕ
 withdrawn_at i half = ok_or (option_map name_code (slice_get (withdrawn_by (shown half.side)) i)) 92
 
 -- row i of the names that aren't withdrawn, or 92
-abbrev pub live_at : ℕ → Half → Result HealRow ℕ
+abbrev pub live_at : ℕ → SideAndStore → Result HealRow ℕ
 live_at i half = ok_or (option_map row_code (slice_get (rows_of (shown_table (shown half.side))) i)) 92
 
 -- the side has the name, and didn't withdraw it
@@ -31,8 +31,8 @@ abbrev pub is_live : sides.Side → Name → Bool
 is_live side name = is_some (get (shown_table side) name)
 
 -- the first row above this name whose name isn't withdrawn, or the refusal that is due
-abbrev pub live_after : List ℕ → Half → Result HealRow ℕ
-live_after bytes half = and_then (name_of bytes) (λ name. ok_or (option_map row_code
+abbrev pub live_after : List ℕ → SideAndStore → Result HealRow ℕ
+live_after bytes half = and_then (given_name bytes) (λ name. ok_or (option_map row_code
     (find (λ row. is_live (shown half.side) row.0) (rows_above name (shown half.side).table))) 92)
 
 -- ---- the state of a side

@@ -6,11 +6,11 @@ use Rattle.partition_table.specs.Tables.{Table, rows_of, rows_above}
 use Rattle.c_calls.specs.declared.codes.HealRegistration.{HealRegistration}
 use Rattle.c_calls.specs.declared.codes.HealRow.{HealRow}
 use Rattle.c_calls.specs.Answers.{and_then}
-use Rattle.c_calls.specs.Codes.{name_of, registration_code, row_code}
+use Rattle.c_calls.specs.Codes.{given_name, registration_code, row_code}
 
 -- the registration of a name, or 44 or 31
 abbrev pub found_in : List ℕ → Table → Result HealRegistration ℕ
-found_in bytes table = and_then (name_of bytes) (λ name.
+found_in bytes table = and_then (given_name bytes) (λ name.
     ok_or (option_map (λ row. registration_code row.registration) (map.get table name)) 31)
 
 -- row i, or 92
@@ -19,5 +19,5 @@ row_in i table = ok_or (option_map row_code (slice_get (rows_of table) i)) 92
 
 -- the first row above this name, or the refusal that is due
 abbrev pub row_in_after : List ℕ → Table → Result HealRow ℕ
-row_in_after bytes table = and_then (name_of bytes) (λ name.
+row_in_after bytes table = and_then (given_name bytes) (λ name.
     ok_or (option_map row_code (slice_get (rows_above name table) 0)) 92)

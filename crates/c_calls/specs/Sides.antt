@@ -17,11 +17,11 @@ use Rattle.exchange_core.specs.Faults.{side_fault_number}
 use Rattle.exchange_core.specs.Refusals.{register_fault, unregister_fault, renew_fault}
 use Rattle.exchange_core.specs.Shown.{shown, calls, limit_of, is_full, IsDone, IsUntouched}
 use Rattle.exchange_law.specs.Sides.{new_side, rested, shown_table, withdrawn_by}
-use Rattle.c_calls.specs.Halves.{Half}
+use Rattle.c_calls.specs.Halves.{SideAndStore}
 use Rattle.c_calls.specs.declared.codes.HealRegistration.{HealRegistration}
 use Rattle.c_calls.specs.declared.codes.HealRow.{HealRow}
-use Rattle.c_calls.specs.Answers.{unless, and_then, slot_of, IsAnswer, Gives}
-use Rattle.c_calls.specs.Codes.{name_of, entry_of, registration_code}
+use Rattle.c_calls.specs.Answers.{allowed, unless, and_then, refusal_slot, IsOutOfMemory, GivesDueOrRunsOut, GivesDue}
+use Rattle.c_calls.specs.Codes.{given_name, given_entry, registration_code}
 use Rattle.c_calls.specs.Rows.{row_in, row_in_after}
 
 -- 0 is side A, and 1 is side B; or 74
@@ -37,102 +37,102 @@ abbrev pub side_within : ℕ → ℕ → Result (SideId × ℕ) ℕ
 side_within id names = and_then (side_id id) (λ id. and_then (limit_in names) (λ limit. Ok (id, limit)))
 
 -- an idle half of this limit without names and programs
-pub record IsNew (limit : ℕ) (id : SideId) (half : Half) : Type 0 where
+pub record IsNewHalf (limit : ℕ) (id : SideId) (half : SideAndStore) : Type 0 where
   pub state : shown half.side ≡ new_side id
   pub journal : calls half.side ≡ []
   pub limit_is : limit_of half.side ≡ limit
   pub store : half.store ≡ map.empty
 
 -- the programs stay, and neither the side's state nor its journal changed
-pub record Stays (old new : Half) : Type 0 where
+pub record Stays (old new : SideAndStore) : Type 0 where
   pub side : IsUntouched old.side new.side
   pub store : new.store ≡ old.store
 
 -- the side carried the call out, and the programs stay
-pub record CarriesOut (call : Call) (old new : Half) : Type 0 where
+pub record CarriesOut (call : Call) (old new : SideAndStore) : Type 0 where
   pub done : IsDone old.side call new.side
   pub store : new.store ≡ old.store
 
 -- ---- registering
 
 -- a valid name and its registration, or the refusal that is due
-abbrev pub registering_entry : Name × Registration → Half → Result (Name × Registration) ℕ
+abbrev pub registering_entry : Name × Registration → SideAndStore → Result (Name × Registration) ℕ
 registering_entry e half = unless side_fault_number
     (register_fault (limit_of half.side) (is_full half.side) (shown half.side) e.0 e.1 half.store) e
 
 -- the name and its registration, or the refusal that is due
-abbrev pub registering : List ℕ → HealRegistration → Half → Result (Name × Registration) ℕ
-registering bytes r half = and_then (entry_of bytes r) (λ e. registering_entry e half)
+abbrev pub registering : List ℕ → HealRegistration → SideAndStore → Result (Name × Registration) ℕ
+registering bytes r half = and_then (given_entry bytes r) (λ e. registering_entry e half)
 
-abbrev pub RegistersEntry : Name × Registration → Half → Half → ℕ → Type 0
-RegistersEntry e old new = IsAnswer (registering_entry e old)
+abbrev pub RegistersEntry : Name × Registration → SideAndStore → SideAndStore → ℕ → Type 0
+RegistersEntry e old new = GivesDueOrRunsOut (registering_entry e old)
     (λ e. CarriesOut (Register e.0 (row_for old.store e.1)) old new) (Stays old new)
 
-abbrev pub Registers : List ℕ → HealRegistration → Half → Half → ℕ → Type 0
-Registers bytes r old new = IsAnswer (registering bytes r old)
+abbrev pub Registers : List ℕ → HealRegistration → SideAndStore → SideAndStore → ℕ → Type 0
+Registers bytes r old new = GivesDueOrRunsOut (registering bytes r old)
     (λ e. CarriesOut (Register e.0 (row_for old.store e.1)) old new) (Stays old new)
 
-abbrev pub unregistering_name : Name → Half → Result Name ℕ
+abbrev pub unregistering_name : Name → SideAndStore → Result Name ℕ
 unregistering_name name half =
     unless side_fault_number (unregister_fault (is_full half.side) (shown half.side) name) name
 
-abbrev pub unregistering : List ℕ → Half → Result Name ℕ
-unregistering bytes half = and_then (name_of bytes) (λ name. unregistering_name name half)
+abbrev pub unregistering : List ℕ → SideAndStore → Result Name ℕ
+unregistering bytes half = and_then (given_name bytes) (λ name. unregistering_name name half)
 
-abbrev pub UnregistersName : Name → Half → Half → ℕ → Type 0
-UnregistersName name old new = IsAnswer (unregistering_name name old)
+abbrev pub UnregistersName : Name → SideAndStore → SideAndStore → ℕ → Type 0
+UnregistersName name old new = GivesDueOrRunsOut (unregistering_name name old)
     (λ name. CarriesOut (Unregister name) old new) (Stays old new)
 
-abbrev pub Unregisters : List ℕ → Half → Half → ℕ → Type 0
-Unregisters bytes old new = IsAnswer (unregistering bytes old)
+abbrev pub Unregisters : List ℕ → SideAndStore → SideAndStore → ℕ → Type 0
+Unregisters bytes old new = GivesDueOrRunsOut (unregistering bytes old)
     (λ name. CarriesOut (Unregister name) old new) (Stays old new)
 
 -- ---- looking up
 
 -- the registration that the side shows, or 44 or 31
-abbrev pub found_at : List ℕ → Half → Result HealRegistration ℕ
-found_at bytes half = and_then (name_of bytes) (λ name. ok_or
+abbrev pub found_at : List ℕ → SideAndStore → Result HealRegistration ℕ
+found_at bytes half = and_then (given_name bytes) (λ name. ok_or
     (option_map (λ row. registration_code row.registration) (map.get (shown_table (shown half.side)) name)) 31)
 
 -- row i of the table, or 92
-abbrev pub row_at : ℕ → Half → Result HealRow ℕ
-row_at i half = row_in i (shown half.side).table
+abbrev pub row_code_at : ℕ → SideAndStore → Result HealRow ℕ
+row_code_at i half = row_in i (shown half.side).table
 
 -- the first row of the table above this name, or the refusal that is due
-abbrev pub row_after : List ℕ → Half → Result HealRow ℕ
+abbrev pub row_after : List ℕ → SideAndStore → Result HealRow ℕ
 row_after bytes half = row_in_after bytes (shown half.side).table
 
 -- ---- renewing
 
 -- the side is the same with a short journal, and the programs stay
-pub record IsRenewed (old new : Half) : Type 0 where
+pub record IsRenewedHalf (old new : SideAndStore) : Type 0 where
   pub same : shown new.side ≡ shown old.side
   pub same_limit : limit_of new.side ≡ limit_of old.side
   pub short : length (calls new.side) ≤ map.len (shown old.side).table + 2
   pub store : new.store ≡ old.store
 
-abbrev pub Renews : Half → Half → ℕ → Type 0
-Renews old new = Gives (unless side_fault_number (renew_fault (shown old.side)) (tt {0}))
-    (λ _. IsRenewed old new) (Stays old new)
+abbrev pub Renews : SideAndStore → SideAndStore → ℕ → Type 0
+Renews old new = GivesDue (allowed side_fault_number (renew_fault (shown old.side)))
+    (λ _. IsRenewedHalf old new) (Stays old new)
 
 -- ---- giving an exchange up
 
 -- the side is idle without the names that it withdrew, its journal is short, and the programs stay
-pub record GaveUp (old new : Half) : Type 0 where
+pub record GaveUp (old new : SideAndStore) : Type 0 where
   pub state : shown new.side ≡ rested (shown old.side)
   pub same_limit : limit_of new.side ≡ limit_of old.side
   pub short : length (calls new.side) ≤ map.len (shown new.side).table + 2
   pub store : new.store ≡ old.store
 
 -- only withdrawn names need memory
-abbrev pub GivesUp : Half → Half → ℕ → Type 0
+abbrev pub GivesUp : SideAndStore → SideAndStore → ℕ → Type 0
 GivesUp old new n = ((n ≡ 0) × GaveUp old new)
     ⊎ ((n ≡ out_of_memory) × (withdrawn_by (shown old.side) ≢ []) × Stays old new)
 
 -- ---- uploading
 
 -- the program is kept under the id of its bytes, the side stays, and nothing is refused
-pub record Keeps (bytes : List ℕ) (old new : Half) (id : List ℕ) (n slot : ℕ) : Type 0 where
+pub record KeepsProgram (bytes : List ℕ) (old new : SideAndStore) (id : List ℕ) (n slot : ℕ) : Type 0 where
   pub kept : IsKept old.store bytes (record { 0 = id }) new.store
   pub side : new.side ≡ old.side
   pub no_refusal : n ≡ 0
@@ -144,23 +144,22 @@ id_in (Ok kept) id = kept.0
 id_in (Err fault) id = id
 
 -- everything stays, also the id
-abbrev pub AllStays : Half → Half → List ℕ → List ℕ → Type 0
+abbrev pub AllStays : SideAndStore → SideAndStore → List ℕ → List ℕ → Type 0
 AllStays old new id id' = (new ≡ old) × (id' ≡ id)
-
-abbrev pub RanOut : ℕ → ℕ → Type 0
-RanOut n slot = (n ≡ out_of_memory) × (slot ≡ 0)
 
 -- the number and the slot are those of the fault
 abbrev pub IsNumbered : UploadFault → ℕ → ℕ → Type 0
-IsNumbered fault n slot = (n ≡ upload_fault_number fault) × (slot ≡ slot_of (upload_fault_number fault) (upload_fault_place fault))
+IsNumbered fault n slot =
+    (n ≡ upload_fault_number fault) × (slot ≡ refusal_slot (upload_fault_number fault) (upload_fault_place fault))
 
 -- what an upload returns and leaves
-pub record IsUpload (bytes : List ℕ) (old new : Half) (id id' : List ℕ) (n slot : ℕ) : Type 0 where
-  pub answer : Keeps bytes old new id' n slot
-      ⊎ ((((fault : UploadFault) × IsUploadFault old.store bytes fault × IsNumbered fault n slot) ⊎ RanOut n slot)
-      × AllStays old new id id')
+pub record IsUpload (bytes : List ℕ) (old new : SideAndStore) (id id' : List ℕ) (n slot : ℕ) : Type 0 where
+  pub answer : KeepsProgram bytes old new id' n slot
+      ⊎ ((((fault : UploadFault) × IsUploadFault old.store bytes fault × IsNumbered fault n slot)
+      ⊎ IsOutOfMemory n slot) × AllStays old new id id')
   -- accepted code that has a place is kept, unless memory runs out
-  pub taken : Fits old.store bytes → Keeps bytes old new id' n slot ⊎ (RanOut n slot × AllStays old new id id')
+  pub taken : Fits old.store bytes →
+      KeepsProgram bytes old new id' n slot ⊎ (IsOutOfMemory n slot × AllStays old new id id')
   -- a cause of a refusal is returned, unless memory runs out
   pub reported : (fault : UploadFault) → IsUploadFault old.store bytes fault →
-      (IsNumbered fault n slot ⊎ RanOut n slot) × AllStays old new id id'
+      (IsNumbered fault n slot ⊎ IsOutOfMemory n slot) × AllStays old new id id'

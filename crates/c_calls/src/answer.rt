@@ -1,6 +1,6 @@
 //! The numbers that calls return.
 ghost use Rattle.std.specs.Prelude.{◌≡◌};
-ghost use Rattle.c_calls.specs.Answers.{Gives, number_in, slot_in, slot_of};
+ghost use Rattle.c_calls.specs.Answers.{GivesDue, returned_number, returned_slot, refusal_slot};
 
 use refusals::{Numbered, OUT_OF_MEMORY, Place};
 
@@ -29,7 +29,7 @@ pub const STILL_NAMED: u32 = 94;
 
 /// Returns 0, or the number of the refusal.
 pub fn number_of<T, F: Numbered>(answer: &Result<T, F>) -> u32
-    ensures { result ≡ number_in F.number_of answer.now }
+    ensures { result ≡ returned_number F.number_of answer.now }
 {
     match answer {
         Ok(_) => 0,
@@ -39,7 +39,7 @@ pub fn number_of<T, F: Numbered>(answer: &Result<T, F>) -> u32
 
 /// Returns the slot of a refusal, or 0.
 pub fn slot_of<F: Numbered>(fault: &F) -> u32
-    ensures { result ≡ slot_of (F.number_of fault.now) (F.place_of fault.now) }
+    ensures { result ≡ refusal_slot (F.number_of fault.now) (F.place_of fault.now) }
 {
     if fault.number() == OUT_OF_MEMORY {
         return 0;
@@ -52,7 +52,7 @@ pub fn slot_of<F: Numbered>(fault: &F) -> u32
 
 /// Returns the slot of the refusal, or 0.
 pub fn slot_in<T, F: Numbered>(answer: &Result<T, F>) -> u32
-    ensures { result ≡ slot_in F.number_of F.place_of answer.now }
+    ensures { result ≡ returned_slot F.number_of F.place_of answer.now }
 {
     match answer {
         Ok(_) => 0,
@@ -62,7 +62,7 @@ pub fn slot_in<T, F: Numbered>(answer: &Result<T, F>) -> u32
 
 /// Writes the value and returns 0, or returns the number.
 pub fn give<T: Copy>(found: Result<T, u32>, to: &mut T) -> u32
-    ensures { Gives found (λ value. to.new ≡ value) (to.new ≡ to.old) result }
+    ensures { GivesDue found (λ value. to.new ≡ value) (to.new ≡ to.old) result }
 {
     match found {
         Ok(value) => {

@@ -97,7 +97,7 @@ const NOBODY: HealOwner = HealOwner { node: 0, serial: 0 };
 
 /// Reads a name, or returns 44.
 pub fn name_of(bytes: &[u8]) -> Result<Name, u32>
-    ensures { result ≡ code.name_of bytes.now }
+    ensures { result ≡ code.given_name bytes.now }
 {
     match name(bytes) {
         Ok(name) => Ok(name),
@@ -107,7 +107,7 @@ pub fn name_of(bytes: &[u8]) -> Result<Name, u32>
 
 /// Reads a registration, or returns 76.
 pub fn registration_of(registration: &HealRegistration) -> Result<Registration, u32>
-    ensures { result ≡ code.registration_of registration.now }
+    ensures { result ≡ code.given_registration registration.now }
 {
     let resolver = resolver_of(registration.resolver, registration.program)?;
     Ok(Registration {
@@ -124,7 +124,7 @@ pub fn registration_of(registration: &HealRegistration) -> Result<Registration, 
 
 // Reads a resolver, or returns 76.
 fn resolver_of(kind: u32, program: [u8; 32]) -> Result<ResolverId, u32>
-    ensures { result ≡ code.resolver_of kind program }
+    ensures { result ≡ code.given_resolver kind program }
 {
     match kind {
         0 => Ok(ResolverId::Builtin(Builtin::Exit)),
@@ -137,7 +137,7 @@ fn resolver_of(kind: u32, program: [u8; 32]) -> Result<ResolverId, u32>
 
 /// Reads the facts of a half.
 pub fn facts_of(facts: &HealFacts) -> Facts
-    ensures { result ≡ code.facts_of facts.now }
+    ensures { result ≡ code.given_facts facts.now }
 {
     Facts {
         size: facts.size,

@@ -1,6 +1,6 @@
 //! One half: its side of exchanges, and the programs uploaded for it.
 ghost use Rattle.std.specs.Prelude.{◌≡◌, None};
-ghost use Rattle.c_calls.specs.Halves.{half_of};
+ghost use Rattle.c_calls.specs.Halves.{side_and_store};
 
 use exchange_core::Side;
 use partition_table::Agreement;
@@ -21,11 +21,11 @@ pub struct Half {
 impl Model for Half {
     ghost use Rattle.std.specs.Prelude.{◌≡◌, IfSome};
     ghost use Rattle.exchange_core.specs.Shown.{shown};
-    ghost use Rattle.c_calls.specs.Halves.{Half, coded_half};
+    ghost use Rattle.c_calls.specs.Halves.{SideAndStore, coded_side_and_store};
 
-    ghost Value = { Half };
+    ghost Value = { SideAndStore };
 
-    ghost coded = { coded_half };
+    ghost coded = { coded_side_and_store };
 
     ghost view = { λ h. record { side = h.side; store = h.store } };
 
@@ -35,7 +35,7 @@ impl Model for Half {
 impl Half {
     /// Returns the half of this side and these programs. Allocates nothing.
     pub fn of(side: Side, store: UploadStore) -> Half
-        ensures { result ≡ half_of side store }
+        ensures { result ≡ side_and_store side store }
     {
         Half {
             side,

@@ -6,8 +6,8 @@ ghost use Rattle.std.specs.Option.{option_map};
 ghost use Rattle.std.specs.FinMap as map;
 ghost use Rattle.instruction_set.specs.declared.insn.Insn.{Insn};
 ghost use Rattle.insn_codec.specs.Encoding.{insn_bytes};
-ghost use Rattle.c_calls.specs.Answers.{filled, number_in};
-ghost use Rattle.c_calls.specs.Kept.{Forgets, GivesCode, HasCode, id_from, is_by, program_at};
+ghost use Rattle.c_calls.specs.Answers.{held_after, returned_number};
+ghost use Rattle.c_calls.specs.Kept.{Forgets, GivesCode, HasCodeUnder, id_from, is_by, program_at};
 
 use crate::answer::{INDEX_OUT_OF_RANGE, STILL_NAMED, UNKNOWN_PROGRAM};
 use crate::half::{Half, forget};
@@ -52,7 +52,7 @@ impl Half {
     /// Returns the bytes of a program that the half keeps or that a row names, or 41.
     pub fn code(&self, alloc: Global, id: &[u8; 32]) -> Result<Box<Message>, u32>
         ensures { (before : Option (List ℕ)) → GivesCode (id_from id.now) self.now before
-            (filled (λ made. made.value) before result) (number_in (λ n. n) result) }
+            (held_after (λ made. made.value) before result) (returned_number (λ n. n) result) }
     {
         match self.program_with(&ProgramId(*id)) {
             Some(program) => match boxed(alloc, encode(alloc, program.code())) {
@@ -66,8 +66,8 @@ impl Half {
     // Returns the program with this id that the half keeps or that a row names.
     #[tactic(auto, using(crate::proofs::Keeping::stored, crate::proofs::Keeping::named, crate::proofs::Keeping::neither))]
     fn program_with(&self, id: &ProgramId) -> Option<&Arc<Verified>>
-        ensures found { IfSome result (λ program. HasCode id.now self.now (arc_value program.now)) }
-        ensures missing { result ≡ None → (code : List Insn) → HasCode id.now self.now code → ⊥ }
+        ensures found { IfSome result (λ program. HasCodeUnder id.now self.now (arc_value program.now)) }
+        ensures missing { result ≡ None → (code : List Insn) → HasCodeUnder id.now self.now code → ⊥ }
     {
         match self.store.get(id) {
             Some(program) => Some(program),

@@ -5,7 +5,7 @@ ghost use Rattle.instruction_set.specs.declared.insn.Insn.{Insn};
 ghost use Rattle.verifier.specs.Programs.{IsAccepted, IsProgramFault, program_fault_number};
 ghost use Rattle.verifier.specs.declared.program_fault.ProgramFault.{ProgramFault};
 ghost use Rattle.upload_store.specs.Programs.{id_of};
-ghost use Rattle.c_calls.specs.Programs.{IsLoaded};
+ghost use Rattle.c_calls.specs.Programs.{IsLoadedResolver};
 
 use std::alloc::{AllocError, Global};
 use upload_store::Upload;
@@ -16,7 +16,7 @@ use verifier::{ProgramFault, Verified, VerifyFault, read_program};
 /// Rejects bytes that spell no code (1 to 7) and code that breaks a rule of the verifier (10 to 26). Returns 90 when out
 /// of memory.
 pub fn load(alloc: Global, bytes: &[u8]) -> Result<Box<Upload>, ProgramFault>
-    ensures loaded { IfOk result (λ program. IsLoaded bytes.now program.value) }
+    ensures loaded { IfOk result (λ program. IsLoadedResolver bytes.now program.value) }
     ensures taken { (code : List Insn) → IsAccepted bytes.now code → IsOk result ⊎ RanOut program_fault_number result }
     ensures refused { IfErr result (HasCause program_fault_number (IsProgramFault bytes.now)) }
     ensures reported { (fault : ProgramFault) → IsProgramFault bytes.now fault

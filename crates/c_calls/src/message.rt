@@ -1,6 +1,6 @@
 //! A message as bytes.
 ghost use Rattle.std.specs.Prelude.{◌≡◌, length, IfOk, IsOkAnd};
-ghost use Rattle.c_calls.specs.Answers.{Gives};
+ghost use Rattle.c_calls.specs.Answers.{GivesDue};
 ghost use Rattle.c_calls.specs.Messages.{copy_of};
 
 use crate::answer::OTHER_LENGTH;
@@ -39,7 +39,7 @@ impl Message {
 
 /// Copies bytes, or returns 93.
 pub fn copy(from: &[u8], to: &mut [u8]) -> u32
-    ensures { Gives (copy_of from.now (length to.old)) (λ copy. to.new ≡ copy) (to.new ≡ to.old) result }
+    ensures { GivesDue (copy_of from.now (length to.old)) (λ copy. to.new ≡ copy) (to.new ≡ to.old) result }
 {
     if from.len() != to.len() {
         return OTHER_LENGTH;

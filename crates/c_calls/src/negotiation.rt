@@ -5,9 +5,9 @@ ghost use Rattle.std.specs.Option.{option_map_or};
 ghost use Rattle.exchange_core.specs.Shown.{shown};
 ghost use Rattle.exchange_law.specs.Sides.{clashes_of};
 ghost use Rattle.c_calls.specs.declared.outcome.Outcome.{Outcome};
-ghost use Rattle.c_calls.specs.Answers.{filled, number_in};
-ghost use Rattle.c_calls.specs.Exchanges.{Begins, Hears, HearsFirst, HearsFirstNames, HearsNames, HearsOffer, HearsWhole, HearsWholeList, Settles, Withdraws, Closes, HearsList, Finishes, FinishesSide, Abandons, head_refusal, refusal_of};
-ghost use Rattle.c_calls.specs.Outcomes.{IsRoomFor, gone_of, theirs_of};
+ghost use Rattle.c_calls.specs.Answers.{held_after, returned_number};
+ghost use Rattle.c_calls.specs.Exchanges.{BeginsExchange, Hears, HearsFirst, HearsFirstNames, HearsNames, HearsOffer, HearsWhole, HearsWholeList, Settles, Withdraws, Closes, HearsList, Finishes, FinishesSide, Abandons, head_refusal, refusal_of};
+ghost use Rattle.c_calls.specs.Outcomes.{IsRoomFor, gone_from_both, theirs_of};
 
 use crate::answer::{OTHER_MESSAGE, number_of};
 use crate::codes::name_of;
@@ -32,8 +32,8 @@ impl Half {
         seed: u64,
         uptime: u64,
     ) -> Result<Box<Message>, u32>
-        ensures { (before : Option (List ℕ)) → Begins number seed uptime self.old self.new before
-            (filled (λ made. made.value) before result) (number_in (λ n. n) result) }
+        ensures { (before : Option (List ℕ)) → BeginsExchange number seed uptime self.old self.new before
+            (held_after (λ made. made.value) before result) (returned_number (λ n. n) result) }
     {
         forget(&mut self.agreement);
         let side = &self.side;
@@ -134,8 +134,8 @@ impl Half {
     /// Closes the list of withdrawn names, and returns the list to be sent.
     #[tactic(auto, using(crate::proofs::Hearing::list_spelled))]
     pub fn close_list(&mut self, alloc: Global) -> Result<Box<Message>, u32>
-        ensures { (before : Option (List ℕ)) → Closes self.old self.new before (filled (λ made. made.value) before result)
-            (number_in (λ n. n) result) }
+        ensures { (before : Option (List ℕ)) → Closes self.old self.new before
+            (held_after (λ made. made.value) before result) (returned_number (λ n. n) result) }
     {
         forget(&mut self.agreement);
         let side = &self.side;
@@ -201,8 +201,8 @@ impl Half {
     /// Replaces the table by the merge, and returns the outcome.
     #[tactic(auto, using(crate::proofs::Finishing::by_its_side))]
     pub fn finish(&mut self, alloc: Global) -> Result<Box<Outcome>, u32>
-        ensures { (before : Option Outcome) → Finishes self.old self.new before (filled (λ made. made.value) before result)
-            (number_in (λ n. n) result) }
+        ensures { (before : Option Outcome) → Finishes self.old self.new before
+            (held_after (λ made. made.value) before result) (returned_number (λ n. n) result) }
     {
         forget(&mut self.agreement);
         finish(&mut self.side, alloc)
@@ -220,8 +220,8 @@ impl Half {
 // Replaces the side's table by the merge, and returns the outcome.
 #[tactic(auto, using(crate::proofs::Finishing::room_fits, crate::proofs::Finishing::finishes))]
 fn finish(side: &mut Side, alloc: Global) -> Result<Box<Outcome>, u32>
-    ensures { (before : Option Outcome) → FinishesSide side.old side.new before (filled (λ made. made.value) before result)
-        (number_in (λ n. n) result) }
+    ensures { (before : Option Outcome) → FinishesSide side.old side.new before
+        (held_after (λ made. made.value) before result) (returned_number (λ n. n) result) }
 {
     if let Some(fault) = side.finish_refusal() {
         return Err(fault.number());
@@ -242,7 +242,7 @@ fn finish(side: &mut Side, alloc: Global) -> Result<Box<Outcome>, u32>
 // owner to the list of clashes, which is there once the other's offer was heard.
 #[tactic(auto, using(crate::proofs::Finishing::shared))]
 fn room_for(alloc: Global, side: &Side) -> Result<Box<Outcome>, AllocError>
-    ensures { IfOk result (λ room. IsRoomFor (clashes_of (shown side.now)) (gone_of (shown side.now)) room.value) }
+    ensures { IfOk result (λ room. IsRoomFor (clashes_of (shown side.now)) (gone_from_both (shown side.now)) room.value) }
 {
     let Ok(clashes) = side.share_clashes() else {
         return Err(AllocError);

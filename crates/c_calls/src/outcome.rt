@@ -3,7 +3,7 @@ ghost use Rattle.std.specs.Prelude.{◌≡◌, [], length, map, IfOk};
 ghost use Rattle.std.specs.Arc.{arc_value};
 ghost use Rattle.std.specs.Option.{option_map_or};
 ghost use Rattle.exchange_core.specs.Finished.{clashes_merged};
-ghost use Rattle.c_calls.specs.Outcomes.{IsOutcome, IsRoomFor, clash_at, clashes_in, first_half, keeper, names_of, notice_at, notices_by, notices_to, ruling_at, wins, withdrawn_of};
+ghost use Rattle.c_calls.specs.Outcomes.{IsOutcome, IsRoomFor, clash_code_at, clashes_in, half_of_first, name_keeper, gone_names, notice_at, notices_by, notices_to, marked_ruling, wins, withdrawn_of};
 
 use crate::answer::INDEX_OUT_OF_RANGE;
 use crate::codes::{
@@ -105,7 +105,7 @@ impl Outcome {
 
     // Returns the ruling and the mark of clash `i`.
     fn ruling(&self, i: usize) -> Option<(Judged, Mark)>
-        ensures { result ≡ ruling_at self.now i }
+        ensures { result ≡ marked_ruling self.now i }
     {
         let judged = *self.rulings.get(i)?;
         let kept = *self.kept.get(i)?;
@@ -115,7 +115,7 @@ impl Outcome {
 
     /// Writes clash `i`, or returns 92.
     pub fn clash(&self, i: usize) -> Result<HealClash, u32>
-        ensures { result ≡ clash_at self.now i }
+        ensures { result ≡ clash_code_at self.now i }
     {
         let Some(clash) = self.clashes().get(i) else {
             return Err(INDEX_OUT_OF_RANGE);
@@ -149,7 +149,7 @@ impl Outcome {
 
     // Returns the names that a half withdrew.
     fn names_of(&self, id: SideId) -> &[Name]
-        ensures { result.now ≡ names_of id self.now }
+        ensures { result.now ≡ gone_names id self.now }
     {
         match id {
             SideId::A => &self.gone_a,
@@ -179,14 +179,14 @@ impl Outcome {
 
 // Returns who keeps the name.
 fn keeper(kept: bool, verdict: Verdict3) -> Verdict3
-    ensures { result ≡ keeper kept verdict }
+    ensures { result ≡ name_keeper kept verdict }
 {
     if kept { verdict } else { Verdict3::Neither }
 }
 
 // Returns the half that registered the first of the two.
 fn first_half(mark: Mark) -> SideId
-    ensures { result ≡ first_half mark }
+    ensures { result ≡ half_of_first mark }
 {
     if mark.of_a { SideId::A } else { SideId::B }
 }

@@ -1,6 +1,6 @@
 //! The calls of a half on its table and its programs.
 ghost use Rattle.std.specs.Prelude.{◌≡◌};
-ghost use Rattle.c_calls.specs.Sides.{IsUpload, id_in, Registers, RegistersEntry, Unregisters, UnregistersName, Renews, GivesUp, IsNew, found_at, row_after, row_at};
+ghost use Rattle.c_calls.specs.Sides.{IsUpload, id_in, Registers, RegistersEntry, Unregisters, UnregistersName, Renews, GivesUp, IsNewHalf, found_at, row_after, row_code_at};
 
 use crate::answer::{NOT_REGISTERED, number_of, slot_in};
 use crate::codes::{HealRegistration, HealRow, name_of, registration_code, registration_of};
@@ -16,7 +16,7 @@ use upload_store::{UploadFault, UploadStore};
 impl Half {
     /// Returns an idle half of this limit without names and programs.
     pub fn new(alloc: Global, id: SideId, limit: NameLimit) -> Half
-        ensures { IsNew limit.names id result }
+        ensures { IsNewHalf limit.names id result }
     {
         Half::of(Side::with_limit(alloc, id, limit), UploadStore::new(alloc))
     }
@@ -121,7 +121,7 @@ impl Half {
 
     /// Returns row `i` of the table.
     pub fn row(&self, i: usize) -> Result<HealRow, u32>
-        ensures { result ≡ row_at i self.now }
+        ensures { result ≡ row_code_at i self.now }
     {
         row_in(self.side.table(), i)
     }

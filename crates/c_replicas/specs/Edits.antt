@@ -3,29 +3,24 @@ use Rattle.std.specs.Prelude.{◌≡◌, ◌⊎◌, ◌&&◌, ℕ, nat_lt, nat_l
 use Rattle.partition_table.specs.declared.limit.NameLimit.{NameLimit}
 use Rattle.partition_table.specs.Tables.{most_names}
 use Rattle.replica.specs.Faults.{replica_fault_number}
-use Rattle.replica.specs.declared.fault.ReplicaFault.{ReplicaFault}
 use Rattle.replica.specs.declared.edit.Edit.{Edit}
 use Rattle.replica.specs.declared.edit.Edit.TheVariants.{Register, Unregister, Limit}
-use Rattle.replica_law.specs.Worlds.{next}
+use Rattle.replica_law.specs.Groups.{next}
 use Rattle.replica.specs.declared.messages.Entry.{Entry}
 use Rattle.replica.specs.Replicas.{Replica, Make, left_by, make_fault}
 use Rattle.replica_codec.specs.Entries.{SpellsEntry}
 use Rattle.c_calls.specs.declared.codes.HealRegistration.{HealRegistration}
-use Rattle.c_calls.specs.Answers.{unless, and_then, IsAnswer}
-use Rattle.c_calls.specs.Codes.{name_of, registration_of}
-
--- nothing, or the refusal that is due to the replica's call
-abbrev pub allowed : Option ReplicaFault → Result (Unit {0}) ℕ
-allowed fault = unless replica_fault_number fault (tt {0})
+use Rattle.c_calls.specs.Answers.{allowed, and_then, GivesDueOrRunsOut}
+use Rattle.c_calls.specs.Codes.{given_name, given_registration}
 
 -- the entry of an edit that a replica makes
-abbrev pub entry_of : Replica → Edit → Entry
-entry_of replica edit = record { at = next replica.at; edit = edit }
+abbrev pub made_entry : Replica → Edit → Entry
+made_entry replica edit = record { at = next replica.at; edit = edit }
 
 -- the primary makes the edit, and the handle has the bytes of its entry; or both stay
 abbrev pub Makes : Edit → Replica → Replica → Option (List ℕ) → Option (List ℕ) → ℕ → Type 0
-Makes edit old new before after = IsAnswer (allowed (make_fault old edit))
-    (λ _. (new ≡ left_by old (Make edit)) × IsSomeAnd after (λ bytes. SpellsEntry bytes (entry_of old edit)))
+Makes edit old new before after = GivesDueOrRunsOut (allowed replica_fault_number (make_fault old edit))
+    (λ _. (new ≡ left_by old (Make edit)) × IsSomeAnd after (λ bytes. SpellsEntry bytes (made_entry old edit)))
     ((new ≡ old) × (after ≡ before))
 
 -- the edit that the arguments give is made, or their refusal is returned
@@ -34,12 +29,12 @@ MakesIf (Ok edit) old new before after n = Makes edit old new before after n
 MakesIf (Err m) old new before after n = (n ≡ m) × (new ≡ old) × (after ≡ before)
 
 -- 44 for an invalid name, then 76 for an unknown kind of resolver
-abbrev pub registering : List ℕ → HealRegistration → Result Edit ℕ
-registering bytes registration =
-    and_then (name_of bytes) (λ name. and_then (registration_of registration) (λ r. Ok (Register name r)))
+abbrev pub register_edit : List ℕ → HealRegistration → Result Edit ℕ
+register_edit bytes registration =
+    and_then (given_name bytes) (λ name. and_then (given_registration registration) (λ r. Ok (Register name r)))
 
-abbrev pub unregistering : List ℕ → Result Edit ℕ
-unregistering bytes = and_then (name_of bytes) (λ name. Ok (Unregister name))
+abbrev pub unregister_edit : List ℕ → Result Edit ℕ
+unregister_edit bytes = and_then (given_name bytes) (λ name. Ok (Unregister name))
 
 -- the limit of this number is set, or 92 is returned if there is none
 abbrev pub MakesLimit : ℕ → Replica → Replica → Option (List ℕ) → Option (List ℕ) → ℕ → Type 0

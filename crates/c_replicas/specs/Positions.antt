@@ -1,10 +1,11 @@
 -- Lives, positions and states of replicas as C reads and writes them.
-use Rattle.std.specs.Prelude.{ℕ, Bool, if◌then◌else◌, is_some}
+use Rattle.std.specs.Prelude.{is_some}
 use Rattle.std.specs.Option.{unwrap_or}
 use Rattle.std.specs.FinMap.{len}
 use Rattle.replica_law.specs.declared.position.Life.{Life}
 use Rattle.replica_law.specs.declared.position.Position.{Position}
 use Rattle.replica.specs.Replicas.{Replica, is_primary}
+use Rattle.c_calls.specs.Queries.{flag}
 use Rattle.c_replicas.specs.declared.positions.HealLife.{HealLife}
 use Rattle.c_replicas.specs.declared.positions.HealPosition.{HealPosition}
 use Rattle.c_replicas.specs.declared.positions.HealReplicaState.{HealReplicaState}
@@ -21,11 +22,8 @@ position_of p = record { view = record { primary = life_of p.primary; number = p
 abbrev pub position_code : Position → HealPosition
 position_code p = record { primary = life_code p.view.primary; view = p.view.number; op = p.op; reserved = 0 }
 
-abbrev pub flag : Bool → ℕ
-flag is = if is then 1 else 0
-
-abbrev pub state_of : Replica → HealReplicaState
-state_of r = record {
+abbrev pub state_code : Replica → HealReplicaState
+state_code r = record {
   at = position_code r.at;
   names = len r.half.table;
   limit = r.half.limit;

@@ -1,7 +1,7 @@
 //! The exchange of a primary: its side, and what the exchange leaves.
 ghost use Rattle.std.specs.Prelude.{◌≡◌, Option};
 ghost use Rattle.c_calls.specs.Halves as half;
-ghost use Rattle.c_calls.specs.Answers.{filled, number_in};
+ghost use Rattle.c_calls.specs.Answers.{held_after, returned_number};
 ghost use Rattle.c_replicas.specs.Exchanges.{Changes, Gets};
 
 use crate::positions::{HealPosition, position_of};
@@ -14,8 +14,8 @@ use std::alloc::Global;
 ///
 /// Returns 74 for another side than 0 or 1, and 32 if the table has more names than the limit.
 pub fn side(replica: &Replica, alloc: Global, id: u32) -> Result<Box<Half>, u32>
-    ensures { (before : Option half.Half) → Gets id replica.now before (filled (λ made. made.value) before result)
-        (number_in (λ n. n) result) }
+    ensures { (before : Option half.SideAndStore) → Gets id replica.now before
+        (held_after (λ made. made.value) before result) (returned_number (λ n. n) result) }
 {
     let id = side_id(id)?;
     let side = match replica.side(alloc, id) {

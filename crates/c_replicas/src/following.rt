@@ -1,7 +1,7 @@
 //! Views, snapshots and entries.
 ghost use Rattle.std.specs.Prelude.{◌≡◌, ℕ, List, Option};
-ghost use Rattle.c_calls.specs.Answers.{filled, number_in};
-ghost use Rattle.c_replicas.specs.Following.{Applies, AppliesEntry, Follows, FollowsSnapshot, Leads, Shows};
+ghost use Rattle.c_calls.specs.Answers.{held_after, returned_number};
+ghost use Rattle.c_replicas.specs.Following.{AppliesBytes, AppliesEntry, FollowsBytes, FollowsSnapshot, Leads, Shows};
 
 use c_calls::{Message, boxed, number_of};
 use refusals::{Numbered, OUT_OF_MEMORY};
@@ -19,8 +19,8 @@ pub fn lead(replica: &mut Replica) -> u32
 /// Returns the bytes of a snapshot.
 #[tactic(auto, using(c_calls::specs::laws::Reading::boxed_spelled))]
 pub fn snapshot(replica: &Replica, alloc: Global) -> Result<Box<Message>, u32>
-    ensures { (before : Option (List ℕ)) → Shows replica.now before (filled (λ made. made.value) before result)
-        (number_in (λ n. n) result) }
+    ensures { (before : Option (List ℕ)) → Shows replica.now before (held_after (λ made. made.value) before result)
+        (returned_number (λ n. n) result) }
 {
     let Ok(shown) = replica.snapshot() else {
         return Err(OUT_OF_MEMORY);
@@ -33,7 +33,7 @@ pub fn snapshot(replica: &Replica, alloc: Global) -> Result<Box<Message>, u32>
 
 /// Takes the position and the half of a snapshot.
 pub fn follow(replica: &mut Replica, alloc: Global, bytes: &[u8]) -> u32
-    ensures { Follows bytes.now replica.old replica.new result }
+    ensures { FollowsBytes bytes.now replica.old replica.new result }
 {
     match decode_snapshot(alloc, bytes) {
         Ok(snapshot) => follow_snapshot(replica, &snapshot),
@@ -51,7 +51,7 @@ fn follow_snapshot(replica: &mut Replica, snapshot: &Snapshot) -> u32
 /// Applies an entry.
 #[tactic(auto, using(c_calls::specs::laws::Reading::rejected, c_calls::specs::laws::Reading::spent_answer))]
 pub fn apply(replica: &mut Replica, alloc: Global, bytes: &[u8]) -> u32
-    ensures { Applies bytes.now replica.old replica.new result }
+    ensures { AppliesBytes bytes.now replica.old replica.new result }
 {
     match decode_entry(alloc, bytes) {
         Ok(entry) => apply_entry(replica, &entry),

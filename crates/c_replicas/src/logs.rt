@@ -19,7 +19,7 @@ pub struct HealLogFront {
 /// header and a length that differ from their checksum: 84.
 #[tactic(auto, using(crate::proofs::Fronts::read, crate::proofs::Fronts::unread))]
 pub fn log_front(log: &[u8]) -> Result<HealLogFront, u32>
-    ensures { code.IsFront (code.front_of log.now) result }
+    ensures { code.ReturnsFront (code.front_due log.now) result }
 {
     match read_front(log) {
         Ok(front) => Ok(front_code(front)),

@@ -1,6 +1,7 @@
 //! Lives, positions and states of replicas as C reads and writes them.
 ghost use Rattle.std.specs.Prelude.{◌≡◌, is_some};
 ghost use Rattle.std.specs.Option.{unwrap_or};
+ghost use Rattle.c_calls.specs.Queries as queries;
 ghost use Rattle.c_replicas.specs.Positions as code;
 
 use replica::{Life, Position, Replica, View};
@@ -86,7 +87,7 @@ fn position_code(position: Position) -> HealPosition
 
 /// Returns what a replica knows.
 pub fn state(replica: &Replica) -> HealReplicaState
-    ensures { result ≡ code.state_of replica.now }
+    ensures { result ≡ code.state_code replica.now }
 {
     let half = replica.half();
     let latest = half.latest();
@@ -103,7 +104,7 @@ pub fn state(replica: &Replica) -> HealReplicaState
 
 // Writes a flag.
 fn flag(is: bool) -> u32
-    ensures { result ≡ code.flag is }
+    ensures { result ≡ queries.flag is }
 {
     if is { 1 } else { 0 }
 }

@@ -67,8 +67,8 @@ with_parts words [] = Ok words
 with_parts words (part ∷ parts) = if_right (with_part words part) (λ words. with_parts words parts)
 
 -- a registration on these terms. A record has no resolver
-abbrev pub registration_of : Terms → Registration
-registration_of terms = record {
+abbrev pub registration_on : Terms → Registration
+registration_on terms = record {
   owner = terms.owner;
   stamp = terms.stamp;
   weight = terms.weight;
@@ -81,7 +81,7 @@ abbrev pub half_by : HalfWords → Result Half LineFault
 half_by words =
     if_right (terms_of words.owner words.stamp words.weight words.extra) (λ terms. if_right (long_of words.size)
     (λ size. if_right (long_of words.uptime) (λ uptime.
-    Ok (record { registration = registration_of terms; facts = record { size = size; uptime = uptime } }))))
+    Ok (record { registration = registration_on terms; facts = record { size = size; uptime = uptime } }))))
 
 -- an owner, and then parts
 abbrev pub half_of_words : List (List ℕ) → Result Half LineFault
@@ -93,12 +93,12 @@ abbrev pub spaced : List ℕ → List ℕ
 spaced text = map (λ byte. if byte == 44 then 32 else byte) text
 
 -- a registration and its half, as `1.10,stamp=5`
-abbrev pub half_of : List ℕ → Result Half LineFault
-half_of text = half_of_words (words_of (spaced text))
+abbrev pub half_of_text : List ℕ → Result Half LineFault
+half_of_text text = half_of_words (words_of (spaced text))
 
 -- the record of a clash. The leftmost invalid word counts
-abbrev pub clash_of : (name first second word : List ℕ) → Result (List ℕ) LineFault
-clash_of name first second word =
-    if_right (name_of name) (λ name. if_right (half_of first) (λ first. if_right (half_of second)
+abbrev pub clash_from_words : (name first second word : List ℕ) → Result (List ℕ) LineFault
+clash_from_words name first second word =
+    if_right (name_of name) (λ name. if_right (half_of_text first) (λ first. if_right (half_of_text second)
     (λ second. if_right (long_of word) (λ word.
     Ok (clash_bytes name first.registration second.registration word first.facts second.facts)))))

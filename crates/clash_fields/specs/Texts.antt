@@ -6,27 +6,29 @@ use Rattle.hex.specs.Hex.{encode_lower}
 use Rattle.clash_record.specs.Name.{is_name}
 
 -- the number in this many bytes at an offset, the lowest byte first
-abbrev pub number_at : ℕ → ℕ → List ℕ → ℕ
-number_at offset size bytes = little_number size (drop offset bytes)
+abbrev pub record_number : ℕ → ℕ → List ℕ → ℕ
+record_number offset size bytes = little_number size (drop offset bytes)
 
 -- the bytes of the name, by its length
-abbrev pub name_in : List ℕ → List ℕ
-name_in bytes = take (min (number_at 0 4 bytes) 32) (drop 8 bytes)
+abbrev pub record_name : List ℕ → List ℕ
+record_name bytes = take (min (record_number 0 4 bytes) 32) (drop 8 bytes)
 
 -- the name, or all its 32 bytes in hex digits if they have none
 unfoldable pub name_text : List ℕ → List ℕ
-name_text bytes = if is_name (name_in bytes) then name_in bytes else encode_lower (take 32 (drop 8 bytes))
+name_text bytes = if is_name (record_name bytes) then record_name bytes else encode_lower (take 32 (drop 8 bytes))
 
 -- a registration at this place
 unfoldable pub registration_text : ℕ → List ℕ → List ℕ
 registration_text place bytes =
-    decimal (number_at place 4 bytes) ++ (codes "." ++ (decimal (number_at (place + 4) 4 bytes) ++ (codes ", stamp "
-    ++ (decimal (number_at (place + 8) 8 bytes) ++ (codes ", weight " ++ decimal (number_at (place + 16) 8 bytes))))))
+    decimal (record_number place 4 bytes) ++ (codes "." ++ (decimal (record_number (place + 4) 4 bytes)
+    ++ (codes ", stamp " ++ (decimal (record_number (place + 8) 8 bytes)
+    ++ (codes ", weight " ++ decimal (record_number (place + 16) 8 bytes))))))
 
 -- the facts of a half at this place
 unfoldable pub facts_text : ℕ → List ℕ → List ℕ
 facts_text place bytes =
-    codes "size " ++ (decimal (number_at place 8 bytes) ++ (codes ", uptime " ++ decimal (number_at (place + 8) 8 bytes)))
+    codes "size " ++ (decimal (record_number place 8 bytes)
+    ++ (codes ", uptime " ++ decimal (record_number (place + 8) 8 bytes)))
 
 -- a registration at this place, and the facts of its half at that one
 unfoldable pub half_text : List ℕ → ℕ → ℕ → List ℕ → List ℕ
@@ -37,5 +39,5 @@ half_text which place facts bytes =
 -- the record: the name and the word, and then the two registrations, each on a line
 abbrev pub record_text : List ℕ → List ℕ
 record_text bytes =
-    codes "name " ++ (name_text bytes ++ (codes ", word " ++ (decimal (number_at 40 8 bytes) ++ (codes "\n"
+    codes "name " ++ (name_text bytes ++ (codes ", word " ++ (decimal (record_number 40 8 bytes) ++ (codes "\n"
     ++ (half_text (codes "first") 48 128 bytes ++ half_text (codes "second") 88 144 bytes)))))

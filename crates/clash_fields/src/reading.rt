@@ -1,7 +1,7 @@
 //! The record of a clash from its fields.
 ghost use Rattle.std.specs.Prelude.{◌≡◌, IfOk, map};
 ghost use Rattle.script_text.specs.Commands.{IsRight};
-ghost use Rattle.clash_fields.specs.Fields.{bare, clash_of, half_of, half_of_words, spaced, with_parts};
+ghost use Rattle.clash_fields.specs.Fields.{bare, clash_from_words, half_of_text, half_of_words, spaced, with_parts};
 ghost use Rattle.clash_fields.specs.model.Views.{right_words, words_by};
 
 use crate::half::Half;
@@ -44,7 +44,7 @@ fn half_of_words(words: &[&[u8]]) -> Result<Half, LineFault>
 
 // Reads a registration and its half.
 fn half_of(alloc: Global, text: &[u8]) -> Result<Half, LineFault>
-    ensures { IsRight result (half_of text.now) }
+    ensures { IsRight result (half_of_text text.now) }
 {
     let spaced = spaced(alloc, text)?;
     let words = words_in(alloc, &spaced)?;
@@ -63,7 +63,7 @@ pub fn clash_of_fields(
     second: &[u8],
     word: &[u8],
 ) -> Result<ClashRecord, LineFault>
-    ensures { IsRight result (clash_of name.now first.now second.now word.now) }
+    ensures { IsRight result (clash_from_words name.now first.now second.now word.now) }
 {
     let name = name_in(name)?;
     let first = half_of(alloc, first)?;

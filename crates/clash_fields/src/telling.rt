@@ -2,7 +2,7 @@
 ghost use Rattle.std.specs.Prelude.{◌≡◌, ◌+◌, ◌≤◌, length, take, drop, IfOk, string_bytes};
 ghost use Rattle.hex.specs.Hex.{encode_lower};
 ghost use Rattle.instruction_set.specs.Machine.{record_len};
-ghost use Rattle.clash_fields.specs.Texts.{facts_text, half_text, registration_text, name_text, number_at, record_text};
+ghost use Rattle.clash_fields.specs.Texts.{facts_text, half_text, registration_text, name_text, record_number, record_text};
 
 use byteorder::{ByteOrder, LittleEndian};
 use clash_record::{ClashRecord, name};
@@ -11,7 +11,7 @@ use std::alloc::{AllocError, Global};
 // Returns the number in four bytes at an offset.
 fn word_at(bytes: &[u8], at: usize) -> u32
     requires { at + 4 ≤ length bytes.now }
-    ensures { result ≡ number_at at 4 bytes.now }
+    ensures { result ≡ record_number at 4 bytes.now }
 {
     LittleEndian::read_u32(&bytes[at..])
 }
@@ -19,7 +19,7 @@ fn word_at(bytes: &[u8], at: usize) -> u32
 // Returns the number in eight bytes at an offset.
 fn long_at(bytes: &[u8], at: usize) -> u64
     requires { at + 8 ≤ length bytes.now }
-    ensures { result ≡ number_at at 8 bytes.now }
+    ensures { result ≡ record_number at 8 bytes.now }
 {
     LittleEndian::read_u64(&bytes[at..])
 }

@@ -1,5 +1,5 @@
 -- Both halves after the rounds.
-use Rattle.std.proofs.Common.{◌≡◌, ◌⊎◌, inl, inr, ℕ, ◌+◌, List, [], ◌∷◌, length, false, is_some, Option, Some, None, refl, sym, ap, ◌∙◌, subst, option_and_then, length-append, arith}
+use Rattle.std.proofs.Common.{◌≡◌, ◌⊎◌, inl, inr, ℕ, List, [], ◌∷◌, length, false, is_some, Option, Some, None, refl, sym, ap, ◌∙◌, subst, option_and_then}
 use Rattle.std.proofs.lemmas.List.Elements.{All-head, All-tail}
 use Rattle.std.specs.Prelude.{All, IfOk, OnErr, IfSome}
 use Rattle.std.specs.declared.result.Result.{Result}
@@ -13,7 +13,7 @@ use Rattle.exchange_law.specs.Sides.{Side, clashes_of, take_in, take, finish}
 use Rattle.exchange_law.specs.Calls.{Take, carried_out}
 use Rattle.partition_table.specs.Rulings.{Ruling}
 use Rattle.exchange_core.specs.Finished.{Finished, IsFinished, finished_from}
-use Rattle.exchange_core.specs.Shown.{shown, calls}
+use Rattle.exchange_core.specs.Shown.{shown}
 use Rattle.verdict_board.specs.Boards.{Pass, seen}
 use Rattle.registry_lock.specs.Meeting.{judged_of, Keeps}
 use Rattle.registry_lock.specs.Telling.{all_carried_out, takes_of, HasSeen, IsTold}

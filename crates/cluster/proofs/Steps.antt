@@ -8,7 +8,7 @@ use Rattle.clash_record.specs.declared.side_id.SideId.{SideId}
 use Rattle.clash_record.specs.declared.side_id.SideId.TheVariants.{A, B}
 use Rattle.clash_record.specs.Name.{Name}
 use Rattle.partition_table.specs.Tables.{Table}
-use Rattle.exchange_law.specs.Sides.{Offer, Withdrawals, Heard, Exchange, Side, new_exchange, put_ruling, is_above, begin, hear_in, hear_first, heard_of, hear, clashes_of, take_heard, take_in, take, withdraw_in, withdraw, close_in, close_list, hear_list_in, hear_list, finish, in_exchange, merged_table, shown_table}
+use Rattle.exchange_law.specs.Sides.{Offer, Withdrawals, Heard, Exchange, Side, new_exchange, is_above, begin, hear_in, hear_first, heard_of, hear, clashes_of, take_heard, take_in, take, withdraw_in, withdraw, close_in, close_list, hear_list_in, hear_list, finish, in_exchange, merged_table, shown_table}
 use Rattle.exchange_law.specs.Worlds.{offer_of, list_of}
 use Rattle.exchange_core.specs.Finished.{Finished, IsFinished, Half, finished_by, finished_in, finished_of, finished_from, all_held}
 use Rattle.cluster.specs.Clusters.{Cluster, at}

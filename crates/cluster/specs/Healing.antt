@@ -1,5 +1,5 @@
 -- The outcome of an exchange of the two halves.
-use Rattle.std.specs.Prelude.{◌≡◌, ◌⊎◌, ℕ, ◌<◌, ◌≤◌, Bool, true, not, ◌&&◌, IsTrue, if◌then◌else◌, List, [], ◌∷◌, ◌++◌, length, take, Option, Some, None}
+use Rattle.std.specs.Prelude.{◌≡◌, ◌⊎◌, ℕ, ◌<◌, Bool, true, not, ◌&&◌, IsTrue, if◌then◌else◌, List, [], ◌∷◌, ◌++◌, length, take, Option, Some, None}
 use Rattle.std.specs.List.{filter_map}
 use Rattle.std.specs.FinMap.{len, contains_key}
 use Rattle.clash_record.specs.Name.{Name}
@@ -86,7 +86,7 @@ HasHeld old id gone = AreHeld (shown_table (at old id).side) (gone_of_side id go
 
 -- the split is healed: both halves have one table, the lawful merge of the two that they showed, and each half held the
 -- names that it withdrew, each once
-pub record IsHealed (plan : Plan) (old new : Cluster) (healing : Healing) : Type 0 where
+pub record HealsSplit (plan : Plan) (old new : Cluster) (healing : Healing) : Type 0 where
   pub table : Table
   pub lawful : IsLawful plan old healing.rulings table
   pub clashes_are : healing.clashes ≡ clashes_merged (finished_as plan old healing.rulings table)

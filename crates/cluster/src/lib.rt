@@ -2,6 +2,7 @@
 #![tactic(auto)]
 
 mod cluster;
+mod crew;
 mod fault;
 mod finishing;
 mod halves;

@@ -8,13 +8,14 @@ ghost use Rattle.registry_lock.specs.Telling.{IsTold};
 ghost use Rattle.cluster.specs.Clusters as shown_as;
 ghost use Rattle.cluster.specs.Clusters.{cluster_of};
 ghost use Rattle.cluster.specs.Healing as planned;
-ghost use Rattle.cluster.specs.Healing.{plan_of, IsHealed, IsFailed};
+ghost use Rattle.cluster.specs.Healing.{plan_of, HealsSplit, IsFailed};
 ghost use Rattle.cluster.specs.Causes.{IsCause};
 ghost use Rattle.cluster.specs.Healings.{healing_of};
 ghost use Rattle.cluster.specs.model.Stages.{halves_of, clashes_shown, AreSides, AreRested, AreTrying};
 ghost use Rattle.cluster.specs.model.Stages.{AreInRounds, HaveMet, CanMeet};
 
 use crate::cluster::Cluster;
+use crate::crew::{Crew, Turn};
 use crate::fault::HealFault;
 use crate::finishing::{Finishing, both_finished};
 use crate::halves::Halves;
@@ -51,14 +52,20 @@ impl Cluster {
         gate: &G,
     ) -> Result<Healing, HealFault>
         // Both halves have one table: the lawful merge of the two that they showed.
-        ensures healed { IfOk result (λ healing. IsHealed (plan_of plan.entry.now) (cluster_of self.old)
+        ensures healed { IfOk result (λ healing. HealsSplit (plan_of plan.entry.now) (cluster_of self.old)
             (cluster_of self.new) (healing_of healing)) }
         // A failure leaves each half in one of four known states, and at most one half merged.
         ensures failed { OnErr result (IsFailed (plan_of plan.entry.now) (cluster_of self.old) (cluster_of self.new)) }
         // The fault has its cause in the halves as they were, or is 39, 40 or 90.
         ensures cause { IfErr result (IsCause (plan_of plan.entry.now) (cluster_of self.old)) }
     {
-        self.halves.heal(rt, alloc, plan, workers, gate)
+        let crew = Crew {
+            rt,
+            alloc,
+            workers,
+            gate,
+        };
+        self.halves.heal(&crew, plan)
     }
 }
 
@@ -66,14 +73,11 @@ impl Halves {
     // Abandons an open exchange, renews long journals, tries the new exchange, and abandons it after a failure.
     fn heal<G: Gate + Sync, R: Threads + Wait + Sync>(
         &mut self,
-        rt: &R,
-        alloc: Global,
+        crew: &Crew<'_, R, G>,
         plan: &Plan<'_>,
-        workers: Workers,
-        gate: &G,
     ) -> Result<Healing, HealFault>
         ensures healed { IfOk result (λ healing. AreSides (halves_of self.old)
-            → IsHealed (plan_of plan.entry.now) (halves_of self.old) (halves_of self.new) (healing_of healing)) }
+            → HealsSplit (plan_of plan.entry.now) (halves_of self.old) (halves_of self.new) (healing_of healing)) }
         ensures failed { OnErr result (AreSides (halves_of self.old)
             → IsFailed (plan_of plan.entry.now) (halves_of self.old) (halves_of self.new)) }
         ensures cause { IfErr result (λ fault. AreSides (halves_of self.old)
@@ -81,7 +85,7 @@ impl Halves {
     {
         self.abandon_open()?;
         self.renew_long();
-        match self.exchange(rt, alloc, plan, workers, gate) {
+        match self.exchange(crew, plan) {
             Ok(healing) => Ok(healing),
             Err(fault) => Err(self.give_up(fault)),
         }
@@ -103,24 +107,21 @@ impl Halves {
     // Tries the exchange. A failure leaves an open half open.
     fn exchange<G: Gate + Sync, R: Threads + Wait + Sync>(
         &mut self,
-        rt: &R,
-        alloc: Global,
+        crew: &Crew<'_, R, G>,
         plan: &Plan<'_>,
-        workers: Workers,
-        gate: &G,
     ) -> Result<Healing, HealFault>
         ensures healed { IfOk result (λ healing. (was : shown_as.Cluster) → AreSides was
             → AreRested was (halves_of self.old)
-            → IsHealed (plan_of plan.entry.now) was (halves_of self.new) (healing_of healing)) }
+            → HealsSplit (plan_of plan.entry.now) was (halves_of self.new) (healing_of healing)) }
         ensures failed { OnErr result ((was : shown_as.Cluster) → AreSides was → AreRested was (halves_of self.old)
             → IsFailed (plan_of plan.entry.now) was (halves_of self.new)) }
         ensures cause { IfErr result (λ fault. (was : shown_as.Cluster) → AreSides was
             → AreRested was (halves_of self.old) → IsCause (plan_of plan.entry.now) was fault) }
     {
-        let withdrawn = copy(alloc, plan.gone)?;
-        self.open(alloc, plan)?;
+        let withdrawn = copy(crew.alloc, plan.gone)?;
+        self.open(crew.alloc, plan)?;
         let clashes = self.a.share_clashes()?;
-        let (rulings, names) = self.settle(rt, alloc, plan, &clashes, workers, gate)?;
+        let (rulings, names) = self.settle(crew, plan, &clashes)?;
         Ok(Healing {
             clashes,
             rulings,
@@ -133,18 +134,15 @@ impl Halves {
     // one table. Allocates the room for the rulings first, so that two halves that finished don't fail to meet.
     fn settle<G: Gate + Sync, R: Threads + Wait + Sync>(
         &mut self,
-        rt: &R,
-        alloc: Global,
+        crew: &Crew<'_, R, G>,
         plan: &Plan<'_>,
         clashes: &ClashList,
-        workers: Workers,
-        gate: &G,
     ) -> Result<(Vec<Judged>, usize), HealFault>
         requires own { heard_clashes (shown self.old.a) ≡ Some clashes.now }
         ensures healed { IfOk result (λ settled. (was : shown_as.Cluster) → AreSides was
             → AreTrying (plan_of plan.entry.now) was plan.entry.now.gone.now (halves_of self.old)
             → clashes.now ≡ clashes_shown (plan_of plan.entry.now) was
-            → IsHealed (plan_of plan.entry.now) was (halves_of self.new) (record {
+            → HealsSplit (plan_of plan.entry.now) was (halves_of self.new) (record {
               clashes = clashes.now;
               rulings = settled.0.items;
               withdrawn = plan.entry.now.gone.now;
@@ -159,10 +157,11 @@ impl Halves {
             → clashes.now ≡ clashes_shown (plan_of plan.entry.now) was
             → IsCause (plan_of plan.entry.now) was fault) }
     {
-        let rulings = Vec::with_capacity(alloc, clashes.len())?;
-        let (board, seats) = open(alloc, plan.number, plan.seed, clashes, workers.count())?;
+        let rulings = Vec::with_capacity(crew.alloc, clashes.len())?;
+        let (number, seed) = (plan.number, plan.seed);
+        let (board, seats) = open(crew.alloc, number, seed, clashes, crew.workers.count())?;
         let mut pass = board.pass()?;
-        let (first, second) = self.judge(rt, alloc, &board, &mut pass, seats, gate)?;
+        let (first, second) = self.judge(crew, &board, &mut pass, seats)?;
         meet_halves(&board, &mut pass, rulings, first, second)
     }
 
@@ -170,12 +169,10 @@ impl Halves {
     // first.
     fn judge<'p, G: Gate + Sync, R: Threads + Wait + Sync>(
         &mut self,
-        rt: &R,
-        alloc: Global,
+        crew: &Crew<'_, R, G>,
         board: &Board<'p>,
         pass: &mut Pass<'p>,
         seats: Vec<Seat>,
-        gate: &G,
     ) -> Result<(Finished, Finished), HealFault>
         requires pass { pass.old.place ≡ board.now.place }
         requires seats { All (λ s. s.draws ≡ board.now.draws) seats.items }
@@ -198,34 +195,39 @@ impl Halves {
             }
             // Until A finishes, the board's clashes are those that A shared.
             let is_own = a.finished.is_none();
-            seats = self.tell(rt, alloc, board, pass, seats, round, gate, is_own);
-            a.try_finish(alloc, &mut self.a);
-            b.try_finish(alloc, &mut self.b);
+            seats = self.tell(crew, board, pass, seats, Turn { round, is_own });
+            a.try_finish(crew.alloc, &mut self.a);
+            b.try_finish(crew.alloc, &mut self.b);
         }
         both_finished(a, b)
     }
 
-    // Runs a round and hands its rulings to both halves. Returns the seats. Requires that the board's clashes are A's if `is_own`.
+    // Runs a round and hands its rulings to both halves. Returns the seats. Requires that the board's clashes are A's if
+    // `turn.is_own`.
     fn tell<'p, G: Gate + Sync, R: Threads + Wait + Sync>(
         &mut self,
-        rt: &R,
-        alloc: Global,
+        crew: &Crew<'_, R, G>,
         board: &Board<'p>,
         pass: &mut Pass<'p>,
         seats: Vec<Seat>,
-        round: u32,
-        gate: &G,
-        is_own: bool,
+        turn: Turn,
     ) -> Vec<Seat>
         requires pass { pass.old.place ≡ board.now.place }
         requires seats { All (λ s. s.draws ≡ board.now.draws) seats.items }
-        requires round { round < rounds }
-        requires own { IsTrue is_own → heard_clashes (shown self.old.a) ≡ Some board.now.place.clashes }
+        requires round { turn.round < rounds }
+        requires own { IsTrue turn.is_own → heard_clashes (shown self.old.a) ≡ Some board.now.place.clashes }
         ensures keeps { meeting.Keeps pass.old pass.new }
         ensures a { IsTold pass.new (length board.entry.now.place.clashes) self.old.a self.new.a }
         ensures b { IsTold pass.new (length board.entry.now.place.clashes) self.old.b self.new.b }
         ensures seats { All (λ s. s.draws ≡ board.entry.now.draws) result.items }
     {
+        let Crew {
+            rt,
+            alloc,
+            gate,
+            ..
+        } = *crew;
+        let Turn { round, is_own } = turn;
         let (a, b) = (&mut self.a, &mut self.b);
         tell_round_by(rt, alloc, board, pass, seats, round, gate, is_own, a, b).seats
     }

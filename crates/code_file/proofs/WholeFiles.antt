@@ -3,7 +3,7 @@ use Rattle.std.specs.Prelude.{IfSome, option_map, IfOk, IfErr, Vec}
 use Rattle.std.proofs.Common.{◌≡◌, ◌≤◌, ◌+◌, ◌++◌, [], ℕ, List, Option, Some, None, Result, Ok, Err, inl, inr, refl, length, take, subst, arith, length-take, take_all}
 use Rattle.refusals.specs.Answers.{HasCause}
 use Rattle.code_file.specs.Files.{IsReading, HasFileCode, IsFileFault, IsNoFileCode, OfBytes, max_file_len, too_long, no_code, faulty, unread, starved, file_fault_number}
-use Rattle.code_file.specs.CodeFiles.{IsNoCodeFile, fault_number}
+use Rattle.code_file.specs.CodeFiles.{IsNoCodeFile, code_file_fault_number}
 use Rattle.code_file.specs.declared.fault.CodeFileFault.{CodeFileFault}
 use Rattle.code_file.specs.declared.fault.FileFault.{FileFault}
 use Rattle.code_file.specs.declared.fault.FileFault.TheVariants.{Code}
@@ -58,7 +58,7 @@ no_bytes known fault (unread h) = unread h
 no_bytes known fault (starved h) = starved h
 
 pub no_code_fault : (content : List ℕ) (cause : CodeFileFault) → length content ≤ max_file_len
-    → HasCause fault_number (IsNoCodeFile content) cause
+    → HasCause code_file_fault_number (IsNoCodeFile content) cause
     → HasCause file_fault_number (IsFileFault content) (Code cause)
 no_code_fault content cause few (inl h) = inl (no_code cause few h refl)
 no_code_fault content cause few (inr e) = inr e

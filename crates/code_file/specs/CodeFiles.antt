@@ -9,19 +9,19 @@ use Rattle.refusals.specs.Answers.{out_of_memory}
 use Rattle.refusals.specs.declared.Place.{Place}
 use Rattle.code_file.specs.declared.fault.CodeFileFault.{CodeFileFault}
 use Rattle.code_file.specs.declared.fault.CodeFileFault.TheVariants.{Object, HexText, OutOfMemory}
-use Rattle.code_file.specs.Objects.{IsObjectCode, magic}
+use Rattle.code_file.specs.Objects.{IsObjectCode, elf_magic}
 
-abbrev pub fault_number : CodeFileFault → ℕ
-fault_number Object = 8
-fault_number HexText = 50
-fault_number OutOfMemory = out_of_memory
+abbrev pub code_file_fault_number : CodeFileFault → ℕ
+code_file_fault_number Object = 8
+code_file_fault_number HexText = 50
+code_file_fault_number OutOfMemory = out_of_memory
 
-abbrev pub fault_place : CodeFileFault → Option Place
-fault_place fault = None
+abbrev pub code_file_fault_place : CodeFileFault → Option Place
+code_file_fault_place fault = None
 
 -- an ELF file, of any kind
 abbrev pub is_elf : List ℕ → Bool
-is_elf file = bytes_eq (take 4 file) magic
+is_elf file = bytes_eq (take 4 file) elf_magic
 
 -- hex digits and white space alone
 abbrev pub is_hex : List ℕ → Bool

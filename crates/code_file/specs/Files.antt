@@ -3,7 +3,7 @@ use Rattle.std.specs.Prelude.{◌≡◌, ℕ, ◌+◌, ◌<◌, ◌≤◌, ◌==
 use Rattle.hex.specs.Hex.{encode_lower}
 use Rattle.refusals.specs.Answers.{out_of_memory}
 use Rattle.refusals.specs.declared.Place.{Place}
-use Rattle.code_file.specs.CodeFiles.{IsCodeFile, IsNoCodeFile, fault_number}
+use Rattle.code_file.specs.CodeFiles.{IsCodeFile, IsNoCodeFile, code_file_fault_number}
 use Rattle.code_file.specs.declared.fault.CodeFileFault.{CodeFileFault}
 use Rattle.code_file.specs.declared.fault.FileFault.{FileFault}
 use Rattle.code_file.specs.declared.fault.FileFault.TheVariants.{Code, TooLong, Unreadable}
@@ -31,7 +31,7 @@ OfBytes None P = (bytes : List ℕ) × P bytes
 -- ---- the code
 
 abbrev pub file_fault_number : FileFault → ℕ
-file_fault_number (Code fault) = fault_number fault
+file_fault_number (Code fault) = code_file_fault_number fault
 file_fault_number TooLong = 57
 file_fault_number Unreadable = 58
 

@@ -1,6 +1,6 @@
 //! The faults of a file of code.
 ghost use Rattle.std.specs.Prelude.{◌≡◌, ◌⊎◌};
-ghost use Rattle.code_file.specs.CodeFiles.{fault_number, fault_place};
+ghost use Rattle.code_file.specs.CodeFiles.{code_file_fault_number, code_file_fault_place};
 ghost use Rattle.code_file.specs.Files.{file_fault_number, file_fault_place};
 ghost use Rattle.code_file.specs.declared.fault.CodeFileFault.TheVariants.{OutOfMemory};
 ghost use Rattle.code_file.specs.declared.fault.FileFault.TheVariants.{Code, Unreadable};
@@ -24,9 +24,9 @@ pub enum CodeFileFault {
 }
 
 impl Numbered for CodeFileFault {
-    ghost number_of = { fault_number };
+    ghost number_of = { code_file_fault_number };
 
-    ghost place_of = { fault_place };
+    ghost place_of = { code_file_fault_place };
 
     fn number(&self) -> u32 {
         match self {

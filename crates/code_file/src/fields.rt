@@ -1,7 +1,7 @@
 //! The numbers in an object file, and its headers.
 ghost use Rattle.std.specs.Prelude.{◌≡◌, ◌+◌, ◌*◌, ◌<◌, ◌≤◌, ◌^◌, true, nat_le, length, take};
 ghost use Rattle.std.specs.Str.{bytes_eq};
-ghost use Rattle.code_file.specs.Objects.{number_at, start, is_object, has_headers, header, headers_at, section_count, names_section};
+ghost use Rattle.code_file.specs.Objects.{little_number_at, start, is_object, has_headers, header, headers_at, section_count, names_section};
 
 use byteorder::{ByteOrder, LittleEndian};
 
@@ -17,7 +17,7 @@ const BPF: usize = 247;
 /// Returns the number in two bytes at an offset.
 pub(crate) fn half_at(bytes: &[u8], at: usize) -> usize
     requires { at + 2 ≤ length bytes.now }
-    ensures value { result ≡ number_at at 2 bytes.now }
+    ensures value { result ≡ little_number_at at 2 bytes.now }
     ensures bound { result < 65536 }
 {
     usize::from(LittleEndian::read_u16(&bytes[at..]))
@@ -26,7 +26,7 @@ pub(crate) fn half_at(bytes: &[u8], at: usize) -> usize
 /// Returns the number in four bytes at an offset.
 pub(crate) fn word_at(bytes: &[u8], at: usize) -> usize
     requires { at + 4 ≤ length bytes.now }
-    ensures value { result ≡ number_at at 4 bytes.now }
+    ensures value { result ≡ little_number_at at 4 bytes.now }
 {
     LittleEndian::read_u32(&bytes[at..]) as usize
 }
@@ -34,7 +34,7 @@ pub(crate) fn word_at(bytes: &[u8], at: usize) -> usize
 /// Returns the number in eight bytes at an offset.
 pub(crate) fn long_at(bytes: &[u8], at: usize) -> usize
     requires { at + 8 ≤ length bytes.now }
-    ensures value { result ≡ number_at at 8 bytes.now }
+    ensures value { result ≡ little_number_at at 8 bytes.now }
 {
     LittleEndian::read_u64(&bytes[at..]) as usize
 }

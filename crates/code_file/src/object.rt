@@ -1,6 +1,6 @@
 //! The code of an object file.
 ghost use Rattle.std.specs.Prelude.{◌≡◌, ◌<◌, ◌≤◌, ℕ, List, true, false, nat_le, length, take, drop, IsTrue, IfSome, IfNone};
-ghost use Rattle.code_file.specs.Objects.{IsObjectCode, IsText, content, has_bytes, is_object, is_text, name_at, names_section, relocates, section_count};
+ghost use Rattle.code_file.specs.Objects.{IsObjectCode, IsTextSection, content, has_bytes, is_object, is_text, name_offset, names_section, relocates, section_count};
 
 use crate::fields;
 use crate::fields::{header, lies_in, long_at, names_section, section_count, word_at};
@@ -69,7 +69,7 @@ fn has_bytes(file: &[u8], section: usize) -> bool
 // Returns the first section that is named `.text`.
 fn text_section(file: &[u8]) -> Option<usize>
     requires { is_object file.now ≡ true }
-    ensures some { IfSome result (λ section. IsText file.now section) }
+    ensures some { IfSome result (λ section. IsTextSection file.now section) }
     ensures none { IfNone result ((other : ℕ) → other < section_count file.now → is_text file.now other ≡ false) }
 {
     for section in 0..section_count(file) {
@@ -115,7 +115,7 @@ pub fn code_in_object(file: &[u8]) -> Option<&[u8]>
 // Returns the code in the first section that is named `.text`.
 fn code_in_section(file: &[u8], section: usize) -> Option<&[u8]>
     requires object { is_object file.now ≡ true }
-    requires text { IsText file.now section }
+    requires text { IsTextSection file.now section }
     ensures code { IfSome result (λ code. IsObjectCode file.now code.now) }
     ensures none { IfNone result ((code : List ℕ) → IsObjectCode file.now code → ⊥) }
 {

@@ -3,7 +3,7 @@ ghost use Rattle.std.specs.Prelude.{◌≡◌, ◌⊎◌, ℕ, List, take, Ok, I
 ghost use Rattle.std.specs.List.{list_all};
 ghost use Rattle.hex.specs.Hex.{decode_of, is_hex_digit};
 ghost use Rattle.refusals.specs.Answers.{HasCause};
-ghost use Rattle.code_file.specs.CodeFiles.{IsCodeFile, IsHexFault, IsNoCodeFile, IsObjectFault, digits_of, fault_number, is_elf, is_hex};
+ghost use Rattle.code_file.specs.CodeFiles.{IsCodeFile, IsHexFault, IsNoCodeFile, IsObjectFault, digits_of, code_file_fault_number, is_elf, is_hex};
 ghost use Rattle.code_file.specs.Objects.{IsObjectCode};
 ghost use Rattle.code_file.specs.declared.fault.CodeFileFault.{CodeFileFault};
 ghost use Rattle.code_file.specs.declared.fault.CodeFileFault.TheVariants.{OutOfMemory};
@@ -108,7 +108,7 @@ fn copied(alloc: Global, file: &[u8]) -> Result<Vec<u8>, CodeFileFault>
 /// memory.
 pub fn read_code_file(alloc: Global, file: &[u8]) -> Result<Vec<u8>, CodeFileFault>
     ensures code { IfOk result (λ code. IsCodeFile file.now code.items) }
-    ensures refused { IfErr result (HasCause fault_number (IsNoCodeFile file.now)) }
+    ensures refused { IfErr result (HasCause code_file_fault_number (IsNoCodeFile file.now)) }
 {
     if is_elf(file) {
         read_object(alloc, file)

@@ -12,7 +12,7 @@ use Rattle.clap.proofs.OnLiterals.{clap_on_literals}
 use Rattle.partition_table.specs.Tables.{max_names}
 use Rattle.judge_pool.specs.Workers.{default_workers}
 use Rattle.questions.specs.declared.question.Profile.TheVariants.{Unsigned, Both}
-use Rattle.command_line.specs.Asked.{Asks, asked_of, explain_option, given, heal_app, needed, asm, by_bytes, check, dis, judge, refusals, run, version}
+use Rattle.command_line.specs.Asked.{Asks, subcommand_asked, explain_option, given, heal_app, needed, asm, by_bytes, check, dis, judge, refusals, run, version}
 use Rattle.command_line.specs.Plain.{IsPlain}
 
 no_hyphen : (word : Text) → IsPlain word → strip_byte 45 word ≡ None
@@ -72,7 +72,7 @@ judge_rows code clash =
     ∷ row explain_option DefaultValue (codes "false") ∷ []
 
 judge_asks : (code clash : Text)
-    → asked_of (codes "judge", judge_rows code clash) ≡ Some (judge code (by_bytes clash) false)
+    → subcommand_asked (codes "judge", judge_rows code clash) ≡ Some (judge code (by_bytes clash) false)
 unfolding clap_on_literals
 judge_asks code clash = refl
 
@@ -124,19 +124,19 @@ pub plain_judge : (name code clash : Text) → IsPlain code → IsPlain clash
     → Asks (name ∷ codes "judge" ∷ code ∷ clash ∷ []) (judge code (by_bytes clash) false)
 plain_judge name [] [] p q = inr (
   judge_none_fault name p q,
-  ap (option_and_then asked_of) (judge_none_rows name p q) ∙ judge_asks [] [],
+  ap (option_and_then subcommand_asked) (judge_none_rows name p q) ∙ judge_asks [] [],
 )
 plain_judge name (x ∷ xs) [] p q = inr (
   judge_code_fault name x xs p q,
-  ap (option_and_then asked_of) (judge_code_rows name x xs p q) ∙ judge_asks (x ∷ xs) [],
+  ap (option_and_then subcommand_asked) (judge_code_rows name x xs p q) ∙ judge_asks (x ∷ xs) [],
 )
 plain_judge name [] (y ∷ ys) p q = inr (
   judge_clash_fault name y ys p q,
-  ap (option_and_then asked_of) (judge_clash_rows name y ys p q) ∙ judge_asks [] (y ∷ ys),
+  ap (option_and_then subcommand_asked) (judge_clash_rows name y ys p q) ∙ judge_asks [] (y ∷ ys),
 )
 plain_judge name (x ∷ xs) (y ∷ ys) p q = inr (
   judge_both_fault name x xs y ys p q,
-  ap (option_and_then asked_of) (judge_both_rows name x xs y ys p q) ∙ judge_asks (x ∷ xs) (y ∷ ys),
+  ap (option_and_then subcommand_asked) (judge_both_rows name x xs y ys p q) ∙ judge_asks (x ∷ xs) (y ∷ ys),
 )
 
 pub plain_asm : (name file : Text) → IsPlain file → Asks (name ∷ codes "asm" ∷ file ∷ []) (asm file)

@@ -116,33 +116,33 @@ heal_app = on_top (λ s. record s { subcommand_required = true }) subcommands_ap
 -- ---- the request
 
 -- a clash as it is given: by the bytes of its record in hex digits, or by a name, two registrations and a word
-pub data Clash : Type 0 where
-  by_bytes : (digits : List ℕ) → Clash
-  by_fields : (name first second word : List ℕ) → Clash
+pub data GivenClash : Type 0 where
+  by_bytes : (digits : List ℕ) → GivenClash
+  by_fields : (name first second word : List ℕ) → GivenClash
 
 -- a task without where its words lie in memory
-pub data Asked : Type 0 where
-  check : (code : List ℕ) → (profile : Profile) → (explain : Bool) → Asked
-  judge : (code : List ℕ) → (clash : Clash) → (explain : Bool) → Asked
-  asm : (file : List ℕ) → Asked
-  dis : (code : List ℕ) → Asked
-  run : (file : List ℕ) → (workers names : ℕ) → (explain : Bool) → Asked
-  version : Asked
-  refusals : Asked
+pub data AskedTask : Type 0 where
+  check : (code : List ℕ) → (profile : Profile) → (explain : Bool) → AskedTask
+  judge : (code : List ℕ) → (clash : GivenClash) → (explain : Bool) → AskedTask
+  asm : (file : List ℕ) → AskedTask
+  dis : (code : List ℕ) → AskedTask
+  run : (file : List ℕ) → (workers names : ℕ) → (explain : Bool) → AskedTask
+  version : AskedTask
+  refusals : AskedTask
 
-abbrev pub clash_by : ClashWords → Clash
+abbrev pub clash_by : ClashWords → GivenClash
 clash_by (Bytes digits) = by_bytes digits.now
 clash_by (Fields name first second word) = by_fields name.now first.now second.now word.now
 
 -- the task, seen so
-abbrev pub asked_by : Task → Asked
-asked_by (Answer (Check code profile explain)) = check code.now profile explain
-asked_by (Answer (Judge code clash explain)) = judge code.now (clash_by clash) explain
-asked_by (Answer (Asm file)) = asm file.now
-asked_by (Answer (Dis code)) = dis code.now
-asked_by (Run file workers names explain) = run file.now workers.count names.count explain
-asked_by Version = version
-asked_by Refusals = refusals
+abbrev pub asked_task : Task → AskedTask
+asked_task (Answer (Check code profile explain)) = check code.now profile explain
+asked_task (Answer (Judge code clash explain)) = judge code.now (clash_by clash) explain
+asked_task (Answer (Asm file)) = asm file.now
+asked_task (Answer (Dis code)) = dis code.now
+asked_task (Run file workers names explain) = run file.now workers.count names.count explain
+asked_task Version = version
+asked_task Refusals = refusals
 
 -- the profile of a number, and the second one where none is named
 abbrev pub profile_named : Option Text → Option Profile
@@ -157,21 +157,21 @@ explain_named None = false
 explain_named (Some given) = bytes_eq given (codes "true")
 
 -- the record by its bytes alone, or by its fields alone, with the word 0 where none is given
-abbrev pub clash_named : Option Text → Option Text → Option Text → Option Text → Option Text → Option Clash
+abbrev pub clash_named : Option Text → Option Text → Option Text → Option Text → Option Text → Option GivenClash
 clash_named (Some digits) None None None None = Some (by_bytes digits)
 clash_named None (Some name) (Some first) (Some second) None = Some (by_fields name first second (codes "0"))
 clash_named None (Some name) (Some first) (Some second) (Some word) = Some (by_fields name first second word)
 clash_named digits name first second word = None
 
 -- the request of the values of check; and of judge, asm and dis
-abbrev pub check_asked : List Row → Option Asked
+abbrev pub check_asked : List Row → Option AskedTask
 check_asked rows =
     option_and_then (λ code. option_map
     (λ profile. check code profile (explain_named (first_of (codes "explain") rows)))
     (profile_named (first_of (codes "profile") rows)))
     (first_of (codes "CODE") rows)
 
-abbrev pub judge_asked : List Row → Option Asked
+abbrev pub judge_asked : List Row → Option AskedTask
 judge_asked rows =
     option_and_then (λ code. option_map
     (λ clash. judge code clash (explain_named (first_of (codes "explain") rows)))
@@ -179,10 +179,10 @@ judge_asked rows =
     (first_of (codes "second") rows) (first_of (codes "word") rows)))
     (first_of (codes "CODE") rows)
 
-abbrev pub asm_asked : List Row → Option Asked
+abbrev pub asm_asked : List Row → Option AskedTask
 asm_asked rows = option_map asm (first_of (codes "FILE") rows)
 
-abbrev pub dis_asked : List Row → Option Asked
+abbrev pub dis_asked : List Row → Option AskedTask
 dis_asked rows = option_map dis (first_of (codes "CODE") rows)
 
 -- the number that a text names, if it is one of these
@@ -200,7 +200,7 @@ abbrev pub names_named : Option Text → Option ℕ
 names_named None = Some max_names
 names_named (Some number) = number_named names_if number
 
-abbrev pub run_asked : List Row → Option Asked
+abbrev pub run_asked : List Row → Option AskedTask
 run_asked rows =
     option_and_then (λ file. option_and_then
     (λ workers. option_map
@@ -210,8 +210,8 @@ run_asked rows =
     (first_of (codes "FILE") rows)
 
 -- the request of a subcommand of this name
-abbrev pub asked_of : Text × List Row → Option Asked
-asked_of sub =
+abbrev pub subcommand_asked : Text × List Row → Option AskedTask
+subcommand_asked sub =
     if bytes_eq sub.0 (codes "check") then check_asked sub.1
     else (if bytes_eq sub.0 (codes "judge") then judge_asked sub.1
     else (if bytes_eq sub.0 (codes "asm") then asm_asked sub.1
@@ -229,13 +229,13 @@ asks_refusals (name ∷ help ∷ topic ∷ []) = bytes_eq help (codes "help") &&
 asks_refusals words = false
 
 -- the request of the words that need no subcommand
-abbrev pub own_asked : List Text → Option Asked
+abbrev pub own_asked : List Text → Option AskedTask
 own_asked words = if asks_version words then Some version else (if asks_refusals words then Some refusals else None)
 
 -- the words request this, by themselves or by a subcommand with valid words
-abbrev pub Asks : List Text → Asked → Type 0
+abbrev pub Asks : List Text → AskedTask → Type 0
 Asks words task = (own_asked words ≡ Some task)
-    ⊎ ((fault_of heal_app words ≡ []) × (option_and_then asked_of (subcommand_of heal_app words) ≡ Some task))
+    ⊎ ((fault_of heal_app words ≡ []) × (option_and_then subcommand_asked (subcommand_of heal_app words) ≡ Some task))
 
 -- the fault is out of memory, not a usage error
 abbrev pub IsForMemory : CommandFault → Type 0

@@ -1,7 +1,7 @@
 //! Reads the arguments as a task.
 ghost use Rattle.std.specs.Prelude.{◌≡◌, ◌∷◌, ◌&&◌, true, false, ◌||◌, [], codes, ◌⊎◌, List, ℕ, IfOk, IfErr, map, option_map, option_and_then};
 ghost use Rattle.clap.specs.Words.{first_of, found_of, rows_of, subcommand_rows_of};
-ghost use Rattle.command_line.specs.Asked.{Asked, Asks, IsForMemory, asked_by, asked_of};
+ghost use Rattle.command_line.specs.Asked.{AskedTask, Asks, IsForMemory, asked_task, subcommand_asked};
 ghost use Rattle.command_line.specs.Asked as asked;
 ghost use Rattle.std.specs.Str.{bytes_eq};
 ghost use Rattle.command_line.specs.Asked.{asm, asm_asked, by_bytes, check, check_asked, clash_by, clash_named, dis, dis_asked, explain_named, judge, judge_asked, names_named, profile_named, refusals, run, run_asked, version, workers_named};
@@ -50,7 +50,7 @@ fn explains(given: Option<&str>) -> bool
 }
 
 fn check_of<'a>(found: &ArgMatches<'a>) -> Option<Task<'a>>
-    ensures { option_map asked_by result ≡ check_asked (rows_of (found_of found.now)) }
+    ensures { option_map asked_task result ≡ check_asked (rows_of (found_of found.now)) }
 {
     let code = value(found, "CODE")?;
     let profile = profile_of(value(found, "profile"))?;
@@ -93,7 +93,7 @@ fn clash_of<'a>(
 }
 
 fn judge_of<'a>(found: &ArgMatches<'a>) -> Option<Task<'a>>
-    ensures { option_map asked_by result ≡ judge_asked (rows_of (found_of found.now)) }
+    ensures { option_map asked_task result ≡ judge_asked (rows_of (found_of found.now)) }
 {
     let code = value(found, "CODE")?;
     let clash = clash_of(
@@ -112,14 +112,14 @@ fn judge_of<'a>(found: &ArgMatches<'a>) -> Option<Task<'a>>
 }
 
 fn asm_of<'a>(found: &ArgMatches<'a>) -> Option<Task<'a>>
-    ensures { option_map asked_by result ≡ asm_asked (rows_of (found_of found.now)) }
+    ensures { option_map asked_task result ≡ asm_asked (rows_of (found_of found.now)) }
 {
     let file = value(found, "FILE")?;
     Some(Task::Answer(Question::Asm { file }))
 }
 
 fn dis_of<'a>(found: &ArgMatches<'a>) -> Option<Task<'a>>
-    ensures { option_map asked_by result ≡ dis_asked (rows_of (found_of found.now)) }
+    ensures { option_map asked_task result ≡ dis_asked (rows_of (found_of found.now)) }
 {
     let code = value(found, "CODE")?;
     Some(Task::Answer(Question::Dis { code }))
@@ -152,7 +152,7 @@ fn names_of(number: Option<&str>) -> Option<Names>
 }
 
 fn run_of<'a>(found: &ArgMatches<'a>) -> Option<Task<'a>>
-    ensures { option_map asked_by result ≡ run_asked (rows_of (found_of found.now)) }
+    ensures { option_map asked_task result ≡ run_asked (rows_of (found_of found.now)) }
 {
     let file = value(found, "FILE")?;
     let workers = workers_of(value(found, "workers"))?;
@@ -167,7 +167,7 @@ fn run_of<'a>(found: &ArgMatches<'a>) -> Option<Task<'a>>
 }
 
 fn task_of<'a>(matches: &ArgMatches<'a>) -> Option<Task<'a>>
-    ensures { option_map asked_by result ≡ option_and_then asked_of (subcommand_rows_of matches.now) }
+    ensures { option_map asked_task result ≡ option_and_then subcommand_asked (subcommand_rows_of matches.now) }
 {
     let (name, found) = matches.subcommand()?;
     if name == "check" {
@@ -226,9 +226,9 @@ fn asks_refusals<S: AsStr>(words: &[S]) -> bool
 /// Returns the answer of `clap` for arguments that don't parse, including help and out of memory.
 pub fn command<'a, S: AsStr>(alloc: Global, words: &'a [S]) -> Result<Task<'a>, CommandFault>
     // The task is that of the arguments.
-    ensures ok { IfOk result (λ task. Asks (map S.text words.now) (asked_by task)) }
+    ensures ok { IfOk result (λ task. Asks (map S.text words.now) (asked_task task)) }
     // Arguments that give a task fail only when out of memory.
-    ensures err { IfErr result (λ e. IsForMemory e ⊎ ((task : Asked) → Asks (map S.text words.now) task → ⊥)) }
+    ensures err { IfErr result (λ e. IsForMemory e ⊎ ((task : AskedTask) → Asks (map S.text words.now) task → ⊥)) }
 {
     if asks_version(words) {
         return Ok(Task::Version);

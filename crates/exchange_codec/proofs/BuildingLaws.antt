@@ -29,9 +29,9 @@ use Rattle.partition_table.specs.Tables.{Row, Table, IsCodeOf, IsNewRow, most_na
 use Rattle.partition_table.specs.laws.Sameness.{code_decides}
 use Rattle.exchange_codec.specs.declared.building.Known.{Known}
 use Rattle.exchange_codec.specs.declared.rows.RowText as lent
-use Rattle.exchange_codec.specs.Rows.{RowText, ByBuiltin, Named, Code, has_id, ids_of, ids_after, texts_of, text_of, resolver_text, code_bytes}
+use Rattle.exchange_codec.specs.Rows.{RowText, ByBuiltin, Named, Code, has_id, ids_of, ids_after, texts_of, row_text, resolver_text, code_bytes}
 use Rattle.exchange_codec.specs.RowsText.{row_view, resolver_view}
-use Rattle.exchange_codec.specs.Offers.{is_above, IsRowFault}
+use Rattle.exchange_codec.specs.Offers.{is_name_above, IsRowFault}
 use Rattle.exchange_codec.specs.declared.fault.ItemFault.{ItemFault}
 use Rattle.exchange_codec.specs.declared.fault.ItemFault.TheVariants as item
 use Rattle.exchange_codec.specs.declared.fault.MessageFault.{MessageFault}
@@ -50,7 +50,7 @@ not_both e = cc
 -- ---- a name above those of a table
 
 abbrev IsAbove : List Entry → Name → Type 0
-IsAbove rows name = is_above rows name ≡ true
+IsAbove rows name = is_name_above rows name ≡ true
 
 reversed : (o : Ordering) → is_lt o ≡ true → ordering_reverse o ≡ Greater
 reversed Less e = refl
@@ -63,14 +63,14 @@ below a b e = names_total.antisymm b a ∙ reversed (name_cmp a b) e
 not_found : (name : Name) (es : List Entry) → IsAbove es name → find name_cmp name es ≡ None
 not_found name [] above = refl
 not_found name (e ∷ es) above =
-    let parts = and_parts (is_lt (name_cmp e.0 name)) (is_above es name) above in
+    let parts = and_parts (is_lt (name_cmp e.0 name)) (is_name_above es name) above in
     rw (below e.0 name parts.0, not_found name es parts.1) refl
 
 put_last : (name : Name) (row : Row) (es : List Entry) → IsAbove es name
     → put name_cmp name row es ≡ es ++ (name, row) ∷ []
 put_last name row [] above = refl
 put_last name row (e ∷ es) above =
-    let parts = and_parts (is_lt (name_cmp e.0 name)) (is_above es name) above in
+    let parts = and_parts (is_lt (name_cmp e.0 name)) (is_name_above es name) above in
     rw (below e.0 name parts.0, put_last name row es parts.1) refl
 
 is_new : (table : Table) (name : Name) → IsAbove (entries table) name → map.get table name ≡ None
@@ -99,7 +99,7 @@ module _ (old new : Table) (text : RowText) (row : Row) (above : IsAbove (entrie
   rows_grow : entries new ≡ entries old ++ (text.name, row) ∷ []
   rows_grow = ap entries added ∙ inserted_last old text.name row above
 
-  texts_grow : text_of (ids_of [] (entries old)) text.name row ≡ text
+  texts_grow : row_text (ids_of [] (entries old)) text.name row ≡ text
       → texts_of [] (entries new) ≡ texts_of [] (entries old) ++ text ∷ []
   texts_grow same =
       ap (texts_of []) rows_grow ∙ texts_more [] (entries old) (text.name, row)
@@ -213,7 +213,7 @@ agrees_new table programs row id code of none =
 
 same_text : (row : lent.RowText) (resolver : ResolverId) (code : Option (List Insn)) (ids : List ProgramId)
     → resolver_text ids resolver code ≡ resolver_view row.resolver
-    → text_of ids row.name (row_with row resolver code) ≡ row_view row
+    → row_text ids row.name (row_with row resolver code) ≡ row_view row
 same_text row resolver code ids e = ap (λ r. record {
   name = row.name;
   owner = row.owner;
@@ -363,8 +363,8 @@ none_of None e = refl
 none_of (Some x) e = absurd cc
 
 module _ (table : Table) (programs : Programs) (row : lent.RowText) (at : ℕ) (of : AreProgramsOf table programs)
-    (above : is_above (entries table) row.name ≡ true) where
-  in_order : is_above (entries table) row.name ≡ false → ⊥
+    (above : is_name_above (entries table) row.name ≡ true) where
+  in_order : is_name_above (entries table) row.name ≡ false → ⊥
   in_order e = not_both (sym above ∙ e)
 
   pub no_program : (id : ProgramId) → resolver_view row.resolver ≡ Named id → get id_cmp programs id ≡ None

@@ -14,15 +14,15 @@ use Rattle.clash_record.specs.declared.registrations.ProgramId.{ProgramId}
 use Rattle.clash_record.specs.declared.registrations.ResolverId.{ResolverId}
 use Rattle.clash_record.specs.declared.registrations.ResolverId.TheVariants as by
 use Rattle.partition_table.specs.Tables.{Row, program_of, same_id}
-use Rattle.exchange_codec.specs.Rows.{RowText, text_of, ids_after, has_id, ids_of, texts_of, AreIds}
+use Rattle.exchange_codec.specs.Rows.{RowText, row_text, ids_after, has_id, ids_of, texts_of, AreIds}
 
 -- one more row
 pub texts_more : (before : List ProgramId) (ds : List (Name × Row)) (e : Name × Row)
-    → texts_of before (ds ++ e ∷ []) ≡ texts_of before ds ++ text_of (ids_of before ds) e.0 e.1 ∷ []
+    → texts_of before (ds ++ e ∷ []) ≡ texts_of before ds ++ row_text (ids_of before ds) e.0 e.1 ∷ []
 unfolding texts_of ids_of
 texts_more before [] e = refl
 texts_more before (d ∷ ds) e =
-    ap (λ (ts : List RowText). text_of before d.0 d.1 ∷ ts) (texts_more (ids_after before d.1.registration.resolver) ds e)
+    ap (λ (ts : List RowText). row_text before d.0 d.1 ∷ ts) (texts_more (ids_after before d.1.registration.resolver) ds e)
 
 pub ids_more : (before : List ProgramId) (ds : List (Name × Row)) (e : Name × Row)
     → ids_of before (ds ++ e ∷ []) ≡ ids_after (ids_of before ds) e.1.registration.resolver

@@ -12,7 +12,7 @@ use Rattle.exchange_codec.specs.declared.fault.MessageFault.{MessageFault}
 use Rattle.exchange_codec.specs.declared.fault.MessageFault.TheVariants as message
 use Rattle.exchange_codec.specs.declared.fault.ItemFault.TheVariants as item
 use Rattle.exchange_codec.specs.Faults.{message_fault_number}
-use Rattle.exchange_codec.specs.Withdrawals.{first_again, unless_again}
+use Rattle.exchange_codec.specs.Withdrawals.{first_again, unless_name_again}
 
 abbrev returned : Withdrawals → Result Withdrawals ListFault
 returned v = Ok v
@@ -23,12 +23,12 @@ refused f = Err f
 few_due : (w : Withdrawals) → length w.names ≤ most_names → names_due w ≡ unless (first_again [] 0 w.names) w
 few_due w few = rw (le-ltb _ _ few) refl
 
-same_list : (o : Option ℕ) (w v : Withdrawals) → returned v ≡ unless o w → Ok v ≡ unless_again o w
+same_list : (o : Option ℕ) (w v : Withdrawals) → returned v ≡ unless o w → Ok v ≡ unless_name_again o w
 same_list None w v e = let same : v ≡ w = cc in ap Ok same
 same_list (Some k) w v e = absurd cc
 
 same_again : (o : Option ℕ) (w : Withdrawals) (at : ℕ) → refused (fault.NameAgain at) ≡ unless o w
-    → Err (message.Item item.NameAgain at) ≡ unless_again o w
+    → Err (message.Item item.NameAgain at) ≡ unless_name_again o w
 same_again None w at e = absurd cc
 same_again (Some k) w at e = let same : at ≡ k = cc in ap (λ (n : ℕ). Err (message.Item item.NameAgain n)) same
 
@@ -38,12 +38,12 @@ never_many (Some k) w e = cc
 
 module _ (w : Withdrawals) (few : length w.names ≤ most_names) where
   pub is_listed : (v : Withdrawals) → ReturnsOrRunsOut list_fault_number (returned v) (names_due w)
-      → ReturnsOrRunsOut {F = MessageFault} message_fault_number (Ok v) (unless_again (first_again [] 0 w.names) w)
+      → ReturnsOrRunsOut {F = MessageFault} message_fault_number (Ok v) (unless_name_again (first_again [] 0 w.names) w)
   is_listed v (inl e) = inl (same_list (first_again [] 0 w.names) w v (e ∙ few_due w few))
   is_listed v (inr h) = absurd h
 
   pub is_again : (at : ℕ) → ReturnsOrRunsOut list_fault_number (refused (fault.NameAgain at)) (names_due w)
-      → ReturnsOrRunsOut message_fault_number (Err (message.Item item.NameAgain at)) (unless_again (first_again [] 0 w.names) w)
+      → ReturnsOrRunsOut message_fault_number (Err (message.Item item.NameAgain at)) (unless_name_again (first_again [] 0 w.names) w)
   is_again at (inl e) = inl (same_again (first_again [] 0 w.names) w at (e ∙ few_due w few))
   is_again at (inr h) = absurd (omega (arith, h))
 

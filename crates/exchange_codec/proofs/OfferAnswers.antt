@@ -10,7 +10,7 @@ use Rattle.exchange_codec.specs.declared.fault.MessageFault.TheVariants as messa
 use Rattle.exchange_codec.specs.Faults.{message_fault_number}
 use Rattle.exchange_codec.specs.Placing.{told_of}
 use Rattle.exchange_codec.specs.Reading.{Fails, due}
-use Rattle.exchange_codec.specs.Offers.{OfferText, head_of, text_of, offer_bytes, offer_of, IsText, SpellsOffer, IsOfferFault}
+use Rattle.exchange_codec.specs.Offers.{OfferText, head_of, offer_text, offer_bytes, whole_offer, IsText, SpellsOffer, IsOfferFault}
 use Rattle.exchange_codec.specs.model.Building.{IsOfferOf, IsRowsFault}
 use Rattle.exchange_codec.specs.laws.Decoding.{AreExact, Decides, are_exact}
 use Rattle.exchange_codec.specs.laws.Fields.{IsBytes}
@@ -19,11 +19,11 @@ use Rattle.exchange_codec.specs.laws.Programs.{Readings}
 use Rattle.exchange_codec.proofs.OneOffer.{same_table}
 use Rattle.exchange_codec.proofs.OneFault.{no_rows_fault, one_rows_fault}
 
-spelled_text : (bytes : List ℕ) (o : Offer) → SpellsOffer bytes o → offer_of bytes ≡ Ok (text_of o)
-spelled_text bytes o s = ap offer_of s.spelling ∙ text_read (text_of o) s.is_text
+spelled_text : (bytes : List ℕ) (o : Offer) → SpellsOffer bytes o → whole_offer bytes ≡ Ok (offer_text o)
+spelled_text bytes o s = ap whole_offer s.spelling ∙ text_read (offer_text o) s.is_text
 
 abbrev read_of : List ℕ → Result OfferText MessageFault
-read_of bytes = due (length bytes) (offer_of bytes)
+read_of bytes = due (length bytes) (whole_offer bytes)
 
 cause : (bytes : List ℕ) (f : MessageFault) → IsOfferFault bytes f
     → (read_of bytes ≡ Err f) ⊎ ((text : OfferText) × (read_of bytes ≡ Ok text) × IsRowsFault text.rows f)
@@ -34,7 +34,7 @@ cause bytes message.OutOfMemory h = absurd h
 -- bytes spell one offer, or have one fault
 pub offers : Readings → (bytes : List ℕ) → AreExact (SpellsOffer bytes) (IsOfferFault bytes)
 offers known bytes =
-    let by : Decides (read_of bytes) text_of (SpellsOffer bytes) (IsOfferFault bytes) (λ text. IsRowsFault text.rows) = record {
+    let by : Decides (read_of bytes) offer_text (SpellsOffer bytes) (IsOfferFault bytes) (λ text. IsRowsFault text.rows) = record {
       reads = λ o s. ap (due (length bytes)) (spelled_text bytes o s);
       cause = cause bytes;
       one = λ o p s r same. same_offer o p (ap (λ (t : OfferText). t.head) same)
@@ -55,7 +55,7 @@ offers known bytes =
 
 -- the answer of the side that rebuilds the text
 pub is_spelled : (bytes : List ℕ) (text : OfferText) (r : Result Offer MessageFault) → IsBytes bytes
-    → offer_of bytes ≡ Ok text → IfOk r (IsOfferOf text) → IfOk r (SpellsOffer bytes)
+    → whole_offer bytes ≡ Ok text → IfOk r (IsOfferOf text) → IfOk r (SpellsOffer bytes)
 is_spelled bytes text (Ok o) fits e h =
     let spelled = text_spelled bytes text fits e in
     record {
@@ -65,7 +65,7 @@ is_spelled bytes text (Ok o) fits e h =
     }
 is_spelled bytes text (Err f) fits e h = tt
 
-pub is_refused : (bytes : List ℕ) (text : OfferText) (r : Result Offer MessageFault) → offer_of bytes ≡ Ok text
+pub is_refused : (bytes : List ℕ) (text : OfferText) (r : Result Offer MessageFault) → whole_offer bytes ≡ Ok text
     → IfErr r (HasCause message_fault_number (IsRowsFault text.rows))
     → IfErr r (HasCause message_fault_number (IsOfferFault bytes))
 is_refused bytes text (Ok o) e h = tt
@@ -75,7 +75,7 @@ is_refused bytes text (Err message.OutOfMemory) e (inl cause) = absurd cause
 is_refused bytes text (Err f) e (inr out) = inr out
 
 -- the answer to bytes with a fault in a field
-pub is_failed : (bytes : List ℕ) (e : ReadError) → Fails e (offer_of bytes)
+pub is_failed : (bytes : List ℕ) (e : ReadError) → Fails e (whole_offer bytes)
     → HasCause message_fault_number (IsOfferFault bytes) (told_of (length bytes) e)
 is_failed bytes errors.Memory h = inr refl
 is_failed bytes (errors.Fault f) h = inl (f.left, h, refl)

@@ -9,11 +9,11 @@ use Rattle.exchange_codec.specs.declared.fault.ReadError.{ReadError}
 use Rattle.exchange_codec.specs.declared.fault.ReadError.TheVariants as errors
 use Rattle.exchange_codec.specs.declared.offers.OfferHead.{OfferHead}
 use Rattle.exchange_codec.specs.Reading.{◌>>=◌, Fails, wrong, number_at, header_at, ended}
-use Rattle.exchange_codec.specs.Names.{side_byte, side_at}
+use Rattle.exchange_codec.specs.Names.{side_byte, side_id_at}
 use Rattle.exchange_codec.specs.Rows.{RowText}
-use Rattle.exchange_codec.specs.Tables.{table_bytes, rows_at, rows_of}
+use Rattle.exchange_codec.specs.Tables.{table_bytes, rows_at, whole_rows}
 use Rattle.exchange_codec.specs.laws.Tables.{rows_take, rows_again}
-use Rattle.exchange_codec.specs.Offers.{offers_header, OfferText, head_bytes, offer_bytes, IsText, head_at, offer_at, offer_of}
+use Rattle.exchange_codec.specs.Offers.{offers_header, OfferText, head_bytes, offer_bytes, IsText, head_at, offer_at, whole_offer}
 use Rattle.exchange_codec.specs.laws.Fields.{IsBytes, bind_ok, ok_is, Takes, Takes-then, wide64, number_takes, number_again, header_takes, header_again, ended_ok}
 use Rattle.exchange_codec.specs.laws.Names.{side_takes, side_again}
 
@@ -21,7 +21,7 @@ head_takes : (bytes : List ℕ) (x : OfferHead × List ℕ) → IsBytes bytes �
     → Takes bytes (head_bytes x.0) x.1 × (x.0.number < 2 ^ 64) × (x.0.seed < 2 ^ 64) × (x.0.uptime < 2 ^ 64)
 unfolding head_at
 head_takes bytes x fits e =
-    let s = bind_ok (side_at bytes) (λ side. number_at w64 side.1 >>= λ number. number_at w64 number.1 >>= λ seed. number_at w64 seed.1 >>= λ uptime. Ok (record { side = side.0; number = number.0; seed = seed.0; uptime = uptime.0 }, uptime.1)) x e in
+    let s = bind_ok (side_id_at bytes) (λ side. number_at w64 side.1 >>= λ number. number_at w64 number.1 >>= λ seed. number_at w64 seed.1 >>= λ uptime. Ok (record { side = side.0; number = number.0; seed = seed.0; uptime = uptime.0 }, uptime.1)) x e in
     let n = bind_ok (number_at w64 s.0.1) (λ number. number_at w64 number.1 >>= λ seed. number_at w64 seed.1 >>= λ uptime. Ok (record { side = s.0.0; number = number.0; seed = seed.0; uptime = uptime.0 }, uptime.1)) x s.2 in
     let d = bind_ok (number_at w64 n.0.1) (λ seed. number_at w64 seed.1 >>= λ uptime. Ok (record { side = s.0.0; number = n.0.0; seed = seed.0; uptime = uptime.0 }, uptime.1)) x n.2 in
     let u = bind_ok (number_at w64 d.0.1) (λ uptime. Ok (record { side = s.0.0; number = n.0.0; seed = d.0.0; uptime = uptime.0 }, uptime.1)) x d.2 in
@@ -81,8 +81,8 @@ offer_again o rest fits =
       rows_again o.rows rest fits.rows,
     ) refl
 
-pub text_spelled : (bytes : List ℕ) (o : OfferText) → IsBytes bytes → offer_of bytes ≡ Ok o → IsText o × (bytes ≡ offer_bytes o)
-unfolding offer_of
+pub text_spelled : (bytes : List ℕ) (o : OfferText) → IsBytes bytes → whole_offer bytes ≡ Ok o → IsText o × (bytes ≡ offer_bytes o)
+unfolding whole_offer
 text_spelled bytes o fits e =
     let a = bind_ok (offer_at bytes) ended o e in
     let g = ended_ok a.0 o a.2 in
@@ -91,8 +91,8 @@ text_spelled bytes o fits e =
     ∙ append-nil (offer_bytes a.0.0) in
     subst (λ (t : OfferText). IsText t × (bytes ≡ offer_bytes t)) g.0 (k.1, whole)
 
-pub text_read : (o : OfferText) → IsText o → offer_of (offer_bytes o) ≡ Ok o
-unfolding offer_of
+pub text_read : (o : OfferText) → IsText o → whole_offer (offer_bytes o) ≡ Ok o
+unfolding whole_offer
 text_read o fits =
     let all : offer_at (offer_bytes o) ≡ Ok (o, []) =
     ap offer_at (sym (append-nil (offer_bytes o))) ∙ offer_again o [] fits in
@@ -112,14 +112,14 @@ ended_within f (Ok x) = by (length x.1 == 0)
 
 module _ (bytes rest after : List ℕ) (head : OfferHead) (is_header : header_at offers_header bytes ≡ Ok rest)
     (is_head : head_at rest ≡ Ok (head, after)) where
-  by_rows : offer_of bytes ≡ (rows_of after >>= λ rows. Ok (record { head = head; rows = rows }))
-  unfolding offer_of offer_at rows_of
+  by_rows : whole_offer bytes ≡ (whole_rows after >>= λ rows. Ok (record { head = head; rows = rows }))
+  unfolding whole_offer offer_at whole_rows
   by_rows = rw (is_header, is_head) (ended_within (λ (rows : List RowText). record { head = head; rows = rows }) (rows_at after))
 
-  pub head_and_rows : (rows : List RowText) → rows_of after ≡ Ok rows
-      → offer_of bytes ≡ Ok (record { head = head; rows = rows })
+  pub head_and_rows : (rows : List RowText) → whole_rows after ≡ Ok rows
+      → whole_offer bytes ≡ Ok (record { head = head; rows = rows })
   head_and_rows rows h = by_rows ∙ rw h refl
 
-  pub head_and_fault : (e : ReadError) → Fails e (rows_of after) → Fails e (offer_of bytes)
+  pub head_and_fault : (e : ReadError) → Fails e (whole_rows after) → Fails e (whole_offer bytes)
   head_and_fault errors.Memory h = tt
   head_and_fault (errors.Fault f) h = by_rows ∙ rw h refl

@@ -19,8 +19,8 @@ use Rattle.exchange_codec.specs.declared.fault.ItemFault.TheVariants as item
 use Rattle.exchange_codec.specs.declared.fault.MessageFault.{MessageFault}
 use Rattle.exchange_codec.specs.declared.fault.MessageFault.TheVariants as message
 use Rattle.exchange_codec.specs.Faults.{item_fault_number}
-use Rattle.exchange_codec.specs.Rows.{RowText, Named, Code, has_id, ids_of, ids_after, texts_of, text_of, resolver_text, code_bytes}
-use Rattle.exchange_codec.specs.Tables.{table_text, is_above, IsRowFault, IsFirstRowFault}
+use Rattle.exchange_codec.specs.Rows.{RowText, Named, Code, has_id, ids_of, ids_after, texts_of, row_text, resolver_text, code_bytes}
+use Rattle.exchange_codec.specs.Tables.{table_text, is_name_above, IsRowFault, IsFirstRowFault}
 use Rattle.exchange_codec.specs.model.Building.{IsRowsFault}
 use Rattle.exchange_codec.specs.laws.Firsts.{IsFirst, one_first, some_inj, above_there, sorted_as}
 use Rattle.exchange_codec.specs.laws.Programs.{Readings}
@@ -38,7 +38,7 @@ pub record IsTextOf (before : List ProgramId) (es : List Entry) (texts : List Ro
   pub rest : List Entry
   pub parts : es ≡ done ++ entry ∷ rest
   pub told : take at texts ≡ texts_of before done
-  pub is : text ≡ text_of (ids_of before done) entry.0 entry.1
+  pub is : text ≡ row_text (ids_of before done) entry.0 entry.1
 
 heads : {A : Type 0} (x y : A) (xs ys : List A) → x ∷ xs ≡ y ∷ ys → (x ≡ y) × (xs ≡ ys)
 heads x y xs ys e = (cc, cc)
@@ -65,7 +65,7 @@ row_at_text before (e ∷ es) (t ∷ texts) (suc at) text is there =
       rest = found.rest;
       parts = ap (λ (xs : List Entry). e ∷ xs) found.parts;
       told = ap (λ (x : RowText). x ∷ take at texts) heads_are.0
-          ∙ ap (λ (xs : List RowText). text_of before e.0 e.1 ∷ xs) found.told;
+          ∙ ap (λ (xs : List RowText). row_text before e.0 e.1 ∷ xs) found.told;
       is = found.is;
     }
 
@@ -114,12 +114,12 @@ coded_at (d ∷ ds) e rest h = coded_at ds e rest h.1
 
 module _ (known : Readings) where
   no_row_fault : (table : Table) → IsTable table → (ds : List Entry) (e : Entry) (rest : List Entry)
-      → entries table ≡ ds ++ e ∷ rest → (text : RowText) → text ≡ text_of (ids_of [] ds) e.0 e.1
+      → entries table ≡ ds ++ e ∷ rest → (text : RowText) → text ≡ row_text (ids_of [] ds) e.0 e.1
       → (fault : ItemFault) → IsRowFault ds text fault → ⊥
   no_row_fault table kept ds e rest parts text is item.NameAgain h = h
   no_row_fault table kept ds e rest parts text is item.NameOrder h =
       not_both (sym (above_there name_cmp ds e rest (sorted_as name_cmp (entries_sorted table) parts))
-      ∙ sym (ap (λ (t : RowText). is_above ds t.name) is) ∙ h)
+      ∙ sym (ap (λ (t : RowText). is_name_above ds t.name) is) ∙ h)
   no_row_fault table kept ds e rest parts text is item.NoProgram h =
       not_both (sym (named_known (ids_of [] ds) e.1.registration.resolver e.1.code h.0
       (sym (ap (λ (t : RowText). t.resolver) is) ∙ h.1)) ∙ h.2)

@@ -18,7 +18,7 @@ use Rattle.partition_table.specs.Tables.{Row, Table, IsTable, IsCodeOf, program_
 use Rattle.partition_table.specs.laws.Sameness.{code_decides}
 use Rattle.exchange_core.specs.laws.Entries.{has_entry}
 use Rattle.exchange_codec.specs.laws.Programs.{Readings}
-use Rattle.exchange_codec.specs.Rows.{RowText, ByBuiltin, Named, Code, has_id, ids_after, texts_of, text_of, resolver_text, code_bytes}
+use Rattle.exchange_codec.specs.Rows.{RowText, ByBuiltin, Named, Code, has_id, ids_after, texts_of, row_text, resolver_text, code_bytes}
 use Rattle.exchange_codec.proofs.IdLaws.{is_by, after_has, same_id_is, id_itself}
 
 abbrev pub Entry : Type 0
@@ -185,7 +185,7 @@ module _ (known : Readings) where
   -- the resolver of a row that is named by its id was known
   same_entry : (before : List ProgramId) (e f : Entry) → IsCoded e → IsCoded f
       → ((id : ProgramId) → has_id id before ≡ true → is_by id (resolver_of e) ≡ true → is_by id (resolver_of f) ≡ true → e.1.code ≡ f.1.code)
-      → text_of before e.0 e.1 ≡ text_of before f.0 f.1 → e ≡ f
+      → row_text before e.0 e.1 ≡ row_text before f.0 f.1 → e ≡ f
   same_entry before e f p q share same =
       let resolver = same_resolver before (resolver_of e) (resolver_of f) e.1.code f.1.code p q share
       (ap (λ (t : RowText). t.resolver) same) in

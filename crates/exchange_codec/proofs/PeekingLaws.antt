@@ -14,7 +14,7 @@ use Rattle.exchange_codec.specs.Placing.{told_of}
 use Rattle.exchange_codec.specs.Reading.{Fails}
 use Rattle.exchange_codec.specs.Names.{side_byte, name_bytes}
 use Rattle.exchange_codec.specs.Rows.{row_bytes}
-use Rattle.exchange_codec.specs.Offers.{offers_header, head_bytes, text_of, SpellsOffer}
+use Rattle.exchange_codec.specs.Offers.{offers_header, head_bytes, offer_text, SpellsOffer}
 use Rattle.exchange_codec.specs.Withdrawals.{withdrawals_header, SpellsWithdrawals}
 use Rattle.exchange_codec.specs.Peeking.{head_of_offer, head_of_list, peeked_offer, peeked_list, peeked}
 use Rattle.exchange_codec.specs.laws.Fields.{wide64, number_again}
@@ -23,7 +23,7 @@ use Rattle.exchange_codec.specs.laws.Names.{side_again}
 pub offer_peeked : (bytes : List ℕ) (o : Offer) → SpellsOffer bytes o → peeked bytes ≡ Ok (head_of_offer o)
 unfolding peeked peeked_offer
 offer_peeked bytes o spells =
-    let text = text_of o in
+    let text = offer_text o in
     let more = to_le_bytes w32 (length text.rows) ++ flat_map row_bytes text.rows in
     let uptime = to_le_bytes w64 o.uptime ++ more in
     let seed = to_le_bytes w64 o.seed ++ uptime in

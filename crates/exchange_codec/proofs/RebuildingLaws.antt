@@ -20,7 +20,7 @@ use Rattle.exchange_codec.specs.declared.fault.ReadError.TheVariants as errors
 use Rattle.exchange_codec.specs.Faults.{message_fault_number}
 use Rattle.exchange_codec.specs.Reading.{Fails, many_at}
 use Rattle.exchange_codec.specs.Rows.{RowText, row_at, texts_of}
-use Rattle.exchange_codec.specs.Offers.{is_above}
+use Rattle.exchange_codec.specs.Offers.{is_name_above}
 use Rattle.exchange_codec.specs.laws.Firsts.{above_there, sorted_as}
 use Rattle.exchange_codec.specs.laws.Many.{with_front, starts, goes_on, is_done}
 use Rattle.exchange_codec.specs.model.Building.{Programs, AreProgramsOf, HasRow, IsBuiltOf, IsLast, IsLeastRowFault, IsRowsFault}
@@ -39,10 +39,10 @@ less Greater e = absurd cc
 further : (a b c : Name) → is_lt (name_cmp a b) ≡ true → is_lt (name_cmp b c) ≡ true → is_lt (name_cmp a c) ≡ true
 further a b c p q = ap is_lt (names_total.trans a b c (less _ p) (less _ q))
 
-above_further : (ds : List Entry) (a b : Name) → is_above ds a ≡ true → is_lt (name_cmp a b) ≡ true → is_above ds b ≡ true
+above_further : (ds : List Entry) (a b : Name) → is_name_above ds a ≡ true → is_lt (name_cmp a b) ≡ true → is_name_above ds b ≡ true
 above_further [] a b h lt = refl
 above_further (d ∷ ds) a b h lt =
-    let parts = and_parts (is_lt (name_cmp d.0 a)) (is_above ds a) h in
+    let parts = and_parts (is_lt (name_cmp d.0 a)) (is_name_above ds a) h in
     rw (further d.0 a b parts.0 lt, above_further ds a b parts.1 lt) refl
 
 and_false : (a : Bool) → (a && false) ≡ false
@@ -54,15 +54,15 @@ module _ (table : Table) (name last : Name) (is_last : IsLast table (Some last))
   sorted = sorted_as name_cmp (entries_sorted table) is_last.2
 
   at_last : (b : Bool) → is_lt (name_cmp last name) ≡ b
-      → (is_above is_last.0 name && is_above ((last, is_last.1) ∷ []) name) ≡ b
+      → (is_name_above is_last.0 name && is_name_above ((last, is_last.1) ∷ []) name) ≡ b
   at_last true here =
       rw (above_further is_last.0 last name (above_there name_cmp is_last.0 (last, is_last.1) [] sorted) here, here) refl
-  at_last false here = rw here (and_false (is_above is_last.0 name))
+  at_last false here = rw here (and_false (is_name_above is_last.0 name))
 
   -- a name is above those of the table if it is above the last one
-  pub above_last : is_above (entries table) name ≡ is_lt (name_cmp last name)
+  pub above_last : is_name_above (entries table) name ≡ is_lt (name_cmp last name)
   above_last =
-      ap (λ (es : List Entry). is_above es name) is_last.2
+      ap (λ (es : List Entry). is_name_above es name) is_last.2
       ∙ list_all-append (λ (e : Entry). is_lt (name_cmp e.0 name)) is_last.0 ((last, is_last.1) ∷ [])
       ∙ at_last (is_lt (name_cmp last name)) refl
 

@@ -11,7 +11,7 @@ use Rattle.exchange_codec.specs.Faults.{message_fault_number}
 use Rattle.exchange_codec.specs.Placing.{told_of}
 use Rattle.exchange_codec.specs.Reading.{Fails, due}
 use Rattle.exchange_codec.specs.Rows.{RowText}
-use Rattle.exchange_codec.specs.Tables.{table_bytes, table_text, rows_of, IsTableText, SpellsTable, IsTableFault}
+use Rattle.exchange_codec.specs.Tables.{table_bytes, table_text, whole_rows, IsTableText, SpellsTable, IsTableFault}
 use Rattle.exchange_codec.specs.model.Building.{IsBuiltOf, IsRowsFault}
 use Rattle.exchange_codec.specs.laws.Decoding.{AreExact, Decides, are_exact}
 use Rattle.exchange_codec.specs.laws.Fields.{IsBytes}
@@ -20,11 +20,11 @@ use Rattle.exchange_codec.specs.laws.Tables.{rows_spelled, rows_read}
 use Rattle.exchange_codec.proofs.OneOffer.{same_table}
 use Rattle.exchange_codec.proofs.OneFault.{no_rows_fault, one_rows_fault}
 
-spelled_rows : (bytes : List ℕ) (t : Table) → SpellsTable bytes t → rows_of bytes ≡ Ok (table_text t)
-spelled_rows bytes t s = ap rows_of s.spelling ∙ rows_read (table_text t) s.is_text
+spelled_rows : (bytes : List ℕ) (t : Table) → SpellsTable bytes t → whole_rows bytes ≡ Ok (table_text t)
+spelled_rows bytes t s = ap whole_rows s.spelling ∙ rows_read (table_text t) s.is_text
 
 abbrev read_of : List ℕ → Result (List RowText) MessageFault
-read_of bytes = due (length bytes) (rows_of bytes)
+read_of bytes = due (length bytes) (whole_rows bytes)
 
 cause : (bytes : List ℕ) (f : MessageFault) → IsTableFault bytes f
     → (read_of bytes ≡ Err f) ⊎ ((rows : List RowText) × (read_of bytes ≡ Ok rows) × IsRowsFault rows f)
@@ -46,7 +46,7 @@ tables known bytes =
 
 -- what is built of the rows
 pub is_spelled : (bytes : List ℕ) (rows : List RowText) (r : Result Table MessageFault) → IsBytes bytes
-    → rows_of bytes ≡ Ok rows → IsBuiltOf rows r → IfOk r (SpellsTable bytes)
+    → whole_rows bytes ≡ Ok rows → IsBuiltOf rows r → IfOk r (SpellsTable bytes)
 is_spelled bytes rows (Ok t) fits e built =
     let spelled = rows_spelled bytes rows fits e in
     record {
@@ -56,7 +56,7 @@ is_spelled bytes rows (Ok t) fits e built =
     }
 is_spelled bytes rows (Err f) fits e built = tt
 
-pub is_refused : (bytes : List ℕ) (rows : List RowText) (r : Result Table MessageFault) → rows_of bytes ≡ Ok rows
+pub is_refused : (bytes : List ℕ) (rows : List RowText) (r : Result Table MessageFault) → whole_rows bytes ≡ Ok rows
     → IsBuiltOf rows r → IfErr r (HasCause message_fault_number (IsTableFault bytes))
 is_refused bytes rows (Ok t) e built = tt
 is_refused bytes rows (Err (message.Item fault at)) e (inl cause) = inl (rows, e, cause)
@@ -65,7 +65,7 @@ is_refused bytes rows (Err message.OutOfMemory) e (inl cause) = absurd cause
 is_refused bytes rows (Err f) e (inr out) = inr out
 
 -- the answer to bytes with a fault in a field
-pub is_failed : (bytes : List ℕ) (e : ReadError) → Fails e (rows_of bytes)
+pub is_failed : (bytes : List ℕ) (e : ReadError) → Fails e (whole_rows bytes)
     → HasCause message_fault_number (IsTableFault bytes) (told_of (length bytes) e)
 is_failed bytes errors.Memory h = inr refl
 is_failed bytes (errors.Fault f) h = inl (f.left, h, refl)

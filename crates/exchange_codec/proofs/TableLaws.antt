@@ -1,6 +1,6 @@
 -- The rows of a table, written in the order of their names.
 use Rattle.std.proofs.Common.{◌≡◌, ℕ, length, List, [], ◌∷◌, ◌++◌, Option, Some, refl, sym, ap, subst, ◌∙◌, append_assoc, append-nil, arith}
-use Rattle.std.specs.Prelude.{map, OnOk, Result, Ok, Err}
+use Rattle.std.specs.Prelude.{map}
 use Rattle.std.specs.List.{flat_map}
 use Rattle.std.specs.FinMap.{get, len, entries, len-entries}
 use Rattle.std.proofs.lemmas.List.Concat.{flat_map-append}
@@ -9,7 +9,7 @@ use Rattle.clash_record.specs.declared.registrations.ProgramId.{ProgramId}
 use Rattle.clash_record.specs.declared.registrations.Registration.{Registration}
 use Rattle.clash_record.specs.Name.{Name}
 use Rattle.partition_table.specs.Tables.{Row, Table, IsTable, rows_of}
-use Rattle.exchange_codec.specs.Rows.{RowText, row_bytes, text_of, ids_after, ids_of, texts_of, AreIds, IsRow}
+use Rattle.exchange_codec.specs.Rows.{RowText, row_bytes, row_text, ids_after, ids_of, texts_of, AreIds, IsRow}
 use Rattle.std.specs.BTreeSet.{BTreeSet}
 use Rattle.std.specs.List.{AllByRecursion}
 use Rattle.exchange_codec.proofs.EachLaws.{all_more}
@@ -18,8 +18,7 @@ use Rattle.exchange_law.specs.Sides.{Offer}
 use Rattle.exchange_core.specs.laws.Entries.{has_entry}
 use Rattle.exchange_codec.proofs.IdLaws.{texts_more, ids_more, no_text, no_id, texts_len}
 use Rattle.exchange_codec.specs.Tables.{table_bytes, table_text, IsTableText}
-use Rattle.exchange_codec.specs.Offers.{offers_header, head_bytes, head_of, offer_bytes, IsHead, SpellsOffer}
-use Rattle.exchange_codec.specs.Offers.{text_of as offer_text}
+use Rattle.exchange_codec.specs.Offers.{offers_header, offer_text, head_bytes, head_of, offer_bytes, IsHead, SpellsOffer}
 
 abbrev pub pair : Name × Row → Name × Registration
 pair e = (e.0, e.1.registration)
@@ -54,9 +53,9 @@ heads x y xs ys e = (cc, cc)
 
 -- what is written of a row, for any ids that the set has
 pub record WritesRow (now after : List ℕ) (ids ids_next : BTreeSet ProgramId) (name : Name) (r : Registration) (code : Option (List Insn)) : Type 0 where
-  pub written : (known : List ProgramId) → AreIds ids known → after ≡ now ++ row_bytes (text_of known name (row_with r code))
+  pub written : (known : List ProgramId) → AreIds ids known → after ≡ now ++ row_bytes (row_text known name (row_with r code))
   pub before : (known : List ProgramId) → AreIds ids known → AreIds ids_next (ids_after known r.resolver)
-  pub fits : (known : List ProgramId) → AreIds ids known → IsRow (text_of known name (row_with r code))
+  pub fits : (known : List ProgramId) → AreIds ids known → IsRow (row_text known name (row_with r code))
 
 next : (table : Table) (out now after : List ℕ) (ids ids_next : BTreeSet ProgramId) (left : List (Name × Registration))
     (name : Name) (r : Registration) (code : Option (List Insn)) (done rest : List (Name × Row))
@@ -73,25 +72,25 @@ next table out now after ids ids_next left name r code done (e ∷ rest) parts i
     let behind : left ≡ map pair rest = first.1 in
     let found : get table e.0 ≡ Some e.1 = has_entry table done e rest parts in
     let same_code : code ≡ e.1.code = each e.0 e.1 found (ap (λ (x : Registration). x.resolver) (sym same_registration)) in
-    let text : text_of known name (row_with r code) ≡ text_of known e.0 e.1 =
-    ap (λ (n : Name). text_of known n (row_with r code)) same_name
-    ∙ ap (λ (x : Registration). text_of known e.0 (row_with x code)) same_registration
-    ∙ ap (λ (x : Option (List Insn)). text_of known e.0 (row_with e.1.registration x)) same_code in
-    let last : flat_map row_bytes (text_of known e.0 e.1 ∷ []) ≡ row_bytes (text_of known e.0 e.1) =
-    append-nil (row_bytes (text_of known e.0 e.1)) in
+    let text : row_text known name (row_with r code) ≡ row_text known e.0 e.1 =
+    ap (λ (n : Name). row_text known n (row_with r code)) same_name
+    ∙ ap (λ (x : Registration). row_text known e.0 (row_with x code)) same_registration
+    ∙ ap (λ (x : Option (List Insn)). row_text known e.0 (row_with e.1.registration x)) same_code in
+    let last : flat_map row_bytes (row_text known e.0 e.1 ∷ []) ≡ row_bytes (row_text known e.0 e.1) =
+    append-nil (row_bytes (row_text known e.0 e.1)) in
     record {
       done = done ++ e ∷ [];
       rest = rest;
       parts = parts ∙ sym (append_assoc done (e ∷ []) rest);
       left_is = behind;
-      written = wrote.written known are ∙ ap (λ (ns : List ℕ). ns ++ row_bytes (text_of known name (row_with r code))) so_far
+      written = wrote.written known are ∙ ap (λ (ns : List ℕ). ns ++ row_bytes (row_text known name (row_with r code))) so_far
           ∙ ap (λ (t : RowText). (out ++ flat_map row_bytes (texts_of [] done)) ++ row_bytes t) text
-          ∙ append_assoc out (flat_map row_bytes (texts_of [] done)) (row_bytes (text_of known e.0 e.1))
+          ∙ append_assoc out (flat_map row_bytes (texts_of [] done)) (row_bytes (row_text known e.0 e.1))
           ∙ ap (λ (ns : List ℕ). out ++ (flat_map row_bytes (texts_of [] done) ++ ns)) (sym last)
-          ∙ ap (λ (ns : List ℕ). out ++ ns) (sym (flat_map-append row_bytes (texts_of [] done) (text_of known e.0 e.1 ∷ [])))
+          ∙ ap (λ (ns : List ℕ). out ++ ns) (sym (flat_map-append row_bytes (texts_of [] done) (row_text known e.0 e.1 ∷ [])))
           ∙ ap (λ (ts : List RowText). out ++ flat_map row_bytes ts) (sym (texts_more [] done e));
       fit = subst (AllByRecursion IsRow) (sym (texts_more [] done e))
-          (all_more IsRow (texts_of [] done) (text_of known e.0 e.1) fit (subst IsRow text (wrote.fits known are)));
+          (all_more IsRow (texts_of [] done) (row_text known e.0 e.1) fit (subst IsRow text (wrote.fits known are)));
       ids_are = subst (AreIds ids_next) (ap (λ (x : Registration). ids_after known x.resolver) same_registration ∙ sym (ids_more [] done e))
           (wrote.before known are);
     }

@@ -22,8 +22,8 @@ use Rattle.refusals.specs.Answers.{ReturnsOrRunsOut}
 use Rattle.exchange_codec.specs.Faults.{message_fault_number}
 use Rattle.exchange_codec.specs.Placing.{told_of}
 use Rattle.exchange_codec.specs.Reading.{◌>>=◌, Fails, number_at, header_at, count_at, many_at, ended}
-use Rattle.exchange_codec.specs.Names.{side_byte, name_bytes, side_at, name_at}
-use Rattle.exchange_codec.specs.Withdrawals.{withdrawals_header, counted_bytes, withdrawals_bytes, names_bytes, first_again, SpellsWithdrawals, list_at, list_of, list_due, unless_again}
+use Rattle.exchange_codec.specs.Names.{side_byte, name_bytes, side_id_at, name_at}
+use Rattle.exchange_codec.specs.Withdrawals.{withdrawals_header, counted_bytes, withdrawals_bytes, names_bytes, first_again, SpellsWithdrawals, list_at, whole_list, list_due, unless_name_again}
 use Rattle.exchange_codec.specs.laws.Fields.{IsBytes, bind_ok, ok_is, Takes, Takes-then, wide64, number_takes, number_again, header_takes, header_again, count_takes, count_again, ended_ok}
 use Rattle.exchange_codec.specs.laws.Names.{side_takes, side_again, name_takes, name_again}
 use Rattle.exchange_codec.specs.laws.Many.{many_take, many_again}
@@ -41,8 +41,8 @@ list_takes : (bytes : List ℕ) (x : Withdrawals × List ℕ) → IsBytes bytes 
     → Takes bytes (withdrawals_bytes x.0) x.1 × IsListText x.0
 unfolding list_at
 list_takes bytes x fits e =
-    let h = bind_ok (header_at withdrawals_header bytes) (λ rest. side_at rest >>= λ side. number_at w64 side.1 >>= λ number. count_at most_names number.1 >>= λ count. many_at name_at count.0 count.1 >>= λ names. Ok (record { side = side.0; number = number.0; names = names.0 }, names.1)) x e in
-    let s = bind_ok (side_at h.0) (λ side. number_at w64 side.1 >>= λ number. count_at most_names number.1 >>= λ count. many_at name_at count.0 count.1 >>= λ names. Ok (record { side = side.0; number = number.0; names = names.0 }, names.1)) x h.2 in
+    let h = bind_ok (header_at withdrawals_header bytes) (λ rest. side_id_at rest >>= λ side. number_at w64 side.1 >>= λ number. count_at most_names number.1 >>= λ count. many_at name_at count.0 count.1 >>= λ names. Ok (record { side = side.0; number = number.0; names = names.0 }, names.1)) x e in
+    let s = bind_ok (side_id_at h.0) (λ side. number_at w64 side.1 >>= λ number. count_at most_names number.1 >>= λ count. many_at name_at count.0 count.1 >>= λ names. Ok (record { side = side.0; number = number.0; names = names.0 }, names.1)) x h.2 in
     let n = bind_ok (number_at w64 s.0.1) (λ number. count_at most_names number.1 >>= λ count. many_at name_at count.0 count.1 >>= λ names. Ok (record { side = s.0.0; number = number.0; names = names.0 }, names.1)) x s.2 in
     let c = bind_ok (count_at most_names n.0.1) (λ count. many_at name_at count.0 count.1 >>= λ names. Ok (record { side = s.0.0; number = n.0.0; names = names.0 }, names.1)) x n.2 in
     let m = bind_ok (many_at name_at c.0.0 c.0.1) (λ names. Ok (record { side = s.0.0; number = n.0.0; names = names.0 }, names.1)) x c.2 in
@@ -82,9 +82,9 @@ list_again w rest fits =
       many_again name_at name_bytes Named name_again w.names rest fits.named,
     ) refl
 
-pub list_spelled : (bytes : List ℕ) (w : Withdrawals) → IsBytes bytes → list_of bytes ≡ Ok w
+pub list_spelled : (bytes : List ℕ) (w : Withdrawals) → IsBytes bytes → whole_list bytes ≡ Ok w
     → first_again [] 0 w.names ≡ None → SpellsWithdrawals bytes w
-unfolding list_of
+unfolding whole_list
 list_spelled bytes w fits e apart =
     let a = bind_ok (list_at bytes) ended w e in
     let g = ended_ok a.0 w a.2 in
@@ -97,8 +97,8 @@ list_spelled bytes w fits e apart =
       spelling = whole ∙ ap withdrawals_bytes g.0;
     }
 
-pub list_read : (bytes : List ℕ) (w : Withdrawals) → SpellsWithdrawals bytes w → list_of bytes ≡ Ok w
-unfolding list_of
+pub list_read : (bytes : List ℕ) (w : Withdrawals) → SpellsWithdrawals bytes w → whole_list bytes ≡ Ok w
+unfolding whole_list
 list_read bytes w s =
     let text : IsListText w = record { number = s.is_list.number; few = s.is_list.few; named = s.is_list.named } in
     let all : list_at (withdrawals_bytes w) ≡ Ok (w, []) =
@@ -112,20 +112,20 @@ same_ok : (w v : Withdrawals) → ok_list w ≡ ok_list v → w ≡ v
 same_ok w v e = cc
 
 -- a list that is answered has no name twice
-pub answered_apart : (o : Option ℕ) (w v : Withdrawals) → unless_again o w ≡ Ok v → (o ≡ None) × (w ≡ v)
+pub answered_apart : (o : Option ℕ) (w v : Withdrawals) → unless_name_again o w ≡ Ok v → (o ≡ None) × (w ≡ v)
 answered_apart None w v e = (refl, same_ok w v e)
 answered_apart (Some k) w v e = absurd cc
 
 -- what is due for bytes is the list that they spell, if they spell one
-pub list_is_due : (bytes : List ℕ) (w : Withdrawals) → SpellsWithdrawals bytes w → list_due (length bytes) (list_of bytes) ≡ Ok w
+pub list_is_due : (bytes : List ℕ) (w : Withdrawals) → SpellsWithdrawals bytes w → list_due (length bytes) (whole_list bytes) ≡ Ok w
 list_is_due bytes w s =
-    ap (list_due (length bytes)) (list_read bytes w s) ∙ ap (λ (o : Option ℕ). unless_again o w) s.is_list.apart
+    ap (list_due (length bytes)) (list_read bytes w s) ∙ ap (λ (o : Option ℕ). unless_name_again o w) s.is_list.apart
 
-pub due_is_spelled : (bytes : List ℕ) (w : Withdrawals) → IsBytes bytes → list_due (length bytes) (list_of bytes) ≡ Ok w
+pub due_is_spelled : (bytes : List ℕ) (w : Withdrawals) → IsBytes bytes → list_due (length bytes) (whole_list bytes) ≡ Ok w
     → SpellsWithdrawals bytes w
-due_is_spelled bytes w fits due = by_reading (list_of bytes) refl due
+due_is_spelled bytes w fits due = by_reading (whole_list bytes) refl due
   where
-    by_reading : (read : Result Withdrawals Fault) → list_of bytes ≡ read → list_due (length bytes) read ≡ Ok w
+    by_reading : (read : Result Withdrawals Fault) → whole_list bytes ≡ read → list_due (length bytes) read ≡ Ok w
         → SpellsWithdrawals bytes w
     by_reading (Ok text) e h =
         let a = answered_apart (first_again [] 0 text.names) text w h in
@@ -135,7 +135,7 @@ due_is_spelled bytes w fits due = by_reading (list_of bytes) refl due
 -- ---- what is answered, where the text is read and a mirror then answers
 
 pub is_spelled : (bytes : List ℕ) (text : Withdrawals) (r : Result Withdrawals MessageFault) → IsBytes bytes
-    → list_of bytes ≡ Ok text → ReturnsOrRunsOut message_fault_number r (unless_again (first_again [] 0 text.names) text)
+    → whole_list bytes ≡ Ok text → ReturnsOrRunsOut message_fault_number r (unless_name_again (first_again [] 0 text.names) text)
     → IfOk r (SpellsWithdrawals bytes)
 is_spelled bytes text (Ok w) fits e (inl h) =
     let a = answered_apart (first_again [] 0 text.names) text w (sym h) in
@@ -144,17 +144,17 @@ is_spelled bytes text (Ok w) fits e (inr h) = absurd h
 is_spelled bytes text (Err f) fits e h = tt
 
 pub is_read : (bytes : List ℕ) (text : Withdrawals) (r : Result Withdrawals MessageFault) (w : Withdrawals)
-    → list_of bytes ≡ Ok text → ReturnsOrRunsOut message_fault_number r (unless_again (first_again [] 0 text.names) text)
+    → whole_list bytes ≡ Ok text → ReturnsOrRunsOut message_fault_number r (unless_name_again (first_again [] 0 text.names) text)
     → SpellsWithdrawals bytes w → ReturnsOrRunsOut message_fault_number r (Ok w)
 is_read bytes text r w e h s =
     let same : text ≡ w = ok_is text w (sym e ∙ list_read bytes w s) in
-    let due : unless_again (first_again [] 0 text.names) text ≡ Ok w =
-    ap (λ (v : Withdrawals). unless_again (first_again [] 0 v.names) v) same ∙ ap (λ (o : Option ℕ). unless_again o w) s.is_list.apart in
+    let due : unless_name_again (first_again [] 0 text.names) text ≡ Ok w =
+    ap (λ (v : Withdrawals). unless_name_again (first_again [] 0 v.names) v) same ∙ ap (λ (o : Option ℕ). unless_name_again o w) s.is_list.apart in
     subst (λ (d : Result Withdrawals MessageFault). ReturnsOrRunsOut message_fault_number r d) due h
 
-pub is_exact : (bytes : List ℕ) (text : Withdrawals) (r : Result Withdrawals MessageFault) → list_of bytes ≡ Ok text
-    → ReturnsOrRunsOut message_fault_number r (unless_again (first_again [] 0 text.names) text)
-    → ReturnsOrRunsOut message_fault_number r (list_due (length bytes) (list_of bytes))
+pub is_exact : (bytes : List ℕ) (text : Withdrawals) (r : Result Withdrawals MessageFault) → whole_list bytes ≡ Ok text
+    → ReturnsOrRunsOut message_fault_number r (unless_name_again (first_again [] 0 text.names) text)
+    → ReturnsOrRunsOut message_fault_number r (list_due (length bytes) (whole_list bytes))
 is_exact bytes text r e h =
     subst (λ (d : Result Withdrawals MessageFault). ReturnsOrRunsOut message_fault_number r d)
     (sym (ap (list_due (length bytes)) e)) h
@@ -173,8 +173,8 @@ bad_exact len errors.Memory read h = inr refl
 bad_exact len (errors.Fault f) read h = inl (sym (ap (list_due len) h))
 
 -- a list that is read has at most 1,048,576 names
-pub few_names : (bytes : List ℕ) (w : Withdrawals) → IsBytes bytes → list_of bytes ≡ Ok w → length w.names ≤ most_names
-unfolding list_of
+pub few_names : (bytes : List ℕ) (w : Withdrawals) → IsBytes bytes → whole_list bytes ≡ Ok w → length w.names ≤ most_names
+unfolding whole_list
 few_names bytes w fits e =
     let a = bind_ok (list_at bytes) ended w e in
     let g = ended_ok a.0 w a.2 in
@@ -292,8 +292,8 @@ all_front P (suc n) [] h = tt
 all_front P (suc n) (x ∷ xs) h = (h.0, all_front P n xs h.1)
 
 too_many : (w v : Withdrawals) → most_names < length w.names → w.number < 2 ^ 64
-    → AllByRecursion (λ name. IsTrue (is_name name)) w.names → list_of (names_bytes w) ≡ Ok v → ⊥
-unfolding list_of front_of
+    → AllByRecursion (λ name. IsTrue (is_name name)) w.names → whole_list (names_bytes w) ≡ Ok v → ⊥
+unfolding whole_list front_of
 too_many w v many number named read =
     let rest = flat_map name_bytes (drop most_names w.names) in
     let count : length (take most_names w.names) ≡ most_names = omega (arith, many, length-take most_names w.names) in
@@ -317,16 +317,16 @@ too_many w v many number named read =
 -- other names are not
 pub spelled_names : (w : Withdrawals) (e : List ℕ) → e ≡ names_bytes w → w.number < 2 ^ 64
     → AllByRecursion (λ name. IsTrue (is_name name)) w.names → (v : Withdrawals) → SpellsWithdrawals e v → IsNameList w.names
-unfolding list_of
+unfolding whole_list
 spelled_names w e wrote number named v spells =
-    let read : list_of (names_bytes w) ≡ Ok v = ap list_of (sym wrote) ∙ list_read e v spells in
+    let read : whole_list (names_bytes w) ≡ Ok v = ap whole_list (sym wrote) ∙ list_read e v spells in
     elim (cases_lt most_names (length w.names)) [
       | inl many ↦ absurd (too_many w v many number named read)
       | inr few ↦
           let text : IsListText w = record { number = number; few = few; named = named } in
           let again : list_at (withdrawals_bytes w) ≡ Ok (w, []) =
           ap list_at (sym (append-nil (withdrawals_bytes w))) ∙ list_again w [] text in
-          let mine : list_of (names_bytes w) ≡ Ok w = ap list_of (few_bytes w few) ∙ ap (λ r. r >>= ended) again in
+          let mine : whole_list (names_bytes w) ≡ Ok w = ap whole_list (few_bytes w few) ∙ ap (λ r. r >>= ended) again in
           let same : v ≡ w = ok_is v w (sym read ∙ mine) in
           let apart : first_again [] 0 w.names ≡ None =
           subst (λ (u : Withdrawals). first_again [] 0 u.names ≡ None) same spells.is_list.apart in

@@ -17,11 +17,11 @@ name_bytes name = length name ∷ name
 
 -- ---- reading them
 
-unfoldable pub side_at : List ℕ → Result (SideId × List ℕ) Fault
-side_at [] = wrong wrongs.Cut []
-side_at (zero ∷ rest) = Ok (A, rest)
-side_at (suc zero ∷ rest) = Ok (B, rest)
-side_at (suc (suc n) ∷ rest) = wrong wrongs.Side (suc (suc n) ∷ rest)
+unfoldable pub side_id_at : List ℕ → Result (SideId × List ℕ) Fault
+side_id_at [] = wrong wrongs.Cut []
+side_id_at (zero ∷ rest) = Ok (A, rest)
+side_id_at (suc zero ∷ rest) = Ok (B, rest)
+side_id_at (suc (suc n) ∷ rest) = wrong wrongs.Side (suc (suc n) ∷ rest)
 
 -- the name in these bytes, of which the first `len` are the name
 abbrev pub name_in : List ℕ → ℕ → List ℕ → Result (Name × List ℕ) Fault

@@ -8,10 +8,10 @@ use Rattle.exchange_codec.specs.declared.fault.Fault.{Fault}
 use Rattle.exchange_codec.specs.declared.fault.MessageFault.{MessageFault}
 use Rattle.exchange_codec.specs.declared.fault.MessageFault.TheVariants as message
 use Rattle.exchange_codec.specs.Reading.{◌>>=◌, number_at, header_at, ended}
-use Rattle.exchange_codec.specs.Names.{side_byte, side_at}
+use Rattle.exchange_codec.specs.Names.{side_byte, side_id_at}
 use Rattle.exchange_codec.specs.Rows.{RowText}
 use Rattle.exchange_codec.specs.Tables.{table_bytes, table_text, IsTableText, rows_at}
-pub use Rattle.exchange_codec.specs.Tables.{is_above, IsRowFault, IsFirstRowFault}
+pub use Rattle.exchange_codec.specs.Tables.{is_name_above, IsRowFault, IsFirstRowFault}
 
 -- "HEALXC", version 1, kind 1
 abbrev pub offers_header : ℕ
@@ -35,8 +35,8 @@ abbrev pub head_of : Offer → OfferHead
 head_of o = record { side = o.side; number = o.number; seed = o.seed; uptime = o.uptime }
 
 -- the rows in the order of names
-abbrev pub text_of : Offer → OfferText
-text_of o = record { head = head_of o; rows = table_text o.table }
+abbrev pub offer_text : Offer → OfferText
+offer_text o = record { head = head_of o; rows = table_text o.table }
 
 -- the numbers fit into their fields
 pub record IsHead (h : OfferHead) : Type 0 where
@@ -51,15 +51,15 @@ pub record IsText (o : OfferText) : Type 0 where
 
 -- the bytes are the spelling of the offer
 pub record SpellsOffer (bytes : List ℕ) (o : Offer) : Type 0 where
-  pub is_text : IsText (text_of o)
+  pub is_text : IsText (offer_text o)
   pub kept : IsTable o.table
-  pub spelling : bytes ≡ offer_bytes (text_of o)
+  pub spelling : bytes ≡ offer_bytes (offer_text o)
 
 -- ---- reading them
 
 unfoldable pub head_at : List ℕ → Result (OfferHead × List ℕ) Fault
 head_at bytes = do
-  side ← side_at bytes
+  side ← side_id_at bytes
   number ← number_at w64 side.1
   seed ← number_at w64 number.1
   uptime ← number_at w64 seed.1
@@ -72,13 +72,13 @@ offer_at bytes = do
   rows ← rows_at head.1
   Ok (record { head = head.0; rows = rows.0 }, rows.1)
 
-unfoldable pub offer_of : List ℕ → Result OfferText Fault
-offer_of bytes = offer_at bytes >>= ended
+unfoldable pub whole_offer : List ℕ → Result OfferText Fault
+whole_offer bytes = offer_at bytes >>= ended
 
 -- the fault of bytes: that of the first invalid field, else that of the first invalid row
 abbrev pub IsOfferFault : List ℕ → MessageFault → Type 0
 IsOfferFault bytes (message.Field what at) =
-    (left : ℕ) × (offer_of bytes ≡ Err (record { what = what; left = left })) × (at ≡ length bytes - left)
+    (left : ℕ) × (whole_offer bytes ≡ Err (record { what = what; left = left })) × (at ≡ length bytes - left)
 IsOfferFault bytes (message.Item fault at) =
-    (text : OfferText) × (offer_of bytes ≡ Ok text) × IsFirstRowFault text.rows fault at
+    (text : OfferText) × (whole_offer bytes ≡ Ok text) × IsFirstRowFault text.rows fault at
 IsOfferFault bytes message.OutOfMemory = ⊥

@@ -6,7 +6,7 @@ use Rattle.exchange_codec.specs.declared.fault.Fault.{Fault}
 use Rattle.exchange_codec.specs.declared.head.MessageHead.{MessageHead}
 use Rattle.exchange_codec.specs.declared.head.MessageKind.TheVariants as kind
 use Rattle.exchange_codec.specs.Reading.{◌>>=◌, wrong, number_at, header_fault}
-use Rattle.exchange_codec.specs.Names.{side_at}
+use Rattle.exchange_codec.specs.Names.{side_id_at}
 use Rattle.exchange_codec.specs.Offers.{offers_header}
 use Rattle.exchange_codec.specs.Withdrawals.{withdrawals_header}
 
@@ -22,7 +22,7 @@ head_of_list w = record { kind = kind.Withdrawals; side = w.side; number = w.num
 -- after the header of an offer: side, number and seed
 unfoldable pub peeked_offer : List ℕ → Result MessageHead Fault
 peeked_offer bytes = do
-  side ← side_at bytes
+  side ← side_id_at bytes
   number ← number_at w64 side.1
   seed ← number_at w64 number.1
   Ok (record { kind = kind.Offer; side = side.0; number = number.0; seed = Some seed.0 })
@@ -30,7 +30,7 @@ peeked_offer bytes = do
 -- after the header of a list: side and number
 unfoldable pub peeked_list : List ℕ → Result MessageHead Fault
 peeked_list bytes = do
-  side ← side_at bytes
+  side ← side_id_at bytes
   number ← number_at w64 side.1
   Ok (record { kind = kind.Withdrawals; side = side.0; number = number.0; seed = None })
 

@@ -100,8 +100,8 @@ abbrev pub resolver_text : List ProgramId → ResolverId → Option (List Insn) 
 resolver_text before (by.Builtin b) code = ByBuiltin b
 resolver_text before (by.Program id) code = if has_id id before then Named id else Code (code_bytes code)
 
-abbrev pub text_of : List ProgramId → Name → Row → RowText
-text_of before name row = record {
+abbrev pub row_text : List ProgramId → Name → Row → RowText
+row_text before name row = record {
   name = name;
   owner = row.registration.owner;
   stamp = row.registration.stamp;
@@ -117,7 +117,7 @@ ids_after before (by.Program id) = if has_id id before then before else before +
 unfoldable pub texts_of : List ProgramId → List (Name × Row) → List RowText
 texts_of before [] = []
 texts_of before (e ∷ es) =
-    text_of before e.0 e.1 ∷ texts_of (ids_after before e.1.registration.resolver) es
+    row_text before e.0 e.1 ∷ texts_of (ids_after before e.1.registration.resolver) es
 
 -- the set has these ids
 abbrev pub AreIds : BTreeSet ProgramId → List ProgramId → Type 0

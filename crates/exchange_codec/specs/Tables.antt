@@ -44,19 +44,19 @@ rows_at bytes = do
   count ← count_at most_names bytes
   many_at row_at count.0 count.1
 
-unfoldable pub rows_of : List ℕ → Result (List RowText) Fault
-rows_of bytes = rows_at bytes >>= ended
+unfoldable pub whole_rows : List ℕ → Result (List RowText) Fault
+whole_rows bytes = rows_at bytes >>= ended
 
 -- ---- the faults of rows whose fields are valid
 
 -- the name is above those of these rows
-abbrev pub is_above : List (Name × Row) → Name → Bool
-is_above rows name = list_all (λ e. is_lt (name_cmp e.0 name)) rows
+abbrev pub is_name_above : List (Name × Row) → Name → Bool
+is_name_above rows name = list_all (λ e. is_lt (name_cmp e.0 name)) rows
 
 -- the fault of a row after these
 abbrev pub IsRowFault : List (Name × Row) → RowText → ItemFault → Type 0
 IsRowFault rows text item.NameAgain = ⊥
-IsRowFault rows text item.NameOrder = is_above rows text.name ≡ false
+IsRowFault rows text item.NameOrder = is_name_above rows text.name ≡ false
 IsRowFault rows text item.NoProgram =
     (id : ProgramId) × (text.resolver ≡ Named id) × (has_id id (ids_of [] rows) ≡ false)
 IsRowFault rows text item.ProgramAgain =
@@ -77,7 +77,7 @@ pub record IsFirstRowFault (texts : List RowText) (fault : ItemFault) (at : ℕ)
 -- the fault of bytes: that of the first invalid field, else that of the first invalid row
 abbrev pub IsTableFault : List ℕ → MessageFault → Type 0
 IsTableFault bytes (message.Field what at) =
-    (left : ℕ) × (rows_of bytes ≡ Err (record { what = what; left = left })) × (at ≡ length bytes - left)
+    (left : ℕ) × (whole_rows bytes ≡ Err (record { what = what; left = left })) × (at ≡ length bytes - left)
 IsTableFault bytes (message.Item fault at) =
-    (rows : List RowText) × (rows_of bytes ≡ Ok rows) × IsFirstRowFault rows fault at
+    (rows : List RowText) × (whole_rows bytes ≡ Ok rows) × IsFirstRowFault rows fault at
 IsTableFault bytes message.OutOfMemory = ⊥

@@ -12,7 +12,7 @@ use Rattle.exchange_codec.specs.declared.fault.MessageFault.TheVariants as messa
 use Rattle.exchange_codec.specs.declared.fault.ItemFault.TheVariants as item
 use Rattle.exchange_codec.specs.Placing.{placed}
 use Rattle.exchange_codec.specs.Reading.{◌>>=◌, number_at, header_at, count_at, many_at, ended}
-use Rattle.exchange_codec.specs.Names.{side_byte, name_bytes, side_at, name_at}
+use Rattle.exchange_codec.specs.Names.{side_byte, name_bytes, side_id_at, name_at}
 
 -- "HEALXC", version 1, message 2
 abbrev pub withdrawals_header : ℕ
@@ -49,20 +49,20 @@ pub record SpellsWithdrawals (bytes : List ℕ) (w : Withdrawals) : Type 0 where
 unfoldable pub list_at : List ℕ → Result (Withdrawals × List ℕ) Fault
 list_at bytes = do
   rest ← header_at withdrawals_header bytes
-  side ← side_at rest
+  side ← side_id_at rest
   number ← number_at w64 side.1
   count ← count_at most_names number.1
   names ← many_at name_at count.0 count.1
   Ok (record { side = side.0; number = number.0; names = names.0 }, names.1)
 
-unfoldable pub list_of : List ℕ → Result Withdrawals Fault
-list_of bytes = list_at bytes >>= ended
+unfoldable pub whole_list : List ℕ → Result Withdrawals Fault
+whole_list bytes = list_at bytes >>= ended
 
 -- a repeated name is reported after all bytes are read
-abbrev pub unless_again : Option ℕ → Withdrawals → Result Withdrawals MessageFault
-unless_again None w = Ok w
-unless_again (Some k) w = Err (message.Item item.NameAgain k)
+abbrev pub unless_name_again : Option ℕ → Withdrawals → Result Withdrawals MessageFault
+unless_name_again None w = Ok w
+unless_name_again (Some k) w = Err (message.Item item.NameAgain k)
 
 abbrev pub list_due : ℕ → Result Withdrawals Fault → Result Withdrawals MessageFault
-list_due len (Ok w) = unless_again (first_again [] 0 w.names) w
+list_due len (Ok w) = unless_name_again (first_again [] 0 w.names) w
 list_due len (Err f) = Err (placed len f)

@@ -14,7 +14,7 @@ ghost use Rattle.exchange_codec.specs.Rows as texts;
 ghost use Rattle.exchange_codec.specs.RowsText.{resolver_view, row_view};
 ghost use Rattle.exchange_codec.specs.declared.fault.MessageFault.TheVariants.{OutOfMemory};
 ghost use Rattle.exchange_codec.specs.model.Building.{AreProgramsOf, row_with, HasRow, IsBuiltOf, IsLast, IsLeastRowFault, IsOfferOf, IsRowsFault, IsCodeFault, program_fault_of};
-ghost use Rattle.exchange_codec.specs.Tables.{is_above};
+ghost use Rattle.exchange_codec.specs.Tables.{is_name_above};
 
 use crate::fault::{ItemFault, MessageFault, ReadError, ran_out};
 use crate::offers::OfferHead;
@@ -148,7 +148,7 @@ fn add_after(
 
 // Checks whether the name isn't above the last one.
 fn is_misplaced(last: &Option<Name>, name: &Name) -> bool
-    ensures { (table : Table) → IsLast table last.now → result ≡ not (is_above (entries table) name.now) }
+    ensures { (table : Table) → IsLast table last.now → result ≡ not (is_name_above (entries table) name.now) }
 {
     match last {
         Some(last) => !last.cmp(name).is_lt(),
@@ -165,7 +165,7 @@ fn add_row(
     at: usize,
 ) -> Result<(), MessageFault>
     requires programs { AreProgramsOf builder.old programs.old }
-    requires above { IsTrue (is_above (entries builder.old) row.now.name) }
+    requires above { IsTrue (is_name_above (entries builder.old) row.now.name) }
     requires room { len builder.old < most_names }
     ensures added { OnOk result (HasRow builder.old (row_view row.now) builder.new programs.new) }
     ensures refused { IfErr result
@@ -196,7 +196,7 @@ fn add_code(
     at: usize,
 ) -> Result<(), MessageFault>
     requires programs { AreProgramsOf builder.old programs.old }
-    requires above { IsTrue (is_above (entries builder.old) row.now.name) }
+    requires above { IsTrue (is_name_above (entries builder.old) row.now.name) }
     requires room { len builder.old < most_names }
     requires code { resolver_view row.now.resolver ≡ Code bytes.now }
     ensures added { OnOk result (HasRow builder.old (row_view row.now) builder.new programs.new) }

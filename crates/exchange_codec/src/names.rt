@@ -1,7 +1,7 @@
 //! Names and sides as bytes.
 ghost use Rattle.std.specs.Prelude.{◌≡◌, ◌∷◌, ◌++◌, [], IsTrue, OnOk};
 ghost use Rattle.clash_record.specs.Name.{is_name};
-ghost use Rattle.exchange_codec.specs.Names.{side_byte, name_bytes, side_at, name_at};
+ghost use Rattle.exchange_codec.specs.Names.{side_byte, name_bytes, side_id_at, name_at};
 ghost use Rattle.exchange_codec.specs.Reading.{Gives};
 
 use crate::fault::{FieldFault, ReadError};
@@ -9,9 +9,9 @@ use clash_record::{Name, SideId, name};
 use std::alloc::AllocError;
 
 /// The side at the front, and what follows it.
-#[tactic(auto, unfolding(crate::specs::Names::side_at))]
+#[tactic(auto, unfolding(crate::specs::Names::side_id_at))]
 pub(crate) fn side_at(bytes: &[u8]) -> Result<(SideId, &[u8]), ReadError>
-    ensures { Gives (λ x. (x.0, x.1.now)) result (side_at bytes.now) }
+    ensures { Gives (λ x. (x.0, x.1.now)) result (side_id_at bytes.now) }
 {
     match bytes {
         [] => Err(ReadError::at(FieldFault::Cut, bytes)),

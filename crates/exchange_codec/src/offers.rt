@@ -7,7 +7,7 @@ ghost use Rattle.exchange_codec.specs.declared.fault.MessageFault.{MessageFault}
 ghost use Rattle.exchange_codec.specs.Reading.{Fails, Gives};
 ghost use Rattle.exchange_codec.specs.Rows.{RowText};
 ghost use Rattle.exchange_codec.specs.model.Building.{IsBuiltOf};
-ghost use Rattle.exchange_codec.specs.Offers.{SpellsOffer, IsOfferFault, IsHead, head_at, offer_of, head_bytes};
+ghost use Rattle.exchange_codec.specs.Offers.{SpellsOffer, IsOfferFault, IsHead, head_at, whole_offer, head_bytes};
 
 use crate::building::begun;
 use crate::fault::{MessageFault, ReadError};
@@ -113,11 +113,11 @@ pub fn decode_offer(alloc: Global, bytes: &[u8]) -> Result<Offer, MessageFault>
 }
 
 // Reads an offer that all of the bytes spell. Returns the table of its rows, or the fault of the first invalid row.
-#[tactic(auto, unfolding(crate::specs::Offers::offer_of, crate::specs::Offers::offer_at))]
+#[tactic(auto, unfolding(crate::specs::Offers::whole_offer, crate::specs::Offers::offer_at))]
 fn all(alloc: Global, bytes: &[u8]) -> Result<(OfferHead, Result<Table, MessageFault>), ReadError>
     ensures read { IfOk result (λ x. (texts : List RowText)
-        × (offer_of bytes.now ≡ Ok (record { head = x.0; rows = texts })) × IsBuiltOf texts x.1) }
-    ensures failed { IfErr result (λ error. Fails error (offer_of bytes.now)) }
+        × (whole_offer bytes.now ≡ Ok (record { head = x.0; rows = texts })) × IsBuiltOf texts x.1) }
+    ensures failed { IfErr result (λ error. Fails error (whole_offer bytes.now)) }
 {
     let rest = header_at(HEADER, bytes)?;
     let (head, rest) = read_head(rest)?;

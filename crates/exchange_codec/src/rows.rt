@@ -10,7 +10,7 @@ ghost use Rattle.clash_record.specs.Orders.{builtin_place};
 ghost use Rattle.clash_record.specs.declared.registrations.ProgramId.{ProgramId};
 ghost use Rattle.exchange_codec.specs.Reading.{Fails, Gives, many_at, bytes_at};
 ghost use Rattle.exchange_codec.specs.Rows as texts;
-ghost use Rattle.exchange_codec.specs.Rows.{owner_at, resolver_at, row_at, row_bytes, owner_bytes, text_of, ids_after, fields_bytes, resolver_bytes, resolver_text, Code, code_bytes, sized_code, max_code, IsRow, IsResolver, HasFields, AreIds};
+ghost use Rattle.exchange_codec.specs.Rows.{owner_at, resolver_at, row_at, row_bytes, owner_bytes, row_text, ids_after, fields_bytes, resolver_bytes, resolver_text, Code, code_bytes, sized_code, max_code, IsRow, IsResolver, HasFields, AreIds};
 ghost use Rattle.exchange_codec.specs.RowsText.{row_view, resolver_view};
 
 use crate::fault::{FieldFault, ReadError};
@@ -161,11 +161,11 @@ pub(crate) fn push_row(
     program: Option<&Arc<Verified>>,
 ) -> Result<(), AllocError>
     ensures written { OnOk result ((ids : List ProgramId) → AreIds before.old ids
-        → out.new.items ≡ out.old.items ++ row_bytes (text_of ids name.now
+        → out.new.items ≡ out.old.items ++ row_bytes (row_text ids name.now
         (record { registration = registration.now; code = option_map (λ p. arc_value p.now) program.entry }))) }
     ensures before { OnOk result ((ids : List ProgramId) → AreIds before.old ids
         → AreIds before.new (ids_after ids registration.now.resolver)) }
-    ensures fits { OnOk result ((ids : List ProgramId) → AreIds before.old ids → IsRow (text_of ids name.now
+    ensures fits { OnOk result ((ids : List ProgramId) → AreIds before.old ids → IsRow (row_text ids name.now
         (record { registration = registration.now; code = option_map (λ p. arc_value p.now) program.entry }))) }
 {
     push_name(out, name)?;

@@ -8,7 +8,7 @@ ghost use Rattle.exchange_codec.specs.Rows.{RowText, row_bytes, IsRow};
 ghost use Rattle.exchange_codec.specs.declared.fault.MessageFault.{MessageFault};
 ghost use Rattle.exchange_codec.specs.Reading.{Fails};
 ghost use Rattle.exchange_codec.specs.model.Building.{IsBuiltOf};
-ghost use Rattle.exchange_codec.specs.Tables.{SpellsTable, IsTableFault, IsTableText, rows_of, table_bytes, table_text};
+ghost use Rattle.exchange_codec.specs.Tables.{SpellsTable, IsTableFault, IsTableText, whole_rows, table_bytes, table_text};
 
 use crate::building::table_at;
 use crate::fault::{FieldFault, MessageFault, ReadError};
@@ -77,13 +77,13 @@ pub fn decode_table(alloc: Global, bytes: &[u8]) -> Result<Table, MessageFault>
 }
 
 /// Reads the rows that all of the bytes spell. Returns their table, or the fault of the first invalid row.
-#[tactic(auto, unfolding(crate::specs::Tables::rows_of, crate::specs::Tables::rows_at))]
+#[tactic(auto, unfolding(crate::specs::Tables::whole_rows, crate::specs::Tables::rows_at))]
 pub(crate) fn table_of(
     alloc: Global,
     bytes: &[u8],
 ) -> Result<Result<Table, MessageFault>, ReadError>
-    ensures built { IfOk result (λ built. (texts : List RowText) × (rows_of bytes.now ≡ Ok texts) × IsBuiltOf texts built) }
-    ensures failed { IfErr result (λ error. Fails error (rows_of bytes.now)) }
+    ensures built { IfOk result (λ built. (texts : List RowText) × (whole_rows bytes.now ≡ Ok texts) × IsBuiltOf texts built) }
+    ensures failed { IfErr result (λ error. Fails error (whole_rows bytes.now)) }
 {
     let (count, rest) = count_at(NameLimit::MAX as u32, bytes)?;
     let (built, rest) = table_at(alloc, count, rest)?;

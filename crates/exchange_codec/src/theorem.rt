@@ -2,7 +2,7 @@
 ghost use Rattle.std.specs.Prelude.{◌≡◌, ◌<◌, ℕ, List, Ok, All, length};
 ghost use Rattle.exchange_law.specs.Sides.{Offer, Withdrawals};
 ghost use Rattle.exchange_codec.specs.declared.fault.MessageFault.{MessageFault};
-ghost use Rattle.exchange_codec.specs.Withdrawals.{SpellsWithdrawals, list_of, list_due};
+ghost use Rattle.exchange_codec.specs.Withdrawals.{SpellsWithdrawals, whole_list, list_due};
 ghost use Rattle.partition_table.specs.Tables.{Table};
 ghost use Rattle.exchange_codec.specs.Tables.{SpellsTable, IsTableFault};
 ghost use Rattle.exchange_codec.specs.Offers.{SpellsOffer, IsOfferFault};
@@ -35,9 +35,9 @@ pub fn one_message_theorem()
         → f ≡ g }
     // `list_due`, which gives bytes a list or one fault, gives a list exactly for bytes that spell it.
     ensures spelled_list_due { (bytes : List ℕ) → (w : Withdrawals) → SpellsWithdrawals bytes w
-        → list_due (length bytes) (list_of bytes) ≡ Ok w }
+        → list_due (length bytes) (whole_list bytes) ≡ Ok w }
     ensures due_list_spelled { (bytes : List ℕ) → (w : Withdrawals) → All (λ byte. byte < 256) bytes
-        → list_due (length bytes) (list_of bytes) ≡ Ok w → SpellsWithdrawals bytes w }
+        → list_due (length bytes) (whole_list bytes) ≡ Ok w → SpellsWithdrawals bytes w }
     ensures one_offer_spelling { (bytes other : List ℕ) → (o : Offer) → SpellsOffer bytes o → SpellsOffer other o
         → bytes ≡ other }
     ensures one_list_spelling { (bytes other : List ℕ) → (w : Withdrawals) → SpellsWithdrawals bytes w

@@ -9,8 +9,8 @@ ghost use Rattle.exchange_law.specs.Sides as sides;
 ghost use Rattle.exchange_codec.specs.Faults.{message_fault_number};
 ghost use Rattle.exchange_codec.specs.Reading.{Gives, many_at};
 ghost use Rattle.exchange_codec.specs.Names.{name_at, name_bytes};
-ghost use Rattle.exchange_codec.specs.Withdrawals.{SpellsWithdrawals, names_bytes, first_again, unless_again, list_at, list_of, list_due};
-ghost use Rattle.exchange_codec.specs.WithdrawalsText.{view};
+ghost use Rattle.exchange_codec.specs.Withdrawals.{SpellsWithdrawals, names_bytes, first_again, unless_name_again, list_at, whole_list, list_due};
+ghost use Rattle.exchange_codec.specs.WithdrawalsText.{list_view};
 
 use crate::fault::{FieldFault, ItemFault, MessageFault, ReadError};
 use crate::fields::{count_at, header_at, push_u32, push_u64, u64_at};
@@ -92,7 +92,7 @@ pub fn decode_withdrawals(alloc: Global, bytes: &[u8]) -> Result<Withdrawals, Me
     ensures taken { (list : sides.Withdrawals) → SpellsWithdrawals bytes.now list
         → ReturnsOrRunsOut message_fault_number result (Ok list) }
     // The list or the fault of the bytes is returned, unless memory runs out.
-    ensures exact { ReturnsOrRunsOut message_fault_number result (list_due (length bytes.now) (list_of bytes.now)) }
+    ensures exact { ReturnsOrRunsOut message_fault_number result (list_due (length bytes.now) (whole_list bytes.now)) }
 {
     match all(alloc, bytes) {
         Ok(text) => listed(alloc, text),
@@ -104,7 +104,7 @@ pub fn decode_withdrawals(alloc: Global, bytes: &[u8]) -> Result<Withdrawals, Me
 fn listed(alloc: Global, text: ListText) -> Result<Withdrawals, MessageFault>
     requires { length text.names.items ≤ most_names }
     ensures { ReturnsOrRunsOut message_fault_number result
-        (unless_again (first_again [] 0 text.names.items) (view text)) }
+        (unless_name_again (first_again [] 0 text.names.items) (list_view text)) }
 {
     let ListText {
         side,
@@ -123,9 +123,9 @@ fn listed(alloc: Global, text: ListText) -> Result<Withdrawals, MessageFault>
 }
 
 // The text that all of the bytes spell.
-#[tactic(auto, unfolding(crate::specs::Withdrawals::list_of))]
+#[tactic(auto, unfolding(crate::specs::Withdrawals::whole_list))]
 fn all(alloc: Global, bytes: &[u8]) -> Result<ListText, ReadError>
-    ensures { Gives view result (list_of bytes.now) }
+    ensures { Gives list_view result (whole_list bytes.now) }
 {
     let (text, rest) = text_at(alloc, bytes)?;
     if !rest.is_empty() {
@@ -137,7 +137,7 @@ fn all(alloc: Global, bytes: &[u8]) -> Result<ListText, ReadError>
 // The text at the front.
 #[tactic(auto, unfolding(crate::specs::Withdrawals::list_at))]
 fn text_at(alloc: Global, bytes: &[u8]) -> Result<(ListText, &[u8]), ReadError>
-    ensures { Gives (λ x. (view x.0, x.1.now)) result (list_at bytes.now) }
+    ensures { Gives (λ x. (list_view x.0, x.1.now)) result (list_at bytes.now) }
 {
     let rest = header_at(HEADER, bytes)?;
     let (side, rest) = side_at(rest)?;

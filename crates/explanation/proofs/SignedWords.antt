@@ -8,7 +8,7 @@ use Rattle.instruction_set.specs.declared.insn.Width.TheVariants.{W64}
 use Rattle.instruction_set.specs.declared.insn.Test.TheVariants.{Jsge, Jslt}
 use Rattle.abstract_value.specs.Domain.{Ops, Laws, Keeps}
 use Rattle.abstract_value.specs.laws.TurnedWords.{signed_low, signed_high}
-use Rattle.explanation.specs.SignedRanges.{IsFrom, IsUpTo, IsWithin, negative, other}
+use Rattle.explanation.specs.SignedRanges.{IsFrom, IsUpTo, IsBetween, negative, other}
 
 word : (v : ℕ) → v < 2 ^ 64 → v % 2 ^ 64 ≡ v
 word v h = mod-eq_of_lt h
@@ -35,7 +35,7 @@ module _ {D : Type 0} (o : Ops D) (laws : Laws o) where
   up_to_part v None h kept = kept
   up_to_part v (Some p) h kept = let b = laws.bounds_hold p.0 v kept.0 in omega (arith, b.1)
 
-  pub within : (a : D) (v : ℕ) → v < 2 ^ 64 → o.holds a v → IsWithin o a v
+  pub within : (a : D) (v : ℕ) → v < 2 ^ 64 → o.holds a v → IsBetween o a v
   within a v fits held = record {
     if_negative = λ h. from_part v (negative o a) h
         (laws.refine_keeps W64 Jslt true a (o.single 0) v 0 held zero_held (below_zero v h fits));

@@ -21,7 +21,7 @@ IsTextAt o code slot text =
     MatchOption (insn_at code slot) (text ≡ []) (λ i. IsSlotText o code slot i text)
 
 -- the text of the first instructions of code, one after another
-pub data IsListed {D : Type 0} (o : Ops D) (code : List Insn) : List Insn → List ℕ → Type 0 where
-  none : IsListed o code [] []
-  next : (front : List Insn) (i : Insn) (text more : List ℕ) → IsListed o code front text
-      → IsSlotText o code (slot_count front) i more → IsListed o code (front ++ i ∷ []) (text ++ more)
+pub data ListsCode {D : Type 0} (o : Ops D) (code : List Insn) : List Insn → List ℕ → Type 0 where
+  none : ListsCode o code [] []
+  next : (front : List Insn) (i : Insn) (text more : List ℕ) → ListsCode o code front text
+      → IsSlotText o code (slot_count front) i more → ListsCode o code (front ++ i ∷ []) (text ++ more)

@@ -50,6 +50,6 @@ IsUpTo o None v = ⊥
 IsUpTo o (Some p) v = v ≤ greatest_word o p
 
 -- a negative word is at least that of the least number, and another word at most the greatest number
-pub record IsWithin {D : Type 0} (o : Ops D) (a : D) (v : ℕ) : Type 0 where
+pub record IsBetween {D : Type 0} (o : Ops D) (a : D) (v : ℕ) : Type 0 where
   pub if_negative : 2 ^ 63 ≤ v → IsFrom o (negative o a) v
   pub if_other : v < 2 ^ 63 → IsUpTo o (other o a) v

@@ -29,14 +29,14 @@ contents_text o (Stack a) = codes "stack" ++ span_text a
 contents_text o Unreadable = []
 
 -- a register, as ` r1=record[0]`; none if it can't be read
-abbrev pub register_text : {D : Type 0} → Ops D → ℕ → RegState D → List ℕ
-register_text o number Unreadable = []
-register_text o number held = codes " r" ++ (decimal number ++ (codes "=" ++ contents_text o held))
+abbrev pub held_text : {D : Type 0} → Ops D → ℕ → RegState D → List ℕ
+held_text o number Unreadable = []
+held_text o number held = codes " r" ++ (decimal number ++ (codes "=" ++ contents_text o held))
 
 -- the first registers, of this number
 abbrev pub registers_text : {D : Type 0} → Ops D → (ℕ → RegState D) → ℕ → List ℕ
 registers_text o registers zero = []
-registers_text o registers (suc n) = registers_text o registers n ++ register_text o n (registers n)
+registers_text o registers (suc n) = registers_text o registers n ++ held_text o n (registers n)
 
 -- a run of written bytes begins with a byte, counted from the stack's lowest; and ends with it
 abbrev pub begins_run : (ℕ → Bool) → ℕ → Bool

@@ -3,7 +3,7 @@ ghost use Rattle.std.specs.Prelude.{◌≡◌, IfOk, string_bytes};
 ghost use Rattle.instruction_set.specs.Machine.{slot_count};
 ghost use Rattle.abstract_value.specs.Pending.{boxed_view};
 ghost use Rattle.abstract_value.specs.States.{view};
-ghost use Rattle.explanation.specs.Listings.{IsListed, IsSlotText, IsTextAt};
+ghost use Rattle.explanation.specs.Listings.{ListsCode, IsSlotText, IsTextAt};
 ghost use Rattle.explanation.specs.StateTexts.{found_text, slot_text, state_text};
 
 use crate::registers::registers_text;
@@ -71,7 +71,7 @@ pub fn explain_at<D: Domain>(alloc: Global, code: &Code, slot: usize) -> Result<
 ///
 /// An instruction that is never reached has no state, and so has each instruction after one that fails a rule.
 pub fn explain_code<D: Domain>(alloc: Global, code: &Code) -> Result<String, AllocError>
-    ensures { IfOk result (λ text. IsListed D.ops code.now code.now (string_bytes text)) }
+    ensures { IfOk result (λ text. ListsCode D.ops code.now code.now (string_bytes text)) }
 {
     // For the proof: it has few slots.
     code.known();

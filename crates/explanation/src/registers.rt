@@ -1,7 +1,7 @@
 //! The text of registers.
 ghost use Rattle.std.specs.Prelude.{◌≡◌, ◌≤◌, IfOk, string_bytes};
 ghost use Rattle.abstract_value.specs.States.{view};
-ghost use Rattle.explanation.specs.StateTexts.{contents_text, range_text, register_text, registers_text, span_text};
+ghost use Rattle.explanation.specs.StateTexts.{contents_text, range_text, held_text, registers_text, span_text};
 
 use crate::signed_range::signed_text;
 use abstract_value::{Domain, RegState, Span, State};
@@ -60,7 +60,7 @@ fn register_text<D: Domain>(
     number: u8,
     contents: &RegState<D>,
 ) -> Result<String, AllocError>
-    ensures { IfOk result (λ text. string_bytes text ≡ register_text D.ops number contents.now) }
+    ensures { IfOk result (λ text. string_bytes text ≡ held_text D.ops number contents.now) }
 {
     match contents {
         RegState::Unreadable => Ok(String::new(alloc)),

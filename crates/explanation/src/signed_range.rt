@@ -1,6 +1,6 @@
 //! The text of the signed numbers among words.
 ghost use Rattle.std.specs.Prelude.{◌≡◌, ◌≤◌, ◌<◌, ◌^◌, ℕ, IfOk, string_bytes};
-ghost use Rattle.explanation.specs.SignedRanges.{IsWithin, ends_text, signed_text};
+ghost use Rattle.explanation.specs.SignedRanges.{IsBetween, ends_text, signed_text};
 
 use abstract_value::Domain;
 use instruction_set::{Test, Width};
@@ -44,5 +44,5 @@ pub(crate) fn signed_text<D: Domain>(alloc: Global, words: &D) -> Result<String,
 
 /// States that the signed range of a value holds each of its words. Does nothing at run time.
 pub fn signed_range_theorem<D: Domain>()
-    ensures { (a : D) (v : ℕ) → v < 2 ^ 64 → D.ops.holds a v → IsWithin D.ops a v }
+    ensures { (a : D) (v : ℕ) → v < 2 ^ 64 → D.ops.holds a v → IsBetween D.ops a v }
 {}

@@ -64,7 +64,7 @@ pub use Rattle.registry_lock.specs.Faults as MeetFaults
 pub use Rattle.registry_lock.specs.Meeting
 pub use Rattle.registry_lock.specs.Telling
 -- those of `replicas`
-pub use Rattle.replica_law.specs.Worlds as ReplicaMessages
+pub use Rattle.replica_law.specs.Groups as ReplicaMessages
 pub use Rattle.replica.specs.Faults as ReplicaFaults
 pub use Rattle.replica.specs.Halves as ReplicaHalves
 pub use Rattle.replica.specs.Histories as ReplicaHistories

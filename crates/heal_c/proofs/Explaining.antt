@@ -1,7 +1,7 @@
 -- The fault that is written, by the result of decoding.
 use Rattle.std.proofs.Common.{◌≡◌, ◌⊎◌, List, ℕ, inl, inr, refl, ap, arith}
 use Rattle.std.specs.Prelude.{Result, Ok, Err, IfOk, IfErr}
-use Rattle.refusals.specs.Answers.{HasCause, ReturnsOrRunsOut, RanOut, out_of_memory}
+use Rattle.refusals.specs.Answers.{HasCause, ReturnsOrRunsOut, out_of_memory}
 use Rattle.exchange_law.specs.Sides as sides
 use Rattle.exchange_codec.specs.declared.fault.FieldFault.{FieldFault}
 use Rattle.exchange_codec.specs.declared.fault.FieldFault.TheVariants as field
@@ -11,7 +11,7 @@ use Rattle.exchange_codec.specs.declared.fault.MessageFault.{MessageFault}
 use Rattle.exchange_codec.specs.declared.fault.MessageFault.TheVariants as message
 use Rattle.exchange_codec.specs.Faults.{field_fault_number, item_fault_number, message_fault_number}
 use Rattle.exchange_codec.specs.Offers.{SpellsOffer, IsOfferFault}
-use Rattle.heal_c.specs.Faults.{numbered, fault_code, fault_in, IsFound, IsOfferRead}
+use Rattle.heal_c.specs.Faults.{bare_fault, fault_code, fault_in, IsFound, IsOfferRead}
 
 field_fits : (what : FieldFault) → field_fault_number what ≡ out_of_memory → ⊥
 field_fits field.Cut e = omega arith
@@ -31,7 +31,7 @@ item_fits item.ProgramAgain e = omega arith
 item_fits (item.Program f) e = omega arith
 
 -- running out of memory has no place
-spent : (m : MessageFault) → message_fault_number m ≡ out_of_memory → fault_code m ≡ numbered out_of_memory
+spent : (m : MessageFault) → message_fault_number m ≡ out_of_memory → fault_code m ≡ bare_fault out_of_memory
 spent (message.Field what at) e = absurd (field_fits what e)
 spent (message.Item fault at) e = absurd (item_fits fault e)
 spent message.OutOfMemory e = refl
@@ -60,6 +60,6 @@ offer_found bytes (Err f) spelled taken refused told = record {
 }
   where
     by : HasCause message_fault_number (IsOfferFault bytes) f
-        → ((m : MessageFault) × IsOfferFault bytes m × (fault_code f ≡ fault_code m)) ⊎ (fault_code f ≡ numbered out_of_memory)
+        → ((m : MessageFault) × IsOfferFault bytes m × (fault_code f ≡ fault_code m)) ⊎ (fault_code f ≡ bare_fault out_of_memory)
     by (inl cause) = inl (f, cause, refl)
     by (inr out) = inr (spent f out)

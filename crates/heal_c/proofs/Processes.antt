@@ -29,11 +29,11 @@ use Rattle.exchange_codec.specs.Offers.{SpellsOffer}
 use Rattle.exchange_codec.specs.Peeking.{peeked}
 use Rattle.exchange_codec.specs.Reading as reading
 use Rattle.exchange_codec.specs.Withdrawals.{SpellsWithdrawals}
-use Rattle.c_calls.specs.Halves.{Half}
-use Rattle.c_calls.specs.Answers.{unless, IsAnswer, Gives}
-use Rattle.c_calls.specs.Exchanges.{HearsWhole, HearsWholeList, UnlessOther, UnlessRefused, allowed, refusal_of, withdrawing}
-use Rattle.c_calls.specs.Sides.{CarriesOut, IsRenewed, Stays, registering, unregistering}
-use Rattle.heal_c.specs.Processes.{Processes, half_of, with_half, IsCall, AreNew, IsRun}
+use Rattle.c_calls.specs.Halves.{SideAndStore}
+use Rattle.c_calls.specs.Answers.{allowed, unless, GivesDueOrRunsOut, GivesDue}
+use Rattle.c_calls.specs.Exchanges.{HearsWhole, HearsWholeList, UnlessOther, UnlessRefused, refusal_of, withdrawing}
+use Rattle.c_calls.specs.Sides.{CarriesOut, IsRenewedHalf, Stays, registering, unregistering}
+use Rattle.heal_c.specs.Processes.{Processes, process_half, with_half, IsCall, IsHistory}
 use Rattle.heal_c.specs.Processes as call
 use Rattle.c_calls.specs.Kept.{HasForgotten, forgetting, id_from}
 use Rattle.clash_record.specs.declared.registrations.ProgramId.{ProgramId}
@@ -87,11 +87,11 @@ message_positive (message.Item f at) e = item_positive f e
 message_positive message.OutOfMemory e = cc
 
 -- a message that was taken isn't refused
-unrefused : (m : ℕ) (old new : Half) (X : Type 0) → (0 ≡ m → ⊥) → UnlessRefused (Some m) old new 0 X → X
+unrefused : (m : ℕ) (old new : SideAndStore) (X : Type 0) → (0 ≡ m → ⊥) → UnlessRefused (Some m) old new 0 X → X
 unrefused m old new X positive h = absurd (⊎_elim positive (λ e. cc) h.0)
 
 -- by its head
-was_read : (half : Half) (head : Result MessageHead MessageFault) (old new : Half) (X : Type 0)
+was_read : (half : SideAndStore) (head : Result MessageHead MessageFault) (old new : SideAndStore) (X : Type 0)
     → UnlessRefused (refusal_of half head) old new 0 X → X
 was_read half (Err fault) old new X h = unrefused (message_fault_number fault) old new X (message_positive fault) h
 was_read half (Ok head) old new X h =
@@ -102,27 +102,27 @@ was_read half (Ok head) old new X h =
     by (Some fault) x = unrefused (side_fault_number fault) old new X (positive fault) x
 
 -- it is the first, or the same again
-was_first : (b : Bool) (old new : Half) (X : Type 0) → UnlessOther b old new 0 X → X
+was_first : (b : Bool) (old new : SideAndStore) (X : Type 0) → UnlessOther b old new 0 X → X
 was_first true old new X h = unrefused 83 old new X (λ e. cc) h
 was_first false old new X h = h
 
 -- nothing refused it, so it is done
-done : (o : Option SideFault) (D : Unit {0} → Type 0) (S : Type 0) → IsAnswer (allowed o) D S 0 → D tt
+done : (o : Option SideFault) (D : Unit {0} → Type 0) (S : Type 0) → GivesDueOrRunsOut (allowed side_fault_number o) D S 0 → D tt
 done None D S h = ⊎_elim (λ h. h.1) (λ h. let e = h.0 in absurd (cc)) h
 done (Some f) D S h = ⊎_elim (λ e. absurd (positive f e)) (λ e. absurd (cc)) h.0
 
-settled_so : (o : Option SideFault) (D : Unit {0} → Type 0) (S : Type 0) → Gives (allowed o) D S 0 → D tt
+settled_so : (o : Option SideFault) (D : Unit {0} → Type 0) (S : Type 0) → GivesDue (allowed side_fault_number o) D S 0 → D tt
 settled_so None D S h = h.1
 settled_so (Some f) D S h = absurd (positive f h.0)
 
 -- a program is forgotten, or everything stays
-forgot : (r : Result (Unit {0}) ℕ) (id : ProgramId) (old new : Half) → Gives r (λ _. HasForgotten id old new) (new ≡ old) 0
+forgot : (r : Result (Unit {0}) ℕ) (id : ProgramId) (old new : SideAndStore) → GivesDue r (λ _. HasForgotten id old new) (new ≡ old) 0
     → shown new.side ≡ shown old.side
 forgot (Ok x) id old new h = ap (λ s. shown s) h.1.side
-forgot (Err m) id old new h = ap (λ (x : Half). shown x.side) h.1
+forgot (Err m) id old new h = ap (λ (x : SideAndStore). shown x.side) h.1
 
 -- it is done, or everything stays
-either : {X : Type 0} (r : Result X ℕ) {D : X → Type 0} {S : Type 0} → IsAnswer r D S 0 → ((x : X) × D x) ⊎ S
+either : {X : Type 0} (r : Result X ℕ) {D : X → Type 0} {S : Type 0} → GivesDueOrRunsOut r D S 0 → ((x : X) × D x) ⊎ S
 either (Ok x) h = ⊎_elim (λ h. inl (x, h.1)) (λ h. let e = h.0 in absurd (cc)) h
 either (Err m) h = inr h.1
 
@@ -159,22 +159,22 @@ one_later act h = record {
   gives = h.gives;
 }
 
-module _ {p : Processes} (l : Like p) (id : SideId) (new : Half) where
+module _ {p : Processes} (l : Like p) (id : SideId) (new : SideAndStore) where
   abbrev now : World
   now = halves_after l.acts
 
-  side_is : shown (half_of p id).side ≡ side_of (halves_after l.acts) id
+  side_is : shown (process_half p id).side ≡ side_of (halves_after l.acts) id
   side_is = by_side id
     where
-      by_side : (id : SideId) → shown (half_of p id).side ≡ side_of (halves_after l.acts) id
+      by_side : (id : SideId) → shown (process_half p id).side ≡ side_of (halves_after l.acts) id
       by_side A = l.a
       by_side B = l.b
 
   -- its half is as before
-  like_same : shown new.side ≡ shown (half_of p id).side → Like (with_half p id new)
+  like_same : shown new.side ≡ shown (process_half p id).side → Like (with_half p id new)
   like_same e = by_side id e
     where
-      by_side : (id : SideId) → shown new.side ≡ shown (half_of p id).side → Like (with_half p id new)
+      by_side : (id : SideId) → shown new.side ≡ shown (process_half p id).side → Like (with_half p id new)
       by_side A e =
           record { acts = l.acts; a = e ∙ l.a; b = l.b; offers = l.offers; lists = l.lists; outcomes = l.outcomes }
       by_side B e =
@@ -239,11 +239,11 @@ module _ {p : Processes} (l : Like p) (id : SideId) (new : Half) where
       by_side B h = h
 
   -- the side of the acts carries out what the half's side carries out
-  carries : (call : Call) → carried_out (shown (half_of p id).side) call ≡ Some (shown new.side) →
+  carries : (call : Call) → carried_out (shown (process_half p id).side) call ≡ Some (shown new.side) →
       carried_out (side_of (halves_after l.acts) id) call ≡ Some (shown new.side)
   carries call e = ap (λ (s : Side). carried_out s call) (sym side_is) ∙ e
 
-  does : (call : Call) → CarriesOut call (half_of p id) new →
+  does : (call : Call) → CarriesOut call (process_half p id) new →
       with_side (halves_after l.acts) id
       (past_after (halves_after l.acts).past (side_of (halves_after l.acts) id) call)
       (carried_out (side_of (halves_after l.acts) id) call)
@@ -253,7 +253,7 @@ module _ {p : Processes} (l : Like p) (id : SideId) (new : Half) where
       ap (λ (o : Option Side). with_side (halves_after l.acts) id
       (past_after (halves_after l.acts).past (side_of (halves_after l.acts) id) call) o) (carries call c.done.carried)
 
-  stays : Stays (half_of p id) new → Like (with_half p id new)
+  stays : Stays (process_half p id) new → Like (with_half p id new)
   stays s = like_same s.side.state
 
 -- ---- each call
@@ -271,27 +271,27 @@ idle_rested side e = by_open side.exchange e
     by_open (Some x) e = cc
 
 -- a half that is renewed is as before
-renewed : (o : Option SideFault) (old new : Half) → Gives (unless side_fault_number o (tt {0})) (λ _. IsRenewed old new) (Stays old new) 0 →
+renewed : (o : Option SideFault) (old new : SideAndStore) → GivesDue (unless side_fault_number o (tt {0})) (λ _. IsRenewedHalf old new) (Stays old new) 0 →
     shown new.side ≡ shown old.side
 renewed None old new h = h.1.same
 renewed (Some f) old new h = h.1.side.state
 
-module _ {p : Processes} (l : Like p) (id : SideId) (new : Half) where
+module _ {p : Processes} (l : Like p) (id : SideId) (new : SideAndStore) where
   heard : (offer : Offer) (which : ℕ) → slice_get (halves_after l.acts).past.offers which ≡ Some offer →
-      CarriesOut (Hear offer) (half_of p id) new → Like (with_half p id new)
+      CarriesOut (Hear offer) (process_half p id) new → Like (with_half p id new)
   heard offer which there c =
       like_quiet l id new (Happens (Hears id which))
       (ap (λ (o : Option Offer). called_if (halves_after l.acts) id (option_map Hear o)) there ∙ does l id new (Hear offer) c)
 
   heard_list : (list : Withdrawals) (which : ℕ) → slice_get (halves_after l.acts).past.lists which ≡ Some list →
-      CarriesOut (Hear_list list) (half_of p id) new → Like (with_half p id new)
+      CarriesOut (Hear_list list) (process_half p id) new → Like (with_half p id new)
   heard_list list which there c =
       like_quiet l id new (Happens (Hears_list id which))
       (ap (λ (o : Option Withdrawals). called_if (halves_after l.acts) id (option_map Hear_list o)) there
       ∙ does l id new (Hear_list list) c)
 
-  began : (number seed uptime : ℕ) (bytes : List ℕ) → CarriesOut (Begin number seed uptime) (half_of p id) new →
-      SpellsOffer bytes (offer_of (shown (half_of p id).side) number seed uptime) →
+  began : (number seed uptime : ℕ) (bytes : List ℕ) → CarriesOut (Begin number seed uptime) (process_half p id) new →
+      SpellsOffer bytes (offer_of (shown (process_half p id).side) number seed uptime) →
       Like (record (with_half p id new) { offers = bytes ∷ p.offers })
   began number seed uptime bytes c spelled = by_side id (like_after l id new (Happens (Does id (Begin number seed uptime))) _
       (does l id new (Begin number seed uptime) c) (bytes ∷ p.offers) p.lists p.outcomes
@@ -309,8 +309,8 @@ module _ {p : Processes} (l : Like p) (id : SideId) (new : Half) where
       by_side A h = h
       by_side B h = h
 
-  closed : (bytes : List ℕ) → CarriesOut Close_list (half_of p id) new →
-      SpellsWithdrawals bytes (list_of (shown (half_of p id).side)) →
+  closed : (bytes : List ℕ) → CarriesOut Close_list (process_half p id) new →
+      SpellsWithdrawals bytes (list_of (shown (process_half p id).side)) →
       Like (record (with_half p id new) { lists = bytes ∷ p.lists })
   closed bytes c spelled = by_side id (like_after l id new (Happens (Does id Close_list)) _
       (does l id new Close_list c) p.offers (bytes ∷ p.lists) p.outcomes l.offers
@@ -328,8 +328,8 @@ module _ {p : Processes} (l : Like p) (id : SideId) (new : Half) where
       by_side A h = h
       by_side B h = h
 
-  finished : (f : Finished) → CarriesOut Finish (half_of p id) new →
-      finished_from (shown (half_of p id).side) ≡ Some f →
+  finished : (f : Finished) → CarriesOut Finish (process_half p id) new →
+      finished_from (shown (process_half p id).side) ≡ Some f →
       Like (record (with_half p id new) { outcomes = f ∷ p.outcomes })
   finished f c given = by_side id (like_after l id new (Happens (Does id Finish)) (halves_after l.acts).past
       (does l id new Finish c) p.offers p.lists (f ∷ p.outcomes) l.offers l.lists
@@ -358,33 +358,33 @@ module _ {p : Processes} (l : Like p) (id : SideId) (new : Half) where
       by_side B h = h
 
   -- a half that gives up is as one that abandons, if an exchange is open
-  gave_up : shown new.side ≡ rested (shown (half_of p id).side) → Like (with_half p id new)
-  gave_up e = by_open (abandon (shown (half_of p id).side)) refl
+  gave_up : shown new.side ≡ rested (shown (process_half p id).side) → Like (with_half p id new)
+  gave_up e = by_open (abandon (shown (process_half p id).side)) refl
     where
-      by_open : (o : Option Side) → abandon (shown (half_of p id).side) ≡ o → Like (with_half p id new)
-      by_open None is = like_same l id new (e ∙ idle_rested (shown (half_of p id).side) is)
+      by_open : (o : Option Side) → abandon (shown (process_half p id).side) ≡ o → Like (with_half p id new)
+      by_open None is = like_same l id new (e ∙ idle_rested (shown (process_half p id).side) is)
       by_open (Some s) is =
           like_quiet l id new (Happens (Does id Abandon))
           (ap (λ (o : Option Side). with_side (halves_after l.acts) id (halves_after l.acts).past o)
-          (ap abandon (sym (side_is l id new)) ∙ is ∙ ap Some (rested_is (shown (half_of p id).side) s is ∙ sym e)))
+          (ap abandon (sym (side_is l id new)) ∙ is ∙ ap Some (rested_is (shown (process_half p id).side) s is ∙ sym e)))
 
 step : (p after : Processes) (id : SideId) → Like p → IsCall p id after → Like after
 step p after id l (call.uploads new code id' id'' slot up e) = subst Like (sym e)
-    (like_same l id new (⊎_elim (λ k. ap (λ s. shown s) k.side) (λ h. ap (λ (x : Half). shown x.side) h.1.0) up.answer))
+    (like_same l id new (⊎_elim (λ k. ap (λ s. shown s) k.side) (λ h. ap (λ (x : SideAndStore). shown x.side) h.1.0) up.answer))
 step p after id l (call.forgets new program r e) = subst Like (sym e)
-    (like_same l id new (forgot (forgetting (id_from program) (half_of p id)) (id_from program) (half_of p id) new r))
+    (like_same l id new (forgot (forgetting (id_from program) (process_half p id)) (id_from program) (process_half p id) new r))
 step p after id l (call.registers new name registration r e) = subst Like (sym e)
     (⊎_elim (λ d. like_quiet l id new (Happens (Does id (Register _ _))) (does l id new (Register _ _) d.1)) (stays l id new)
-    (either (registering name registration (half_of p id)) r))
+    (either (registering name registration (process_half p id)) r))
 step p after id l (call.unregisters new name r e) = subst Like (sym e)
     (⊎_elim (λ d. like_quiet l id new (Happens (Does id (Unregister d.0))) (does l id new (Unregister d.0) d.1))
-    (stays l id new) (either (unregistering name (half_of p id)) r))
+    (stays l id new) (either (unregistering name (process_half p id)) r))
 step p after id l (call.begins new number seed uptime before bytes r e) = subst Like (sym e)
     (let d = done _ _ _ r in began l id new number seed uptime bytes d.0 d.1)
 step p after id l (call.hears new bytes sent r e) = subst Like (sym e)
     (let h = l.offers sent.0 bytes sent.1 in
-    let whole : HearsWhole bytes (half_of p id) new 0 =
-    was_read (half_of p id) (reading.due (length bytes) (peeked bytes)) _ _ _ r in
+    let whole : HearsWhole bytes (process_half p id) new 0 =
+    was_read (process_half p id) (reading.due (length bytes) (peeked bytes)) _ _ _ r in
     heard l id new h.0 sent.0 h.1.0 (done _ _ _ (was_first _ _ _ _ (whole.taken h.0 h.1.1))))
 step p after id l (call.settles new r e) = subst Like (sym e)
     (let d = settled_so _ _ _ r in
@@ -393,13 +393,13 @@ step p after id l (call.settles new r e) = subst Like (sym e)
     (ap (settled the_round) (sym (side_is l id new)) ∙ sym d.0.state)))
 step p after id l (call.withdraws new name r e) = subst Like (sym e)
     (⊎_elim (λ d. like_quiet l id new (Happens (Does id (Withdraw d.0))) (does l id new (Withdraw d.0) d.1))
-    (stays l id new) (either (withdrawing name (half_of p id)) r))
+    (stays l id new) (either (withdrawing name (process_half p id)) r))
 step p after id l (call.closes new before bytes r e) = subst Like (sym e)
     (let d = done _ _ _ r in closed l id new bytes d.0 d.1)
 step p after id l (call.hears_list new bytes sent r e) = subst Like (sym e)
     (let h = l.lists sent.0 bytes sent.1 in
-    let whole : HearsWholeList bytes (half_of p id) new 0 =
-    was_read (half_of p id) (reading.due (length bytes) (peeked bytes)) _ _ _ r in
+    let whole : HearsWholeList bytes (process_half p id) new 0 =
+    was_read (process_half p id) (reading.due (length bytes) (peeked bytes)) _ _ _ r in
     heard_list l id new h.0 sent.0 h.1.0 (done _ _ _ (was_first _ _ _ _ (whole.taken h.0 h.1.1))))
 step p after id l (call.finishes new before outcome f r given e) = subst Like (sym e)
     (let d = done _ _ _ r in finished l id new f d.0 given)
@@ -414,7 +414,7 @@ step p after id l (call.gives_up new r e) = subst Like (sym e)
 none : {X : Type 0} (xs : List X) (which : ℕ) (x : X) → xs ≡ [] → slice_get xs which ≡ Some x → ⊥
 none {X} xs which x is e = let e' = sym (ap (λ (l : List X). slice_get l which) is) ∙ e in cc
 
-pub like : (p : Processes) (earlier : List Processes) → IsRun (p ∷ earlier) → Like p
+pub like : (p : Processes) (earlier : List Processes) → IsHistory (p ∷ earlier) → Like p
 like p [] new = record {
   acts = [];
   a = new.a.state;

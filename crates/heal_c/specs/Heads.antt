@@ -36,5 +36,5 @@ abbrev pub head_in : Result MessageHead MessageFault → Result HealHead ℕ
 head_in (Ok head) = Ok (head_code head)
 head_in (Err fault) = Err (message_fault_number fault)
 
-abbrev pub head_of : List ℕ → Result HealHead ℕ
-head_of bytes = head_in (due (length bytes) (peeked bytes))
+abbrev pub peeked_head : List ℕ → Result HealHead ℕ
+peeked_head bytes = head_in (due (length bytes) (peeked bytes))

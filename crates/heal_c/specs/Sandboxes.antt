@@ -21,7 +21,7 @@ IsLoadWithin len bytes old new n slot =
     (len ≤ 65535 → IsLoadFor len bytes old new n slot) × (65535 < len → (n ≡ 92) × (slot ≡ 0) × (new ≡ old))
 
 -- what a program answers to a context of its length
-pub record IsAnswered (program : CodeFor) (context : List ℕ) (ended : HealEnded) : Type 0 where
+pub record AnswersContext (program : CodeFor) (context : List ℕ) (ended : HealEnded) : Type 0 where
   pub fits : length context ≡ program.context_len
   pub ends : EndsFor program.context_len program.code context ended.r0 ended.steps
   pub means : ended.r0 ≡ meaning_for program.context_len program.code context
@@ -31,4 +31,4 @@ pub record IsAnswered (program : CodeFor) (context : List ℕ) (ended : HealEnde
 -- a run, or 93 for a context of another length
 abbrev pub Runs : CodeFor → List ℕ → HealEnded → HealEnded → ℕ → Type 0
 Runs program context old new n =
-    ((n ≡ 0) × IsAnswered program context new) ⊎ ((length context ≢ program.context_len) × (n ≡ 93) × (new ≡ old))
+    ((n ≡ 0) × AnswersContext program context new) ⊎ ((length context ≢ program.context_len) × (n ≡ 93) × (new ≡ old))

@@ -14,8 +14,8 @@ abbrev pub words_in : List (ℕ × List ℕ) → ℕ → List ℕ
 words_in table number = option_map_or (λ entry. entry.1) (find (λ entry. entry.0 == number) table) (codes "unknown refusal")
 
 -- the words of a number in the table of refusals
-abbrev pub words_of : ℕ → List ℕ
-words_of number = words_in (as_bytes (λ text. text.now) REFUSALS) number
+abbrev pub words_of_refusal : ℕ → List ℕ
+words_of_refusal number = words_in (as_bytes (λ text. text.now) REFUSALS) number
 
 -- the words at the front of a buffer that has room for them; another buffer stays
 abbrev pub copied : List ℕ → List ℕ → List ℕ

@@ -1,7 +1,7 @@
 //! Exchanges.
 ghost use Rattle.std.specs.Prelude.{◌≡◌};
 ghost use Rattle.c_calls.specs.Answers.{OnHandle};
-ghost use Rattle.c_calls.specs.Exchanges.{Begins, Hears, Settles, Withdraws, Closes, HearsList, Finishes, Abandons};
+ghost use Rattle.c_calls.specs.Exchanges.{BeginsExchange, Hears, Settles, Withdraws, Closes, HearsList, Finishes, Abandons};
 
 use crate::message_handle::HealBytes;
 use crate::outcome_handle::HealOutcome;
@@ -23,7 +23,7 @@ pub extern "C" fn heal_side_begin(
     offer: &mut HealBytes,
 ) -> u32
     ensures { OnHandle side.old.half side.new.half
-        (λ old new. Begins number seed uptime old new offer.old.message offer.new.message)
+        (λ old new. BeginsExchange number seed uptime old new offer.old.message offer.new.message)
         (offer.new.message ≡ offer.old.message) result }
 {
     match side.held() {

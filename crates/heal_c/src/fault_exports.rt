@@ -77,7 +77,7 @@ fn fault_in<T>(read: &Result<T, MessageFault>) -> HealFault
 
 // Writes a refusal without a place.
 fn numbered(number: u32) -> HealFault
-    ensures { result ≡ spec.numbered number }
+    ensures { result ≡ spec.bare_fault number }
 {
     HealFault {
         number,

@@ -14,7 +14,7 @@ ghost use Rattle.heal_c.specs.contracts.replica_handle.HealReplica as replica_ha
 ghost use Rattle.bpf.specs.contracts.sandbox.Sandbox as sandbox_row;
 ghost use Rattle.heal_c.specs.contracts.sandbox_handle.HealSandbox as sandbox_handle;
 ghost use Rattle.heal_c.specs.Lending.{StaysLent};
-ghost use Rattle.heal_c.specs.Lent.{with_half, with_program, with_message, with_outcome, with_replica, with_sandbox};
+ghost use Rattle.heal_c.specs.Lent.{holding_half, holding_program, holding_message, holding_outcome, holding_replica, holding_sandbox};
 
 use crate::message_handle::HealBytes;
 use crate::outcome_handle::HealOutcome;
@@ -30,7 +30,7 @@ use upload_store::Upload;
 impl HealSide {
     // Borrows the side.
     pub(crate) fn held(&mut self) -> Option<&mut Half>
-        ensures* writes_back { sem 𝓛 (LendsIf side_handle.the_row half_row.the_row self.entry result (with_half self.old) self.old) }
+        ensures* writes_back { sem 𝓛 (LendsIf side_handle.the_row half_row.the_row self.entry result (holding_half self.old) self.old) }
         ensures value { MatchOption result (self.old.half ≡ None) (λ held. self.old.half ≡ Some held.now) }
     {
         let at = self.at;
@@ -45,7 +45,7 @@ impl HealSide {
 impl HealProgram {
     // Borrows the program.
     pub(crate) fn held(&mut self) -> Option<&mut Upload>
-        ensures* writes_back { sem 𝓛 (LendsIf program_handle.the_row program_row.the_row self.entry result (with_program self.old) self.old) }
+        ensures* writes_back { sem 𝓛 (LendsIf program_handle.the_row program_row.the_row self.entry result (holding_program self.old) self.old) }
         ensures value { MatchOption result (self.old.program ≡ None) (λ held. self.old.program ≡ Some held.now) }
     {
         let at = self.at;
@@ -60,7 +60,7 @@ impl HealProgram {
 impl HealBytes {
     // Borrows the message.
     pub(crate) fn held(&mut self) -> Option<&mut Message>
-        ensures* writes_back { sem 𝓛 (LendsIf message_handle.the_row message_row.the_row self.entry result (with_message self.old) self.old) }
+        ensures* writes_back { sem 𝓛 (LendsIf message_handle.the_row message_row.the_row self.entry result (holding_message self.old) self.old) }
         ensures value { MatchOption result (self.old.message ≡ None) (λ held. self.old.message ≡ Some held.now) }
     {
         let at = self.at;
@@ -86,7 +86,7 @@ impl HealBytes {
 impl HealOutcome {
     // Borrows the outcome.
     pub(crate) fn held(&mut self) -> Option<&mut Outcome>
-        ensures* writes_back { sem 𝓛 (LendsIf outcome_handle.the_row outcome_row.the_row self.entry result (with_outcome self.old) self.old) }
+        ensures* writes_back { sem 𝓛 (LendsIf outcome_handle.the_row outcome_row.the_row self.entry result (holding_outcome self.old) self.old) }
         ensures value { MatchOption result (self.old.outcome ≡ None) (λ held. self.old.outcome ≡ Some held.now) }
     {
         let at = self.at;
@@ -101,7 +101,7 @@ impl HealOutcome {
 impl HealReplica {
     // Borrows the replica.
     pub(crate) fn held(&mut self) -> Option<&mut Replica>
-        ensures* writes_back { sem 𝓛 (LendsIf replica_handle.the_row replica_row.the_row self.entry result (with_replica self.old) self.old) }
+        ensures* writes_back { sem 𝓛 (LendsIf replica_handle.the_row replica_row.the_row self.entry result (holding_replica self.old) self.old) }
         ensures value { MatchOption result (self.old.replica ≡ None) (λ held. self.old.replica ≡ Some held.now) }
     {
         let at = self.at;
@@ -116,7 +116,7 @@ impl HealReplica {
 impl HealSandbox {
     // Borrows the sandbox.
     pub(crate) fn held(&mut self) -> Option<&mut Sandbox>
-        ensures* writes_back { sem 𝓛 (LendsIf sandbox_handle.the_row sandbox_row.the_row self.entry result (with_sandbox self.old) self.old) }
+        ensures* writes_back { sem 𝓛 (LendsIf sandbox_handle.the_row sandbox_row.the_row self.entry result (holding_sandbox self.old) self.old) }
         ensures value { MatchOption result (self.old.sandbox ≡ None) (λ held. self.old.sandbox ≡ Some held.now) }
     {
         let at = self.at;

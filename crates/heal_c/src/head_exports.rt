@@ -1,6 +1,6 @@
 //! The head of a message, read without the rest.
 ghost use Rattle.std.specs.Prelude.{◌≡◌};
-ghost use Rattle.c_calls.specs.Answers.{IsAnswer};
+ghost use Rattle.c_calls.specs.Answers.{GivesDueOrRunsOut};
 ghost use Rattle.heal_c.specs.Heads as spec;
 
 use c_calls::side_code;
@@ -28,7 +28,7 @@ const VERSION: u32 = 1;
 #[unsafe(no_mangle)]
 #[tactic(auto, using(crate::proofs::Heading::peeked_so, crate::proofs::Heading::peeked_not))]
 pub extern "C" fn heal_message_peek(bytes: &[u8], head: &mut HealHead) -> u32
-    ensures { IsAnswer (spec.head_of bytes.now) (λ found. head.new ≡ found) (head.new ≡ head.old) result }
+    ensures { GivesDueOrRunsOut (spec.peeked_head bytes.now) (λ found. head.new ≡ found) (head.new ≡ head.old) result }
 {
     match peek(bytes) {
         Ok(found) => {

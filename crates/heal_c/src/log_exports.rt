@@ -1,7 +1,7 @@
 //! The front of a log.
 ghost use Rattle.std.specs.Prelude.{◌≡◌, ◌⊎◌};
 ghost use Rattle.refusals.specs.Answers.{out_of_memory};
-ghost use Rattle.c_calls.specs.Answers.{Gives};
+ghost use Rattle.c_calls.specs.Answers.{GivesDue};
 ghost use Rattle.c_replicas.specs.Logs as logs;
 
 use c_calls::give;
@@ -13,7 +13,7 @@ use c_replicas::{HealLogFront, log_front};
 /// checksum.
 #[unsafe(no_mangle)]
 pub extern "C" fn heal_log_front(log: &[u8], front: &mut HealLogFront) -> u32
-    ensures { (Gives (logs.front_of log.now) (λ found. front.new ≡ found) (front.new ≡ front.old) result)
+    ensures { (GivesDue (logs.front_due log.now) (λ found. front.new ≡ found) (front.new ≡ front.old) result)
         ⊎ ((result ≡ out_of_memory) × (front.new ≡ front.old)) }
 {
     give(log_front(log), front)

@@ -2,7 +2,7 @@
 ghost use Rattle.std.specs.Prelude.{◌≡◌, MatchOption, None, length};
 ghost use Rattle.std.specs.Borrow.{sem};
 ghost use Rattle.heal_c.specs.Lending.{StaysLent};
-ghost use Rattle.c_calls.specs.Answers.{Gives, Reads};
+ghost use Rattle.c_calls.specs.Answers.{GivesDue, Reads};
 ghost use Rattle.c_calls.specs.Messages.{copy_of};
 
 use crate::message_handle::HealBytes;
@@ -68,7 +68,7 @@ fn point<'a>(bytes: Option<&'a [u8]>, span: &mut HealSpan<'a>) -> u32
 #[unsafe(no_mangle)]
 pub extern "C" fn heal_bytes_copy(bytes: &mut HealBytes, to: &mut [u8]) -> u32
     ensures { Reads bytes.old.message bytes.new.message
-        (λ held. Gives (copy_of held (length to.old)) (λ copy. to.new ≡ copy) (to.new ≡ to.old)) (to.new ≡ to.old) result }
+        (λ held. GivesDue (copy_of held (length to.old)) (λ copy. to.new ≡ copy) (to.new ≡ to.old)) (to.new ≡ to.old) result }
 {
     match bytes.held() {
         Some(held) => copy(held.bytes(), to),

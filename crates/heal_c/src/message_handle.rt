@@ -1,6 +1,6 @@
 //! The handle of a message.
 ghost use Rattle.std.specs.Prelude.{◌≡◌, ℕ, List, Option, Some, None, MatchOption};
-ghost use Rattle.c_calls.specs.Answers.{filled, number_in};
+ghost use Rattle.c_calls.specs.Answers.{held_after, returned_number};
 
 use c_calls::Message;
 use handles::BoxParts;
@@ -82,8 +82,8 @@ impl HealBytes {
 
     // Puts what a call made in and returns 0, or returns the number of its refusal.
     pub(crate) fn fill(&mut self, made: Result<Box<Message>, u32>) -> u32
-        ensures held { self.new.message ≡ filled (λ inner. inner.value) self.old.message made }
-        ensures number { result ≡ number_in (λ n. n) made }
+        ensures held { self.new.message ≡ held_after (λ inner. inner.value) self.old.message made }
+        ensures number { result ≡ returned_number (λ n. n) made }
     {
         match made {
             Ok(inner) => {

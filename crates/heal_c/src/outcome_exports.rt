@@ -1,7 +1,7 @@
 //! Outcomes.
 ghost use Rattle.std.specs.Prelude.{◌≡◌, None, length};
-ghost use Rattle.c_calls.specs.Answers.{Gives, Reads};
-ghost use Rattle.c_calls.specs.Outcomes.{clash_at, clashes_in, notice_at, withdrawn_of};
+ghost use Rattle.c_calls.specs.Answers.{GivesDue, Reads};
+ghost use Rattle.c_calls.specs.Outcomes.{clash_code_at, clashes_in, notice_at, withdrawn_of};
 
 use crate::outcome_handle::HealOutcome;
 use c_calls::{EMPTY_HANDLE, HealClash, HealName, HealNotice, give};
@@ -52,7 +52,7 @@ pub extern "C" fn heal_outcome_withdrawn(
     name: &mut HealName,
 ) -> u32
     ensures { Reads outcome.old.outcome outcome.new.outcome
-        (λ held. Gives (withdrawn_of half i held) (λ found. name.new ≡ found) (name.new ≡ name.old))
+        (λ held. GivesDue (withdrawn_of half i held) (λ found. name.new ≡ found) (name.new ≡ name.old))
         (name.new ≡ name.old) result }
 {
     match outcome.held() {
@@ -88,7 +88,7 @@ pub extern "C" fn heal_outcome_clash(
     clash: &mut HealClash,
 ) -> u32
     ensures { Reads outcome.old.outcome outcome.new.outcome
-        (λ held. Gives (clash_at held i) (λ found. clash.new ≡ found) (clash.new ≡ clash.old))
+        (λ held. GivesDue (clash_code_at held i) (λ found. clash.new ≡ found) (clash.new ≡ clash.old))
         (clash.new ≡ clash.old) result }
 {
     match outcome.held() {
@@ -108,7 +108,7 @@ pub extern "C" fn heal_outcome_notice(
     notice: &mut HealNotice,
 ) -> u32
     ensures { Reads outcome.old.outcome outcome.new.outcome
-        (λ held. Gives (notice_at held i n) (λ found. notice.new ≡ found) (notice.new ≡ notice.old))
+        (λ held. GivesDue (notice_at held i n) (λ found. notice.new ≡ found) (notice.new ≡ notice.old))
         (notice.new ≡ notice.old) result }
 {
     match outcome.held() {

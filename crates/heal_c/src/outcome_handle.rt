@@ -1,8 +1,8 @@
 //! The handle of an outcome.
 ghost use Rattle.std.specs.Prelude.{◌≡◌, Option, Some, None, MatchOption};
-ghost use Rattle.c_calls.specs.Answers.{filled, number_in};
+ghost use Rattle.c_calls.specs.Answers.{held_after, returned_number};
 ghost use Rattle.c_calls.specs.declared.outcome.Outcome.{Outcome};
-ghost use Rattle.heal_c.specs.Held.{coded_outcome};
+ghost use Rattle.heal_c.specs.Held.{coded_held_outcome};
 
 use c_calls::Outcome;
 use handles::BoxParts;
@@ -16,7 +16,7 @@ use std::ptr::null_mut;
 pub struct HealOutcome {
     pub(crate) at: *mut u8,
     alloc: Global,
-    pub ghost outcome: { Option Outcome } by { coded_outcome },
+    pub ghost outcome: { Option Outcome } by { coded_held_outcome },
 }
 
 impl Model for HealOutcome {
@@ -85,8 +85,8 @@ impl HealOutcome {
 
     // Puts what a call made in and returns 0, or returns the number of its refusal.
     pub(crate) fn fill(&mut self, made: Result<Box<Outcome>, u32>) -> u32
-        ensures held { self.new.outcome ≡ filled (λ inner. inner.value) self.old.outcome made }
-        ensures number { result ≡ number_in (λ n. n) made }
+        ensures held { self.new.outcome ≡ held_after (λ inner. inner.value) self.old.outcome made }
+        ensures number { result ≡ returned_number (λ n. n) made }
     {
         match made {
             Ok(inner) => {

@@ -1,7 +1,7 @@
 //! Programs: they are loaded, judge records, and are freed.
 ghost use Rattle.std.specs.Prelude.{◌≡◌, None};
 ghost use Rattle.c_calls.specs.Answers.{Reads};
-ghost use Rattle.c_calls.specs.Programs.{IsLoad, IsJudged};
+ghost use Rattle.c_calls.specs.Programs.{IsLoad, AnswersRecord};
 
 use crate::program_handle::HealProgram;
 use c_calls::{EMPTY_HANDLE, HealEnded, load, slot_of};
@@ -47,7 +47,7 @@ pub extern "C" fn heal_program_judge(
     ended: &mut HealEnded,
 ) -> u32
     ensures { Reads program.old.program program.new.program
-        (λ held n. (n ≡ 0) × IsJudged held «record».now ended.new) (ended.new ≡ ended.old) result }
+        (λ held n. (n ≡ 0) × AnswersRecord held «record».now ended.new) (ended.new ≡ ended.old) result }
 {
     match program.held() {
         Some(held) => {

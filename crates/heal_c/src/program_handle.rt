@@ -1,7 +1,7 @@
 //! The handle of a program.
 ghost use Rattle.std.specs.Prelude.{◌≡◌, Option, Some, None, MatchOption};
 ghost use Rattle.upload_store.specs.Programs.{Upload};
-ghost use Rattle.heal_c.specs.Held.{coded_program};
+ghost use Rattle.heal_c.specs.Held.{coded_held_program};
 
 use handles::BoxParts;
 use std::alloc::Global;
@@ -15,7 +15,7 @@ use upload_store::Upload;
 pub struct HealProgram {
     pub(crate) at: *mut u8,
     alloc: Global,
-    pub ghost program: { Option Upload } by { coded_program },
+    pub ghost program: { Option Upload } by { coded_held_program },
 }
 
 impl Model for HealProgram {

@@ -1,6 +1,6 @@
 //! Records of clashes.
 ghost use Rattle.std.specs.Prelude.{◌≡◌};
-ghost use Rattle.c_calls.specs.Answers.{Gives};
+ghost use Rattle.c_calls.specs.Answers.{GivesDue};
 ghost use Rattle.heal_c.specs.Records as spec;
 
 use c_calls::{HealFacts, HealRegistration, facts_of, name_of, registration_of};
@@ -19,7 +19,7 @@ pub extern "C" fn heal_record(
     of_second: &HealFacts,
     record: &mut [u8; 160],
 ) -> u32
-    ensures { Gives (spec.record_for name.now first.now second.now word of_first.now of_second.now)
+    ensures { GivesDue (spec.record_for name.now first.now second.now word of_first.now of_second.now)
         (λ bytes. «record».new ≡ bytes) («record».new ≡ «record».old) result }
 {
     match record_for(name, first, second, word, of_first, of_second) {

@@ -1,6 +1,6 @@
 //! The words of refusals.
 ghost use Rattle.std.specs.Prelude.{◌≡◌, length};
-ghost use Rattle.heal_c.specs.Words.{as_bytes, words_in, words_of, copied};
+ghost use Rattle.heal_c.specs.Words.{as_bytes, words_in, words_of_refusal, copied};
 ghost use Rattle.refusals.specs.declared.table.TheConstants.{REFUSALS};
 
 use refusals::{REFUSALS, words_in};
@@ -9,8 +9,8 @@ use refusals::{REFUSALS, words_in};
 /// `words` has.
 #[unsafe(no_mangle)]
 pub extern "C" fn heal_refusal_words(number: u32, words: &mut [u8]) -> usize
-    ensures length { result ≡ length (words_of number) }
-    ensures words { words.new ≡ copied (words_of number) words.old }
+    ensures length { result ≡ length (words_of_refusal number) }
+    ensures words { words.new ≡ copied (words_of_refusal number) words.old }
 {
     let text = words_of(number).as_bytes();
     if text.len() <= words.len() {
@@ -21,7 +21,7 @@ pub extern "C" fn heal_refusal_words(number: u32, words: &mut [u8]) -> usize
 
 // Returns the words of a refusal.
 fn words_of(number: u32) -> &'static str
-    ensures { result.now ≡ words_of number }
+    ensures { result.now ≡ words_of_refusal number }
 {
     words_for(all_refusals(), number)
 }

@@ -2,7 +2,7 @@
 ghost use Rattle.std.specs.Prelude.{◌≡◌};
 ghost use Rattle.replica.specs.declared.edit.Edit.TheVariants as edit_of;
 ghost use Rattle.c_calls.specs.Answers.{OnHandle, Reads};
-ghost use Rattle.c_replicas.specs.Edits.{Makes, MakesIf, MakesLimit, registering, unregistering};
+ghost use Rattle.c_replicas.specs.Edits.{Makes, MakesIf, MakesLimit, register_edit, unregister_edit};
 
 use crate::message_handle::HealBytes;
 use crate::program_handle::HealProgram;
@@ -25,7 +25,7 @@ pub extern "C" fn heal_replica_register(
     entry: &mut HealBytes,
 ) -> u32
     ensures { OnHandle replica.old.replica replica.new.replica
-        (λ old new. MakesIf (registering name.now registration.now) old new entry.old.message entry.new.message)
+        (λ old new. MakesIf (register_edit name.now registration.now) old new entry.old.message entry.new.message)
         (entry.new.message ≡ entry.old.message) result }
 {
     match replica.held() {
@@ -46,7 +46,7 @@ pub extern "C" fn heal_replica_unregister(
     entry: &mut HealBytes,
 ) -> u32
     ensures { OnHandle replica.old.replica replica.new.replica
-        (λ old new. MakesIf (unregistering name.now) old new entry.old.message entry.new.message)
+        (λ old new. MakesIf (unregister_edit name.now) old new entry.old.message entry.new.message)
         (entry.new.message ≡ entry.old.message) result }
 {
     match replica.held() {

@@ -2,11 +2,11 @@
 ghost use Rattle.std.specs.Prelude.{◌≡◌, ◌⊎◌, Some, None, IfOk};
 ghost use Rattle.refusals.specs.Answers.{out_of_memory};
 ghost use Rattle.replica.specs.Replicas.{new_replica};
-ghost use Rattle.c_calls.specs.Answers.{Gives, OnHandle, Reads};
+ghost use Rattle.c_calls.specs.Answers.{GivesDue, OnHandle, Reads};
 ghost use Rattle.c_calls.specs.Rows.{found_in, row_in, row_in_after};
 ghost use Rattle.c_replicas.specs.Exchanges.{Changes, Gets};
-ghost use Rattle.c_replicas.specs.Following.{Applies, Follows, Leads, Shows};
-ghost use Rattle.c_replicas.specs.Positions.{life_of, state_of};
+ghost use Rattle.c_replicas.specs.Following.{AppliesBytes, FollowsBytes, Leads, Shows};
+ghost use Rattle.c_replicas.specs.Positions.{life_of, state_code};
 
 use crate::message_handle::HealBytes;
 use crate::replica_handle::HealReplica;
@@ -64,7 +64,7 @@ pub extern "C" fn heal_replica_free(alloc: Global, replica: &mut HealReplica)
 /// Returns 91 for an empty handle.
 #[unsafe(no_mangle)]
 pub extern "C" fn heal_replica_query(replica: &mut HealReplica, known: &mut HealReplicaState) -> u32
-    ensures { Reads replica.old.replica replica.new.replica (λ held n. (n ≡ 0) × (known.new ≡ state_of held))
+    ensures { Reads replica.old.replica replica.new.replica (λ held n. (n ≡ 0) × (known.new ≡ state_code held))
         (known.new ≡ known.old) result }
 {
     match replica.held() {
@@ -85,7 +85,7 @@ pub extern "C" fn heal_replica_whereis(
     name: &[u8],
     registration: &mut HealRegistration,
 ) -> u32
-    ensures { Reads replica.old.replica replica.new.replica (λ held. Gives (found_in name.now held.half.table)
+    ensures { Reads replica.old.replica replica.new.replica (λ held. GivesDue (found_in name.now held.half.table)
         (λ found. registration.new ≡ found) (registration.new ≡ registration.old)) (registration.new ≡ registration.old) result }
 {
     match replica.held() {
@@ -99,7 +99,7 @@ pub extern "C" fn heal_replica_whereis(
 /// Returns 91 for an empty handle, and 92 for an index out of range.
 #[unsafe(no_mangle)]
 pub extern "C" fn heal_replica_row(replica: &mut HealReplica, i: usize, row: &mut HealRow) -> u32
-    ensures { Reads replica.old.replica replica.new.replica (λ held. Gives (row_in i held.half.table)
+    ensures { Reads replica.old.replica replica.new.replica (λ held. GivesDue (row_in i held.half.table)
         (λ found. row.new ≡ found) (row.new ≡ row.old)) (row.new ≡ row.old) result }
 {
     match replica.held() {
@@ -117,7 +117,7 @@ pub extern "C" fn heal_replica_row_after(
     name: &[u8],
     row: &mut HealRow,
 ) -> u32
-    ensures { Reads replica.old.replica replica.new.replica (λ held. Gives (row_in_after name.now held.half.table)
+    ensures { Reads replica.old.replica replica.new.replica (λ held. GivesDue (row_in_after name.now held.half.table)
         (λ found. row.new ≡ found) (row.new ≡ row.old)) (row.new ≡ row.old) result }
 {
     match replica.held() {
@@ -167,7 +167,7 @@ pub extern "C" fn heal_replica_follow(
     replica: &mut HealReplica,
     snapshot: &[u8],
 ) -> u32
-    ensures { OnHandle replica.old.replica replica.new.replica (Follows snapshot.now) (Unit {0}) result }
+    ensures { OnHandle replica.old.replica replica.new.replica (FollowsBytes snapshot.now) (Unit {0}) result }
 {
     match replica.held() {
         Some(held) => follow(held, alloc, snapshot),
@@ -181,7 +181,7 @@ pub extern "C" fn heal_replica_follow(
 /// 97 if an earlier entry is missing, and what the half refuses. Returns 90 when out of memory.
 #[unsafe(no_mangle)]
 pub extern "C" fn heal_replica_apply(alloc: Global, replica: &mut HealReplica, entry: &[u8]) -> u32
-    ensures { OnHandle replica.old.replica replica.new.replica (Applies entry.now) (Unit {0}) result }
+    ensures { OnHandle replica.old.replica replica.new.replica (AppliesBytes entry.now) (Unit {0}) result }
 {
     match replica.held() {
         Some(held) => apply(held, alloc, entry),

@@ -1,7 +1,7 @@
 //! The handle of a replica.
 ghost use Rattle.std.specs.Prelude.{◌≡◌, Option, Some, None, MatchOption};
 ghost use Rattle.replica.specs.Replicas.{Replica};
-ghost use Rattle.heal_c.specs.Held.{coded_replica};
+ghost use Rattle.heal_c.specs.Held.{coded_held_replica};
 
 use handles::BoxParts;
 use replica::Replica;
@@ -15,7 +15,7 @@ use std::ptr::null_mut;
 pub struct HealReplica {
     pub(crate) at: *mut u8,
     alloc: Global,
-    pub ghost replica: { Option Replica } by { coded_replica },
+    pub ghost replica: { Option Replica } by { coded_held_replica },
 }
 
 impl Model for HealReplica {

@@ -1,7 +1,7 @@
 //! The handle of a sandbox.
 ghost use Rattle.std.specs.Prelude.{◌≡◌, Option, Some, None, MatchOption};
 ghost use Rattle.verifier.specs.Stores.{CodeFor};
-ghost use Rattle.heal_c.specs.Held.{coded_sandbox};
+ghost use Rattle.heal_c.specs.Held.{coded_held_sandbox};
 
 use bpf::Sandbox;
 use handles::BoxParts;
@@ -15,7 +15,7 @@ use std::ptr::null_mut;
 pub struct HealSandbox {
     pub(crate) at: *mut u8,
     alloc: Global,
-    pub ghost sandbox: { Option CodeFor } by { coded_sandbox },
+    pub ghost sandbox: { Option CodeFor } by { coded_held_sandbox },
 }
 
 impl Model for HealSandbox {

@@ -4,9 +4,9 @@ ghost use Rattle.std.specs.FinMap.{len};
 ghost use Rattle.refusals.specs.Answers.{out_of_memory};
 ghost use Rattle.partition_table.specs.Tables.{max_names};
 ghost use Rattle.exchange_core.specs.Shown.{shown, calls};
-ghost use Rattle.c_calls.specs.Answers.{Gives, IsAnswer, OnHandle, Reads};
+ghost use Rattle.c_calls.specs.Answers.{GivesDue, GivesDueOrRunsOut, OnHandle, Reads};
 ghost use Rattle.c_calls.specs.Kept.{Forgets, GivesCode, id_from};
-ghost use Rattle.c_calls.specs.Sides.{side_id, side_within, Registers, Unregisters, Renews, GivesUp, IsNew, IsUpload, found_at, row_after, row_at};
+ghost use Rattle.c_calls.specs.Sides.{side_id, side_within, Registers, Unregisters, Renews, GivesUp, IsNewHalf, IsUpload, found_at, row_after, row_code_at};
 
 use crate::message_handle::HealBytes;
 use crate::side_handle::HealSide;
@@ -21,7 +21,7 @@ use std::alloc::Global;
 /// Returns 74 for another number. Returns 90 when out of memory.
 #[unsafe(no_mangle)]
 pub extern "C" fn heal_side_new(alloc: Global, id: u32, side: &mut HealSide) -> u32
-    ensures { IsAnswer (side_id id) (λ id. IsSomeAnd side.new.half (IsNew max_names id)) (side.new.half ≡ side.old.half)
+    ensures { GivesDueOrRunsOut (side_id id) (λ id. IsSomeAnd side.new.half (IsNewHalf max_names id)) (side.new.half ≡ side.old.half)
         result }
 {
     match side_id(id) {
@@ -40,7 +40,7 @@ pub extern "C" fn heal_side_new_within(
     names: usize,
     side: &mut HealSide,
 ) -> u32
-    ensures { IsAnswer (side_within id names) (λ at. IsSomeAnd side.new.half (IsNew at.1 at.0))
+    ensures { GivesDueOrRunsOut (side_within id names) (λ at. IsSomeAnd side.new.half (IsNewHalf at.1 at.0))
         (side.new.half ≡ side.old.half) result }
 {
     let id = match side_id(id) {
@@ -55,7 +55,7 @@ pub extern "C" fn heal_side_new_within(
 
 // Puts an idle side of this limit into the handle, or returns 90.
 fn new_half(alloc: Global, id: SideId, limit: NameLimit, side: &mut HealSide) -> u32
-    ensures { ((result ≡ 0) × IsSomeAnd side.new.half (IsNew limit.names id))
+    ensures { ((result ≡ 0) × IsSomeAnd side.new.half (IsNewHalf limit.names id))
         ⊎ ((result ≡ out_of_memory) × (side.new.half ≡ side.old.half)) }
 {
     match Box::new(alloc, Half::new(alloc, id, limit)) {
@@ -177,7 +177,7 @@ pub extern "C" fn heal_side_whereis(
     name: &[u8],
     registration: &mut HealRegistration,
 ) -> u32
-    ensures { Reads side.old.half side.new.half (λ held. Gives (found_at name.now held) (λ found. registration.new ≡ found)
+    ensures { Reads side.old.half side.new.half (λ held. GivesDue (found_at name.now held) (λ found. registration.new ≡ found)
         (registration.new ≡ registration.old)) (registration.new ≡ registration.old) result }
 {
     match side.held() {
@@ -208,7 +208,7 @@ pub extern "C" fn heal_side_count(side: &mut HealSide, count: &mut usize) -> u32
 /// Returns 91 for an empty handle, and 92 for an index out of range.
 #[unsafe(no_mangle)]
 pub extern "C" fn heal_side_row(side: &mut HealSide, i: usize, row: &mut HealRow) -> u32
-    ensures { Reads side.old.half side.new.half (λ held. Gives (row_at i held) (λ found. row.new ≡ found)
+    ensures { Reads side.old.half side.new.half (λ held. GivesDue (row_code_at i held) (λ found. row.new ≡ found)
         (row.new ≡ row.old)) (row.new ≡ row.old) result }
 {
     match side.held() {
@@ -223,7 +223,7 @@ pub extern "C" fn heal_side_row(side: &mut HealSide, i: usize, row: &mut HealRow
 /// Returns 91 for an empty handle, 44 for an invalid name, and 92 if no name is above it.
 #[unsafe(no_mangle)]
 pub extern "C" fn heal_side_row_after(side: &mut HealSide, name: &[u8], row: &mut HealRow) -> u32
-    ensures { Reads side.old.half side.new.half (λ held. Gives (row_after name.now held) (λ found. row.new ≡ found)
+    ensures { Reads side.old.half side.new.half (λ held. GivesDue (row_after name.now held) (λ found. row.new ≡ found)
         (row.new ≡ row.old)) (row.new ≡ row.old) result }
 {
     match side.held() {

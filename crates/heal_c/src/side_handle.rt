@@ -1,8 +1,8 @@
 //! The handle of a side.
 ghost use Rattle.std.specs.Prelude.{◌≡◌, Option, Some, None, MatchOption};
-ghost use Rattle.c_calls.specs.Answers.{filled, number_in};
-ghost use Rattle.c_calls.specs.Halves.{Half};
-ghost use Rattle.heal_c.specs.Held.{coded_half};
+ghost use Rattle.c_calls.specs.Answers.{held_after, returned_number};
+ghost use Rattle.c_calls.specs.Halves.{SideAndStore};
+ghost use Rattle.heal_c.specs.Held.{coded_held_half};
 
 use c_calls::Half;
 use handles::BoxParts;
@@ -16,12 +16,12 @@ use std::ptr::null_mut;
 pub struct HealSide {
     pub(crate) at: *mut u8,
     alloc: Global,
-    pub ghost half: { Option Half } by { coded_half },
+    pub ghost half: { Option SideAndStore } by { coded_held_half },
 }
 
 impl Model for HealSide {
     ghost use Rattle.std.specs.Prelude.{Option};
-    ghost use Rattle.c_calls.specs.Halves.{Half};
+    ghost use Rattle.c_calls.specs.Halves.{SideAndStore};
     ghost use Rattle.c_calls.specs.contracts.half.Half.{the_row};
     ghost use Rattle.handles.specs.Handles.{handle_owns};
 
@@ -85,8 +85,8 @@ impl HealSide {
 
     // Puts what a call made in and returns 0, or returns the number of its refusal.
     pub(crate) fn fill(&mut self, made: Result<Box<Half>, u32>) -> u32
-        ensures held { self.new.half ≡ filled (λ inner. inner.value) self.old.half made }
-        ensures number { result ≡ number_in (λ n. n) made }
+        ensures held { self.new.half ≡ held_after (λ inner. inner.value) self.old.half made }
+        ensures number { result ≡ returned_number (λ n. n) made }
     {
         match made {
             Ok(inner) => {

@@ -3,17 +3,17 @@ use Rattle.std.specs.Prelude.{◌≡◌, ◌≢◌, ◌⊎◌, ℕ, List, Option
 use Rattle.std.specs.declared.io.ErrorKind.{ErrorKind}
 use Rattle.std.specs.declared.io.ErrorKind.TheVariants as of_io
 use Rattle.command_line.specs.declared.task.Task.{Task}
-use Rattle.command_line.specs.Asked.{Asked, Asks, asked_by}
+use Rattle.command_line.specs.Asked.{AskedTask, Asks, asked_task}
 use Rattle.heal_main.specs.Obeying.{Obeys}
 
 -- the task of the words is carried out; or they have none, with status 1; or memory ran out, with status 3. In the last
 -- two cases nothing is written, and standard error has a text for the user
-pub data IsAnswered (words : List (List ℕ)) (old new told_old told_new : Option (List ℕ)) (status : ℕ) : Type 0 where
-  carried_out : (task : Task) → Asks words (asked_by task) → Obeys task old new told_old told_new status
-      → IsAnswered words old new told_old told_new status
-  no_task : ((task : Asked) → Asks words task → ⊥) → status ≡ 1 → new ≡ old
-      → IsAnswered words old new told_old told_new status
-  no_memory : status ≡ 3 → new ≡ old → IsAnswered words old new told_old told_new status
+pub data AnswersWords (words : List (List ℕ)) (old new told_old told_new : Option (List ℕ)) (status : ℕ) : Type 0 where
+  carried_out : (task : Task) → Asks words (asked_task task) → Obeys task old new told_old told_new status
+      → AnswersWords words old new told_old told_new status
+  no_task : ((task : AskedTask) → Asks words task → ⊥) → status ≡ 1 → new ≡ old
+      → AnswersWords words old new told_old told_new status
+  no_memory : status ≡ 3 → new ≡ old → AnswersWords words old new told_old told_new status
 
 -- the words could not be read: memory ran out, with status 3, or an argument isn't text, with status 1. Nothing is
 -- written

@@ -3,7 +3,7 @@ ghost use Rattle.std.specs.Prelude.{◌≡◌, ◌⊎◌, IfOk, IfErr, map};
 ghost use Rattle.std.specs.IoError.{error_kind};
 ghost use Rattle.std.specs.String.{string_bytes};
 ghost use Rattle.command_line.specs.Asked.{IsForMemory};
-ghost use Rattle.heal_main.specs.Answering.{IsAnswered, IsUnread};
+ghost use Rattle.heal_main.specs.Answering.{AnswersWords, IsUnread};
 
 use crate::obeying::obey;
 use command_line::{CommandFault, command};
@@ -32,7 +32,7 @@ fn answer_words<
     E: Write,
     N: Narrator,
 >(rt: &R, words: &[S], output: &mut O, errors: &mut E, narrator: &N) -> u8
-    ensures { IsAnswered (map S.text words.now) (O.contents output.old) (O.contents output.new) (E.contents errors.old)
+    ensures { AnswersWords (map S.text words.now) (O.contents output.old) (O.contents output.new) (E.contents errors.old)
         (E.contents errors.new) result }
 {
     match command(rt.alloc(), words) {
@@ -49,7 +49,7 @@ pub fn answer<
     E: Write,
     N: Narrator,
 >(rt: &R, words: io::Result<Vec<String>>, output: &mut O, errors: &mut E, narrator: &N) -> u8
-    ensures answered { IfOk words (λ words. IsAnswered (map string_bytes words.items) (O.contents output.old)
+    ensures answered { IfOk words (λ words. AnswersWords (map string_bytes words.items) (O.contents output.old)
         (O.contents output.new) (E.contents errors.old) (E.contents errors.new) result) }
     ensures unread { IfErr words (λ error. IsUnread (error_kind error) (O.contents output.old) (O.contents output.new)
         result) }

@@ -6,12 +6,12 @@ ghost use Rattle.heal_main.specs.Obeying.{Obeys, RunsFile, TellsUnopened};
 use crate::person::Listener;
 use command_line::{Names, Task};
 use device::send;
-use judge_pool::{OpenGate, Workers};
+use judge_pool::{Gate, OpenGate};
 use partition_table::NameLimit;
 use questions::{is_standard_input, print_refusals, print_version, reply_to};
-use scripts::{Narrator, run_narrated};
+use scripts::{Crew, Narrator, run_narrated};
 use std::fs;
-use std::io::{ErrorKind, Input, Read, Write};
+use std::io::{ErrorKind, Input, Write};
 use std::rt::Files;
 use std::sync::Wait;
 use std::thread::Threads;
@@ -58,7 +58,13 @@ fn carry_out<
                 narrator,
                 explain: *explain,
             };
-            run(rt, file, *workers, limit_of(*names), writer, &listener)
+            let crew = Crew {
+                rt,
+                workers: *workers,
+                gate: &OpenGate,
+                narrator: &listener,
+            };
+            run(&crew, file, limit_of(*names), writer)
         }
         Task::Version => print_version(writer),
         Task::Refusals => print_refusals(rt.alloc(), writer),
@@ -76,37 +82,21 @@ fn limit_of(names: Names) -> NameLimit
 }
 
 // Carries out the script in a file or on standard input.
-fn run<R: Files + Input + Threads + Wait + Sync + AllocGlobal, W: Write, N: Narrator>(
-    rt: &R,
-    file: &str,
-    workers: Workers,
-    limit: NameLimit,
-    writer: &mut W,
-    narrator: &N,
-) -> u8
+fn run<
+    R: Files + Input + Threads + Wait + Sync + AllocGlobal,
+    G: Gate + Sync,
+    W: Write,
+    N: Narrator,
+>(crew: &Crew<'_, R, G, N>, file: &str, limit: NameLimit, writer: &mut W) -> u8
     ensures { RunsFile limit.names (W.contents writer.old) (W.contents writer.new) result }
 {
     if is_standard_input(file) {
-        return run_from(rt, &mut rt.reader(), workers, limit, writer, narrator);
+        return run_narrated(crew, &mut crew.rt.reader(), writer, limit);
     }
-    match fs::open(rt, file) {
-        Ok(mut file) => run_from(rt, &mut file, workers, limit, writer, narrator),
+    match fs::open(crew.rt, file) {
+        Ok(mut file) => run_narrated(crew, &mut file, writer, limit),
         Err(error) => tell_unopened(error.kind(), writer),
     }
-}
-
-// Carries out the script that a reader yields.
-fn run_from<T: Files + Threads + Wait + Sync + AllocGlobal, R: Read, W: Write, N: Narrator>(
-    rt: &T,
-    reader: &mut R,
-    workers: Workers,
-    limit: NameLimit,
-    writer: &mut W,
-    narrator: &N,
-) -> u8
-    ensures { RunsFile limit.names (W.contents writer.old) (W.contents writer.new) result }
-{
-    run_narrated(rt, reader, writer, limit, workers, &OpenGate, narrator)
 }
 
 // Reports that a file could not be opened, and returns the status.

@@ -1,12 +1,12 @@
 -- The draws of a worker so far.
-use Rattle.std.proofs.Common.{◌≡◌, ◌≢◌, inl, inr, ℕ, zero, suc, ◌+◌, ◌-◌, ◌<◌, ◌≤◌, min, Bool, true, false, ◌&&◌, eqb, ltb, List, [], ◌∷◌, ◌++◌, eq-eqb, ne_eqb, refl, sym, ap, ◌∙◌, arith}
+use Rattle.std.proofs.Common.{◌≡◌, ◌≢◌, inl, inr, ℕ, zero, suc, ◌+◌, ◌-◌, ◌<◌, ◌≤◌, min, Bool, true, false, ◌&&◌, eqb, ltb, List, ◌++◌, eq-eqb, ne_eqb, refl, sym, ap, ◌∙◌, arith}
 use Rattle.std.proofs.lemmas.Bool.{ltb-true, ltb-false}
 use Rattle.std.specs.declared.ops.Range.{Range}
 use mathlib.Core.Logic.{dite}
 use native.Mathlib.Decide.{ℕ_discrete}
-use Rattle.verdict_board.specs.Draws.{one_if, weigh, in_round, is_draw, taken, times, most_drawn, row_from, row_len, DrawsRow}
+use Rattle.verdict_board.specs.Draws.{one_if, in_round, is_draw, taken, times, most_drawn, row_from, row_len, DrawsRow}
 use Rattle.verdict_board.specs.laws.Weights.{weigh-append, row_counts, row_counts_none}
-use Rattle.judge_pool.specs.Work.{is_clash_drawn, clashes_drawn, DrewIn, IsSpent}
+use Rattle.judge_pool.specs.Work.{is_clash_drawn, clashes_drawn, IsSpent}
 use Rattle.judge_pool.specs.model.Rows.{Drew}
 
 -- ---- the draws of one row

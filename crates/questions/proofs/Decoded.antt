@@ -8,7 +8,7 @@ use Rattle.questions.specs.Details.{IsCodeDetails, IsProgramDetails, of_code, no
 use Rattle.questions.specs.declared.failures.Failure.{Failure}
 use Rattle.questions.specs.declared.failures.Failure.TheVariants.{Refused, OutOfMemory}
 use Rattle.questions.specs.Refusals.{OnRefusal}
-use Rattle.questions.specs.Judging.{IsCodeText, IsCodeFault}
+use Rattle.questions.specs.Judging.{IsCodeText, IsCodeTextFault}
 
 pub decoded : {D : Type 0} (o : Ops D) (digits : List ℕ) (whole : Bool) (slot : Option ℕ) (text : List ℕ)
     (code : List Insn) → (whole ≡ false → slot ≡ None → ⊥) → IsCodeText digits code
@@ -19,7 +19,7 @@ decoded o digits false None text code some is h = absurd (some refl refl)
 
 pub undecoded : {D : Type 0} (o : Ops D) (digits : List ℕ) (whole : Bool) (slot : Option ℕ) (text : List ℕ)
     (f : Failure) (r : NumberedRefusal) → (whole ≡ false → slot ≡ None → ⊥) → f ≡ Refused r
-    → OnRefusal (IsCodeFault digits) f → text ≡ [] → IsProgramDetails o digits whole slot text
+    → OnRefusal (IsCodeTextFault digits) f → text ≡ [] → IsProgramDetails o digits whole slot text
 undecoded o digits true slot text (Refused q) r some same is e = no_code q is e
 undecoded o digits false (Some slot) text (Refused q) r some same is e = no_code q is e
 undecoded o digits false None text (Refused q) r some same is e = absurd (some refl refl)

@@ -8,14 +8,14 @@ use Rattle.questions.specs.declared.printing.Answer.{Answer}
 use Rattle.questions.specs.declared.printing.Answer.TheVariants as said
 use Rattle.questions.specs.Refusals.{OnRefusal}
 use Rattle.code_file.specs.Files.{max_file_len, IsReading}
-use Rattle.questions.specs.Sources.{IsText, IsNoText, IsFaulty, IsSource, IsNoSource, too_long, not_utf8, no_text, faulty}
+use Rattle.questions.specs.Sources.{IsSourceText, IsNoSourceText, IsFaultyText, IsSource, IsNoSource, too_long, not_utf8, no_text, faulty}
 use Rattle.questions.specs.Lines.{IsOfBytes, answer_unless_memory}
 
-pub no_text_failure : (bytes : List ℕ) (f : Failure) → OnRefusal (IsNoText bytes) f → OnRefusal (IsNoSource bytes) f
+pub no_text_failure : (bytes : List ℕ) (f : Failure) → OnRefusal (IsNoSourceText bytes) f → OnRefusal (IsNoSource bytes) f
 no_text_failure bytes (Refused r) h = no_text h
 no_text_failure bytes OutOfMemory h = h
 
-pub faulty_failure : (bytes : List ℕ) (f : Failure) → IsText bytes → OnRefusal (IsFaulty bytes) f
+pub faulty_failure : (bytes : List ℕ) (f : Failure) → IsSourceText bytes → OnRefusal (IsFaultyText bytes) f
     → OnRefusal (IsNoSource bytes) f
 faulty_failure bytes (Refused r) is_text h = faulty is_text h
 faulty_failure bytes OutOfMemory is_text h = h

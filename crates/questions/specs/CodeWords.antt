@@ -3,7 +3,7 @@ use Rattle.std.specs.Prelude.{◌≡◌, ℕ, List, Option, None, IsSome, Result
 use Rattle.std.specs.Borrow.{Bor}
 use Rattle.std.specs.Prelude.{String}
 use Rattle.refusals.specs.declared.NumberedRefusal.{NumberedRefusal}
-use Rattle.code_file.specs.CodeFiles.{fault_number, fault_place}
+use Rattle.code_file.specs.CodeFiles.{code_file_fault_number, code_file_fault_place}
 use Rattle.code_file.specs.Files.{IsFileCode, IsFileFault, OfBytes, file_named, file_fault_number, file_fault_place}
 use Rattle.code_file.specs.declared.fault.FileFault.{FileFault}
 use Rattle.code_file.specs.declared.fault.FileFault.TheVariants.{Code, TooLong, Unreadable}
@@ -24,11 +24,11 @@ code_file (Asm file) = None
 code_file (Dis code) = file_named code.now
 
 -- the question with these digits for its code
-abbrev pub with_code : Bor (List ℕ) → Question → Question
-with_code digits (Check code profile explain) = Check digits profile explain
-with_code digits (Judge code clash explain) = Judge digits clash explain
-with_code digits (Asm file) = Asm file
-with_code digits (Dis code) = Dis digits
+abbrev pub with_digits : Bor (List ℕ) → Question → Question
+with_digits digits (Check code profile explain) = Check digits profile explain
+with_digits digits (Judge code clash explain) = Judge digits clash explain
+with_digits digits (Asm file) = Asm file
+with_digits digits (Dis code) = Dis digits
 
 -- the digits without where they lie in memory
 abbrev pub found_digits : {A : Type 0} → Result (String A) Answer → Result (List ℕ) Answer
@@ -45,7 +45,7 @@ abbrev pub told_file : {D : Type 0} → Result D FileFault → Result (Result D 
 told_file (Ok digits) = Ok (Ok digits)
 told_file (Err Unreadable) = Ok (Err DeviceFault)
 told_file (Err TooLong) = told_failure (failure_by (file_fault_number TooLong) (file_fault_place TooLong))
-told_file (Err (Code fault)) = told_failure (failure_by (fault_number fault) (fault_place fault))
+told_file (Err (Code fault)) = told_failure (failure_by (code_file_fault_number fault) (code_file_fault_place fault))
 
 -- the refusal for a file of this content
 pub record IsFileRefusal (content : List ℕ) (r : NumberedRefusal) : Type 0 where
@@ -65,4 +65,4 @@ IsOfFile known (Err said) = ⊥
 pub data IsByDigits (question : Question) (asked : Question) : Type 0 where
   itself : code_file question ≡ None → asked ≡ question → IsByDigits question asked
   of_file : (content : List ℕ) → (digits : Bor (List ℕ)) → IsSome (code_file question)
-      → IsFileCode content digits.now → asked ≡ with_code digits question → IsByDigits question asked
+      → IsFileCode content digits.now → asked ≡ with_digits digits question → IsByDigits question asked

@@ -8,7 +8,7 @@ use Rattle.abstract_value.specs.Boths.{both_ops}
 use Rattle.abstract_value.specs.Domain.{Ops}
 use Rattle.abstract_value.specs.Ranges.{interval_ops}
 use Rattle.instruction_set.specs.declared.insn.Insn.{Insn}
-use Rattle.explanation.specs.Listings.{IsListed, IsTextAt}
+use Rattle.explanation.specs.Listings.{ListsCode, IsTextAt}
 use Rattle.verifier.specs.Programs as program
 use Rattle.questions.specs.declared.question.Profile.TheVariants.{Unsigned, Both}
 use Rattle.questions.specs.declared.question.Question.{Question}
@@ -18,20 +18,20 @@ use Rattle.questions.specs.declared.printing.Answer.TheVariants.{Refused, Ruled}
 use Rattle.questions.specs.declared.question.ClashWords.{ClashWords}
 use Rattle.clash_fields.specs.Texts.{record_text}
 use Rattle.questions.specs.ClashFields.{IsClash, IsNoClash}
-use Rattle.questions.specs.Judging.{IsCodeText, IsCodeFault}
+use Rattle.questions.specs.Judging.{IsCodeText, IsCodeTextFault}
 
-abbrev pub slot_in : Option Place → Option ℕ
-slot_in (Some (Slot slot)) = Some slot
-slot_in place = None
+abbrev pub place_slot : Option Place → Option ℕ
+place_slot (Some (Slot slot)) = Some slot
+place_slot place = None
 
 -- the slot that a refusal names, if any
-abbrev pub slot_of : Answer → Option ℕ
-slot_of (Refused r) = slot_in r.place
-slot_of said = None
+abbrev pub refused_slot : Answer → Option ℕ
+refused_slot (Refused r) = place_slot r.place
+refused_slot said = None
 
 -- the text of the whole code, or of the instruction at a slot
 abbrev pub IsCodeDetails : {D : Type 0} → Ops D → List Insn → Bool → ℕ → List ℕ → Type 0
-IsCodeDetails o code true slot text = IsListed o code code text
+IsCodeDetails o code true slot text = ListsCode o code code text
 IsCodeDetails o code false slot text = IsTextAt o code slot text
 
 -- the text of the code in these digits: of the whole code, or of the instruction at a slot, if any. Digits of no code
@@ -39,7 +39,7 @@ IsCodeDetails o code false slot text = IsTextAt o code slot text
 pub data IsDecoded {D : Type 0} (o : Ops D) (digits : List ℕ) (whole : Bool) (slot : ℕ) (text : List ℕ) : Type 0 where
   of_code : (code : List Insn) → IsCodeText digits code → IsCodeDetails o code whole slot text
       → IsDecoded o digits whole slot text
-  no_code : (r : NumberedRefusal) → IsCodeFault digits r → text ≡ [] → IsDecoded o digits whole slot text
+  no_code : (r : NumberedRefusal) → IsCodeTextFault digits r → text ≡ [] → IsDecoded o digits whole slot text
 
 abbrev pub IsProgramDetails : {D : Type 0} → Ops D → List ℕ → Bool → Option ℕ → List ℕ → Type 0
 IsProgramDetails o digits true slot text = IsDecoded o digits true 0 text
@@ -63,10 +63,10 @@ IsSeen clash explain said text = text ≡ []
 
 -- before each instruction if the question asks for an explanation, else before the one that the answer refuses
 abbrev pub IsDetails : Question → Answer → List ℕ → Type 0
-IsDetails (Check code Unsigned explain) said text = IsProgramDetails interval_ops code.now explain (slot_of said) text
-IsDetails (Check code Both explain) said text = IsProgramDetails both_ops code.now explain (slot_of said) text
+IsDetails (Check code Unsigned explain) said text = IsProgramDetails interval_ops code.now explain (refused_slot said) text
+IsDetails (Check code Both explain) said text = IsProgramDetails both_ops code.now explain (refused_slot said) text
 IsDetails (Judge code clash explain) said text =
-    (front rest : List ℕ) × IsProgramDetails program.profile code.now false (slot_of said) front
+    (front rest : List ℕ) × IsProgramDetails program.profile code.now false (refused_slot said) front
     × IsSeen clash explain said rest × (text ≡ front ++ rest)
 IsDetails (Asm file) said text = text ≡ []
 IsDetails (Dis code) said text = text ≡ []

@@ -23,20 +23,20 @@ use Rattle.questions.specs.Refusals.{refusal, IsInput}
 -- ---- the answer
 
 -- the answer of a program to a clash
-pub record Ruling : Type 0 where
+pub record ClashRuling : Type 0 where
   pub code : List Insn
   pub bytes : List ℕ
   pub verdict : Verdict3
   pub answer : ℕ
   pub steps : ℕ
 
-abbrev pub ruling : List Insn → List ℕ → Verdict3 → ℕ → ℕ → Ruling
+abbrev pub ruling : List Insn → List ℕ → Verdict3 → ℕ → ℕ → ClashRuling
 ruling code bytes verdict answer steps =
     record { code = code; bytes = bytes; verdict = verdict; answer = answer; steps = steps }
 
 -- the answer is the code's meaning, the verdict is that of the answer, and the code ends with it in this number of steps
 -- at every placement
-pub record IsRuling (r : Ruling) : Type 0 where
+pub record IsRuling (r : ClashRuling) : Type 0 where
   pub answer_is : r.answer ≡ meaning r.code r.bytes
   pub verdict_is : r.verdict ≡ verdict_of_answer (meaning r.code r.bytes)
   pub steps_are : Ends r.code r.bytes (meaning r.code r.bytes) r.steps
@@ -68,27 +68,28 @@ pub record IsCodeText (text : List ℕ) (code : List Insn) : Type 0 where
   pub spelled : Spells bytes code
 
 -- the text isn't the hex digits of code, for this reason
-pub data IsCodeFault (text : List ℕ) (r : NumberedRefusal) : Type 0 where
-  no_hex : IsNoHex text r → IsCodeFault text r
-  no_code : (bytes : List ℕ) → decode_of text ≡ Ok bytes → IsNoCode bytes r → IsCodeFault text r
+pub data IsCodeTextFault (text : List ℕ) (r : NumberedRefusal) : Type 0 where
+  no_hex : IsNoHex text r → IsCodeTextFault text r
+  no_code : (bytes : List ℕ) → decode_of text ≡ Ok bytes → IsNoCode bytes r → IsCodeTextFault text r
 
 -- the text is the hex digits of a program that is accepted over a domain
-pub record IsProgramOver {D : Type 0} (o : Ops D) (text : List ℕ) (code : List Insn) : Type 0 where
+pub record IsProgramTextOver {D : Type 0} (o : Ops D) (text : List ℕ) (code : List Insn) : Type 0 where
   pub bytes : List ℕ
   pub digits : decode_of text ≡ Ok bytes
   pub accepted : program.IsAcceptedOver o bytes code
 
 -- the text isn't the hex digits of an accepted program, for this reason
-pub data IsProgramFaultOver {D : Type 0} (o : Ops D) (text : List ℕ) (r : NumberedRefusal) : Type 0 where
-  no_digits : IsNoHex text r → IsProgramFaultOver o text r
-  no_program : (bytes : List ℕ) → decode_of text ≡ Ok bytes → IsNoProgramOver o bytes r → IsProgramFaultOver o text r
+pub data IsProgramTextFaultOver {D : Type 0} (o : Ops D) (text : List ℕ) (r : NumberedRefusal) : Type 0 where
+  no_digits : IsNoHex text r → IsProgramTextFaultOver o text r
+  no_program : (bytes : List ℕ) → decode_of text ≡ Ok bytes → IsNoProgramOver o bytes r
+      → IsProgramTextFaultOver o text r
 
 -- the same over the domain of programs
-abbrev pub IsProgram : List ℕ → List Insn → Type 0
-IsProgram = IsProgramOver program.profile
+abbrev pub IsProgramText : List ℕ → List Insn → Type 0
+IsProgramText = IsProgramTextOver program.profile
 
-abbrev pub IsProgramFault : List ℕ → NumberedRefusal → Type 0
-IsProgramFault = IsProgramFaultOver program.profile
+abbrev pub IsProgramTextFault : List ℕ → NumberedRefusal → Type 0
+IsProgramTextFault = IsProgramTextFaultOver program.profile
 
 -- a record has the length of a clash record, or of the earlier, shorter one
 abbrev pub IsRecordLength : ℕ → Type 0
@@ -102,17 +103,17 @@ pub record IsClashText (text clash : List ℕ) : Type 0 where
   pub whole : clash ≡ bytes ++ replicate (record_len - length bytes) 0
 
 -- the text isn't the hex digits of a record, for this reason
-pub data IsClashFault (text : List ℕ) (r : NumberedRefusal) : Type 0 where
-  no_bytes : IsNoHex text r → IsClashFault text r
+pub data IsClashTextFault (text : List ℕ) (r : NumberedRefusal) : Type 0 where
+  no_bytes : IsNoHex text r → IsClashTextFault text r
   wrong_length : (bytes : List ℕ) → decode_of text ≡ Ok bytes → (IsRecordLength (length bytes) → ⊥)
-      → IsInput RecordLength r → IsClashFault text r
+      → IsInput RecordLength r → IsClashTextFault text r
 
 -- the refusal with the lesser number
-abbrev pub least : NumberedRefusal → NumberedRefusal → NumberedRefusal
-least e f = if nat_le e.number f.number then e else f
+abbrev pub lesser_refusal : NumberedRefusal → NumberedRefusal → NumberedRefusal
+lesser_refusal e f = if nat_le e.number f.number then e else f
 
 -- the failure to report of two
 abbrev pub first : Failure → Failure → Failure
-first (Refused e) (Refused f) = Refused (least e f)
+first (Refused e) (Refused f) = Refused (lesser_refusal e f)
 first (Refused e) OutOfMemory = OutOfMemory
 first OutOfMemory f = OutOfMemory

@@ -30,7 +30,7 @@ use Rattle.questions.specs.CodeWords.{IsByDigits, IsOfFile, code_file}
 use Rattle.questions.specs.Details.{IsDetails}
 use Rattle.questions.specs.Sources.{IsSource, IsNoSource}
 use Rattle.code_file.specs.Files.{OfBytes}
-use Rattle.questions.specs.Judging.{IsCodeText, IsCodeFault, IsProgram, IsProgramOver, IsProgramFault, IsProgramFaultOver, Ruling, IsRuling, least}
+use Rattle.questions.specs.Judging.{IsCodeText, IsCodeTextFault, IsProgramText, IsProgramTextOver, IsProgramTextFault, IsProgramTextFaultOver, ClashRuling, IsRuling, lesser_refusal}
 use Rattle.device.specs.Sending.{AppendsFront}
 
 -- ---- the answer
@@ -38,8 +38,8 @@ use Rattle.device.specs.Sending.{AppendsFront}
 -- both are valid, and this is the program's answer to the record
 pub record IsVerdict (code : List ℕ) (clash : ClashWords) (verdict : Verdict3) (answer steps : ℕ)
     : Type 0 where
-  pub ruling : Ruling
-  pub is_program : IsProgram code ruling.code
+  pub ruling : ClashRuling
+  pub is_program : IsProgramText code ruling.code
   pub is_clash : IsClash clash ruling.bytes
   pub is_ruling : IsRuling ruling
   pub verdict_is : verdict ≡ ruling.verdict
@@ -47,27 +47,28 @@ pub record IsVerdict (code : List ℕ) (clash : ClashWords) (verdict : Verdict3)
   pub steps_are : steps ≡ ruling.steps
 
 -- one of the two is invalid, or both are, and then the refusal with the lesser number is returned
-pub data IsWrong (code : List ℕ) (clash : ClashWords) (r : NumberedRefusal) : Type 0 where
-  code_alone : (bytes : List ℕ) → IsProgramFault code r → IsClash clash bytes → IsWrong code clash r
-  clash_alone : (program : List Insn) → IsProgram code program → IsNoClash clash r → IsWrong code clash r
-  both : (e f : NumberedRefusal) → IsProgramFault code e → IsNoClash clash f → r ≡ least e f → IsWrong code clash r
+pub data IsNoVerdict (code : List ℕ) (clash : ClashWords) (r : NumberedRefusal) : Type 0 where
+  code_alone : (bytes : List ℕ) → IsProgramTextFault code r → IsClash clash bytes → IsNoVerdict code clash r
+  clash_alone : (program : List Insn) → IsProgramText code program → IsNoClash clash r → IsNoVerdict code clash r
+  both : (e f : NumberedRefusal) → IsProgramTextFault code e → IsNoClash clash f → r ≡ lesser_refusal e f
+      → IsNoVerdict code clash r
 
 -- the answer where a clash is judged
 abbrev pub IsJudged : List ℕ → ClashWords → Answer → Type 0
 IsJudged code clash (Ruled verdict answer steps) = IsVerdict code clash verdict answer steps
-IsJudged code clash (Refused r) = IsWrong code clash r
+IsJudged code clash (Refused r) = IsNoVerdict code clash r
 IsJudged code clash said = ⊥
 
 -- the program is accepted over a domain, and has this number of instructions
 pub record IsCountOver {D : Type 0} (o : Ops D) (text : List ℕ) (count : ℕ) : Type 0 where
   pub code : List Insn
-  pub is_program : IsProgramOver o text code
+  pub is_program : IsProgramTextOver o text code
   pub count_is : count ≡ length code
 
 -- the answer where a program is checked over a domain
 abbrev pub IsCheckedOver : {D : Type 0} → Ops D → List ℕ → Answer → Type 0
 IsCheckedOver o text (Accepted count) = IsCountOver o text count
-IsCheckedOver o text (Refused r) = IsProgramFaultOver o text r
+IsCheckedOver o text (Refused r) = IsProgramTextFaultOver o text r
 IsCheckedOver o text said = ⊥
 
 -- over the ranges of a profile
@@ -78,7 +79,7 @@ IsChecked Both = IsCheckedOver both_ops
 -- the answer where code is disassembled
 abbrev pub IsDisassembled : List ℕ → Answer → Type 0
 IsDisassembled text (Disassembled code) = IsCodeText text code
-IsDisassembled text (Refused r) = IsCodeFault text r
+IsDisassembled text (Refused r) = IsCodeTextFault text r
 IsDisassembled text said = ⊥
 
 -- the answer where the bytes of a file are assembled
@@ -92,11 +93,11 @@ abbrev pub IsOfBytes : Option (List ℕ) → Answer → Type 0
 IsOfBytes known said = (said ≡ DeviceFault) ⊎ OfBytes known (λ bytes. IsAssembled bytes said)
 
 -- the answer to a question; a file's content is known only by reading it
-abbrev pub IsAnswer : Question → Answer → Type 0
-IsAnswer (Check code profile explain) said = IsChecked profile code.now said
-IsAnswer (Judge code clash explain) said = IsJudged code.now clash said
-IsAnswer (Asm file) said = IsOfBytes None said
-IsAnswer (Dis code) said = IsDisassembled code.now said
+abbrev pub IsAnswerTo : Question → Answer → Type 0
+IsAnswerTo (Check code profile explain) said = IsChecked profile code.now said
+IsAnswerTo (Judge code clash explain) said = IsJudged code.now clash said
+IsAnswerTo (Asm file) said = IsOfBytes None said
+IsAnswerTo (Dis code) said = IsDisassembled code.now said
 
 -- the answer, or out of memory
 abbrev pub answer_unless_memory : Result Answer Failure → Result Answer AllocError
@@ -111,19 +112,19 @@ abbrev pub hex_line : List Insn → List ℕ
 hex_line code = encode_lower (flat_map insn_bytes code) ++ codes "\n"
 
 -- what is printed
-abbrev pub line_of : Answer → List ℕ
-line_of (Accepted count) = codes "accepted " ++ (decimal count ++ codes " instructions\n")
-line_of (Ruled verdict answer steps) = verdict_text verdict ++ (codes " in " ++ (decimal steps ++ codes " steps\n"))
-line_of (Assembled code) = hex_line code
-line_of (Disassembled code) = flat_map text.line_of code
-line_of (Refused r) = refusal_text r ++ codes "\n"
-line_of DeviceFault = codes "device fault\n"
+abbrev pub answer_line : Answer → List ℕ
+answer_line (Accepted count) = codes "accepted " ++ (decimal count ++ codes " instructions\n")
+answer_line (Ruled verdict answer steps) = verdict_text verdict ++ (codes " in " ++ (decimal steps ++ codes " steps\n"))
+answer_line (Assembled code) = hex_line code
+answer_line (Disassembled code) = flat_map text.line_of code
+answer_line (Refused r) = refusal_text r ++ codes "\n"
+answer_line DeviceFault = codes "device fault\n"
 
 -- the exit status
-abbrev pub status_of : Answer → ℕ
-status_of (Refused r) = 2
-status_of DeviceFault = 3
-status_of said = 0
+abbrev pub exit_status : Answer → ℕ
+exit_status (Refused r) = 2
+exit_status DeviceFault = 3
+exit_status said = 0
 
 -- the line that explains an answer to a person: a refusal with these words, or a fault. Other answers need none
 abbrev pub explained : Answer → List ℕ → List ℕ
@@ -135,7 +136,7 @@ abbrev pub IsExplanation : Answer → List ℕ → Type 0
 IsExplanation said text = (words : List ℕ) × (text ≡ explained said words)
 
 -- the words about an answer: its explanation, and what the verifier knows about the code
-pub record IsTold (question : Question) (said : Answer) (words : List ℕ) : Type 0 where
+pub record AreWordsAbout (question : Question) (said : Answer) (words : List ℕ) : Type 0 where
   pub line : List ℕ
   pub details : List ℕ
   pub explains : IsExplanation said line
@@ -145,7 +146,7 @@ pub record IsTold (question : Question) (said : Answer) (words : List ℕ) : Typ
 -- the answer has this status and text, and these words
 abbrev pub IsPrinted : Question → Result Answer AllocError → ℕ → List ℕ → List ℕ → Type 0
 IsPrinted question (Ok said) status line words =
-    (status ≡ status_of said) × (line ≡ line_of said) × IsTold question said words
+    (status ≡ exit_status said) × (line ≡ answer_line said) × AreWordsAbout question said words
 IsPrinted question (Err e) status line words = ⊥
 
 -- ---- what is written
@@ -160,7 +161,7 @@ Prints old new text due status = (Appends old new text × (status ≡ due)) ⊎ 
 
 -- words that explain the answer go to standard error, or a beginning of them
 abbrev pub Explains : Question → Answer → Option (List ℕ) → Option (List ℕ) → Type 0
-Explains question said old new = (words : List ℕ) × IsTold question said words × AppendsFront old new words
+Explains question said old new = (words : List ℕ) × AreWordsAbout question said words × AppendsFront old new words
 
 -- the status is 3, and a prefix of the line for out of memory is written
 pub record IsStarved (old new told_old told_new : Option (List ℕ)) (status : ℕ) : Type 0 where
@@ -170,13 +171,13 @@ pub record IsStarved (old new told_old told_new : Option (List ℕ)) (status : �
 
 -- the answer to a question by digits is printed with its status, and explained; or memory ran out
 pub data IsDigitsReply (question : Question) (old new told_old told_new : Option (List ℕ)) (status : ℕ) : Type 0 where
-  replied : (said : Answer) → IsAnswer question said → Prints old new (line_of said) (status_of said) status
+  replied : (said : Answer) → IsAnswerTo question said → Prints old new (answer_line said) (exit_status said) status
       → Explains question said told_old told_new → IsDigitsReply question old new told_old told_new status
   no_memory : IsStarved old new told_old told_new status → IsDigitsReply question old new told_old told_new status
 
 -- an answer is printed with its status and its line of explanation; or memory ran out
 pub data IsTerse (said : Answer) (old new told_old told_new : Option (List ℕ)) (status : ℕ) : Type 0 where
-  terse : (words : List ℕ) → IsExplanation said words → Prints old new (line_of said) (status_of said) status
+  terse : (words : List ℕ) → IsExplanation said words → Prints old new (answer_line said) (exit_status said) status
       → AppendsFront told_old told_new words → IsTerse said old new told_old told_new status
   no_room : IsStarved old new told_old told_new status → IsTerse said old new told_old told_new status
 

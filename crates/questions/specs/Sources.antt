@@ -12,27 +12,27 @@ use Rattle.questions.specs.declared.failures.InputFault.TheVariants.{NotText, Fi
 use Rattle.questions.specs.Refusals.{refusal, IsInput}
 
 -- the bytes are a text, and not too many
-pub record IsText (bytes : List ℕ) : Type 0 where
+pub record IsSourceText (bytes : List ℕ) : Type 0 where
   pub few : length bytes ≤ max_file_len
   pub utf8 : IsUtf8 bytes
 
 -- the bytes are no text, for this reason; the length is checked first
-pub data IsNoText (bytes : List ℕ) (r : NumberedRefusal) : Type 0 where
-  too_long : max_file_len < length bytes → IsInput FileTooLong r → IsNoText bytes r
-  not_utf8 : length bytes ≤ max_file_len → ¬ IsUtf8 bytes → IsInput NotText r → IsNoText bytes r
+pub data IsNoSourceText (bytes : List ℕ) (r : NumberedRefusal) : Type 0 where
+  too_long : max_file_len < length bytes → IsInput FileTooLong r → IsNoSourceText bytes r
+  not_utf8 : length bytes ≤ max_file_len → ¬ IsUtf8 bytes → IsInput NotText r → IsNoSourceText bytes r
 
 -- the text has this first fault
-pub record IsFaulty (text : List ℕ) (r : NumberedRefusal) : Type 0 where
+pub record IsFaultyText (text : List ℕ) (r : NumberedRefusal) : Type 0 where
   pub fault : LineFault
   pub first : IsFirstFault text fault
   pub same : r ≡ refusal (line_fault_number fault) (line_fault_place fault)
 
 -- the bytes are the text of this code
 pub record IsSource (bytes : List ℕ) (code : List Insn) : Type 0 where
-  pub is_text : IsText bytes
+  pub is_text : IsSourceText bytes
   pub is_code : IsTextOf bytes code
 
 -- the bytes are not the text of code, for this reason
 pub data IsNoSource (bytes : List ℕ) (r : NumberedRefusal) : Type 0 where
-  no_text : IsNoText bytes r → IsNoSource bytes r
-  faulty : IsText bytes → IsFaulty bytes r → IsNoSource bytes r
+  no_text : IsNoSourceText bytes r → IsNoSource bytes r
+  faulty : IsSourceText bytes → IsFaultyText bytes r → IsNoSource bytes r

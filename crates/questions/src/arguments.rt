@@ -4,9 +4,9 @@ ghost use Rattle.hex.specs.Hex.{decode_of};
 ghost use Rattle.insn_codec.specs.Encoding.{Spells};
 ghost use Rattle.verifier.specs.Programs.{IsAcceptedOver};
 ghost use Rattle.clash_fields.specs.Fields as fields;
-ghost use Rattle.questions.specs.ClashFields.{IsClash, IsFieldFault, IsNoClash};
+ghost use Rattle.questions.specs.ClashFields.{IsClash, IsClashFieldsFault, IsNoClash};
 ghost use Rattle.questions.specs.Refusals.{OnRefusal};
-ghost use Rattle.questions.specs.Judging.{IsClashFault, IsClashText, IsCodeFault, IsCodeText, IsNoCode, IsNoHex, IsProgramOver, IsProgramFaultOver, IsNoProgramOver};
+ghost use Rattle.questions.specs.Judging.{IsClashTextFault, IsClashText, IsCodeTextFault, IsCodeText, IsNoCode, IsNoHex, IsProgramTextOver, IsProgramTextFaultOver, IsNoProgramOver};
 
 use crate::failures::{Failure, InputFault, failure_of};
 use crate::question::ClashWords;
@@ -56,7 +56,7 @@ fn program_in_bytes<D: Domain>(alloc: Global, bytes: &[u8]) -> Result<Verified, 
 #[tactic(auto, using(crate::proofs::Wrongs::failures))]
 pub fn code_of(alloc: Global, text: &str) -> Result<Code, Failure>
     ensures ok { IfOk result (λ code. IsCodeText text.now code) }
-    ensures err { IfErr result (OnRefusal (IsCodeFault text.now)) }
+    ensures err { IfErr result (OnRefusal (IsCodeTextFault text.now)) }
 {
     let bytes = bytes_of(alloc, text)?;
     code_in_bytes(alloc, &bytes)
@@ -65,8 +65,8 @@ pub fn code_of(alloc: Global, text: &str) -> Result<Code, Failure>
 /// Reads hex digits as a program that is verified over a domain.
 #[tactic(auto, using(crate::proofs::Wrongs::failures))]
 pub fn program_of<D: Domain>(alloc: Global, text: &str) -> Result<Verified, Failure>
-    ensures ok { IfOk result (λ program. IsProgramOver D.ops text.now program) }
-    ensures err { IfErr result (OnRefusal (IsProgramFaultOver D.ops text.now)) }
+    ensures ok { IfOk result (λ program. IsProgramTextOver D.ops text.now program) }
+    ensures err { IfErr result (OnRefusal (IsProgramTextFaultOver D.ops text.now)) }
 {
     let bytes = bytes_of(alloc, text)?;
     program_in_bytes::<D>(alloc, &bytes)
@@ -75,7 +75,7 @@ pub fn program_of<D: Domain>(alloc: Global, text: &str) -> Result<Verified, Fail
 // Reads hex digits as a record: 160 bytes, or 128 that zeros extend.
 fn clash_of_digits(alloc: Global, text: &str) -> Result<ClashRecord, Failure>
     ensures ok { IfOk result (λ clash. IsClashText text.now clash) }
-    ensures err { IfErr result (OnRefusal (IsClashFault text.now)) }
+    ensures err { IfErr result (OnRefusal (IsClashTextFault text.now)) }
 {
     let bytes = bytes_of(alloc, text)?;
     if bytes.len() != RECORD_LEN && bytes.len() != SHORTER_RECORD_LEN {
@@ -95,8 +95,8 @@ fn clash_by_fields(
     second: &str,
     word: &str,
 ) -> Result<ClashRecord, Failure>
-    ensures ok { IfOk result (λ clash. fields.clash_of name.now first.now second.now word.now ≡ Ok clash) }
-    ensures err { IfErr result (OnRefusal (IsFieldFault (fields.clash_of name.now first.now second.now word.now))) }
+    ensures ok { IfOk result (λ clash. fields.clash_from_words name.now first.now second.now word.now ≡ Ok clash) }
+    ensures err { IfErr result (OnRefusal (IsClashFieldsFault (fields.clash_from_words name.now first.now second.now word.now))) }
 {
     let (name, first) = (name.as_bytes(), first.as_bytes());
     match clash_of_fields(alloc, name, first, second.as_bytes(), word.as_bytes()) {

@@ -1,7 +1,7 @@
 //! The code of a question in a file.
 ghost use Rattle.std.specs.Prelude.{◌≡◌, None, IfOk, option_map};
 ghost use Rattle.code_file.specs.Files.{file_named};
-ghost use Rattle.questions.specs.CodeWords.{IsOfFile, code_file, found_digits, told_failure, told_file, with_code};
+ghost use Rattle.questions.specs.CodeWords.{IsOfFile, code_file, found_digits, told_failure, told_file, with_digits};
 
 use crate::failures::{Failure, failure_of};
 use crate::printing::Answer;
@@ -52,7 +52,7 @@ fn shorter<'a: 'b, 'b>(clash: &ClashWords<'a>) -> ClashWords<'b>
 
 /// Returns the question with these digits for its code.
 pub(crate) fn with_code<'a: 'b, 'b>(question: &Question<'a>, digits: &'b str) -> Question<'b>
-    ensures { result ≡ with_code digits.entry question.now }
+    ensures { result ≡ with_digits digits.entry question.now }
 {
     match question {
         Question::Check {

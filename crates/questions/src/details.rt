@@ -1,7 +1,7 @@
 //! What the verifier knows about the code of a question.
 ghost use Rattle.std.specs.Prelude.{◌≡◌, ◌++◌, false, ℕ, List, IfOk, string_bytes};
 ghost use Rattle.verifier.specs.Programs as program;
-ghost use Rattle.questions.specs.Details.{IsCodeDetails, IsDetails, IsProgramDetails, IsSeen, IsSeenClash, slot_of};
+ghost use Rattle.questions.specs.Details.{IsCodeDetails, IsDetails, IsProgramDetails, IsSeen, IsSeenClash, refused_slot};
 
 use crate::arguments::{clash_of, code_of};
 use crate::failures::Failure;
@@ -16,7 +16,7 @@ use std::alloc::{AllocError, Global};
 
 // Returns the slot that a refusal names, if any.
 fn slot_of(said: &Answer) -> Option<u32>
-    ensures { result ≡ slot_of said.now }
+    ensures { result ≡ refused_slot said.now }
 {
     match said {
         Answer::Refused(refusal) => match refusal.place {
@@ -108,7 +108,7 @@ fn judge_details(
     said: &Answer,
 ) -> Result<String, AllocError>
     ensures { IfOk result (λ text. (front rest : List ℕ)
-        × IsProgramDetails program.profile code.now false (slot_of said.now) front
+        × IsProgramDetails program.profile code.now false (refused_slot said.now) front
         × IsSeen clash.now explain said.now rest × (string_bytes text ≡ front ++ rest)) }
 {
     let mut front = program_details::<verifier::Profile>(alloc, code, false, slot_of(said))?;

@@ -2,7 +2,7 @@
 ghost use Rattle.std.specs.Prelude.{◌≡◌, IfOk, IfErr};
 ghost use Rattle.assembler_text.specs.Grammar.{IsTextOf};
 ghost use Rattle.questions.specs.Refusals.{OnRefusal};
-ghost use Rattle.questions.specs.Sources.{IsFaulty, IsNoSource, IsNoText, IsSource, IsText};
+ghost use Rattle.questions.specs.Sources.{IsFaultyText, IsNoSource, IsNoSourceText, IsSource, IsSourceText};
 
 use crate::failures::{Failure, InputFault, failure_of};
 use assembler_text::assemble;
@@ -12,8 +12,8 @@ use std::alloc::Global;
 
 // Returns a file's bytes as text. Checks their number first.
 fn text_of(bytes: &[u8]) -> Result<&str, Failure>
-    ensures ok { IfOk result (λ text. (text.now ≡ bytes.now) × IsText bytes.now) }
-    ensures err { IfErr result (OnRefusal (IsNoText bytes.now)) }
+    ensures ok { IfOk result (λ text. (text.now ≡ bytes.now) × IsSourceText bytes.now) }
+    ensures err { IfErr result (OnRefusal (IsNoSourceText bytes.now)) }
 {
     if bytes.len() > MAX_FILE_LEN {
         return Err(failure_of(&InputFault::FileTooLong));
@@ -27,7 +27,7 @@ fn text_of(bytes: &[u8]) -> Result<&str, Failure>
 // Assembles a text.
 fn code_of_text(alloc: Global, text: &str) -> Result<Code, Failure>
     ensures ok { IfOk result (IsTextOf text.now) }
-    ensures err { IfErr result (OnRefusal (IsFaulty text.now)) }
+    ensures err { IfErr result (OnRefusal (IsFaultyText text.now)) }
 {
     match assemble(alloc, text) {
         Ok(code) => Ok(code),

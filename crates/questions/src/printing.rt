@@ -1,6 +1,6 @@
 //! Answers to questions, and how they are printed.
 ghost use Rattle.std.specs.Prelude.{◌≡◌, IfOk, string_bytes};
-ghost use Rattle.questions.specs.Lines.{IsExplanation, explained, hex_line, line_of, status_of, answer_unless_memory};
+ghost use Rattle.questions.specs.Lines.{IsExplanation, explained, hex_line, answer_line, exit_status, answer_unless_memory};
 
 use crate::failures::Failure;
 use assembler_text::disassemble;
@@ -59,7 +59,7 @@ fn hex_line(alloc: Global, code: &Code) -> Result<String, AllocError>
 
 /// Returns the printed lines of an answer.
 pub fn line(alloc: Global, said: &Answer) -> Result<String, AllocError>
-    ensures { IfOk result (λ text. string_bytes text ≡ line_of said.now) }
+    ensures { IfOk result (λ text. string_bytes text ≡ answer_line said.now) }
 {
     match said {
         Answer::Accepted { count } => format!(in alloc; "accepted {count} instructions\n"),
@@ -102,7 +102,7 @@ pub fn explanation(alloc: Global, said: &Answer) -> Result<String, AllocError>
 
 /// Returns the exit status: 0, or 2 for a refusal, or 3 for a file that can't be read.
 pub fn status(said: &Answer) -> u8
-    ensures { result ≡ status_of said.now }
+    ensures { result ≡ exit_status said.now }
 {
     match said {
         Answer::Refused(_) => 2,

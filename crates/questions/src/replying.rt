@@ -2,7 +2,7 @@
 ghost use Rattle.std.specs.Prelude.{◌≡◌, ◌≢◌, None, IfOk, IfErr, codes, string_bytes};
 ghost use Rattle.questions.specs.Judging.{first};
 ghost use Rattle.device.specs.Sending.{AppendsFront};
-ghost use Rattle.questions.specs.Lines.{IsAnswer, IsChecked, IsCheckedOver, IsDigitsReply, IsDisassembled, IsExplanation, IsOfBytes, IsJudged, IsPrinted, IsReply, IsTerse, IsTold, Prints, answer_unless_memory, line_of, status_of};
+ghost use Rattle.questions.specs.Lines.{IsAnswerTo, IsChecked, IsCheckedOver, IsDigitsReply, IsDisassembled, IsExplanation, IsOfBytes, IsJudged, IsPrinted, IsReply, IsTerse, AreWordsAbout, Prints, answer_unless_memory, answer_line, exit_status};
 ghost use Rattle.questions.specs.declared.failures.Failure.TheVariants.{OutOfMemory};
 ghost use Rattle.questions.specs.declared.printing.Answer.TheVariants.{DeviceFault};
 
@@ -132,7 +132,7 @@ fn answer_to<R: Files + Input + AllocGlobal>(
     rt: &R,
     question: &Question<'_>,
 ) -> Result<Answer, Failure>
-    ensures { IfOk (answer_unless_memory result) (IsAnswer question.now) }
+    ensures { IfOk (answer_unless_memory result) (IsAnswerTo question.now) }
 {
     let alloc = rt.alloc();
     match question {
@@ -173,7 +173,7 @@ pub fn texts_of(
 
 // Returns the words about an answer: its explanation, and what the verifier knows about the code.
 fn words_about(alloc: Global, question: &Question<'_>, said: &Answer) -> Result<String, AllocError>
-    ensures { IfOk result (λ words. IsTold question.now said.now (string_bytes words)) }
+    ensures { IfOk result (λ words. AreWordsAbout question.now said.now (string_bytes words)) }
 {
     let line = explanation(alloc, said)?;
     let known = details(alloc, question, said)?;
@@ -267,7 +267,7 @@ fn reply_tersely<W: Write, E: Write>(
 
 // Returns the printed texts of an answer, with its explanation alone.
 fn terse(alloc: Global, said: &Answer) -> Result<Printed, AllocError>
-    ensures { IfOk result (λ p. (p.status ≡ status_of said.now) × (string_bytes p.text ≡ line_of said.now)
+    ensures { IfOk result (λ p. (p.status ≡ exit_status said.now) × (string_bytes p.text ≡ answer_line said.now)
         × IsExplanation said.now (string_bytes p.words)) }
 {
     Ok(Printed {

@@ -19,9 +19,9 @@ pub struct Answered<'p> {
 }
 
 impl<'p> Model for Answered<'p> {
-    ghost use Rattle.questions.specs.Judging.{Ruling, IsRuling, ruling};
+    ghost use Rattle.questions.specs.Judging.{ClashRuling, IsRuling, ruling};
 
-    ghost Value = { Ruling };
+    ghost Value = { ClashRuling };
 
     ghost view = { λ a. ruling a.program.now a.clash.now a.verdict a.answer a.steps };
 

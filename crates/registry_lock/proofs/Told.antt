@@ -13,7 +13,7 @@ use Rattle.exchange_law.specs.Calls.{Call, Take, carried_out}
 use Rattle.partition_table.specs.Rulings.{Ruling, ruling_of}
 use Rattle.exchange_core.specs.Shown.{shown, calls, IsDone, IsUntouched}
 use Rattle.partition_table.specs.Tables.{Clash}
-use Rattle.verdict_board.specs.Boards.{Place, Pass, seen, ruling_if, ruling_at, word_seen}
+use Rattle.verdict_board.specs.Boards.{Place, Pass, seen, ruling_if, board_ruling, word_seen}
 use Rattle.registry_lock.specs.Meeting.{Keeps}
 use Rattle.registry_lock.specs.Telling.{all_carried_out, takes_of, HasSeen, IsTold, AreTold}
 
@@ -39,7 +39,7 @@ of_place place k word None ruling at e = absurd (cc)
 of_place place k word (Some clash) ruling at e = of_clash place k word clash _ ruling at e
 
 of_word : (place : Place) (k : ℕ) (word : Option ℕ) (ruling : Ruling) →
-    option_and_then (ruling_at place.number place.seed place.clashes k) word ≡ Some ruling → IsRulingOf place k ruling
+    option_and_then (board_ruling place.number place.seed place.clashes k) word ≡ Some ruling → IsRulingOf place k ruling
 of_word place k None ruling e = absurd (cc)
 of_word place k (Some word) ruling e = of_place place k word _ ruling refl e
 

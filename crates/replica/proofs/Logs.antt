@@ -6,14 +6,14 @@ use Rattle.std.proofs.lemmas.Bool.{lt-leb}
 use Rattle.replica_law.specs.declared.position.Life.{Life}
 use Rattle.replica_law.specs.declared.position.View.{View}
 use Rattle.replica_law.specs.declared.position.Position.{Position}
-use Rattle.replica_law.specs.Worlds.{Entry, Snapshot, same_view, next}
+use Rattle.replica_law.specs.Groups.{Entry, Snapshot, same_view, next}
 use Rattle.replica_law.specs.laws.Places.{same_view_passes}
 use Rattle.replica.specs.declared.fault.ReplicaFault.{ReplicaFault}
 use Rattle.replica.specs.declared.fault.ReplicaFault.TheVariants.{OtherView, Gap}
-use Rattle.replica.specs.Halves.{Half, Edit, edit_fault, edited}
-use Rattle.replica.specs.Replicas.{Replica, Call, Follow, Apply, apply_fault, applied, follow_fault, is_repeated, is_next, left_by, moved}
-use Rattle.replica.specs.Worlds.{World, Event, Hears, Hears_snapshot, world_after}
-use Rattle.replica.specs.Histories.{Has, HaveOneHalf, TakesEntries, AreConsecutive, after_entries, IsAt, LogsRestore}
+use Rattle.replica.specs.Halves.{HalfState, Edit, edit_fault, edited}
+use Rattle.replica.specs.Replicas.{Replica, NodeCall, Follow, Apply, apply_fault, applied, follow_fault, is_repeated, is_next, left_by, moved}
+use Rattle.replica.specs.Nodes.{Nodes, NodeEvent, Hears, Hears_snapshot, nodes_after}
+use Rattle.replica.specs.Histories.{Has, HaveOneHalf, NextEntriesApply, AreConsecutive, after_entries, IsAt, LogsRestore}
 use Rattle.replica.proofs.Calls.{are_calls}
 
 -- the tests of an entry that is next
@@ -45,34 +45,34 @@ module _ (r : Replica) (e : Entry Edit) (place : e.at ≡ next r.at) where
   moves_on = ap (λ (b : Bool). (if b then r else moved r (next r.at) (edited r.half e.edit)).at) not_repeated
 
 -- where a replica is after consecutive entries
-module _ (takes : (history : List Event) → TakesEntries history) where
-  pub reached : (reader : Life) (which : List ℕ) (history : List Event) (r : Replica) (last : Position) → Has history reader r
-      → AreConsecutive (world_after history).past.entries r.at which last
+module _ (takes : (history : List NodeEvent) → NextEntriesApply history) where
+  pub reached : (reader : Life) (which : List ℕ) (history : List NodeEvent) (r : Replica) (last : Position) → Has history reader r
+      → AreConsecutive (nodes_after history).sent.entries r.at which last
       → (x : Replica) × Has (after_entries reader which history) reader x × (x.at ≡ last)
   reached reader [] history r last has on = (r, has, on)
   reached reader (k ∷ which) history r last has on =
       let goes = goes_on r on.0 on.2 (takes history reader r k on.0 has on.1 on.2) in
       let called = are_calls history (Hears reader k) reader (Apply on.0) r (ap (option_map (λ entry. (reader, Apply entry))) on.1) has goes in
       reached reader which (Hears reader k ∷ history) (applied r on.0) last called.0
-      (subst (λ (es : List (Entry Edit)). AreConsecutive es (applied r on.0).at which last) (ap (λ past. past.entries) (sym called.2))
-      (subst (λ (p : Position). AreConsecutive (world_after history).past.entries p which last) (sym (moves_on r on.0 on.2)) on.3))
+      (subst (λ (es : List (Entry Edit)). AreConsecutive es (applied r on.0).at which last) (ap (λ sent. sent.entries) (sym called.2))
+      (subst (λ (p : Position). AreConsecutive (nodes_after history).sent.entries p which last) (sym (moves_on r on.0 on.2)) on.3))
 
 -- reading is later
-later_entries : (reader : Life) (which : List ℕ) (history : List Event)
-    → (later : List Event) × (after_entries reader which history ≡ later ++ history)
+later_entries : (reader : Life) (which : List ℕ) (history : List NodeEvent)
+    → (later : List NodeEvent) × (after_entries reader which history ≡ later ++ history)
 later_entries reader [] history = ([], refl)
 later_entries reader (k ∷ which) history =
     let rest = later_entries reader which (Hears reader k ∷ history) in
     (rest.0 ++ Hears reader k ∷ [], rest.1 ∙ sym (append_assoc rest.0 (Hears reader k ∷ []) history))
 
-pub logs_restore : ((later earlier : List Event) → HaveOneHalf later earlier) → ((history : List Event) → TakesEntries history)
-    → (history : List Event) → LogsRestore history
+pub logs_restore : ((later earlier : List NodeEvent) → HaveOneHalf later earlier)
+    → ((history : List NodeEvent) → NextEntriesApply history) → (history : List NodeEvent) → LogsRestore history
 logs_restore one takes history writer reader w r k s which has_w has_r there goes on =
     let followed = are_calls history (Hears_snapshot reader k) reader (Follow s) r
     (ap (option_map (λ snapshot. (reader, Follow snapshot))) there) has_r goes in
     let start = Hears_snapshot reader k ∷ history in
     let end = reached takes reader which start (moved r s.at s.state) w.at followed.0
-    (subst (λ (es : List (Entry Edit)). AreConsecutive es s.at which w.at) (ap (λ past. past.entries) (sym followed.2)) on) in
+    (subst (λ (es : List (Entry Edit)). AreConsecutive es s.at which w.at) (ap (λ sent. sent.entries) (sym followed.2)) on) in
     let later = later_entries reader which start in
     let whole : after_entries reader which start ≡ (later.0 ++ Hears_snapshot reader k ∷ []) ++ history =
     later.1 ∙ sym (append_assoc later.0 (Hears_snapshot reader k ∷ []) history) in

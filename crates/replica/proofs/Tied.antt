@@ -1,54 +1,54 @@
 -- Each history of replicas is one of the law, without the calls that are refused.
 use Rattle.std.proofs.Common.{◌≡◌, ℕ, suc, Bool, true, false, not, if◌then◌else◌, List, [], ◌∷◌, ◌++◌, Option, Some, None, is_none, slice_get, refl, sym, ap, ◌∙◌, subst, eqb-true}
 use Rattle.std.specs.Option.{option_map}
-use Rattle.replica_law.specs.Worlds as law
+use Rattle.replica_law.specs.Groups as law
 use Rattle.replica_law.specs.declared.position.Life.{Life}
 use Rattle.replica_law.specs.declared.position.View.{View}
-use Rattle.replica_law.specs.Worlds.{Entry, Snapshot, same_life, same_view, next}
+use Rattle.replica_law.specs.Groups.{Entry, Snapshot, same_life, same_view, next, put_for}
 use Rattle.replica_law.specs.Histories.{EditsHappen, FollowsHappen, AppliesHappen}
 use Rattle.replica_law.specs.Rules.{IsCareful, AreCareful, ViewTells}
 use Rattle.replica_law.specs.laws.Places.{same_life_is, same_view_is}
 use Rattle.replica.specs.declared.fault.ReplicaFault.{ReplicaFault}
 use Rattle.replica.specs.declared.fault.ReplicaFault.TheVariants.{NotPrimary, OtherView, Gap, OwnView, Exhausted}
-use Rattle.replica.specs.Halves.{Half, Edit, halves, edit_fault, edited}
-use Rattle.replica.specs.Replicas.{Replica, Call, Lead, Change, Make, Show, Follow, Apply, is_primary, make_fault, follow_fault, apply_fault, applied, is_repeated, is_next, moved, changed, call_fault, left_by, entry_of, snapshot_of}
-use Rattle.replica.specs.Worlds.{World, Event, Starts, Does, Hears, Hears_snapshot, put, past_after, called_by, called_if, started, happens, first_world, world_after}
+use Rattle.replica.specs.Halves.{HalfState, Edit, halves, edit_fault, edited}
+use Rattle.replica.specs.Replicas.{Replica, NodeCall, Lead, Change, Make, Show, Follow, Apply, is_primary, make_fault, follow_fault, apply_fault, applied, is_repeated, is_next, moved, changed, call_fault, left_by, entry_made, snapshot_of}
+use Rattle.replica.specs.Nodes.{Nodes, NodeEvent, Starts, Does, Hears, Hears_snapshot, sent_after, called_by, with_call_if, started, next_nodes, no_nodes, nodes_after}
 use Rattle.replica.specs.Histories.{IsHandedMade}
 
--- a world, an event and a list of events of the law
+-- a group and a list of events of the law
 abbrev pub Lawful : Type 0
-Lawful = law.World Half Edit
+Lawful = law.Group HalfState Edit
 
 abbrev pub Steps : Type 0
-Steps = List (law.Event Half Edit)
+Steps = List (law.GroupEvent HalfState Edit)
 
 -- a replica of the law as contracts see it
-abbrev pub seen : Life → law.Replica Half → Replica
+abbrev pub seen : Life → law.Member HalfState → Replica
 seen life r = record { life = life; half = r.state; at = r.at; led = r.latest }
 
 -- the snapshots that a replica refuses
 abbrev pub refuses : Life → ℕ → View → Bool
 refuses life latest view = same_view view (record { primary = life; number = latest })
 
--- the two worlds show the same replicas, entries and snapshots
-pub record Same (w : World) (v : Lawful) : Type 0 where
+-- the nodes and a group of the law have the same replicas, entries and snapshots
+pub record Same (w : Nodes) (v : Lawful) : Type 0 where
   pub replicas : (life : Life) → w.replicas life ≡ option_map (seen life) (v.replicas life)
-  pub entries : w.past.entries ≡ v.entries
-  pub snapshots : w.past.snapshots ≡ v.snapshots
+  pub entries : w.sent.entries ≡ v.entries
+  pub snapshots : w.sent.snapshots ≡ v.snapshots
 
--- the world is where the law leads from these steps
-pub record Tied (base : Steps) (w : World) : Type 0 where
+-- the nodes are where the law leads from these steps
+pub record Tied (base : Steps) (w : Nodes) : Type 0 where
   pub more : Steps
-  pub same : Same w (law.world_after halves (more ++ base))
-  pub careful : AreCareful refuses (law.world_after halves) (more ++ base)
+  pub same : Same w (law.group_after halves (more ++ base))
+  pub careful : AreCareful refuses (law.group_after halves) (more ++ base)
 
 -- a life has the replica that the law gives it
-pub law_replica : (life : Life) (o : Option (law.Replica Half)) (r : Replica) → option_map (seen life) o ≡ Some r →
-    (l : law.Replica Half) × (o ≡ Some l) × (seen life l ≡ r)
+pub law_replica : (life : Life) (o : Option (law.Member HalfState)) (r : Replica) → option_map (seen life) o ≡ Some r →
+    (l : law.Member HalfState) × (o ≡ Some l) × (seen life l ≡ r)
 law_replica life (Some l) r e = (l, refl, cc)
 law_replica life None r e = absurd (cc)
 
-law_none : (life : Life) (o : Option (law.Replica Half)) → option_map (seen life) o ≡ None → o ≡ None
+law_none : (life : Life) (o : Option (law.Member HalfState)) → option_map (seen life) o ≡ None → o ≡ None
 law_none life None e = refl
 law_none life (Some l) e = absurd (cc)
 
@@ -66,13 +66,13 @@ unless false fault e = refl
 unless true fault e = absurd (cc)
 
 -- an edit that the half takes is a step
-pub takes : (half : Half) (edit : Edit) → edit_fault half edit ≡ None →
+pub takes : (half : HalfState) (edit : Edit) → edit_fault half edit ≡ None →
     halves.step half edit ≡ Some (edited half edit)
 takes half edit goes = ap (λ o. if is_none o then Some (edited half edit) else None) goes
 
--- a replica is put in both worlds
-put_same : (w : World) (v : Lawful) (life : Life) (l : law.Replica Half) → Same w v → (other : Life) →
-    put w.replicas life (seen life l) other ≡ option_map (seen other) (law.put v.replicas life l other)
+-- a replica is put in both
+put_same : (w : Nodes) (v : Lawful) (life : Life) (l : law.Member HalfState) → Same w v → (other : Life) →
+    put_for w.replicas life (seen life l) other ≡ option_map (seen other) (put_for v.replicas life l other)
 put_same w v life l same other = by_test (same_life other life) refl
   where
     by_test : (b : Bool) → same_life other life ≡ b →
@@ -82,8 +82,8 @@ put_same w v life l same other = by_test (same_life other life) refl
     by_test false is = same.replicas other
 
 -- a replica is put where it was
-put_again : (w : World) (v : Lawful) (life : Life) (l : law.Replica Half) → Same w v → v.replicas life ≡ Some l →
-    (other : Life) → put w.replicas life (seen life l) other ≡ option_map (seen other) (v.replicas other)
+put_again : (w : Nodes) (v : Lawful) (life : Life) (l : law.Member HalfState) → Same w v → v.replicas life ≡ Some l →
+    (other : Life) → put_for w.replicas life (seen life l) other ≡ option_map (seen other) (v.replicas other)
 put_again w v life l same is other = by_test (same_life other life) refl
   where
     by_test : (b : Bool) → same_life other life ≡ b →
@@ -97,22 +97,23 @@ put_again w v life l same is other = by_test (same_life other life) refl
 module _ (tells : (steps : Steps) → ViewTells halves steps) (edits : (steps : Steps) → EditsHappen halves steps)
     (follows : (steps : Steps) → FollowsHappen halves steps) (applies : (steps : Steps) → AppliesHappen halves steps)
     (base : Steps) where
-  module _ (w : World) (t : Tied base w) where
+  module _ (w : Nodes) (t : Tied base w) where
     abbrev steps : Steps
     steps = t.more ++ base
 
     abbrev v : Lawful
-    v = law.world_after halves (t.more ++ base)
+    v = law.group_after halves (t.more ++ base)
 
-    one : (e : law.Event Half Edit) (u : World) → Same u (law.happens halves v e) → IsCareful refuses v e → Tied base u
+    one : (e : law.GroupEvent HalfState Edit) (u : Nodes) → Same u (law.next_group halves v e) → IsCareful refuses v e →
+        Tied base u
     one e u same careful = record { more = e ∷ t.more; same = same; careful = (careful, t.careful) }
 
-    on_replica : (life : Life) (l : law.Replica Half) → v.replicas life ≡ Some l → (f : law.Replica Half → Lawful) →
+    on_replica : (life : Life) (l : law.Member HalfState) → v.replicas life ≡ Some l → (f : law.Member HalfState → Lawful) →
         law.for_some v (v.replicas life) f ≡ f l
     on_replica life l is f = ap (λ o. law.for_some v o f) is
 
-    putting : (life : Life) (x : law.Replica Half) →
-        Same (record { replicas = put w.replicas life (seen life x); past = w.past }) (law.with_replica v life x)
+    putting : (life : Life) (x : law.Member HalfState) →
+        Same (record { replicas = put_for w.replicas life (seen life x); sent = w.sent }) (law.with_replica v life x)
     putting life x = record {
       replicas = put_same w v life x t.same;
       entries = t.same.entries;
@@ -120,8 +121,8 @@ module _ (tells : (steps : Steps) → ViewTells halves steps) (edits : (steps : 
     }
 
     -- the replica stays as it is
-    staying : (life : Life) (l : law.Replica Half) → v.replicas life ≡ Some l →
-        Tied base (record { replicas = put w.replicas life (seen life l); past = w.past })
+    staying : (life : Life) (l : law.Member HalfState) → v.replicas life ≡ Some l →
+        Tied base (record { replicas = put_for w.replicas life (seen life l); sent = w.sent })
     staying life l is = record {
       more = t.more;
       same = record {
@@ -132,22 +133,25 @@ module _ (tells : (steps : Steps) → ViewTells halves steps) (edits : (steps : 
       careful = t.careful;
     }
 
-    leading : (life : Life) (l : law.Replica Half) → v.replicas life ≡ Some l →
-        Tied base (record { replicas = put w.replicas life (left_by (seen life l) Lead); past = w.past })
+    leading : (life : Life) (l : law.Member HalfState) → v.replicas life ≡ Some l →
+        Tied base (record { replicas = put_for w.replicas life (left_by (seen life l) Lead); sent = w.sent })
     leading life l is = one (law.Leads life) _ (subst (Same _)
-        (sym (on_replica life l is (λ r. law.with_replica v life (law.starting life (suc r.latest) r.state))))
-        (putting life (law.starting life (suc l.latest) l.state))) tt
+        (sym (on_replica life l is (λ r. law.with_replica v life (law.new_primary life (suc r.latest) r.state))))
+        (putting life (law.new_primary life (suc l.latest) l.state))) tt
 
-    changing : (life : Life) (l : law.Replica Half) → v.replicas life ≡ Some l → (half : Half) →
-        Tied base (record { replicas = put w.replicas life (seen life (law.starting life (suc l.latest) half)); past = w.past })
+    changing : (life : Life) (l : law.Member HalfState) → v.replicas life ≡ Some l → (half : HalfState) →
+        Tied base (record {
+          replicas = put_for w.replicas life (seen life (law.new_primary life (suc l.latest) half));
+          sent = w.sent;
+        })
     changing life l is half = one (law.Changes life half) _ (subst (Same _)
-        (sym (on_replica life l is (λ r. law.with_replica v life (law.starting life (suc r.latest) half))))
-        (putting life (law.starting life (suc l.latest) half))) tt
+        (sym (on_replica life l is (λ r. law.with_replica v life (law.new_primary life (suc r.latest) half))))
+        (putting life (law.new_primary life (suc l.latest) half))) tt
 
-    making : (life : Life) (l : law.Replica Half) → v.replicas life ≡ Some l → (edit : Edit) →
+    making : (life : Life) (l : law.Member HalfState) → v.replicas life ≡ Some l → (edit : Edit) →
         make_fault (seen life l) edit ≡ None → Tied base (record {
-          replicas = put w.replicas life (left_by (seen life l) (Make edit));
-          past = past_after w.past (seen life l) (Make edit);
+          replicas = put_for w.replicas life (left_by (seen life l) (Make edit));
+          sent = sent_after w.sent (seen life l) (Make edit);
         })
     making life l is edit goes =
         let stands = otherwise (is_primary (seen life l)) NotPrimary _ goes in
@@ -157,13 +161,13 @@ module _ (tells : (steps : Steps) → ViewTells halves steps) (edits : (steps : 
         one (law.Edits life edit) _ (subst (Same _) (sym same) (record {
           replicas = put_same w v life
               (record l { state = edited l.state edit; at = next l.at; made = suc l.made }) t.same;
-          entries = ap (λ es. entry_of (seen life l) edit ∷ es) t.same.entries;
+          entries = ap (λ es. entry_made (seen life l) edit ∷ es) t.same.entries;
           snapshots = t.same.snapshots;
         })) tt
 
-    showing : (life : Life) (l : law.Replica Half) → v.replicas life ≡ Some l → Tied base (record {
-      replicas = put w.replicas life (seen life l);
-      past = past_after w.past (seen life l) Show;
+    showing : (life : Life) (l : law.Member HalfState) → v.replicas life ≡ Some l → Tied base (record {
+      replicas = put_for w.replicas life (seen life l);
+      sent = sent_after w.sent (seen life l) Show;
     })
     showing life l is = one (law.Shows life) _ (subst (Same _)
         (sym (on_replica life l is (λ r. record v { snapshots = record { at = r.at; state = r.state } ∷ v.snapshots })))
@@ -173,9 +177,9 @@ module _ (tells : (steps : Steps) → ViewTells halves steps) (edits : (steps : 
           snapshots = ap (λ ss. snapshot_of (seen life l) ∷ ss) t.same.snapshots;
         })) tt
 
-    following : (life : Life) (l : law.Replica Half) → v.replicas life ≡ Some l → (snapshot : Snapshot Half) →
-        (which : ℕ) → slice_get w.past.snapshots which ≡ Some snapshot → follow_fault (seen life l) snapshot ≡ None →
-        Tied base (record { replicas = put w.replicas life (left_by (seen life l) (Follow snapshot)); past = w.past })
+    following : (life : Life) (l : law.Member HalfState) → v.replicas life ≡ Some l → (snapshot : Snapshot HalfState) →
+        (which : ℕ) → slice_get w.sent.snapshots which ≡ Some snapshot → follow_fault (seen life l) snapshot ≡ None →
+        Tied base (record { replicas = put_for w.replicas life (left_by (seen life l) (Follow snapshot)); sent = w.sent })
     following life l is snapshot which at goes =
         let there : slice_get v.snapshots which ≡ Some snapshot =
         ap (λ ss. slice_get ss which) (sym t.same.snapshots) ∙ at in
@@ -185,13 +189,13 @@ module _ (tells : (steps : Steps) → ViewTells halves steps) (edits : (steps : 
         (λ r s was has.
         let replicas : l ≡ r = some_is (sym is ∙ was) in
         let snapshots : snapshot ≡ s = some_is (sym there ∙ has) in
-        subst (λ (x : law.Replica Half). refuses life x.latest s.at.view ≡ false) replicas
-        (subst (λ (x : Snapshot Half). refuses life l.latest x.at.view ≡ false) snapshots
+        subst (λ (x : law.Member HalfState). refuses life x.latest s.at.view ≡ false) replicas
+        (subst (λ (x : Snapshot HalfState). refuses life l.latest x.at.view ≡ false) snapshots
         (unless (refuses life l.latest snapshot.at.view) OwnView goes)))
 
-    applying : (life : Life) (l : law.Replica Half) → v.replicas life ≡ Some l → (entry : Entry Edit) →
-        (which : ℕ) → slice_get w.past.entries which ≡ Some entry → apply_fault (seen life l) entry ≡ None →
-        Tied base (record { replicas = put w.replicas life (applied (seen life l) entry); past = w.past })
+    applying : (life : Life) (l : law.Member HalfState) → v.replicas life ≡ Some l → (entry : Entry Edit) →
+        (which : ℕ) → slice_get w.sent.entries which ≡ Some entry → apply_fault (seen life l) entry ≡ None →
+        Tied base (record { replicas = put_for w.replicas life (applied (seen life l) entry); sent = w.sent })
     applying life l is entry which at goes = by_repeated (is_repeated (seen life l) entry) refl tests.1
       where
         there : slice_get v.entries which ≡ Some entry
@@ -204,8 +208,8 @@ module _ (tells : (steps : Steps) → ViewTells halves steps) (edits : (steps : 
 
         by_next : (b : Bool) → is_next (seen life l) entry ≡ b →
             (if b then edit_fault l.state entry.edit else Some Gap) ≡ None → Tied base (record {
-              replicas = put w.replicas life (moved (seen life l) (next l.at) (edited l.state entry.edit));
-              past = w.past;
+              replicas = put_for w.replicas life (moved (seen life l) (next l.at) (edited l.state entry.edit));
+              sent = w.sent;
             })
         by_next true follows_on taken =
             let views = same_view_is _ _ tests.0 in
@@ -224,17 +228,17 @@ module _ (tells : (steps : Steps) → ViewTells halves steps) (edits : (steps : 
         by_repeated : (b : Bool) → is_repeated (seen life l) entry ≡ b →
             (if b then None else (if is_next (seen life l) entry then edit_fault l.state entry.edit else Some Gap)) ≡ None →
             Tied base (record {
-              replicas = put w.replicas life
+              replicas = put_for w.replicas life
                   (if b then seen life l else moved (seen life l) (next l.at) (edited l.state entry.edit));
-              past = w.past;
+              sent = w.sent;
             })
         by_repeated true repeated taken = staying life l is
         by_repeated false repeated taken = by_next (is_next (seen life l) entry) refl taken
 
-    carried : (life : Life) (l : law.Replica Half) → v.replicas life ≡ Some l → (call : Call) → IsHandedMade w call →
+    carried : (life : Life) (l : law.Member HalfState) → v.replicas life ≡ Some l → (call : NodeCall) → IsHandedMade w call →
         call_fault (seen life l) call ≡ None → Tied base (record {
-          replicas = put w.replicas life (left_by (seen life l) call);
-          past = past_after w.past (seen life l) call;
+          replicas = put_for w.replicas life (left_by (seen life l) call);
+          sent = sent_after w.sent (seen life l) call;
         })
     carried life l is Lead made goes = leading life l is
     carried life l is (Change from table latest) made goes = changing life l is (changed l.state table latest)
@@ -243,20 +247,20 @@ module _ (tells : (steps : Steps) → ViewTells halves steps) (edits : (steps : 
     carried life l is (Follow snapshot) made goes = following life l is snapshot made.0 made.1 goes
     carried life l is (Apply entry) made goes = applying life l is entry made.0 made.1 goes
 
-    called_tied : (life : Life) (call : Call) → IsHandedMade w call → (o : Option Replica) → w.replicas life ≡ o →
+    called_tied : (life : Life) (call : NodeCall) → IsHandedMade w call → (o : Option Replica) → w.replicas life ≡ o →
         Tied base (called_by w life call o)
     called_tied life call made None is = t
     called_tied life call made (Some r) is = by_fault (call_fault r call) refl
       where
         by_fault : (f : Option ReplicaFault) → call_fault r call ≡ f → Tied base (if is_none f then record {
-          replicas = put w.replicas life (left_by r call);
-          past = past_after w.past r call;
+          replicas = put_for w.replicas life (left_by r call);
+          sent = sent_after w.sent r call;
         } else w)
         by_fault None goes =
             let h = law_replica life (v.replicas life) r (sym (t.same.replicas life) ∙ is) in
             subst (λ (x : Replica). Tied base (record {
-              replicas = put w.replicas life (left_by x call);
-              past = past_after w.past x call;
+              replicas = put_for w.replicas life (left_by x call);
+              sent = sent_after w.sent x call;
             })) h.2 (carried life h.0 h.1 call made (ap (λ x. call_fault x call) h.2 ∙ goes))
         by_fault (Some fault) goes = t
 
@@ -264,11 +268,11 @@ module _ (tells : (steps : Steps) → ViewTells halves steps) (edits : (steps : 
     started_tied life None is =
         let none = law_none life (v.replicas life) (sym (t.same.replicas life) ∙ is) in
         one (law.Starts life) _ (subst (Same _)
-        (sym (ap (λ o. law.unless_some v o (law.with_replica v life (law.starting life 1 halves.first))) none))
-        (putting life (law.starting life 1 halves.first))) tt
+        (sym (ap (λ o. law.unless_some v o (law.with_replica v life (law.new_primary life 1 halves.first))) none))
+        (putting life (law.new_primary life 1 halves.first))) tt
     started_tied life (Some r) is = t
 
-    does : (life : Life) (call : Call) → Tied base (happens w (Does life call))
+    does : (life : Life) (call : NodeCall) → Tied base (next_nodes w (Does life call))
     does life Lead = called_tied life Lead tt (w.replicas life) refl
     does life (Change from table latest) = called_tied life (Change from table latest) tt (w.replicas life) refl
     does life (Make edit) = called_tied life (Make edit) tt (w.replicas life) refl
@@ -276,38 +280,38 @@ module _ (tells : (steps : Steps) → ViewTells halves steps) (edits : (steps : 
     does life (Follow snapshot) = t
     does life (Apply entry) = t
 
-    hears : (life : Life) (which : ℕ) (o : Option (Entry Edit)) → slice_get w.past.entries which ≡ o →
-        Tied base (called_if w life (option_map Apply o))
+    hears : (life : Life) (which : ℕ) (o : Option (Entry Edit)) → slice_get w.sent.entries which ≡ o →
+        Tied base (with_call_if w life (option_map Apply o))
     hears life which None at = t
     hears life which (Some entry) at = called_tied life (Apply entry) (which, at) (w.replicas life) refl
 
-    hears_snapshot : (life : Life) (which : ℕ) (o : Option (Snapshot Half)) → slice_get w.past.snapshots which ≡ o →
-        Tied base (called_if w life (option_map Follow o))
+    hears_snapshot : (life : Life) (which : ℕ) (o : Option (Snapshot HalfState)) → slice_get w.sent.snapshots which ≡ o →
+        Tied base (with_call_if w life (option_map Follow o))
     hears_snapshot life which None at = t
     hears_snapshot life which (Some snapshot) at =
         called_tied life (Follow snapshot) (which, at) (w.replicas life) refl
 
-    pub happens_tied : (event : Event) → Tied base (happens w event)
-    happens_tied (Starts life) = started_tied life (w.replicas life) refl
-    happens_tied (Does life call) = does life call
-    happens_tied (Hears life which) = hears life which (slice_get w.past.entries which) refl
-    happens_tied (Hears_snapshot life which) = hears_snapshot life which (slice_get w.past.snapshots which) refl
+    pub next_tied : (event : NodeEvent) → Tied base (next_nodes w event)
+    next_tied (Starts life) = started_tied life (w.replicas life) refl
+    next_tied (Does life call) = does life call
+    next_tied (Hears life which) = hears life which (slice_get w.sent.entries which) refl
+    next_tied (Hears_snapshot life which) = hears_snapshot life which (slice_get w.sent.snapshots which) refl
 
-  -- a later world is where the law leads from the same steps
-  pub later_tied : (later earlier : List Event) → Tied base (world_after earlier) →
-      Tied base (world_after (later ++ earlier))
+  -- after later events the nodes are where the law leads from the same steps
+  pub later_tied : (later earlier : List NodeEvent) → Tied base (nodes_after earlier) →
+      Tied base (nodes_after (later ++ earlier))
   later_tied [] earlier t = t
   later_tied (event ∷ later) earlier t =
-      happens_tied (world_after (later ++ earlier)) (later_tied later earlier t) event
+      next_tied (nodes_after (later ++ earlier)) (later_tied later earlier t) event
 
   -- so is that of each history, if the law begins with none
-  pub first_tied : base ≡ [] → Tied base first_world
-  first_tied none = subst (λ b. Tied b first_world) (sym none) (record {
+  pub first_tied : base ≡ [] → Tied base no_nodes
+  first_tied none = subst (λ b. Tied b no_nodes) (sym none) (record {
     more = [];
     same = record { replicas = λ life. refl; entries = refl; snapshots = refl };
     careful = tt;
   })
 
-  pub tied : base ≡ [] → (history : List Event) → Tied base (world_after history)
+  pub tied : base ≡ [] → (history : List NodeEvent) → Tied base (nodes_after history)
   tied none [] = first_tied none
-  tied none (event ∷ earlier) = happens_tied (world_after earlier) (tied none earlier) event
+  tied none (event ∷ earlier) = next_tied (nodes_after earlier) (tied none earlier) event

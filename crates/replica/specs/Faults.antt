@@ -19,6 +19,6 @@ replica_fault_number Moved = 49
 replica_fault_number OutOfMemory = 90
 
 -- a call that needs no memory succeeds exactly where no refusal is due, and else returns that refusal
-abbrev pub IsDecidedBy : {A : Type 0} → Option ReplicaFault → Result A ReplicaFault → Type 0
-IsDecidedBy due (Ok value) = due ≡ None
-IsDecidedBy due (Err fault) = due ≡ Some fault
+abbrev pub SucceedsUnless : {A : Type 0} → Option ReplicaFault → Result A ReplicaFault → Type 0
+SucceedsUnless due (Ok value) = due ≡ None
+SucceedsUnless due (Err fault) = due ≡ Some fault

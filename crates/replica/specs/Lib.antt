@@ -3,5 +3,5 @@ pub mod Faults
 pub mod Halves
 pub mod Histories
 pub mod Messages
+pub mod Nodes
 pub mod Replicas
-pub mod Worlds

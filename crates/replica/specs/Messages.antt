@@ -1,5 +1,5 @@
 -- What contracts see of an entry.
-use Rattle.replica_law.specs.Worlds as law
+use Rattle.replica_law.specs.Groups as law
 use Rattle.replica.specs.declared.messages.Entry.{Entry}
 use Rattle.replica.specs.Halves.{Edit}
 

@@ -4,14 +4,14 @@ use Rattle.partition_table.specs.Tables.{Table}
 use Rattle.replica_law.specs.declared.position.Life.{Life}
 use Rattle.replica_law.specs.declared.position.View.{View}
 use Rattle.replica_law.specs.declared.position.Position.{Position}
-use Rattle.replica_law.specs.Worlds.{Entry, Snapshot, same_view, same_position, place, next}
+use Rattle.replica_law.specs.Groups.{Entry, Snapshot, same_view, same_position, place, next}
 use Rattle.replica.specs.declared.fault.ReplicaFault.{ReplicaFault}
 use Rattle.replica.specs.declared.fault.ReplicaFault.TheVariants.{NotPrimary, OtherView, Gap, OwnView, Exhausted, Moved}
-use Rattle.replica.specs.Halves.{Half, Edit, first_half, edit_fault, edited}
+use Rattle.replica.specs.Halves.{HalfState, Edit, first_half, edit_fault, edited}
 
 pub record Replica : Type 0 where
   pub life : Life
-  pub half : Half
+  pub half : HalfState
   pub at : Position
   pub led : ℕ  -- the number of the latest view that it started
 
@@ -28,30 +28,30 @@ abbrev pub is_primary : Replica → Bool
 is_primary r = same_view r.at.view (own_view r)
 
 -- a replica at the start of its view of this number
-abbrev pub starting : Life → ℕ → Half → Replica
+abbrev pub starting : Life → ℕ → HalfState → Replica
 starting life number half = record { life = life; half = half; at = place life number 0; led = number }
 
 abbrev pub new_replica : Life → Replica
 new_replica life = starting life 1 first_half
 
-abbrev pub moved : Replica → Position → Half → Replica
+abbrev pub moved : Replica → Position → HalfState → Replica
 moved r at half = record r { at = at; half = half }
 
 -- ---- the calls
 
-pub data Call : Type 0 where
-  Lead : Call
-  Change : (from : Position) → (table : Table) → (latest : Option ℕ) → Call
-  Make : (edit : Edit) → Call
-  Show : Call
-  Follow : (snapshot : Snapshot Half) → Call
-  Apply : (entry : Entry Edit) → Call
+pub data NodeCall : Type 0 where
+  Lead : NodeCall
+  Change : (from : Position) → (table : Table) → (latest : Option ℕ) → NodeCall
+  Make : (edit : Edit) → NodeCall
+  Show : NodeCall
+  Follow : (snapshot : Snapshot HalfState) → NodeCall
+  Apply : (entry : Entry Edit) → NodeCall
 
 -- the entry that an edit of a primary makes, and the snapshot that a replica makes
-abbrev pub entry_of : Replica → Edit → Entry Edit
-entry_of r edit = record { at = next r.at; edit = edit }
+abbrev pub entry_made : Replica → Edit → Entry Edit
+entry_made r edit = record { at = next r.at; edit = edit }
 
-abbrev pub snapshot_of : Replica → Snapshot Half
+abbrev pub snapshot_of : Replica → Snapshot HalfState
 snapshot_of r = record { at = r.at; state = r.half }
 
 abbrev pub lead_fault : Replica → Option ReplicaFault
@@ -68,7 +68,7 @@ make_fault r edit =
     else (if not (nat_lt r.at.op max_number) then Some Exhausted else edit_fault r.half edit)
 
 -- a replica takes no snapshot of the latest view that it started
-abbrev pub follow_fault : Replica → Snapshot Half → Option ReplicaFault
+abbrev pub follow_fault : Replica → Snapshot HalfState → Option ReplicaFault
 follow_fault r snapshot = if same_view snapshot.at.view (own_view r) then Some OwnView else None
 
 -- the replica has this entry of its view already
@@ -89,7 +89,7 @@ abbrev pub applied : Replica → Entry Edit → Replica
 applied r entry = if is_repeated r entry then r else moved r (next r.at) (edited r.half entry.edit)
 
 -- the refusal that a call is due
-abbrev pub call_fault : Replica → Call → Option ReplicaFault
+abbrev pub call_fault : Replica → NodeCall → Option ReplicaFault
 call_fault r Lead = lead_fault r
 call_fault r (Change from table latest) = change_fault r from
 call_fault r (Make edit) = make_fault r edit
@@ -98,11 +98,11 @@ call_fault r (Follow snapshot) = follow_fault r snapshot
 call_fault r (Apply entry) = apply_fault r entry
 
 -- a half after an exchange: another table, and the greatest number that it began
-abbrev pub changed : Half → Table → Option ℕ → Half
+abbrev pub changed : HalfState → Table → Option ℕ → HalfState
 changed half table latest = record half { table = table; latest = latest }
 
 -- what a call that isn't refused leaves
-abbrev pub left_by : Replica → Call → Replica
+abbrev pub left_by : Replica → NodeCall → Replica
 left_by r Lead = starting r.life (suc r.led) r.half
 left_by r (Change from table latest) = starting r.life (suc r.led) (changed r.half table latest)
 left_by r (Make edit) = moved r (next r.at) (edited r.half edit)

@@ -43,10 +43,10 @@ impl Drop for Half {
 }
 
 impl Model for Half {
-    ghost use Rattle.replica.specs.Halves.{Half};
+    ghost use Rattle.replica.specs.Halves.{HalfState};
     ghost use Rattle.replica.specs.Codings.{coded_half};
 
-    ghost Value = { Half };
+    ghost Value = { HalfState };
 
     ghost coded = { coded_half };
 

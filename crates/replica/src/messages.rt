@@ -34,11 +34,11 @@ impl Drop for Snapshot {
 
 impl Model for Snapshot {
     ghost use Rattle.std.specs.Arc.{arc_value};
-    ghost use Rattle.replica_law.specs.Worlds.{Snapshot};
-    ghost use Rattle.replica.specs.Halves.{Half};
+    ghost use Rattle.replica_law.specs.Groups.{Snapshot};
+    ghost use Rattle.replica.specs.Halves.{HalfState};
     ghost use Rattle.replica.specs.Codings.{coded_snapshot};
 
-    ghost Value = { Snapshot Half };
+    ghost Value = { Snapshot HalfState };
 
     ghost coded = { coded_snapshot };
 

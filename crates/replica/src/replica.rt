@@ -6,10 +6,10 @@ ghost use Rattle.exchange_core.specs.Shown.{shown, calls, limit_of};
 ghost use Rattle.partition_table.specs.declared.fault.TableFault.TheVariants.{Full};
 ghost use Rattle.replica.specs.declared.fault.ReplicaFault.TheVariants as of;
 ghost use Rattle.replica.specs.declared.replica.Applied.TheVariants.{Already, Now};
-ghost use Rattle.replica.specs.Faults.{replica_fault_number, IsDecidedBy};
+ghost use Rattle.replica.specs.Faults.{replica_fault_number, SucceedsUnless};
 ghost use Rattle.replica.specs.Replicas as spec;
-ghost use Rattle.replica.specs.Replicas.{new_replica, moved, own_view, entry_of, snapshot_of, lead_fault, change_fault, make_fault, follow_fault, apply_fault, is_repeated, left_by, Lead, Change, Make, Follow, Apply};
-ghost use Rattle.replica_law.specs.Worlds.{next};
+ghost use Rattle.replica.specs.Replicas.{new_replica, moved, own_view, entry_made, snapshot_of, lead_fault, change_fault, make_fault, follow_fault, apply_fault, is_repeated, left_by, Lead, Change, Make, Follow, Apply};
+ghost use Rattle.replica_law.specs.Groups.{next};
 ghost use Rattle.replica.specs.Halves.{edit_fault, edited};
 ghost use Rattle.replica.specs.Messages.{entry_seen};
 
@@ -130,7 +130,7 @@ impl Replica {
     ///
     /// Returns 99 if no view number is left. Allocates nothing.
     pub fn lead(&mut self) -> Result<View, ReplicaFault>
-        ensures answer { IsDecidedBy (lead_fault self.old) result }
+        ensures answer { SucceedsUnless (lead_fault self.old) result }
         ensures view { IfOk result (λ view. view ≡ own_view self.new) }
         ensures done { OnOk result (self.new ≡ left_by self.old Lead) }
         ensures unchanged { OnErr result (self.new ≡ self.old) }
@@ -211,7 +211,7 @@ impl Replica {
     /// copies the half if a snapshot shares it.
     pub fn edit(&mut self, edit: Edit) -> Result<Entry, ReplicaFault>
         ensures answer { IsAnswered replica_fault_number (make_fault self.old edit) result }
-        ensures entry { IfOk result (λ entry. entry_seen entry ≡ entry_of self.old edit) }
+        ensures entry { IfOk result (λ entry. entry_seen entry ≡ entry_made self.old edit) }
         ensures done { OnOk result (self.new ≡ left_by self.old (Make edit)) }
         ensures unchanged { OnErr result (self.new ≡ self.old) }
     {

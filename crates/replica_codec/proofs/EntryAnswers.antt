@@ -27,7 +27,7 @@ use Rattle.replica_codec.specs.declared.fault.ReplicaMessageFault.TheVariants.{M
 use Rattle.replica_codec.specs.Faults.{replica_message_fault_number}
 use Rattle.replica_codec.specs.Building.{IsEntryOf}
 use Rattle.replica_codec.specs.Frames.{entry_header, frame_bytes}
-use Rattle.replica_codec.specs.Entries.{EntryText, Uploads, edit_text, entry_text, entry_bytes, IsEntryText, IsKeptEdit, SpellsEntry, IsTextFault, IsEntryFault, entry_of}
+use Rattle.replica_codec.specs.Entries.{EntryText, Uploads, edit_text, entry_text, entry_bytes, IsEntryText, IsKeptEdit, SpellsEntry, IsTextFault, IsEntryFault, entry_from}
 use Rattle.replica_codec.proofs.EntryLaws.{entry_spelled, entry_read}
 
 -- ---- one edit of a text
@@ -85,8 +85,8 @@ module _ (known : Readings) where
 
 -- ---- entries
 
-spelled_text : (bytes : List ℕ) (e : Entry) → SpellsEntry bytes e → entry_of bytes ≡ Ok (entry_text e)
-spelled_text bytes e s = ap entry_of s.spelling ∙ entry_read (entry_text e) s.is_text
+spelled_text : (bytes : List ℕ) (e : Entry) → SpellsEntry bytes e → entry_from bytes ≡ Ok (entry_text e)
+spelled_text bytes e s = ap entry_from s.spelling ∙ entry_read (entry_text e) s.is_text
 
 same_entry : (e f : Entry) → e.at ≡ f.at → e.edit ≡ f.edit → e ≡ f
 same_entry e f at edit i = record { at = at i; edit = edit i }
@@ -115,7 +115,7 @@ module _ (known : Readings) where
   -- bytes spell one entry, or have one fault
   pub entries : (bytes : List ℕ) → AreExact (SpellsEntry bytes) (IsEntryFault bytes)
   entries bytes =
-      let by : Decides (entry_of bytes) entry_text (SpellsEntry bytes) (IsEntryFault bytes) IsTextFault = record {
+      let by : Decides (entry_from bytes) entry_text (SpellsEntry bytes) (IsEntryFault bytes) IsTextFault = record {
         reads = spelled_text bytes;
         cause = λ f h. h;
         one = λ e f s r same. same_entry e f (ap (λ (t : EntryText). t.at) same)
@@ -127,7 +127,7 @@ module _ (known : Readings) where
 
 -- the entry that is built of the text
 pub is_spelled : (bytes : List ℕ) (t : EntryText) (r : Result Entry ReplicaMessageFault) → IsBytes bytes
-    → entry_of bytes ≡ Ok t → IfOk r (IsEntryOf t) → IfOk r (SpellsEntry bytes)
+    → entry_from bytes ≡ Ok t → IfOk r (IsEntryOf t) → IfOk r (SpellsEntry bytes)
 is_spelled bytes t (Ok e) fits read h =
     let spelled = entry_spelled bytes t fits read in
     record {
@@ -137,7 +137,7 @@ is_spelled bytes t (Ok e) fits read h =
     }
 is_spelled bytes t (Err f) fits read h = tt
 
-pub is_refused : (bytes : List ℕ) (t : EntryText) (r : Result Entry ReplicaMessageFault) → entry_of bytes ≡ Ok t
+pub is_refused : (bytes : List ℕ) (t : EntryText) (r : Result Entry ReplicaMessageFault) → entry_from bytes ≡ Ok t
     → IfErr r (HasCause replica_message_fault_number (IsTextFault t))
     → IfErr r (HasCause replica_message_fault_number (IsEntryFault bytes))
 is_refused bytes t (Ok e) read h = tt
@@ -146,7 +146,7 @@ is_refused bytes t (Err f) read (inr out) = inr out
 
 -- the fault of a field
 pub read_fault : (bytes : List ℕ) (f : ReplicaMessageFault)
-    → (entry_of bytes ≡ Err f) ⊎ (replica_message_fault_number f ≡ out_of_memory)
+    → (entry_from bytes ≡ Err f) ⊎ (replica_message_fault_number f ≡ out_of_memory)
     → HasCause replica_message_fault_number (IsEntryFault bytes) f
 read_fault bytes f (inl h) = inl (inl h)
 read_fault bytes f (inr out) = inr out

@@ -21,7 +21,7 @@ use Rattle.exchange_codec.specs.laws.Rows.{sized_takes, bytes_again, behind, row
 use Rattle.replica.specs.declared.messages.Entry.{Entry}
 use Rattle.replica_codec.specs.declared.fault.ReplicaMessageFault.{ReplicaMessageFault}
 use Rattle.replica_codec.specs.Frames.{entry_header, frame_bytes, no_head, in_message, body_of}
-use Rattle.replica_codec.specs.Entries.{sized_code, EditText, EntryText, edit_text, entry_text, IsKeptEdit, SpellsEntry, Registers, Unregisters, Uploads, Limits, Begins, position_bytes, plain, plain_row, registration_by, registers, edit_bytes, entry_bytes, IsPosition, IsEditText, IsEntryText, position_at, register_at, limit_at, edit_at, entry_at, entry_in, entry_due, entry_of}
+use Rattle.replica_codec.specs.Entries.{sized_code, EditText, EntryText, edit_text, entry_text, IsKeptEdit, SpellsEntry, Registers, Unregisters, Uploads, Limits, Begins, position_bytes, plain, plain_row, registration_by, registers, edit_bytes, entry_bytes, IsPosition, IsEditText, IsEntryText, position_at, register_at, limit_at, edit_at, entry_at, entry_in, entry_due, entry_from}
 use Rattle.replica_codec.proofs.FrameLaws.{in_ok, body_spelled, body_read, body_fits, body_written, behind_head}
 
 -- ---- positions
@@ -225,7 +225,7 @@ body_there : (len : ℕ) (r : Result (List ℕ) ReplicaMessageFault) (t : EntryT
 body_there len (Ok body) t e = record { body = body; was = refl; text = in_ok (len - 8) (entry_in body) t e }
 body_there len (Err f) t e = absurd cc
 
-pub entry_spelled : (bytes : List ℕ) (t : EntryText) → IsBytes bytes → entry_of bytes ≡ Ok t
+pub entry_spelled : (bytes : List ℕ) (t : EntryText) → IsBytes bytes → entry_from bytes ≡ Ok t
     → IsEntryText t × (bytes ≡ frame_bytes entry_header (entry_bytes t))
 entry_spelled bytes t fits e =
     let b = body_there (length bytes) (body_of entry_header bytes) t e in
@@ -235,7 +235,7 @@ entry_spelled bytes t fits e =
       k.0 ∙ ap (frame_bytes entry_header) s.1,
     )
 
-pub entry_read : (t : EntryText) → IsEntryText t → entry_of (frame_bytes entry_header (entry_bytes t)) ≡ Ok t
+pub entry_read : (t : EntryText) → IsEntryText t → entry_from (frame_bytes entry_header (entry_bytes t)) ≡ Ok t
 entry_read t fits =
     let n = length (frame_bytes entry_header (entry_bytes t)) in
     ap (entry_due n) (body_read entry_header (entry_bytes t) (lit< tt) fits.short)

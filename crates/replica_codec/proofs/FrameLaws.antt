@@ -10,7 +10,7 @@ use Rattle.exchange_codec.specs.laws.Fields.{IsBytes, IsBytes-rest, bind_ok, ok_
 use Rattle.exchange_codec.specs.laws.Rows.{bytes_take, bytes_again}
 use Rattle.replica_codec.specs.declared.fault.ReplicaMessageFault.{ReplicaMessageFault}
 use Rattle.replica_codec.specs.declared.fault.ReplicaMessageFault.TheVariants.{Checksum}
-use Rattle.replica_codec.specs.Frames.{checksum, head_bytes, front_bytes, frame_bytes, head_at, head_due, head_of, tail_at, tail_of, tail_due, in_message, checked, body_due, body_of, no_head}
+use Rattle.replica_codec.specs.Frames.{checksum, frame_head_bytes, front_bytes, frame_bytes, frame_head_at, head_due, frame_head_of, tail_at, tail_of, tail_due, in_message, checked, body_due, body_of, no_head}
 use Rattle.replica_codec.proofs.SumLaws.{sum_fits}
 
 -- ---- checksums
@@ -54,9 +54,9 @@ sized header len = to_le_bytes w64 header ++ to_le_bytes w64 len
 abbrev Headed : ℕ → List ℕ → (ℕ × ℕ) × List ℕ → Type 0
 Headed header bytes y = Takes bytes (sized header y.0.0 ++ to_le_bytes w64 y.0.1) y.1 × (y.0.0 < 2 ^ 64)
 
-head_takes : (header : ℕ) (bytes : List ℕ) (x : (ℕ × ℕ) × List ℕ) → IsBytes bytes → head_at header bytes ≡ Ok x
+head_takes : (header : ℕ) (bytes : List ℕ) (x : (ℕ × ℕ) × List ℕ) → IsBytes bytes → frame_head_at header bytes ≡ Ok x
     → Headed header bytes x
-unfolding head_at
+unfolding frame_head_at
 head_takes header bytes x fits e =
     let h = bind_ok (header_at header bytes) (λ rest. number_at w64 rest >>= λ len. number_at w64 len.1 >>= λ sum. Ok ((len.0, sum.0), sum.1)) x e in
     let n = bind_ok (number_at w64 h.0) (λ len. number_at w64 len.1 >>= λ sum. Ok ((len.0, sum.0), sum.1)) x h.2 in
@@ -69,7 +69,7 @@ head_takes header bytes x fits e =
     let made : (ℕ × ℕ) × List ℕ = ((n.0.0, s.0.0), s.0.1) in
     subst (Headed header bytes) {x = made} (ok_is made x s.2) (e0, tn.1)
 
-pub head_long : (header : ℕ) (bytes : List ℕ) (x : (ℕ × ℕ) × List ℕ) → IsBytes bytes → head_at header bytes ≡ Ok x
+pub head_long : (header : ℕ) (bytes : List ℕ) (x : (ℕ × ℕ) × List ℕ) → IsBytes bytes → frame_head_at header bytes ≡ Ok x
     → 16 ≤ length bytes
 head_long header bytes x fits e =
     let t = head_takes header bytes x fits e in
@@ -81,8 +81,8 @@ abbrev pub head_parts : ℕ → ℕ → ℕ → List ℕ → List ℕ
 head_parts header len sum rest = to_le_bytes w64 header ++ (to_le_bytes w64 len ++ (to_le_bytes w64 sum ++ rest))
 
 pub head_again : (header len sum : ℕ) (rest : List ℕ) → header < 2 ^ 64 → len < 2 ^ 64 → sum < 2 ^ 64
-    → head_at header (head_parts header len sum rest) ≡ Ok ((len, sum), rest)
-unfolding head_at
+    → frame_head_at header (head_parts header len sum rest) ≡ Ok ((len, sum), rest)
+unfolding frame_head_at
 head_again header len sum rest headed short fits =
     rw (
       header_again header (to_le_bytes w64 len ++ (to_le_bytes w64 sum ++ rest)) headed,
@@ -102,29 +102,29 @@ head_parted header len sum rest =
 -- the length and the rest, unless the checksum is another
 pub head_found : (header len sum : ℕ) (bytes rest : List ℕ) → header < 2 ^ 64 → len < 2 ^ 64 → sum < 2 ^ 64
     → bytes ≡ head_parts header len sum rest
-    → head_of header bytes ≡ checked sum (to_le_bytes w64 header ++ to_le_bytes w64 len) (len, rest)
+    → frame_head_of header bytes ≡ checked sum (to_le_bytes w64 header ++ to_le_bytes w64 len) (len, rest)
 head_found header len sum bytes rest headed short fits e =
     ap (λ (r : Result ((ℕ × ℕ) × List ℕ) Fault). head_due bytes (in_message (length bytes) r))
-    (ap (head_at header) e ∙ head_again header len sum rest headed short fits)
+    (ap (frame_head_at header) e ∙ head_again header len sum rest headed short fits)
     ∙ ap (λ (before : List ℕ). checked sum before (len, rest))
     (sixteen header len bytes (to_le_bytes w64 sum ++ rest) (e ∙ head_parted header len sum rest))
 
-pub head_in : (header len : ℕ) (rest : List ℕ) → head_bytes header len ++ rest ≡ head_parts header len (checksum (sized header len)) rest
+pub head_in : (header len : ℕ) (rest : List ℕ) → frame_head_bytes header len ++ rest ≡ head_parts header len (checksum (sized header len)) rest
 head_in header len rest =
     append_assoc (sized header len) (to_le_bytes w64 (checksum (sized header len))) rest
     ∙ append_assoc (to_le_bytes w64 header) (to_le_bytes w64 len) (to_le_bytes w64 (checksum (sized header len)) ++ rest)
 
-pub head_read : (header len : ℕ) (bytes rest : List ℕ) → header < 2 ^ 64 → len < 2 ^ 64 → bytes ≡ head_bytes header len ++ rest
-    → head_of header bytes ≡ Ok (len, rest)
+pub head_read : (header len : ℕ) (bytes rest : List ℕ) → header < 2 ^ 64 → len < 2 ^ 64 → bytes ≡ frame_head_bytes header len ++ rest
+    → frame_head_of header bytes ≡ Ok (len, rest)
 head_read header len bytes rest headed short e =
     head_found header len (checksum (sized header len)) bytes rest headed short (sum_fits (sized header len)) (e ∙ head_in header len rest)
     ∙ checked_met (checksum (sized header len)) (sized header len) (len, rest) refl
 
 abbrev IsHeaded : ℕ → List ℕ → ℕ × List ℕ → Type 0
-IsHeaded header bytes head = Takes bytes (head_bytes header head.0) head.1 × (head.0 < 2 ^ 64)
+IsHeaded header bytes head = Takes bytes (frame_head_bytes header head.0) head.1 × (head.0 < 2 ^ 64)
 
 head_due_is : (header : ℕ) (bytes : List ℕ) (r : Result ((ℕ × ℕ) × List ℕ) Fault) (head : ℕ × List ℕ) → IsBytes bytes
-    → head_at header bytes ≡ r → head_due bytes (in_message (length bytes) r) ≡ Ok head → IsHeaded header bytes head
+    → frame_head_at header bytes ≡ r → head_due bytes (in_message (length bytes) r) ≡ Ok head → IsHeaded header bytes head
 head_due_is header bytes (Ok x) head fits was e =
     let t = head_takes header bytes x fits was in
     let last = to_le_bytes w64 x.0.1 in
@@ -140,9 +140,9 @@ head_due_is header bytes (Ok x) head fits was e =
     )
 head_due_is header bytes (Err f) head fits was e = absurd cc
 
-pub head_spelled : (header : ℕ) (bytes : List ℕ) (head : ℕ × List ℕ) → IsBytes bytes → head_of header bytes ≡ Ok head
+pub head_spelled : (header : ℕ) (bytes : List ℕ) (head : ℕ × List ℕ) → IsBytes bytes → frame_head_of header bytes ≡ Ok head
     → IsHeaded header bytes head
-head_spelled header bytes head fits e = head_due_is header bytes (head_at header bytes) head fits refl e
+head_spelled header bytes head fits e = head_due_is header bytes (frame_head_at header bytes) head fits refl e
 
 -- ---- bodies with their checksums
 
@@ -207,9 +207,9 @@ tail_due_is header bytes head (Ok t) body h was e =
     let last = to_le_bytes w64 t.1 in
     let front = front_bytes header t.0 in
     let apart : bytes ≡ front ++ last =
-    h.0.parts ∙ ap (λ (r : List ℕ). head_bytes header head.0 ++ r) k.0
-    ∙ ap (λ (n : ℕ). head_bytes header n ++ (t.0 ++ last)) (sym k.1)
-    ∙ sym (append_assoc (head_bytes header (length t.0)) t.0 last) in
+    h.0.parts ∙ ap (λ (r : List ℕ). frame_head_bytes header head.0 ++ r) k.0
+    ∙ ap (λ (n : ℕ). frame_head_bytes header n ++ (t.0 ++ last)) (sym k.1)
+    ∙ sym (append_assoc (frame_head_bytes header (length t.0)) t.0 last) in
     let g = checked_is t.1 (take (length bytes - 8) bytes) t.0 body e in
     let right : t.1 ≡ checksum front = g.0 ∙ ap checksum (all_but front last bytes (wide64.len t.1) apart) in
     subst (IsFramed header bytes) g.1
@@ -217,14 +217,14 @@ tail_due_is header bytes head (Ok t) body h was e =
 tail_due_is header bytes head (Err f) body h was e = absurd cc
 
 body_due_is : (header : ℕ) (bytes : List ℕ) (r : Result (ℕ × List ℕ) ReplicaMessageFault) (body : List ℕ) → IsBytes bytes
-    → head_of header bytes ≡ r → body_due bytes r ≡ Ok body → IsFramed header bytes body
+    → frame_head_of header bytes ≡ r → body_due bytes r ≡ Ok body → IsFramed header bytes body
 body_due_is header bytes (Ok head) body fits was e =
     tail_due_is header bytes head (tail_of head.0 head.1) body (head_spelled header bytes head fits was) refl e
 body_due_is header bytes (Err f) body fits was e = absurd cc
 
 pub body_spelled : (header : ℕ) (bytes body : List ℕ) → IsBytes bytes → body_of header bytes ≡ Ok body
     → (bytes ≡ frame_bytes header body) × (length body < 2 ^ 64)
-body_spelled header bytes body fits e = body_due_is header bytes (head_of header bytes) body fits refl e
+body_spelled header bytes body fits e = body_due_is header bytes (frame_head_of header bytes) body fits refl e
 
 pub body_read : (header : ℕ) (body : List ℕ) → header < 2 ^ 64 → length body < 2 ^ 64
     → body_of header (frame_bytes header body) ≡ Ok body
@@ -234,7 +234,7 @@ body_read header body headed short =
     let sum = checksum front in
     let last = to_le_bytes w64 sum in
     ap (body_due bytes) (head_read header (length body) bytes (body ++ last) headed short
-    (append_assoc (head_bytes header (length body)) body last))
+    (append_assoc (frame_head_bytes header (length body)) body last))
     ∙ ap (λ (r : Result (List ℕ × ℕ) Fault). tail_due bytes (in_message (length bytes) r)) (tail_read body sum (sum_fits front))
     ∙ checked_met sum (take (length bytes - 8) bytes) body (ap checksum (sym (all_but front last bytes (wide64.len sum) refl)))
 
@@ -251,7 +251,7 @@ back_fits (x ∷ xs) ys h = back_fits xs ys (IsBytes-rest x (xs ++ ys) h)
 
 pub body_fits : (header : ℕ) (bytes body : List ℕ) → IsBytes bytes → bytes ≡ frame_bytes header body → IsBytes body
 body_fits header bytes body fits e =
-    back_fits (head_bytes header (length body)) body
+    back_fits (frame_head_bytes header (length body)) body
     (front_fits (front_bytes header body) (to_le_bytes w64 (checksum (front_bytes header body))) (subst IsBytes e fits))
 
 -- ---- a frame that is written
@@ -269,15 +269,15 @@ filled items w n size = take_at w (drop (length w) items) n size
 
 -- the head and the checksum are written
 pub framed_written : (header : ℕ) (items w front whole : List ℕ) (len n sum : ℕ) → len ≡ length items → n ≡ length items
-    → 24 ≤ length items → w ≡ head_bytes header (len - 24) ++ drop 24 items
+    → 24 ≤ length items → w ≡ frame_head_bytes header (len - 24) ++ drop 24 items
     → front ≡ take n (w ++ drop (length w) items) → sum ≡ checksum front
     → whole ≡ take n (w ++ drop (length w) items) ++ to_le_bytes w64 sum → whole ≡ frame_bytes header (drop 24 items)
 framed_written header items w front whole len n sum counted sized long wrote read sums last =
     let body = drop 24 items in
     let behind : len - 24 ≡ length body = omega (arith, counted, length-drop 24 items) in
-    let is : w ≡ front_bytes header body = wrote ∙ ap (λ (k : ℕ). head_bytes header k ++ body) behind in
+    let is : w ≡ front_bytes header body = wrote ∙ ap (λ (k : ℕ). frame_head_bytes header k ++ body) behind in
     let size : length w ≡ n =
-    omega (arith, sized, long, ap length is, length-append (head_bytes header (length body)) body, length-drop 24 items) in
+    omega (arith, sized, long, ap length is, length-append (frame_head_bytes header (length body)) body, length-drop 24 items) in
     let all : take n (w ++ drop (length w) items) ≡ front_bytes header body = filled items w n size ∙ is in
     last ∙ ap (λ (x : List ℕ). x ++ to_le_bytes w64 sum) all
     ∙ ap (λ (k : ℕ). front_bytes header body ++ to_le_bytes w64 k) (sums ∙ ap checksum (read ∙ all))
@@ -290,7 +290,7 @@ eight xs rest =
 
 -- the head is written byte by byte
 pub head_written : (header len sum : ℕ) (h l s : List ℕ) → h ≡ to_le_bytes w64 header → l ≡ to_le_bytes w64 len
-    → sum ≡ checksum (eight h (eight l [])) → s ≡ to_le_bytes w64 sum → eight h (eight l (eight s [])) ≡ head_bytes header len
+    → sum ≡ checksum (eight h (eight l [])) → s ≡ to_le_bytes w64 sum → eight h (eight l (eight s [])) ≡ frame_head_bytes header len
 head_written header len sum h l s is_header is_len is_sum is_last =
     let front : eight h (eight l []) ≡ sized header len =
     ap (λ (xs : List ℕ). eight xs (eight l [])) is_header ∙ ap (λ (xs : List ℕ). to_le_bytes w64 header ++ eight xs []) is_len in

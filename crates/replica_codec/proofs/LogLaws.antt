@@ -16,8 +16,8 @@ use Rattle.replica_codec.specs.declared.fault.ReplicaMessageFault.TheVariants.{M
 use Rattle.replica_codec.specs.declared.log.LogFront.{LogFront}
 use Rattle.replica_codec.specs.declared.log.LogFront.TheVariants as front
 use Rattle.replica_codec.specs.Faults.{replica_message_fault_number}
-use Rattle.replica_codec.specs.Frames.{entry_header, snapshot_header, checksum, head_bytes, front_bytes, frame_bytes, head_at, head_due, head_of, tail_at, in_message, IsReadAs}
-use Rattle.replica_codec.specs.Logs.{IsDamaged, after_at, after_due, front_at, front_of, kind_at, kind_due, kind_or_wrong, or_cut, whole, whole_due}
+use Rattle.replica_codec.specs.Frames.{entry_header, snapshot_header, checksum, frame_head_bytes, front_bytes, frame_bytes, frame_head_at, head_due, frame_head_of, tail_at, in_message, IsReadAs}
+use Rattle.replica_codec.specs.Logs.{IsDamaged, after_at, after_due, front_at, front_of, kind_at, kind_due, kind_or_wrong, or_cut, whole_message, whole_due}
 use Rattle.replica_codec.proofs.SumLaws.{sum_fits}
 use Rattle.replica_codec.proofs.FrameLaws.{sized, head_parts, head_in, head_found, head_read, tail_again, checked_unmet}
 
@@ -45,7 +45,7 @@ snapshot_kind = (
 
 -- the rest of a message of a kind
 by_kind : (header : ℕ) (bytes tail : List ℕ) → IsKind header → bytes ≡ to_le_bytes w64 header ++ tail
-    → front_at bytes ≡ after_due header bytes (head_of header bytes)
+    → front_at bytes ≡ after_due header bytes (frame_head_of header bytes)
 by_kind header bytes tail kind e =
     ap (λ (r : Result ℕ Fault). kind_due bytes (in_message (length bytes) r)) (ap kind_at e ∙ kind.0 tail)
 
@@ -70,27 +70,27 @@ some_bytes header bytes message body rest spelling e =
 
 -- a message and what follows it
 parted : (header : ℕ) (body rest : List ℕ) → frame_bytes header body ++ rest
-    ≡ head_bytes header (length body) ++ (body ++ (to_le_bytes w64 (checksum (front_bytes header body)) ++ rest))
+    ≡ frame_head_bytes header (length body) ++ (body ++ (to_le_bytes w64 (checksum (front_bytes header body)) ++ rest))
 parted header body rest =
     let last = to_le_bytes w64 (checksum (front_bytes header body)) in
-    append_assoc (front_bytes header body) last rest ∙ append_assoc (head_bytes header (length body)) body (last ++ rest)
+    append_assoc (front_bytes header body) last rest ∙ append_assoc (frame_head_bytes header (length body)) body (last ++ rest)
 
 pub first : (header : ℕ) (bytes message body rest : List ℕ) → IsKind header → length body < 2 ^ 64 → message ≡ frame_bytes header body
-    → bytes ≡ message ++ rest → front_of bytes ≡ Ok (whole header (length message))
+    → bytes ≡ message ++ rest → front_of bytes ≡ Ok (whole_message header (length message))
 first header bytes message body rest kind short spelling e =
     let sum = checksum (front_bytes header body) in
     let tail = body ++ (to_le_bytes w64 sum ++ rest) in
-    let there : bytes ≡ head_bytes header (length body) ++ tail =
+    let there : bytes ≡ frame_head_bytes header (length body) ++ tail =
     e ∙ ap (λ (m : List ℕ). m ++ rest) spelling ∙ parted header body rest in
     let size : length bytes - length rest ≡ length message = omega (arith, ap length e, length-append message rest) in
-    let reads : front_at bytes ≡ Ok (whole header (length message)) =
+    let reads : front_at bytes ≡ Ok (whole_message header (length message)) =
     by_kind header bytes (to_le_bytes w64 (length body) ++ (to_le_bytes w64 (checksum (sized header (length body))) ++ tail)) kind
     (there ∙ head_in header (length body) tail)
     ∙ ap (after_due header bytes) (head_read header (length body) bytes tail kind.1 short there)
     ∙ ap (λ (r : Result (List ℕ) Fault). whole_due header bytes (in_message (length bytes) r))
     (after_again body rest sum (sum_fits (front_bytes header body)))
-    ∙ ap (λ (n : ℕ). Ok (whole header n)) size in
-    front_by bytes (Ok (whole header (length message))) (some_bytes header bytes message body rest spelling e) reads
+    ∙ ap (λ (n : ℕ). Ok (whole_message header n)) size in
+    front_by bytes (Ok (whole_message header (length message))) (some_bytes header bytes message body rest spelling e) reads
 
 -- ---- a message that is cut
 
@@ -159,19 +159,19 @@ abbrev sum_behind : ℕ × List ℕ → Result ((ℕ × ℕ) × List ℕ) Fault
 sum_behind len = number_at w64 len.1 >>= λ sum. Ok ((len.0, sum.0), sum.1)
 
 head_by : (header : ℕ) (bytes tail : List ℕ) → header < 2 ^ 64 → bytes ≡ to_le_bytes w64 header ++ tail
-    → head_at header bytes ≡ (number_at w64 tail >>= sum_behind)
-unfolding head_at
+    → frame_head_at header bytes ≡ (number_at w64 tail >>= sum_behind)
+unfolding frame_head_at
 head_by header bytes tail headed e =
     ap (λ (r : Result (List ℕ) Fault). r >>= λ rest. number_at w64 rest >>= sum_behind)
     (ap (header_at header) e ∙ header_again header tail headed)
 
 len_cut : (header : ℕ) (bytes tail : List ℕ) → header < 2 ^ 64 → bytes ≡ to_le_bytes w64 header ++ tail → length tail < 8
-    → IsCut (head_at header bytes)
+    → IsCut (frame_head_at header bytes)
 len_cut header bytes tail headed e short =
     let h = bound (number_at w64 tail) sum_behind (short_number tail short) in (h.0, head_by header bytes tail headed e ∙ h.1)
 
 head_sum_cut : (header len : ℕ) (bytes tail : List ℕ) → header < 2 ^ 64 → len < 2 ^ 64
-    → bytes ≡ to_le_bytes w64 header ++ (to_le_bytes w64 len ++ tail) → length tail < 8 → IsCut (head_at header bytes)
+    → bytes ≡ to_le_bytes w64 header ++ (to_le_bytes w64 len ++ tail) → length tail < 8 → IsCut (frame_head_at header bytes)
 head_sum_cut header len bytes tail headed fits e short =
     let h = bound (number_at w64 tail) (λ sum. Ok ((len, sum.0), sum.1)) (short_number tail short) in (
       h.0,
@@ -184,13 +184,13 @@ in_kind : (bytes : List ℕ) → IsCut (kind_at bytes) → or_cut (front_at byte
 in_kind bytes h = ap (λ (r : Result ℕ Fault). or_cut (kind_due bytes (in_message (length bytes) r))) h.1
 
 in_head : (header : ℕ) (bytes tail : List ℕ) → IsKind header → bytes ≡ to_le_bytes w64 header ++ tail
-    → IsCut (head_at header bytes) → or_cut (front_at bytes) ≡ Ok front.Cut
+    → IsCut (frame_head_at header bytes) → or_cut (front_at bytes) ≡ Ok front.Cut
 in_head header bytes tail kind e h =
     ap or_cut (by_kind header bytes tail kind e)
     ∙ ap (λ (r : Result ((ℕ × ℕ) × List ℕ) Fault). or_cut (after_due header bytes (head_due bytes (in_message (length bytes) r)))) h.1
 
 behind_head : (header len : ℕ) (bytes tail rest : List ℕ) → IsKind header → bytes ≡ to_le_bytes w64 header ++ tail
-    → head_of header bytes ≡ Ok (len, rest) → IsCut (after_at len rest) → or_cut (front_at bytes) ≡ Ok front.Cut
+    → frame_head_of header bytes ≡ Ok (len, rest) → IsCut (after_at len rest) → or_cut (front_at bytes) ≡ Ok front.Cut
 behind_head header len bytes tail rest kind e head h =
     ap or_cut (by_kind header bytes tail kind e) ∙ ap (λ (r : Result (ℕ × List ℕ) ReplicaMessageFault). or_cut (after_due header bytes r)) head
     ∙ ap (λ (r : Result (List ℕ) Fault). or_cut (whole_due header bytes (in_message (length bytes) r))) h.1
@@ -231,7 +231,7 @@ pub cut : (header : ℕ) (bytes more body : List ℕ) → IsKind header → 0 < 
     → bytes ++ more ≡ frame_bytes header body → front_of bytes ≡ Ok front.Cut
 cut header bytes more body kind some rest short spelling =
     let sum = checksum (front_bytes header body) in
-    let there = spelling ∙ append_assoc (head_bytes header (length body)) body (to_le_bytes w64 sum)
+    let there = spelling ∙ append_assoc (frame_head_bytes header (length body)) body (to_le_bytes w64 sum)
     ∙ head_in header (length body) (body ++ to_le_bytes w64 sum) in
     front_by bytes (front_at bytes) some refl ∙ front_cut header sum body bytes more kind short rest there
 

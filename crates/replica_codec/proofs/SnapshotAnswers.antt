@@ -13,8 +13,8 @@ use Rattle.clash_record.specs.declared.registrations.ProgramId.{ProgramId}
 use Rattle.clash_record.specs.Orders.{id_cmp}
 use Rattle.upload_store.specs.Programs.{Programs, IsProgram, id_of, max_programs}
 use Rattle.partition_table.specs.Tables.{Table, IsTable, most_names}
-use Rattle.replica_law.specs.Worlds.{Snapshot}
-use Rattle.replica.specs.Halves.{Half}
+use Rattle.replica_law.specs.Groups.{Snapshot}
+use Rattle.replica.specs.Halves.{HalfState}
 use Rattle.exchange_codec.specs.declared.fault.ItemFault.{ItemFault}
 use Rattle.exchange_codec.specs.declared.fault.ItemFault.TheVariants as item
 use Rattle.exchange_codec.specs.declared.fault.MessageFault.{MessageFault}
@@ -34,7 +34,7 @@ use Rattle.replica_codec.specs.Faults.{replica_message_fault_number}
 use Rattle.replica_codec.specs.Frames.{snapshot_header, frame_bytes, no_head}
 use Rattle.replica_codec.proofs.FrameLaws.{body_written, behind_head}
 use Rattle.replica_codec.specs.Entries.{position_bytes}
-use Rattle.replica_codec.specs.Snapshots.{latest_bytes, codes_bytes, SnapshotText, snapshot_text, snapshot_bytes, text_bytes, store_codes, AreStored, IsStoreOf, IsStoredFault, IsFirstStoredFault, SpellsSnapshot, IsSnapshotText, IsSnapshotFault, text_of, is_above, behind}
+use Rattle.replica_codec.specs.Snapshots.{latest_bytes, codes_bytes, SnapshotText, snapshot_text, snapshot_bytes, text_bytes, store_codes, AreStored, IsStoreOf, IsStoredFault, IsFirstStoredFault, SpellsSnapshot, IsSnapshotText, IsSnapshotFault, snapshot_from, is_id_above, behind}
 use Rattle.replica_codec.specs.Stores.{FitsBehind, IsCodesFault, IsPartsFault, IsSnapshotOf}
 use Rattle.replica_codec.proofs.SnapshotLaws.{text_spelled, text_read}
 use Rattle.replica_codec.proofs.StoreLaws.{Entry, heads, code_text, same_entries, same_store}
@@ -87,13 +87,13 @@ not_both e = cc
 
 module _ (known : Readings) where
   no_stored_fault : (store : Programs) (id : ProgramId) (program : List Insn) (code : List ℕ) (f : ItemFault) → IsProgram id program
-      → code ≡ flat_map insn_bytes program → is_above (entries store) id ≡ true → IsStoredFault store code f → ⊥
+      → code ≡ flat_map insn_bytes program → is_id_above (entries store) id ≡ true → IsStoredFault store code f → ⊥
   no_stored_fault store id program code (item.Program g) p is above h =
       let whole : p.bytes ≡ code = p.spelled.spelling ∙ sym is in
       known.accepted code program g (subst (λ (b : List ℕ). IsAccepted b program) whole p.accepted) h
   no_stored_fault store id program code item.NameOrder p is above h =
       let named : id ≡ id_of code = p.named ∙ ap id_of (p.spelled.spelling ∙ sym is) in
-      not_both (sym above ∙ ap (is_above (entries store)) named ∙ h.2)
+      not_both (sym above ∙ ap (is_id_above (entries store)) named ∙ h.2)
   no_stored_fault store id program code item.NameAgain p is above h = h
   no_stored_fault store id program code item.NoProgram p is above h = h
   no_stored_fault store id program code item.ProgramAgain p is above h = h
@@ -109,7 +109,7 @@ module _ (known : Readings) where
       let all = subst Each p.parts stored in
       let same : entries first.built ≡ p.done =
       same_entries known (entries first.built) p.done first.kept (front_of p.done (p.entry ∷ p.rest) all) (sym first.before ∙ p.told) in
-      let above = ap (λ (es : List Entry). is_above es p.entry.0) same
+      let above = ap (λ (es : List Entry). is_id_above es p.entry.0) same
       ∙ above_there id_cmp p.done p.entry p.rest (sorted_as id_cmp (entries_sorted store) p.parts) in
       no_stored_fault first.built p.entry.0 p.entry.1 first.item f (each_at p.done p.entry p.rest all) p.is above first.has
 
@@ -142,20 +142,20 @@ module _ (known : Readings) where
 
 -- ---- snapshots
 
-table_there : (bytes : List ℕ) (s : Snapshot Half) → SpellsSnapshot bytes s → SpellsTable (table_bytes (table_text s.state.table)) s.state.table
+table_there : (bytes : List ℕ) (s : Snapshot HalfState) → SpellsSnapshot bytes s → SpellsTable (table_bytes (table_text s.state.table)) s.state.table
 table_there bytes s h = record { is_text = h.rows; kept = h.kept; spelling = refl }
 
-abbrev read_text : Snapshot Half → Read
+abbrev read_text : Snapshot HalfState → Read
 read_text s = (snapshot_text s, table_bytes (table_text s.state.table))
 
-spelled_text : (bytes : List ℕ) (s : Snapshot Half) → SpellsSnapshot bytes s → text_of bytes ≡ Ok (read_text s)
+spelled_text : (bytes : List ℕ) (s : Snapshot HalfState) → SpellsSnapshot bytes s → snapshot_from bytes ≡ Ok (read_text s)
 spelled_text bytes s h =
-    ap text_of h.spelling ∙ text_read (snapshot_text s) (table_bytes (table_text s.state.table)) h.is_text h.short
+    ap snapshot_from h.spelling ∙ text_read (snapshot_text s) (table_bytes (table_text s.state.table)) h.is_text h.short
 
-store_there : (bytes : List ℕ) (s : Snapshot Half) → SpellsSnapshot bytes s → IsStoreOf (store_codes s.state.store) s.state.store
+store_there : (bytes : List ℕ) (s : Snapshot HalfState) → SpellsSnapshot bytes s → IsStoreOf (store_codes s.state.store) s.state.store
 store_there bytes s h = record { stored = h.stored; told = refl }
 
-same_snapshot : (s t : Snapshot Half) → s.at ≡ t.at → s.state.store ≡ t.state.store → s.state.table ≡ t.state.table
+same_snapshot : (s t : Snapshot HalfState) → s.at ≡ t.at → s.state.store ≡ t.state.store → s.state.table ≡ t.state.table
     → s.state.limit ≡ t.state.limit → s.state.latest ≡ t.state.latest → s ≡ t
 same_snapshot s t at store table limit latest i = record {
   at = at i;
@@ -176,12 +176,12 @@ module _ (known : Readings) (of_tables : Tables) (bytes : List ℕ) where
   IsReadFault x = IsPartsFault x.0 x.1 (length bytes - 8 - length x.1)
 
   cause : (f : ReplicaMessageFault) → IsSnapshotFault bytes f
-      → (text_of bytes ≡ Err f) ⊎ ((x : Read) × (text_of bytes ≡ Ok x) × IsReadFault x f)
+      → (snapshot_from bytes ≡ Err f) ⊎ ((x : Read) × (snapshot_from bytes ≡ Ok x) × IsReadFault x f)
   cause f (inl h) = inl h
   cause f (inr (inl h)) = inr (h.text, h.read, inl (h.what, h.at, h.is, h.first))
   cause f (inr (inr h)) = inr (h.text, h.read, inr (h.store, h.what, h.stored, h.is, h.table))
 
-  no_parts_fault : (s : Snapshot Half) (f : ReplicaMessageFault) → SpellsSnapshot bytes s → IsReadFault (read_text s) f → ⊥
+  no_parts_fault : (s : Snapshot HalfState) (f : ReplicaMessageFault) → SpellsSnapshot bytes s → IsReadFault (read_text s) f → ⊥
   no_parts_fault s f p (inl h) = no_codes_fault known s.state.store (store_codes s.state.store) (store_there bytes s p) f h
   no_parts_fault s f p (inr h) = (of_tables (table_bytes (table_text s.state.table))).either s.state.table h.1 (table_there bytes s p) h.4
 
@@ -193,7 +193,7 @@ module _ (known : Readings) (of_tables : Tables) (bytes : List ℕ) where
       p.3 ∙ ap (λ (w : MessageFault). Message (behind (length bytes - 8 - length x.1) (length x.0.codes) w))
       ((of_tables x.1).one_fault p.1 q.1 p.4 q.4) ∙ sym q.3
 
-  one : (s t : Snapshot Half) → SpellsSnapshot bytes s → SpellsSnapshot bytes t → read_text s ≡ read_text t → s ≡ t
+  one : (s t : Snapshot HalfState) → SpellsSnapshot bytes s → SpellsSnapshot bytes t → read_text s ≡ read_text t → s ≡ t
   one s t p q same =
       same_snapshot s t (ap (λ (x : Read). x.0.at) same)
       (same_store known s.state.store t.state.store p.stored q.stored (ap (λ (x : Read). x.0.codes) same))
@@ -204,7 +204,7 @@ module _ (known : Readings) (of_tables : Tables) (bytes : List ℕ) where
   -- bytes spell one snapshot, or have one fault
   pub snapshots : AreExact (SpellsSnapshot bytes) (IsSnapshotFault bytes)
   snapshots =
-      let by : Decides (text_of bytes) read_text (SpellsSnapshot bytes) (IsSnapshotFault bytes) IsReadFault = record {
+      let by : Decides (snapshot_from bytes) read_text (SpellsSnapshot bytes) (IsSnapshotFault bytes) IsReadFault = record {
         reads = spelled_text bytes;
         cause = cause;
         one = one;
@@ -214,8 +214,8 @@ module _ (known : Readings) (of_tables : Tables) (bytes : List ℕ) where
       are_exact by
 
 -- the snapshot that is built of the text and the table
-pub is_spelled : (bytes : List ℕ) (x : SnapshotText × List ℕ) (r : Result (Snapshot Half) ReplicaMessageFault) → IsBytes bytes
-    → text_of bytes ≡ Ok x → IfOk r (IsSnapshotOf x.0 x.1) → IfOk r (SpellsSnapshot bytes)
+pub is_spelled : (bytes : List ℕ) (x : SnapshotText × List ℕ) (r : Result (Snapshot HalfState) ReplicaMessageFault) → IsBytes bytes
+    → snapshot_from bytes ≡ Ok x → IfOk r (IsSnapshotOf x.0 x.1) → IfOk r (SpellsSnapshot bytes)
 is_spelled bytes x (Ok s) fits read h =
     let t = text_spelled bytes x fits read in
     let whole : text_bytes x.0 ++ x.1 ≡ snapshot_bytes s =
@@ -230,8 +230,8 @@ is_spelled bytes x (Ok s) fits read h =
     }
 is_spelled bytes x (Err f) fits read h = tt
 
-pub is_refused : (bytes : List ℕ) (x : SnapshotText × List ℕ) (place : ℕ) (r : Result (Snapshot Half) ReplicaMessageFault)
-    → text_of bytes ≡ Ok x → place ≡ length bytes - 8 - length x.1
+pub is_refused : (bytes : List ℕ) (x : SnapshotText × List ℕ) (place : ℕ) (r : Result (Snapshot HalfState) ReplicaMessageFault)
+    → snapshot_from bytes ≡ Ok x → place ≡ length bytes - 8 - length x.1
     → IfErr r (HasCause replica_message_fault_number (IsPartsFault x.0 x.1 place))
     → IfErr r (HasCause replica_message_fault_number (IsSnapshotFault bytes))
 is_refused bytes x place (Ok s) read is h = tt
@@ -251,7 +251,7 @@ is_refused bytes x place (Err f) read is (inr out) = inr out
 
 -- the fault of a field
 pub read_fault : (bytes : List ℕ) (f : ReplicaMessageFault)
-    → (text_of bytes ≡ Err f) ⊎ (replica_message_fault_number f ≡ out_of_memory)
+    → (snapshot_from bytes ≡ Err f) ⊎ (replica_message_fault_number f ≡ out_of_memory)
     → HasCause replica_message_fault_number (IsSnapshotFault bytes) f
 read_fault bytes f (inl h) = inl (inl h)
 read_fault bytes f (inr out) = inr out
@@ -309,7 +309,7 @@ table_refused text rest place items store f r stored size is (inr out) =
 pub is_limit : (n : ℕ) → 0 < n → n ≤ most_names → IsTrue (nat_lt 0 n && nat_le n most_names)
 is_limit n some few = and_from (nat_lt 0 n) (nat_le n most_names) (lt-ltb 0 n some) (le-leb n most_names few)
 
-pub encoded : {E : Type 0} (s : Snapshot Half) (a b c d e f : List ℕ) (r : Result (Vec ℕ Global) E) → a ≡ no_head
+pub encoded : {E : Type 0} (s : Snapshot HalfState) (a b c d e f : List ℕ) (r : Result (Vec ℕ Global) E) → a ≡ no_head
     → b ≡ a ++ position_bytes s.at → c ≡ b ++ to_le_bytes w32 s.state.limit → d ≡ c ++ latest_bytes s.state.latest
     → e ≡ d ++ codes_bytes (store_codes s.state.store) → f ≡ e ++ table_bytes (table_text s.state.table)
     → IsSnapshotText (snapshot_text s) → AreStored s.state.store → IsTableText (table_text s.state.table)

@@ -12,7 +12,7 @@ use Rattle.exchange_codec.specs.laws.Rows.{sized_takes, bytes_again, behind}
 use Rattle.replica_codec.specs.declared.fault.ReplicaMessageFault.{ReplicaMessageFault}
 use Rattle.replica_codec.specs.Entries.{position_bytes, sized_code, position_at, limit_at}
 use Rattle.replica_codec.specs.Frames.{snapshot_header, frame_bytes, in_message, body_of}
-use Rattle.replica_codec.specs.Snapshots.{SnapshotText, latest_bytes, codes_bytes, text_bytes, IsSnapshotText, latest_at, code_at, codes_at, text_at, text_due, text_of}
+use Rattle.replica_codec.specs.Snapshots.{SnapshotText, latest_bytes, codes_bytes, text_bytes, IsSnapshotText, latest_at, code_at, codes_at, text_at, text_due, snapshot_from}
 use Rattle.replica_codec.proofs.FrameLaws.{in_ok, body_spelled, body_read, body_fits}
 use Rattle.replica_codec.proofs.EntryLaws.{position_takes, position_again, limit_takes, limit_again}
 
@@ -138,7 +138,7 @@ pub record IsReadText (bytes : List ℕ) (x : SnapshotText × List ℕ) : Type 0
   pub spelling : bytes ≡ frame_bytes snapshot_header (text_bytes x.0 ++ x.1)
   pub table_fits : IsBytes x.1
 
-pub text_spelled : (bytes : List ℕ) (x : SnapshotText × List ℕ) → IsBytes bytes → text_of bytes ≡ Ok x → IsReadText bytes x
+pub text_spelled : (bytes : List ℕ) (x : SnapshotText × List ℕ) → IsBytes bytes → snapshot_from bytes ≡ Ok x → IsReadText bytes x
 text_spelled bytes x fits e =
     let b = body_there (length bytes) (body_of snapshot_header bytes) x e in
     let k = body_spelled snapshot_header bytes b.body fits b.was in
@@ -151,7 +151,7 @@ text_spelled bytes x fits e =
     }
 
 pub text_read : (t : SnapshotText) (rest : List ℕ) → IsSnapshotText t → length (text_bytes t ++ rest) < 2 ^ 64
-    → text_of (frame_bytes snapshot_header (text_bytes t ++ rest)) ≡ Ok (t, rest)
+    → snapshot_from (frame_bytes snapshot_header (text_bytes t ++ rest)) ≡ Ok (t, rest)
 text_read t rest fits short =
     let n = length (frame_bytes snapshot_header (text_bytes t ++ rest)) in
     ap (text_due n) (body_read snapshot_header (text_bytes t ++ rest) (lit< tt) short)

@@ -25,7 +25,7 @@ use Rattle.exchange_codec.specs.Rows.{max_code}
 use Rattle.exchange_codec.specs.laws.Firsts.{below_there, sorted_as}
 use Rattle.exchange_codec.specs.laws.Programs.{Readings}
 use Rattle.replica_codec.specs.Entries.{sized_code}
-use Rattle.replica_codec.specs.Snapshots.{AreStored, IsStoreOf, codes_bytes, store_codes, is_above}
+use Rattle.replica_codec.specs.Snapshots.{AreStored, IsStoreOf, codes_bytes, store_codes, is_id_above}
 use Rattle.replica_codec.specs.declared.fault.ReplicaMessageFault.{ReplicaMessageFault}
 use Rattle.replica_codec.specs.Faults.{replica_message_fault_number}
 use Rattle.replica_codec.specs.Stores.{HasCode, IsStoresFault, IsCodesFault}
@@ -78,23 +78,23 @@ reversed_is Greater e = absurd cc
 below : (a b : ProgramId) → is_lt (id_cmp a b) ≡ true → id_cmp b a ≡ Greater
 below a b e = ids_total.antisymm b a ∙ reversed_is (id_cmp a b) e
 
-not_found : (id : ProgramId) (es : List Entry) → is_above es id ≡ true → find id_cmp id es ≡ None
+not_found : (id : ProgramId) (es : List Entry) → is_id_above es id ≡ true → find id_cmp id es ≡ None
 not_found id [] above = refl
 not_found id (e ∷ es) above =
-    let parts = and_parts (is_lt (id_cmp e.0 id)) (is_above es id) above in
+    let parts = and_parts (is_lt (id_cmp e.0 id)) (is_id_above es id) above in
     rw (below e.0 id parts.0, not_found id es parts.1) refl
 
-put_last : (id : ProgramId) (code : List Insn) (es : List Entry) → is_above es id ≡ true
+put_last : (id : ProgramId) (code : List Insn) (es : List Entry) → is_id_above es id ≡ true
     → put id_cmp id code es ≡ es ++ (id, code) ∷ []
 put_last id code [] above = refl
 put_last id code (e ∷ es) above =
-    let parts = and_parts (is_lt (id_cmp e.0 id)) (is_above es id) above in
+    let parts = and_parts (is_lt (id_cmp e.0 id)) (is_id_above es id) above in
     rw (below e.0 id parts.0, put_last id code es parts.1) refl
 
-pub is_new : (store : Programs) (id : ProgramId) → is_above (entries store) id ≡ true → get store id ≡ None
+pub is_new : (store : Programs) (id : ProgramId) → is_id_above (entries store) id ≡ true → get store id ≡ None
 is_new store id above = get-entries store id ∙ not_found id (entries store) above
 
-pub kept_last : (old new : Programs) (id : ProgramId) (program : List Insn) → is_above (entries old) id ≡ true
+pub kept_last : (old new : Programs) (id : ProgramId) (program : List Insn) → is_id_above (entries old) id ≡ true
     → new ≡ insert old id program → entries new ≡ entries old ++ (id, program) ∷ []
 kept_last old new id program above is =
     ap entries is ∙ entries-insert ids_total old id program ∙ put_last id program (entries old) above

@@ -27,8 +27,8 @@ pub record IsUploadOf (code : List ℕ) (upload : Upload) : Type 0 where
 abbrev pub code_fault : ℕ → ProgramFault → ReplicaMessageFault
 code_fault at fault = Message (message.Item (item.Program fault) at)
 
-abbrev pub IsCodeFault : ℕ → List ℕ → ReplicaMessageFault → Type 0
-IsCodeFault at code fault = (program : ProgramFault) × (fault ≡ code_fault at program) × IsProgramFault code program
+abbrev pub IsUploadCodeFault : ℕ → List ℕ → ReplicaMessageFault → Type 0
+IsUploadCodeFault at code fault = (program : ProgramFault) × (fault ≡ code_fault at program) × IsProgramFault code program
 
 -- the same, or the fault of memory
 abbrev pub program_fault_of : ℕ → ProgramFault → ReplicaMessageFault

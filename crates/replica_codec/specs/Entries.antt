@@ -192,8 +192,8 @@ entry_due len (Ok body) = in_message (len - 8) (entry_in body)
 entry_due len (Err f) = Err f
 
 -- the text that all of the bytes spell
-abbrev pub entry_of : List ℕ → Result EntryText ReplicaMessageFault
-entry_of bytes = entry_due (length bytes) (body_of entry_header bytes)
+abbrev pub entry_from : List ℕ → Result EntryText ReplicaMessageFault
+entry_from bytes = entry_due (length bytes) (body_of entry_header bytes)
 
 -- ---- faults
 
@@ -205,4 +205,4 @@ IsTextFault text fault = (code : List ℕ) × (program : ProgramFault)
 -- the fault of bytes: that of the first invalid field, else that of the code
 abbrev pub IsEntryFault : List ℕ → ReplicaMessageFault → Type 0
 IsEntryFault bytes fault =
-    (entry_of bytes ≡ Err fault) ⊎ ((text : EntryText) × (entry_of bytes ≡ Ok text) × IsTextFault text fault)
+    (entry_from bytes ≡ Err fault) ⊎ ((text : EntryText) × (entry_from bytes ≡ Ok text) × IsTextFault text fault)

@@ -26,11 +26,11 @@ abbrev pub summed : List ℕ → List ℕ
 summed bytes = bytes ++ to_le_bytes w64 (checksum bytes)
 
 -- the head of a message with a body of this length
-abbrev pub head_bytes : ℕ → ℕ → List ℕ
-head_bytes header len = summed (to_le_bytes w64 header ++ to_le_bytes w64 len)
+abbrev pub frame_head_bytes : ℕ → ℕ → List ℕ
+frame_head_bytes header len = summed (to_le_bytes w64 header ++ to_le_bytes w64 len)
 
 abbrev pub front_bytes : ℕ → List ℕ → List ℕ
-front_bytes header body = head_bytes header (length body) ++ body
+front_bytes header body = frame_head_bytes header (length body) ++ body
 
 abbrev pub frame_bytes : ℕ → List ℕ → List ℕ
 frame_bytes header body = summed (front_bytes header body)
@@ -42,8 +42,8 @@ no_head = replicate 24 0
 -- ---- reading them, from the left
 
 -- a length and its checksum
-unfoldable pub head_at : ℕ → List ℕ → Result ((ℕ × ℕ) × List ℕ) Fault
-head_at header bytes = do
+unfoldable pub frame_head_at : ℕ → List ℕ → Result ((ℕ × ℕ) × List ℕ) Fault
+frame_head_at header bytes = do
   rest ← header_at header bytes
   len ← number_at w64 rest
   sum ← number_at w64 len.1
@@ -73,8 +73,8 @@ head_due bytes (Ok head) = checked head.0.1 (take 16 bytes) (head.0.0, head.1)
 head_due bytes (Err f) = Err f
 
 -- the length of the body, and what follows the head
-abbrev pub head_of : ℕ → List ℕ → Result (ℕ × List ℕ) ReplicaMessageFault
-head_of header bytes = head_due bytes (in_message (length bytes) (head_at header bytes))
+abbrev pub frame_head_of : ℕ → List ℕ → Result (ℕ × List ℕ) ReplicaMessageFault
+frame_head_of header bytes = head_due bytes (in_message (length bytes) (frame_head_at header bytes))
 
 abbrev pub tail_due : List ℕ → Result (List ℕ × ℕ) ReplicaMessageFault → Result (List ℕ) ReplicaMessageFault
 tail_due bytes (Ok tail) = checked tail.1 (take (length bytes - 8) bytes) tail.0
@@ -86,7 +86,7 @@ body_due bytes (Err f) = Err f
 
 -- the body of a message
 abbrev pub body_of : ℕ → List ℕ → Result (List ℕ) ReplicaMessageFault
-body_of header bytes = body_due bytes (head_of header bytes)
+body_of header bytes = body_due bytes (frame_head_of header bytes)
 
 -- what a function returned, seen by view, is this, or memory ran out
 abbrev pub IsReadAs : {X Y : Type 0} → (X → Y) → Result Y ReplicaMessageFault → Result X ReplicaMessageFault → Type 0

@@ -9,7 +9,7 @@ use Rattle.replica_codec.specs.declared.fault.ReplicaMessageFault.{ReplicaMessag
 use Rattle.replica_codec.specs.declared.fault.ReplicaMessageFault.TheVariants.{Message}
 use Rattle.replica_codec.specs.declared.log.LogFront.{LogFront}
 use Rattle.replica_codec.specs.declared.log.LogFront.TheVariants.{End, Cut, Entry, Snapshot}
-use Rattle.replica_codec.specs.Frames.{entry_header, snapshot_header, checksum, in_message, head_of, tail_at}
+use Rattle.replica_codec.specs.Frames.{entry_header, snapshot_header, checksum, in_message, frame_head_of, tail_at}
 
 -- the header of an entry or a snapshot at the front of these bytes
 abbrev pub kind_or_wrong : List ℕ → ℕ → Result ℕ Fault
@@ -23,8 +23,8 @@ kind_at bytes = do
   kind_or_wrong bytes found.0
 
 -- a whole message of this kind and length
-abbrev pub whole : ℕ → ℕ → LogFront
-whole header len = if header == entry_header then Entry len else Snapshot len
+abbrev pub whole_message : ℕ → ℕ → LogFront
+whole_message header len = if header == entry_header then Entry len else Snapshot len
 
 -- what follows a message with a body of this length, of which these bytes come after the head
 unfoldable pub after_at : ℕ → List ℕ → Result (List ℕ) Fault
@@ -33,7 +33,7 @@ after_at len bytes = do
   Ok tail.1
 
 abbrev pub whole_due : ℕ → List ℕ → Result (List ℕ) ReplicaMessageFault → Result LogFront ReplicaMessageFault
-whole_due header bytes (Ok after) = Ok (whole header (length bytes - length after))
+whole_due header bytes (Ok after) = Ok (whole_message header (length bytes - length after))
 whole_due header bytes (Err f) = Err f
 
 abbrev pub after_due : ℕ → List ℕ → Result (ℕ × List ℕ) ReplicaMessageFault → Result LogFront ReplicaMessageFault
@@ -41,7 +41,7 @@ after_due header bytes (Ok head) = whole_due header bytes (in_message (length by
 after_due header bytes (Err f) = Err f
 
 abbrev pub kind_due : List ℕ → Result ℕ ReplicaMessageFault → Result LogFront ReplicaMessageFault
-kind_due bytes (Ok header) = after_due header bytes (head_of header bytes)
+kind_due bytes (Ok header) = after_due header bytes (frame_head_of header bytes)
 kind_due bytes (Err f) = Err f
 
 -- a whole message at the front

@@ -12,7 +12,7 @@ use Rattle.clash_record.specs.Orders.{id_cmp}
 use Rattle.upload_store.specs.Programs.{Programs, IsProgram, id_of, max_programs}
 use Rattle.partition_table.specs.Tables.{IsTable, most_names}
 use Rattle.replica_law.specs.declared.position.Position.{Position}
-use Rattle.replica_law.specs.Worlds.{Snapshot}
+use Rattle.replica_law.specs.Groups.{Snapshot}
 use Rattle.exchange_codec.specs.declared.fault.Fault.{Fault}
 use Rattle.exchange_codec.specs.declared.fault.FieldFault.TheVariants as wrongs
 use Rattle.exchange_codec.specs.declared.fault.ItemFault.{ItemFault}
@@ -22,7 +22,7 @@ use Rattle.exchange_codec.specs.declared.fault.MessageFault.TheVariants as messa
 use Rattle.exchange_codec.specs.Reading.{◌>>=◌, wrong, number_at, bytes_at, count_at, many_at}
 use Rattle.exchange_codec.specs.Rows.{max_code}
 use Rattle.exchange_codec.specs.Tables.{table_bytes, table_text, IsTableText, IsTableFault}
-use Rattle.replica.specs.Halves.{Half}
+use Rattle.replica.specs.Halves.{HalfState}
 use Rattle.replica_codec.specs.declared.fault.ReplicaMessageFault.{ReplicaMessageFault}
 use Rattle.replica_codec.specs.declared.fault.ReplicaMessageFault.TheVariants.{Message}
 use Rattle.replica_codec.specs.Frames.{snapshot_header, frame_bytes, in_message, body_of}
@@ -40,7 +40,7 @@ pub record SnapshotText : Type 0 where
 abbrev pub store_codes : Programs → List (List ℕ)
 store_codes store = map (λ e. flat_map insn_bytes e.1) (entries store)
 
-abbrev pub snapshot_text : Snapshot Half → SnapshotText
+abbrev pub snapshot_text : Snapshot HalfState → SnapshotText
 snapshot_text s = record {
   at = s.at;
   limit = s.state.limit;
@@ -62,7 +62,7 @@ text_bytes t =
     position_bytes t.at ++ (to_le_bytes w32 t.limit ++ (latest_bytes t.latest ++ codes_bytes t.codes))
 
 -- the table comes last
-abbrev pub snapshot_bytes : Snapshot Half → List ℕ
+abbrev pub snapshot_bytes : Snapshot HalfState → List ℕ
 snapshot_bytes s = text_bytes (snapshot_text s) ++ table_bytes (table_text s.state.table)
 
 -- ---- what has a spelling
@@ -79,7 +79,7 @@ abbrev pub AreStored : Programs → Type 0
 AreStored store = AllByRecursion (λ e. IsProgram e.0 e.1) (entries store)
 
 -- the bytes are the spelling of the snapshot
-pub record SpellsSnapshot (bytes : List ℕ) (s : Snapshot Half) : Type 0 where
+pub record SpellsSnapshot (bytes : List ℕ) (s : Snapshot HalfState) : Type 0 where
   pub is_text : IsSnapshotText (snapshot_text s)
   pub stored : AreStored s.state.store
   pub rows : IsTableText (table_text s.state.table)
@@ -120,14 +120,15 @@ abbrev pub text_due : ℕ → Result (List ℕ) ReplicaMessageFault → Result (
 text_due len (Ok body) = in_message (len - 8) (text_at body)
 text_due len (Err f) = Err f
 
-abbrev pub text_of : List ℕ → Result (SnapshotText × List ℕ) ReplicaMessageFault
-text_of bytes = text_due (length bytes) (body_of snapshot_header bytes)
+-- the text of the snapshot that is read from these bytes, and the bytes of its table
+abbrev pub snapshot_from : List ℕ → Result (SnapshotText × List ℕ) ReplicaMessageFault
+snapshot_from bytes = text_due (length bytes) (body_of snapshot_header bytes)
 
 -- ---- the programs of a store
 
 -- the id is above those of these programs
-abbrev pub is_above : List (ProgramId × List Insn) → ProgramId → Bool
-is_above programs id = list_all (λ e. is_lt (id_cmp e.0 id)) programs
+abbrev pub is_id_above : List (ProgramId × List Insn) → ProgramId → Bool
+is_id_above programs id = list_all (λ e. is_lt (id_cmp e.0 id)) programs
 
 -- the store has the programs of these codes
 pub record IsStoreOf (codes : List (List ℕ)) (store : Programs) : Type 0 where
@@ -138,7 +139,7 @@ pub record IsStoreOf (codes : List (List ℕ)) (store : Programs) : Type 0 where
 abbrev pub IsStoredFault : Programs → List ℕ → ItemFault → Type 0
 IsStoredFault store code (item.Program f) = IsProgramFault code f
 IsStoredFault store code item.NameOrder =
-    (program : List Insn) × IsAccepted code program × (is_above (entries store) (id_of code) ≡ false)
+    (program : List Insn) × IsAccepted code program × (is_id_above (entries store) (id_of code) ≡ false)
 IsStoredFault store code other = ⊥
 
 -- the codes before this index are those of a store, and the code there has this fault
@@ -161,7 +162,7 @@ behind place items message.OutOfMemory = message.OutOfMemory
 -- every field before the table is valid, and a program isn't
 pub record IsStoreRejected (bytes : List ℕ) (fault : ReplicaMessageFault) : Type 0 where
   pub text : SnapshotText × List ℕ
-  pub read : text_of bytes ≡ Ok text
+  pub read : snapshot_from bytes ≡ Ok text
   pub what : ItemFault
   pub at : ℕ
   pub is : fault ≡ Message (message.Item what at)
@@ -170,7 +171,7 @@ pub record IsStoreRejected (bytes : List ℕ) (fault : ReplicaMessageFault) : Ty
 -- so is every program, and the table isn't
 pub record IsTableRejected (bytes : List ℕ) (fault : ReplicaMessageFault) : Type 0 where
   pub text : SnapshotText × List ℕ
-  pub read : text_of bytes ≡ Ok text
+  pub read : snapshot_from bytes ≡ Ok text
   pub store : Programs
   pub stored : IsStoreOf text.0.codes store
   pub what : MessageFault
@@ -181,4 +182,4 @@ pub record IsTableRejected (bytes : List ℕ) (fault : ReplicaMessageFault) : Ty
 -- the table
 abbrev pub IsSnapshotFault : List ℕ → ReplicaMessageFault → Type 0
 IsSnapshotFault bytes fault =
-    (text_of bytes ≡ Err fault) ⊎ (IsStoreRejected bytes fault ⊎ IsTableRejected bytes fault)
+    (snapshot_from bytes ≡ Err fault) ⊎ (IsStoreRejected bytes fault ⊎ IsTableRejected bytes fault)

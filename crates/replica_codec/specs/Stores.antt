@@ -10,8 +10,8 @@ use Rattle.exchange_codec.specs.declared.fault.ItemFault.{ItemFault}
 use Rattle.exchange_codec.specs.declared.fault.MessageFault.{MessageFault}
 use Rattle.exchange_codec.specs.declared.fault.MessageFault.TheVariants as message
 use Rattle.exchange_codec.specs.Tables.{SpellsTable, IsTableFault}
-use Rattle.replica_law.specs.Worlds.{Snapshot}
-use Rattle.replica.specs.Halves.{Half}
+use Rattle.replica_law.specs.Groups.{Snapshot}
+use Rattle.replica.specs.Halves.{HalfState}
 use Rattle.replica_codec.specs.declared.fault.ReplicaMessageFault.{ReplicaMessageFault}
 use Rattle.replica_codec.specs.declared.fault.ReplicaMessageFault.TheVariants.{Message}
 use Rattle.replica_codec.specs.Snapshots.{SnapshotText, snapshot_text, AreStored, IsStoreOf, IsStoredFault, IsFirstStoredFault, behind}
@@ -37,7 +37,7 @@ IsCodesFault codes fault =
 -- ---- the parts of a snapshot
 
 -- the snapshot has this text, and the table that these bytes spell
-pub record IsSnapshotOf (text : SnapshotText) (rest : List ℕ) (s : Snapshot Half) : Type 0 where
+pub record IsSnapshotOf (text : SnapshotText) (rest : List ℕ) (s : Snapshot HalfState) : Type 0 where
   pub told : text ≡ snapshot_text s
   pub stored : AreStored s.state.store
   pub table : SpellsTable rest s.state.table

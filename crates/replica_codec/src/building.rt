@@ -2,7 +2,7 @@
 ghost use Rattle.std.specs.Prelude.{◌≡◌, ◌&&◌, nat_lt, nat_le, IsTrue, IfOk, IfErr};
 ghost use Rattle.partition_table.specs.Tables.{most_names};
 ghost use Rattle.refusals.specs.Answers.{HasCause};
-ghost use Rattle.replica_codec.specs.Building.{IsCodeFault, IsEntryOf, IsUploadOf, program_fault_of};
+ghost use Rattle.replica_codec.specs.Building.{IsEntryOf, IsUploadCodeFault, IsUploadOf, program_fault_of};
 ghost use Rattle.replica_codec.specs.Entries.{IsEditText, IsTextFault};
 ghost use Rattle.replica_codec.specs.EntriesText.{edit_view, entry_view};
 ghost use Rattle.replica_codec.specs.Faults.{replica_message_fault_number};
@@ -54,7 +54,7 @@ pub(crate) fn upload_of(
     at: usize,
 ) -> Result<Upload, ReplicaMessageFault>
     ensures accepted { IfOk result (IsUploadOf code.now) }
-    ensures refused { IfErr result (HasCause replica_message_fault_number (IsCodeFault at code.now)) }
+    ensures refused { IfErr result (HasCause replica_message_fault_number (IsUploadCodeFault at code.now)) }
 {
     match read_program(alloc, code) {
         Ok(program) => Ok(Upload::new(alloc, code, program)?),

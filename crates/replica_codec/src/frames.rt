@@ -1,7 +1,7 @@
 //! The frame of a message.
 ghost use Rattle.std.specs.Prelude.{◌≡◌, ◌≤◌, ◌<◌, ◌^◌, ◌++◌, IfOk, length, drop};
 ghost use Rattle.exchange_codec.specs.Reading.{Gives};
-ghost use Rattle.replica_codec.specs.Frames.{IsReadAs, body_of, checksum, frame_bytes, head_at, head_bytes, head_of, no_head, tail_at, tail_of};
+ghost use Rattle.replica_codec.specs.Frames.{IsReadAs, body_of, checksum, frame_bytes, frame_head_at, frame_head_bytes, frame_head_of, no_head, tail_at, tail_of};
 
 use crate::fault::ReplicaMessageFault;
 use exchange_codec::{FieldFault, ReadError, bytes_at, header_at, push_u64, u64_at};
@@ -44,7 +44,7 @@ pub(crate) fn framed(header: u64, mut out: Vec<u8>) -> Result<Vec<u8>, AllocErro
 // Writes the head of a message with a body of this length over the first bytes.
 fn write_head(bytes: &mut [u8], header: u64, len: u64)
     requires { HEAD ≤ length bytes.old }
-    ensures { bytes.new ≡ head_bytes header len ++ drop HEAD bytes.old }
+    ensures { bytes.new ≡ frame_head_bytes header len ++ drop HEAD bytes.old }
 {
     let head = head(header, len);
     bytes[..HEAD].copy_from_slice(&head);
@@ -52,7 +52,7 @@ fn write_head(bytes: &mut [u8], header: u64, len: u64)
 
 // Returns the head of a message with a body of this length.
 fn head(header: u64, len: u64) -> [u8; 24]
-    ensures { result ≡ head_bytes header len }
+    ensures { result ≡ frame_head_bytes header len }
 {
     let (h, l) = (header.to_le_bytes(), len.to_le_bytes());
     let sum = checksum(&[
@@ -86,7 +86,7 @@ pub(crate) fn body_of(header: u64, bytes: &[u8]) -> Result<&[u8], ReplicaMessage
 
 /// Returns the length of the body of a message at the front, and what follows its head.
 pub(crate) fn head_of(header: u64, bytes: &[u8]) -> Result<(u64, &[u8]), ReplicaMessageFault>
-    ensures { IsReadAs (λ x. (x.0, x.1.now)) (head_of header bytes.now) result }
+    ensures { IsReadAs (λ x. (x.0, x.1.now)) (frame_head_of header bytes.now) result }
 {
     match head_at(header, bytes) {
         Ok(((len, sum), rest)) => {
@@ -112,9 +112,9 @@ fn checksum(bytes: &[u8]) -> u64
 }
 
 // The length and the checksum at the front.
-#[tactic(auto, unfolding(crate::specs::Frames::head_at))]
+#[tactic(auto, unfolding(crate::specs::Frames::frame_head_at))]
 fn head_at(header: u64, bytes: &[u8]) -> Result<((u64, u64), &[u8]), ReadError>
-    ensures { Gives (λ x. (x.0, x.1.now)) result (head_at header bytes.now) }
+    ensures { Gives (λ x. (x.0, x.1.now)) result (frame_head_at header bytes.now) }
 {
     let rest = header_at(header, bytes)?;
     let (len, rest) = u64_at(rest)?;

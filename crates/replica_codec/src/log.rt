@@ -5,13 +5,13 @@ ghost use Rattle.exchange_codec.specs.Reading.{Gives};
 ghost use Rattle.replica.specs.declared.messages.Entry as entries;
 ghost use Rattle.replica_codec.specs.declared.fault.ReplicaMessageFault.TheVariants.{Checksum};
 ghost use Rattle.replica_codec.specs.declared.log.LogFront.TheVariants as front;
-ghost use Rattle.replica_law.specs.Worlds as law;
-ghost use Rattle.replica.specs.Halves.{Half};
+ghost use Rattle.replica_law.specs.Groups as law;
+ghost use Rattle.replica.specs.Halves.{HalfState};
 ghost use Rattle.replica_codec.specs.Entries.{SpellsEntry};
 ghost use Rattle.replica_codec.specs.Snapshots.{SpellsSnapshot};
 ghost use Rattle.replica_codec.specs.Faults.{replica_message_fault_number};
 ghost use Rattle.replica_codec.specs.Frames.{IsReadAs};
-ghost use Rattle.replica_codec.specs.Logs.{IsDamaged, after_at, front_at, front_of, kind_at, or_cut, whole};
+ghost use Rattle.replica_codec.specs.Logs.{IsDamaged, after_at, front_at, front_of, kind_at, or_cut, whole_message};
 
 use crate::fault::ReplicaMessageFault;
 use crate::frames::{ENTRY, SNAPSHOT, head_of, tail_at};
@@ -42,7 +42,7 @@ pub fn read_front(bytes: &[u8]) -> Result<LogFront, ReplicaMessageFault>
         → bytes.now ≡ message ++ rest
         → ReturnsOrRunsOut replica_message_fault_number result (Ok (front.Entry (length message))) }
     // The length of a snapshot that the bytes begin with.
-    ensures snapshot { (message rest : List ℕ) (s : law.Snapshot Half) → SpellsSnapshot message s
+    ensures snapshot { (message rest : List ℕ) (s : law.Snapshot HalfState) → SpellsSnapshot message s
         → bytes.now ≡ message ++ rest
         → ReturnsOrRunsOut replica_message_fault_number result (Ok (front.Snapshot (length message))) }
     // A part of an entry is cut.
@@ -50,7 +50,7 @@ pub fn read_front(bytes: &[u8]) -> Result<LogFront, ReplicaMessageFault>
         → SpellsEntry (bytes.now ++ more) entry
         → ReturnsOrRunsOut replica_message_fault_number result (Ok front.Cut) }
     // So is a part of a snapshot.
-    ensures cut_snapshot { (more : List ℕ) (s : law.Snapshot Half) → 0 < length bytes.now → 0 < length more
+    ensures cut_snapshot { (more : List ℕ) (s : law.Snapshot HalfState) → 0 < length bytes.now → 0 < length more
         → SpellsSnapshot (bytes.now ++ more) s
         → ReturnsOrRunsOut replica_message_fault_number result (Ok front.Cut) }
     // A changed head isn't cut, however long its message is.
@@ -108,7 +108,7 @@ fn kind_at(bytes: &[u8]) -> Result<u64, ReadError>
 
 // Returns a whole message of this kind and length.
 fn whole(header: u64, len: usize) -> LogFront
-    ensures { result ≡ whole header len }
+    ensures { result ≡ whole_message header len }
 {
     if header == ENTRY {
         LogFront::Entry(len)

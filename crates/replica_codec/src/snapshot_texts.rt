@@ -1,7 +1,7 @@
 //! The fields of a snapshot but its table, read.
 ghost use Rattle.exchange_codec.specs.Reading.{Gives, many_at};
 ghost use Rattle.replica_codec.specs.Frames.{IsReadAs};
-ghost use Rattle.replica_codec.specs.Snapshots.{code_at, codes_at, latest_at, text_at, text_of};
+ghost use Rattle.replica_codec.specs.Snapshots.{code_at, codes_at, latest_at, snapshot_from, text_at};
 ghost use Rattle.replica_codec.specs.SnapshotsText.{codes_view, text_view};
 
 use crate::fault::ReplicaMessageFault;
@@ -27,7 +27,7 @@ pub(crate) fn text_of(
     alloc: Global,
     bytes: &[u8],
 ) -> Result<(SnapshotText<'_>, &[u8]), ReplicaMessageFault>
-    ensures { IsReadAs (λ x. (text_view x.0, x.1.now)) (text_of bytes.entry.now) result }
+    ensures { IsReadAs (λ x. (text_view x.0, x.1.now)) (snapshot_from bytes.entry.now) result }
 {
     let body = body_of(SNAPSHOT, bytes)?;
     match text_at(alloc, body) {

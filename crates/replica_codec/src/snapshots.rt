@@ -3,7 +3,7 @@ ghost use Rattle.std.specs.Prelude.{◌≡◌, ◌≤◌, ◌<◌, ◌+◌, ◌^
 ghost use Rattle.refusals.specs.Answers.{HasCause, ReturnsOrRunsOut};
 ghost use Rattle.upload_store.specs.Programs.{max_programs};
 ghost use Rattle.partition_table.specs.Tables.{most_names};
-ghost use Rattle.replica_law.specs.Worlds as law;
+ghost use Rattle.replica_law.specs.Groups as law;
 ghost use Rattle.replica.specs.Halves as halves;
 ghost use Rattle.replica_codec.specs.declared.fault.ReplicaMessageFault.{ReplicaMessageFault};
 ghost use Rattle.replica_codec.specs.Faults.{replica_message_fault_number};
@@ -70,7 +70,7 @@ pub fn decode_snapshot(alloc: Global, bytes: &[u8]) -> Result<Snapshot, ReplicaM
     // The bytes spell the snapshot that is returned.
     ensures spelled { IfOk result (SpellsSnapshot bytes.now) }
     // A snapshot that the bytes spell is returned, unless memory runs out.
-    ensures taken { (snapshot : law.Snapshot halves.Half) → SpellsSnapshot bytes.now snapshot
+    ensures taken { (snapshot : law.Snapshot halves.HalfState) → SpellsSnapshot bytes.now snapshot
         → ReturnsOrRunsOut replica_message_fault_number result (Ok snapshot) }
     // A refusal has its cause.
     ensures refused { IfErr result (HasCause replica_message_fault_number (IsSnapshotFault bytes.now)) }

@@ -7,7 +7,7 @@ ghost use Rattle.upload_store.specs.Programs.{max_programs};
 ghost use Rattle.exchange_codec.specs.Rows.{max_code};
 ghost use Rattle.replica_codec.specs.Entries.{sized_code};
 ghost use Rattle.replica_codec.specs.Faults.{replica_message_fault_number};
-ghost use Rattle.replica_codec.specs.Snapshots.{AreStored, IsStoreOf, codes_bytes, is_above, store_codes};
+ghost use Rattle.replica_codec.specs.Snapshots.{AreStored, IsStoreOf, codes_bytes, is_id_above, store_codes};
 ghost use Rattle.replica_codec.specs.SnapshotsText.{codes_view};
 ghost use Rattle.replica_codec.specs.Stores.{IsStoresFault, IsCodesFault, HasCode};
 
@@ -63,7 +63,7 @@ fn add_code(
 
 // Checks whether the id is above those of the store.
 fn is_above(store: &UploadStore, id: ProgramId) -> bool
-    ensures { result ≡ is_above (entries store.now) id }
+    ensures { result ≡ is_id_above (entries store.now) id }
 {
     let mut programs = store.programs();
     while let Some((other, _)) = programs.next() {

@@ -1,6 +1,6 @@
 //! The fields of an entry, read.
 ghost use Rattle.exchange_codec.specs.Reading.{Gives};
-ghost use Rattle.replica_codec.specs.Entries.{edit_at, entry_at, entry_in, entry_of, limit_at, position_at, register_at};
+ghost use Rattle.replica_codec.specs.Entries.{edit_at, entry_at, entry_from, entry_in, limit_at, position_at, register_at};
 ghost use Rattle.replica_codec.specs.EntriesText.{edit_view, entry_view};
 ghost use Rattle.replica_codec.specs.Frames.{IsReadAs};
 
@@ -34,7 +34,7 @@ pub(crate) struct EntryText<'a> {
 
 /// Returns the text that all of the bytes spell.
 pub(crate) fn entry_of(bytes: &[u8]) -> Result<EntryText<'_>, ReplicaMessageFault>
-    ensures { IsReadAs entry_view (entry_of bytes.entry.now) result }
+    ensures { IsReadAs entry_view (entry_from bytes.entry.now) result }
 {
     let body = body_of(ENTRY, bytes)?;
     match entry_in(body) {

@@ -2,7 +2,7 @@
 ghost use Rattle.std.specs.Prelude.{◌≡◌, ℕ, List};
 ghost use Rattle.replica.specs.declared.messages.Entry.{Entry};
 ghost use Rattle.replica_codec.specs.declared.fault.ReplicaMessageFault.{ReplicaMessageFault};
-ghost use Rattle.replica_law.specs.Worlds as law;
+ghost use Rattle.replica_law.specs.Groups as law;
 ghost use Rattle.replica.specs.Halves as halves;
 ghost use Rattle.replica_codec.specs.Entries.{SpellsEntry, IsEntryFault};
 ghost use Rattle.replica_codec.specs.Snapshots.{SpellsSnapshot, IsSnapshotFault};
@@ -26,13 +26,13 @@ pub fn one_entry_theorem()
 
 /// States the same of snapshots. Does nothing at run time.
 pub fn one_snapshot_theorem()
-    ensures snapshots { (bytes : List ℕ) → (s t : law.Snapshot halves.Half) → SpellsSnapshot bytes s
+    ensures snapshots { (bytes : List ℕ) → (s t : law.Snapshot halves.HalfState) → SpellsSnapshot bytes s
         → SpellsSnapshot bytes t → s ≡ t }
-    ensures either { (bytes : List ℕ) → (s : law.Snapshot halves.Half) → (f : ReplicaMessageFault)
+    ensures either { (bytes : List ℕ) → (s : law.Snapshot halves.HalfState) → (f : ReplicaMessageFault)
         → SpellsSnapshot bytes s → IsSnapshotFault bytes f → ⊥ }
     ensures one_fault { (bytes : List ℕ) → (f g : ReplicaMessageFault) → IsSnapshotFault bytes f
         → IsSnapshotFault bytes g → f ≡ g }
-    ensures one_spelling { (bytes other : List ℕ) → (s : law.Snapshot halves.Half) → SpellsSnapshot bytes s
+    ensures one_spelling { (bytes other : List ℕ) → (s : law.Snapshot halves.HalfState) → SpellsSnapshot bytes s
         → SpellsSnapshot other s → bytes ≡ other }
 {
     // For the proof: code has one reading and one verdict, and bytes spell one table.

@@ -1,44 +1,44 @@
 -- Every event keeps the invariant.
 use Rattle.std.proofs.Common.{◌≡◌, ◌⊎◌, ℕ, suc, ◌<◌, Bool, true, false, if◌then◌else◌, List, [], ◌∷◌, Option, Some, None, refl, sym, ap, ◌∙◌, subst, inl, inr, ⊎_elim, arith}
-use Rattle.replica_law.specs.Worlds.{Machine, Life, Position, Replica, Entry, Snapshot, World, place, next, tip, starting, put, with_replica, for_some, unless_some, Event, Starts, Leads, Changes, Edits, Shows, Follows, Applies, edited, applied, happens, empty_world, world_after}
+use Rattle.replica_law.specs.Groups.{Machine, Life, Position, Member, Entry, Snapshot, Group, place, next, tip, new_primary, put_for, with_replica, for_some, unless_some, GroupEvent, Starts, Leads, Changes, Edits, Shows, Follows, Applies, with_entry, applies, next_group, empty_group, group_after}
 use Rattle.replica_law.specs.laws.Places.{same_position_is}
 use Rattle.replica_law.proofs.Tests.{some_inj, Put, it, stays, put_is, put_none, Has, has_first, has_more, has_cases, has_none}
 use Rattle.replica_law.proofs.Invariant.{state_at, IsReached, IsNew, Stands, IsStep, Recorded, Sound}
 
 -- a replica that moves to a position that was reached
-pub moved : {S : Type 0} (known : List (Snapshot S)) (replicas : Life → Option (Replica S)) (life : Life)
-    (r new : Replica S) → Stands known replicas → replicas life ≡ Some r → Has known (state_at new.at new.state) →
-    new.latest ≡ r.latest → new.made ≡ r.made → Stands known (put replicas life new)
+pub moved : {S : Type 0} (known : List (Snapshot S)) (replicas : Life → Option (Member S)) (life : Life)
+    (r new : Member S) → Stands known replicas → replicas life ≡ Some r → Has known (state_at new.at new.state) →
+    new.latest ≡ r.latest → new.made ≡ r.made → Stands known (put_for replicas life new)
 moved {S} known replicas life r new h was reached latest made = record { one = h.one; held = held; unborn = unborn; below = below }
   where
-    held : (other : Life) (x : Replica S) → put replicas life new other ≡ Some x → Has known (state_at x.at x.state)
+    held : (other : Life) (x : Member S) → put_for replicas life new other ≡ Some x → Has known (state_at x.at x.state)
     held other x e = by_put (put_is replicas life new other x e)
       where
         by_put : Put replicas life new other x → Has known (state_at x.at x.state)
-        by_put (it same is) = subst (λ (y : Replica S). Has known (state_at y.at y.state)) is reached
+        by_put (it same is) = subst (λ (y : Member S). Has known (state_at y.at y.state)) is reached
         by_put (stays apart is) = h.held other x is
 
-    unborn : (other : Life) → put replicas life new other ≡ None → (p : Position) (s : S) → Has known (state_at p s) →
+    unborn : (other : Life) → put_for replicas life new other ≡ None → (p : Position) (s : S) → Has known (state_at p s) →
         p.view.primary ≡ other → ⊥
     unborn other e = h.unborn other (put_none replicas life new other e).1
 
-    below : (other : Life) (x : Replica S) → put replicas life new other ≡ Some x → (p : Position) (s : S) →
+    below : (other : Life) (x : Member S) → put_for replicas life new other ≡ Some x → (p : Position) (s : S) →
         Has known (state_at p s) → p.view.primary ≡ other → IsReached p x.latest x.made
     below other x e p s has own = by_put (put_is replicas life new other x e)
       where
         by_put : Put replicas life new other x → IsReached p x.latest x.made
         by_put (it same is) =
             let old = h.below life r was p s has (own ∙ same) in
-            subst (λ (y : Replica S). IsReached p y.latest y.made) is
+            subst (λ (y : Member S). IsReached p y.latest y.made) is
             (subst (λ n. IsReached p n new.made) (sym latest) (subst (λ n. IsReached p r.latest n) (sym made) old))
         by_put (stays apart is) = h.below other x is p s has own
 
 -- a replica that reaches a position of its own that is new
-pub grown : {S : Type 0} (known : List (Snapshot S)) (replicas : Life → Option (Replica S)) (life : Life)
-    (new : Replica S) → Stands known replicas → IsNew known new.at → new.at.view.primary ≡ life →
+pub grown : {S : Type 0} (known : List (Snapshot S)) (replicas : Life → Option (Member S)) (life : Life)
+    (new : Member S) → Stands known replicas → IsNew known new.at → new.at.view.primary ≡ life →
     IsReached new.at new.latest new.made →
     ((p : Position) (s : S) → Has known (state_at p s) → p.view.primary ≡ life → IsReached p new.latest new.made) →
-    Stands (state_at new.at new.state ∷ known) (put replicas life new)
+    Stands (state_at new.at new.state ∷ known) (put_for replicas life new)
 grown {S} known replicas life new h unused mine reached old =
     record { one = one; held = held; unborn = unborn; below = below }
   where
@@ -59,26 +59,26 @@ grown {S} known replicas life new h unused mine reached old =
         (λ had. ⊎_elim (λ d. absurd (clash p s d.0 had)) (λ has. h.one p s t had has) (cases p t b))
         (cases p s a)
 
-    held : (other : Life) (x : Replica S) → put replicas life new other ≡ Some x → Has more (state_at x.at x.state)
+    held : (other : Life) (x : Member S) → put_for replicas life new other ≡ Some x → Has more (state_at x.at x.state)
     held other x e = by_put (put_is replicas life new other x e)
       where
         by_put : Put replicas life new other x → Has more (state_at x.at x.state)
-        by_put (it same is) = subst (λ (y : Replica S). Has more (state_at y.at y.state)) is (has_first known _)
+        by_put (it same is) = subst (λ (y : Member S). Has more (state_at y.at y.state)) is (has_first known _)
         by_put (stays apart is) = has_more known _ _ (h.held other x is)
 
-    unborn : (other : Life) → put replicas life new other ≡ None → (p : Position) (s : S) → Has more (state_at p s) →
+    unborn : (other : Life) → put_for replicas life new other ≡ None → (p : Position) (s : S) → Has more (state_at p s) →
         p.view.primary ≡ other → ⊥
     unborn other e p s has own =
         let none = put_none replicas life new other e in
         ⊎_elim (λ c. none.0 (sym own ∙ sym (ap (λ (q : Position). q.view.primary) c.0) ∙ mine))
         (λ had. h.unborn other none.1 p s had own) (cases p s has)
 
-    below : (other : Life) (x : Replica S) → put replicas life new other ≡ Some x → (p : Position) (s : S) →
+    below : (other : Life) (x : Member S) → put_for replicas life new other ≡ Some x → (p : Position) (s : S) →
         Has more (state_at p s) → p.view.primary ≡ other → IsReached p x.latest x.made
     below other x e p s has own = by_put (put_is replicas life new other x e)
       where
         by_put : Put replicas life new other x → IsReached p x.latest x.made
-        by_put (it same is) = subst (λ (y : Replica S). IsReached p y.latest y.made) is
+        by_put (it same is) = subst (λ (y : Member S). IsReached p y.latest y.made) is
             (⊎_elim (λ c. subst (λ q. IsReached q new.latest new.made) c.0 reached)
             (λ had. old p s had (own ∙ same)) (cases p s has))
         by_put (stays apart is) =
@@ -106,17 +106,17 @@ recorded_more m known x entries snapshots h = record {
   one_edit = h.one_edit;
 }
 
-module _ {S E : Type 0} (m : Machine S E) (w : World S E) (h : Sound m w) where
-  unfoldable pub sound_for : {X : Type 0} (o : Option X) (f : X → World S E) → ((x : X) → o ≡ Some x → Sound m (f x)) →
+module _ {S E : Type 0} (m : Machine S E) (w : Group S E) (h : Sound m w) where
+  unfoldable pub sound_for : {X : Type 0} (o : Option X) (f : X → Group S E) → ((x : X) → o ≡ Some x → Sound m (f x)) →
       Sound m (for_some w o f)
   sound_for None f each = h
   sound_for (Some x) f each = each x refl
 
-  unfoldable pub sound_if : (b : Bool) (v : World S E) → (b ≡ true → Sound m v) → Sound m (if b then v else w)
+  unfoldable pub sound_if : (b : Bool) (v : Group S E) → (b ≡ true → Sound m v) → Sound m (if b then v else w)
   sound_if true v keeps = keeps refl
   sound_if false v keeps = h
 
-  unfoldable pub sound_moved : (life : Life) (r new : Replica S) → w.replicas life ≡ Some r →
+  unfoldable pub sound_moved : (life : Life) (r new : Member S) → w.replicas life ≡ Some r →
       Has h.known (state_at new.at new.state) → new.latest ≡ r.latest → new.made ≡ r.made →
       Sound m (with_replica w life new)
   sound_moved life r new was reached latest made = record {
@@ -128,10 +128,10 @@ module _ {S E : Type 0} (m : Machine S E) (w : World S E) (h : Sound m w) where
   -- a view that the life never had
   unfoldable pub sound_starting : (life : Life) (number : ℕ) (state : S) →
       ((p : Position) (s : S) → Has h.known (state_at p s) → p.view.primary ≡ life → p.view.number < number) →
-      Sound m (with_replica w life (starting life number state))
+      Sound m (with_replica w life (new_primary life number state))
   sound_starting life number state early = record {
     known = state_at (place life number 0) state ∷ h.known;
-    stands = grown h.known w.replicas life (starting life number state) h.stands
+    stands = grown h.known w.replicas life (new_primary life number state) h.stands
         (λ s has. let few = early (place life number 0) s has refl in absurd (omega (arith, few))) refl
         (record { started = omega arith; written = λ _. omega arith })
         (λ p s has own.
@@ -140,18 +140,18 @@ module _ {S E : Type 0} (m : Machine S E) (w : World S E) (h : Sound m w) where
     recorded = recorded_more m h.known _ w.entries w.snapshots h.recorded;
   }
 
-  unfoldable pub sound_starts : (life : Life) (o : Option (Replica S)) → w.replicas life ≡ o →
-      Sound m (unless_some w o (with_replica w life (starting life 1 m.first)))
+  unfoldable pub sound_starts : (life : Life) (o : Option (Member S)) → w.replicas life ≡ o →
+      Sound m (unless_some w o (with_replica w life (new_primary life 1 m.first)))
   sound_starts life None is =
       sound_starting life 1 m.first (λ p s has own. absurd (h.stands.unborn life is p s has own))
   sound_starts life (Some r) is = h
 
-  unfoldable pub sound_leads : (life : Life) (state : S) (r : Replica S) → w.replicas life ≡ Some r →
-      Sound m (with_replica w life (starting life (suc r.latest) state))
+  unfoldable pub sound_leads : (life : Life) (state : S) (r : Member S) → w.replicas life ≡ Some r →
+      Sound m (with_replica w life (new_primary life (suc r.latest) state))
   sound_leads life state r is = sound_starting life (suc r.latest) state (λ p s has own.
       let reached = (h.stands.below life r is p s has own).started in omega (arith, reached))
 
-  unfoldable pub sound_shows : (life : Life) (r : Replica S) → w.replicas life ≡ Some r →
+  unfoldable pub sound_shows : (life : Life) (r : Member S) → w.replicas life ≡ Some r →
       Sound m (record w { snapshots = state_at r.at r.state ∷ w.snapshots })
   sound_shows life r is = record {
     known = h.known;
@@ -165,7 +165,7 @@ module _ {S E : Type 0} (m : Machine S E) (w : World S E) (h : Sound m w) where
   }
 
   -- the step of an entry whose place is next to the replica's is the step that was recorded
-  pub step_here : (r : Replica S) (e : Entry E) → Has h.known (state_at r.at r.state) → Has w.entries e →
+  pub step_here : (r : Member S) (e : Entry E) → Has h.known (state_at r.at r.state) → Has w.entries e →
       e.at ≡ next r.at → (after : S) × (m.step r.state e.edit ≡ Some after) × Has h.known (state_at (next r.at) after)
   step_here r e held has is =
       let s = h.recorded.steps e has in
@@ -181,8 +181,8 @@ module _ {S E : Type 0} (m : Machine S E) (w : World S E) (h : Sound m w) where
         subst (λ p. Has h.known (state_at p s.after)) is s.leads,
       )
 
-  unfoldable pub sound_applies : (life : Life) (r : Replica S) → w.replicas life ≡ Some r → (e : Entry E) → Has w.entries e →
-      Sound m (applied m w life r e)
+  unfoldable pub sound_applies : (life : Life) (r : Member S) → w.replicas life ≡ Some r → (e : Entry E) → Has w.entries e →
+      Sound m (applies m w life r e)
   sound_applies life r was e has = sound_if _ _ (λ t. sound_for _ _ (λ after goes.
       let here = step_here r e (h.stands.held life r was) has (same_position_is _ _ t) in
       let same : here.0 ≡ after = some_inj (sym here.1 ∙ goes) in
@@ -190,8 +190,8 @@ module _ {S E : Type 0} (m : Machine S E) (w : World S E) (h : Sound m w) where
       (subst (λ x. Has h.known (state_at (next r.at) x)) same here.2) refl refl))
 
   -- a primary stands at the end of its view, so the next position is new
-  unfoldable pub sound_edited : (life : Life) (r : Replica S) (edit : E) (after : S) → w.replicas life ≡ Some r →
-      r.at ≡ tip life r → m.step r.state edit ≡ Some after → Sound m (edited w life r edit after)
+  unfoldable pub sound_edited : (life : Life) (r : Member S) (edit : E) (after : S) → w.replicas life ≡ Some r →
+      r.at ≡ tip life r → m.step r.state edit ≡ Some after → Sound m (with_entry w life r edit after)
   sound_edited life r edit after was ends goes = record {
     known = state_at (next r.at) after ∷ h.known;
     stands = grown h.known w.replicas life (record r { state = after; at = next r.at; made = suc r.made }) h.stands
@@ -248,7 +248,7 @@ module _ {S E : Type 0} (m : Machine S E) (w : World S E) (h : Sound m w) where
           let s = h.recorded.steps e has in
           unused s.after (subst (λ p. Has h.known (state_at p s.after)) (sym is) s.leads)
 
-  unfoldable pub kept : (event : Event S E) → Sound m (happens m w event)
+  unfoldable pub kept : (event : GroupEvent S E) → Sound m (next_group m w event)
   kept (Starts life) = sound_starts life _ refl
   kept (Leads life) = sound_for _ _ (λ r is. sound_leads life r.state r is)
   kept (Changes life state) = sound_for _ _ (λ r is. sound_leads life state r is)
@@ -259,7 +259,7 @@ module _ {S E : Type 0} (m : Machine S E) (w : World S E) (h : Sound m w) where
       sound_moved life r (record r { state = s.state; at = s.at }) is (h.recorded.shown s (which, at)) refl refl))
   kept (Applies life which) = sound_for _ _ (λ r is. sound_for _ _ (λ e at. sound_applies life r is e (which, at)))
 
-unfoldable pub first_sound : {S E : Type 0} (m : Machine S E) → Sound m empty_world
+unfoldable pub first_sound : {S E : Type 0} (m : Machine S E) → Sound m empty_group
 first_sound m = record {
   known = [];
   stands = record {
@@ -275,6 +275,6 @@ first_sound m = record {
   };
 }
 
-unfoldable pub sound : {S E : Type 0} (m : Machine S E) (history : List (Event S E)) → Sound m (world_after m history)
+unfoldable pub sound : {S E : Type 0} (m : Machine S E) (history : List (GroupEvent S E)) → Sound m (group_after m history)
 sound m [] = first_sound m
-sound m (event ∷ earlier) = kept m (world_after m earlier) (sound m earlier) event
+sound m (event ∷ earlier) = kept m (group_after m earlier) (sound m earlier) event

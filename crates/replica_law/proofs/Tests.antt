@@ -1,19 +1,19 @@
 -- What a changed replica leaves, and the members of a list.
 use Rattle.std.proofs.Common.{◌≡◌, ◌⊎◌, ℕ, zero, suc, Bool, true, false, if◌then◌else◌, List, [], ◌∷◌, Option, Some, None, slice_get, refl, inl, inr}
-use Rattle.replica_law.specs.Worlds.{Life, Replica, same_life, put}
+use Rattle.replica_law.specs.Groups.{Life, Member, same_life, put_for}
 use Rattle.replica_law.specs.laws.Places.{same_life_is, same_life_passes}
 
 pub some_inj : {X : Type 0} {x y : X} → Some x ≡ Some y → x ≡ y
 some_inj {X} {x} {y} e = cc
 
--- a replica after another was put: it is that one, or one of another life that stays
-pub data Put {S : Type 0} (replicas : Life → Option (Replica S)) (life : Life) (r : Replica S) (other : Life)
-    (x : Replica S) : Type 0 where
+-- a replica after another was put in its place: it is that one, or one of another life that stays
+pub data Put {S : Type 0} (replicas : Life → Option (Member S)) (life : Life) (r : Member S) (other : Life)
+    (x : Member S) : Type 0 where
   it : other ≡ life → r ≡ x → Put replicas life r other x
   stays : (other ≡ life → ⊥) → replicas other ≡ Some x → Put replicas life r other x
 
-pub put_is : {S : Type 0} (replicas : Life → Option (Replica S)) (life : Life) (r : Replica S) (other : Life)
-    (x : Replica S) → put replicas life r other ≡ Some x → Put replicas life r other x
+pub put_is : {S : Type 0} (replicas : Life → Option (Member S)) (life : Life) (r : Member S) (other : Life)
+    (x : Member S) → put_for replicas life r other ≡ Some x → Put replicas life r other x
 put_is {S} replicas life r other x = by_test (same_life other life) refl
   where
     by_test : (b : Bool) → same_life other life ≡ b → (if b then Some r else replicas other) ≡ Some x →
@@ -21,8 +21,8 @@ put_is {S} replicas life r other x = by_test (same_life other life) refl
     by_test true is e = it (same_life_is _ _ is) (some_inj e)
     by_test false is e = stays (λ same. let t = same_life_passes _ _ same in absurd (cc)) e
 
-pub put_none : {S : Type 0} (replicas : Life → Option (Replica S)) (life : Life) (r : Replica S) (other : Life) →
-    put replicas life r other ≡ None → (other ≡ life → ⊥) × (replicas other ≡ None)
+pub put_none : {S : Type 0} (replicas : Life → Option (Member S)) (life : Life) (r : Member S) (other : Life) →
+    put_for replicas life r other ≡ None → (other ≡ life → ⊥) × (replicas other ≡ None)
 put_none {S} replicas life r other = by_test (same_life other life) refl
   where
     by_test : (b : Bool) → same_life other life ≡ b → (if b then Some r else replicas other) ≡ None →

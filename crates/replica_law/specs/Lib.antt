@@ -1,4 +1,4 @@
+pub mod Groups
 pub mod Histories
 pub mod Rules
-pub mod Worlds
 pub mod laws

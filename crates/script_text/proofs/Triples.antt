@@ -5,7 +5,7 @@ use Rattle.std.specs.Prelude.{if◌then◌else◌, Result}
 use Rattle.script_text.specs.declared.fault.LineFault.{LineFault}
 use Rattle.script_text.specs.declared.fault.LineFault.TheVariants.{Word}
 use Rattle.script_text.specs.declared.parsing.Triple as code
-use Rattle.script_text.specs.Asking.{Register, Triple, is_word, if_right, side_of, name_of, terms_of, register_of, triples_of}
+use Rattle.script_text.specs.Asking.{Register, Triple, is_word, if_right, side_named, name_of, terms_of, register_of, triples_of}
 use Rattle.script_text.specs.model.Triples.{after_triples, shown_triple}
 
 abbrev Words : Type 0
@@ -19,7 +19,7 @@ at words i = (get_or words i (record { ref_ptr = (0, 0); now = [] })).now
 
 pub triples_by_three : (words : Words) → 3 ≤ length words
     → triples_of (texts words) ≡ if is_word (at words 0) (codes "gone")
-    then if_right (side_of (at words 1)) (λ side. after_triples ((side, at words 2) ∷ [])
+    then if_right (side_named (at words 1)) (λ side. after_triples ((side, at words 2) ∷ [])
     (triples_of (texts (drop 3 words))))
     else Err Word
 triples_by_three [] h = absurd (omega arith)
@@ -35,7 +35,7 @@ triples_short (a ∷ b ∷ c ∷ words) some h = absurd (omega arith)
 
 pub register_by_seven : (words : Words) → 7 ≤ length words → length words < 8
     → register_of (texts words)
-    ≡ if_right (side_of (at words 0)) (λ side. if_right (name_of (at words 1)) (λ name.
+    ≡ if_right (side_named (at words 0)) (λ side. if_right (name_of (at words 1)) (λ name.
     if_right (terms_of (at words 2) (at words 3) (at words 4) (at words 5)) (λ terms.
     Ok (Register side name terms (at words 6)))))
 register_by_seven [] h few = absurd (omega arith)

@@ -15,7 +15,7 @@ use Rattle.clash_record.specs.declared.halves.Uptimes.{Uptimes}
 use Rattle.clash_record.specs.declared.halves.Withdrawal.{Withdrawal}
 use Rattle.script_text.specs.declared.fault.LineFault.{LineFault}
 use Rattle.script_text.specs.declared.fault.LineFault.TheVariants.{NoName, HexText, Word, Number}
-use Rattle.script_text.specs.Words.{words_of, is_printable, number_of}
+use Rattle.script_text.specs.Words.{words_of, is_printable, spelled_number}
 
 -- a request. A label, code and a resolver are kept as written
 pub data Asked : Type 0 where
@@ -36,8 +36,8 @@ if_right (Err fault) f = Err fault
 abbrev pub is_word : List ℕ → List ℕ → Bool
 is_word = bytes_eq
 
-abbrev pub side_of : List ℕ → Result SideId LineFault
-side_of word = if is_word word (codes "a") then Ok A else (if is_word word (codes "b") then Ok B else Err Word)
+abbrev pub side_named : List ℕ → Result SideId LineFault
+side_named word = if is_word word (codes "a") then Ok A else (if is_word word (codes "b") then Ok B else Err Word)
 
 abbrev pub name_of : List ℕ → Result Name LineFault
 name_of word = if is_name word then Ok word else Err NoName
@@ -48,10 +48,10 @@ or_number None = Err Number
 
 -- a number of 64 bits, and one of 32
 abbrev pub long_of : List ℕ → Result ℕ LineFault
-long_of word = or_number (number_of (2 ^ 64 - 1) word)
+long_of word = or_number (spelled_number (2 ^ 64 - 1) word)
 
 abbrev pub short_of : List ℕ → Result ℕ LineFault
-short_of word = or_number (number_of (2 ^ 32 - 1) word)
+short_of word = or_number (spelled_number (2 ^ 32 - 1) word)
 
 -- what stands before and after the first dot
 abbrev pub around_dot : List ℕ → Option (List ℕ × List ℕ)
@@ -90,24 +90,24 @@ terms_of owner stamp weight extra =
 
 abbrev pub register_of : List (List ℕ) → Result Asked LineFault
 register_of (side ∷ name ∷ owner ∷ stamp ∷ weight ∷ extra ∷ resolver ∷ []) =
-    if_right (side_of side) (λ side. if_right (name_of name)
+    if_right (side_named side) (λ side. if_right (name_of name)
     (λ name. if_right (terms_of owner stamp weight extra) (λ terms.
     Ok (Register side name terms resolver))))
 register_of words = Err Word
 
 -- a side and a name
 abbrev pub unregister_of : List (List ℕ) → Result Asked LineFault
-unregister_of (side ∷ name ∷ []) = if_right (side_of side) (λ side. if_right (name_of name)
+unregister_of (side ∷ name ∷ []) = if_right (side_named side) (λ side. if_right (name_of name)
     (λ name. Ok (Unregister side name)))
 unregister_of words = Err Word
 
 abbrev pub whereis_of : List (List ℕ) → Result Asked LineFault
-whereis_of (side ∷ name ∷ []) = if_right (side_of side) (λ side. if_right (name_of name)
+whereis_of (side ∷ name ∷ []) = if_right (side_named side) (λ side. if_right (name_of name)
     (λ name. Ok (Whereis side name)))
 whereis_of words = Err Word
 
 abbrev pub show_of : List (List ℕ) → Result Asked LineFault
-show_of (side ∷ []) = if_right (side_of side) (λ side. Ok (Show side))
+show_of (side ∷ []) = if_right (side_named side) (λ side. Ok (Show side))
 show_of words = Err Word
 
 -- ---- healing
@@ -121,14 +121,14 @@ abbrev pub triples_of : List (List ℕ) → Result (List Triple) LineFault
 triples_of [] = Ok []
 triples_of (gone ∷ side ∷ name ∷ words) =
     if is_word gone (codes "gone")
-    then if_right (side_of side) (λ side. if_right (triples_of words) (λ triples. Ok ((side, name) ∷ triples)))
+    then if_right (side_named side) (λ side. if_right (triples_of words) (λ triples. Ok ((side, name) ∷ triples)))
     else Err Word
 triples_of words = Err Word
 
-abbrev pub names_of : List Triple → Result (List Withdrawal) LineFault
-names_of [] = Ok []
-names_of (triple ∷ triples) =
-    if_right (name_of triple.1) (λ name. if_right (names_of triples) (λ gone.
+abbrev pub withdrawals_of : List Triple → Result (List Withdrawal) LineFault
+withdrawals_of [] = Ok []
+withdrawals_of (triple ∷ triples) =
+    if_right (name_of triple.1) (λ name. if_right (withdrawals_of triples) (λ gone.
     Ok (record { side = triple.0; name = name } ∷ gone)))
 
 -- the uptimes are zeros where they are left out
@@ -140,7 +140,7 @@ uptimes_of a b = if_right (long_of a) (λ a. if_right (long_of b) (λ b. Ok (rec
 
 abbrev pub healing : Result ℕ LineFault → Result Uptimes LineFault → List Triple → Result Asked LineFault
 healing seed uptimes triples =
-    if_right seed (λ seed. if_right uptimes (λ uptimes. if_right (names_of triples)
+    if_right seed (λ seed. if_right uptimes (λ uptimes. if_right (withdrawals_of triples)
     (λ gone. Ok (Heal seed uptimes gone))))
 
 -- an unknown word and a wrong number of words come before the contents of the words

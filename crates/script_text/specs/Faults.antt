@@ -3,9 +3,9 @@ use Rattle.std.specs.Prelude.{ℕ}
 use Rattle.script_text.specs.declared.fault.LineFault.{LineFault}
 use Rattle.script_text.specs.declared.fault.LineFault.TheVariants.{NoName, HexText, Word, Number, OutOfMemory}
 
-abbrev pub line_fault_number : LineFault → ℕ
-line_fault_number NoName = 44
-line_fault_number HexText = 50
-line_fault_number Word = 51
-line_fault_number Number = 52
-line_fault_number OutOfMemory = 90
+abbrev pub script_fault_number : LineFault → ℕ
+script_fault_number NoName = 44
+script_fault_number HexText = 50
+script_fault_number Word = 51
+script_fault_number Number = 52
+script_fault_number OutOfMemory = 90

@@ -3,9 +3,9 @@ use Rattle.std.specs.Prelude.{◌≡◌, ◌≢◌, ℕ, ◌==◌, nat_le, if◌
 use Rattle.script_text.specs.Words.{onto_first}
 
 -- the texts between line feeds; after the last one there is one only if a byte is there
-abbrev pub texts_of : List ℕ → List (List ℕ)
-texts_of [] = []
-texts_of (b ∷ bs) = if b == 10 then [] ∷ texts_of bs else onto_first b (texts_of bs)
+abbrev pub line_texts : List ℕ → List (List ℕ)
+line_texts [] = []
+line_texts (b ∷ bs) = if b == 10 then [] ∷ line_texts bs else onto_first b (line_texts bs)
 
 -- a line whose text is known, or one that is too long
 pub data Line : Type 0 where
@@ -16,11 +16,11 @@ pub data Line : Type 0 where
 abbrev pub line_limit : ℕ
 line_limit = 20000
 
-abbrev pub line_of : List ℕ → Line
-line_of text = if nat_le (length text) line_limit then Short text else Long
+abbrev pub script_line : List ℕ → Line
+script_line text = if nat_le (length text) line_limit then Short text else Long
 
-abbrev pub lines_of : List ℕ → List Line
-lines_of input = map line_of (texts_of input)
+abbrev pub script_lines : List ℕ → List Line
+script_lines input = map script_line (line_texts input)
 
 abbrev pub HasNoEnd : List ℕ → Type 0
 HasNoEnd text = All (λ b. b ≢ 10) text

@@ -4,15 +4,15 @@ use Rattle.std.specs.Io.KnownBytes.{Keeps, Consumes, IsAtEnd, prepend_known}
 use Rattle.script_text.specs.declared.input.Found.{Found}
 use Rattle.script_text.specs.declared.input.Stop.{Stop}
 use Rattle.script_text.specs.declared.input.Stop.TheVariants.{LineFeed, End, Nothing}
-use Rattle.script_text.specs.Lines.{Line, Short, Long, line_of, HasNoEnd}
+use Rattle.script_text.specs.Lines.{Line, Short, Long, script_line, HasNoEnd}
 
 -- what is left: the bytes that were read and not yet used, and then the reader's
 abbrev pub left : List ℕ → Option (List ℕ) → Option (List ℕ)
 left unused remaining = prepend_known unused remaining
 
 -- nothing was left, and nothing is
-abbrev pub IsSpent : Option (List ℕ) → List ℕ → Option (List ℕ) → Type 0
-IsSpent old unused remaining = Keeps old remaining × (unused ≡ []) × IsAtEnd remaining
+abbrev pub HasNothingLeft : Option (List ℕ) → List ℕ → Option (List ℕ) → Type 0
+HasNothingLeft old unused remaining = Keeps old remaining × (unused ≡ []) × IsAtEnd remaining
 
 -- what is known of a line: that it is long, or its text
 abbrev pub seen_line : Bool → List ℕ → Line
@@ -30,7 +30,7 @@ IsGone Nothing old unused remaining text =
 -- the next line is found
 abbrev pub FindsLine : Option (List ℕ) → List ℕ → Option (List ℕ) → Found → List ℕ → Type 0
 FindsLine old unused remaining found line =
-    (text : List ℕ) × HasNoEnd text × (line_of text ≡ seen_line found.is_long line)
+    (text : List ℕ) × HasNoEnd text × (script_line text ≡ seen_line found.is_long line)
     × IsGone found.stop old unused remaining text
 
 -- the reader failed within a line, or no line feed came in all these bytes

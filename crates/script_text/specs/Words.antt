@@ -34,5 +34,5 @@ has_odd_front [] = true
 has_odd_front (d ∷ ds) = nat_lt 0 (length ds) && (d == 48)
 
 -- the number, at most this, that a word spells in decimal digits, without a sign and without zeros in front
-abbrev pub number_of : ℕ → List ℕ → Option ℕ
-number_of most word = if has_odd_front word then None else value_from most 0 word
+abbrev pub spelled_number : ℕ → List ℕ → Option ℕ
+spelled_number most word = if has_odd_front word then None else value_from most 0 word

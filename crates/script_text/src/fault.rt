@@ -1,7 +1,7 @@
 //! The faults of a line.
 ghost use Rattle.std.specs.Prelude.{◌≡◌, None};
 ghost use Rattle.script_text.specs.declared.fault.LineFault.TheVariants.{NoName, OutOfMemory};
-ghost use Rattle.script_text.specs.Faults.{line_fault_number};
+ghost use Rattle.script_text.specs.Faults.{script_fault_number};
 
 use clash_record::BadName;
 use refusals::{Numbered, Place, words_of};
@@ -25,7 +25,7 @@ pub enum LineFault {
 }
 
 impl Numbered for LineFault {
-    ghost number_of = { line_fault_number };
+    ghost number_of = { script_fault_number };
 
     ghost place_of = { λ _. None };
 

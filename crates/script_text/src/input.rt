@@ -2,8 +2,8 @@
 ghost use Rattle.std.specs.Prelude.{◌≡◌, ◌↔◌, ◌<◌, ◌≤◌, ◌+◌, Contains, IsTrue, false, ℕ, List, [], ◌∷◌, ◌++◌, length, OnErr, OnOk, IfOk, IfSome, IfNone};
 ghost use Rattle.std.specs.Io.KnownBytes.{Keeps, Consumes, IsAtEnd, ReadConsumes};
 ghost use Rattle.std.specs.Io.{ReadsAtMost};
-ghost use Rattle.script_text.specs.Lines.{line_limit, line_of};
-ghost use Rattle.script_text.specs.Reading.{left, IsSpent, FailsInLine, FindsLine, seen_line};
+ghost use Rattle.script_text.specs.Lines.{line_limit, script_line};
+ghost use Rattle.script_text.specs.Reading.{left, HasNothingLeft, FailsInLine, FindsLine, seen_line};
 ghost use Rattle.script_text.specs.model.Feeds.{before_feed, from_feed};
 
 use std::alloc::{AllocError, Global};
@@ -93,8 +93,8 @@ impl ReadBuffer {
     // line is too long.
     fn move_text(&mut self, line: &mut LineBuffer, is_long: bool) -> bool
         ensures rest { self.new ≡ from_feed self.old }
-        ensures line { (text : List ℕ) → line_of text ≡ seen_line is_long line.old
-            → line_of (text ++ before_feed self.old) ≡ seen_line result line.new }
+        ensures line { (text : List ℕ) → script_line text ≡ seen_line is_long line.old
+            → script_line (text ++ before_feed self.old) ≡ seen_line result line.new }
     {
         let unused = &self.bytes[self.start..self.end];
         let len = text_len(unused);
@@ -137,7 +137,7 @@ fn has_byte<R: Read>(buffer: &mut ReadBuffer, reader: &mut R) -> io::Result<bool
         → Consumes (left buffer.old (R.remaining reader.old)) (left buffer.new (R.remaining reader.new)) []
         × (0 < length buffer.new)) }
     ensures none { IfOk result (λ found. found ≡ false
-        → IsSpent (left buffer.old (R.remaining reader.old)) buffer.new (R.remaining reader.new)) }
+        → HasNothingLeft (left buffer.old (R.remaining reader.old)) buffer.new (R.remaining reader.new)) }
     ensures err { OnErr result
         (Keeps (left buffer.old (R.remaining reader.old)) (R.remaining reader.new) × (buffer.new ≡ [])) }
 {
@@ -239,8 +239,8 @@ pub struct ReadFailed;
 
 // Adds a part to the line so far, and returns whether the line is too long.
 fn take_part(line: &mut LineBuffer, is_long: bool, part: &[u8]) -> bool
-    ensures { (text : List ℕ) → line_of text ≡ seen_line is_long line.old
-        → line_of (text ++ part.now) ≡ seen_line result line.new }
+    ensures { (text : List ℕ) → script_line text ≡ seen_line is_long line.old
+        → script_line (text ++ part.now) ≡ seen_line result line.new }
 {
     if is_long || part.len() > line.room() {
         return true;

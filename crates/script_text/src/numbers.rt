@@ -1,6 +1,6 @@
 //! Numbers in decimal digits.
 ghost use Rattle.std.specs.Prelude.{◌≡◌, ◌≤◌, IfSome, MatchOption, None};
-ghost use Rattle.script_text.specs.Words.{number_of};
+ghost use Rattle.script_text.specs.Words.{spelled_number};
 ghost use Rattle.script_text.specs.Asking.{around_dot, long_of, owner_of, short_of};
 
 use crate::fault::LineFault;
@@ -51,7 +51,7 @@ fn around_dot(word: &[u8]) -> Option<(&[u8], &[u8])>
 
 // The number that a word spells in decimal digits, without a sign and without zeros in front, if it is at most this.
 fn value(word: &[u8], most: u64) -> Option<u64>
-    ensures value { result ≡ number_of most word.now }
+    ensures value { result ≡ spelled_number most word.now }
     ensures bound { IfSome result (λ value. value ≤ most) }
 {
     if word.is_empty() || word.len() > 1 && word[0] == b'0' {

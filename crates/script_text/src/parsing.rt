@@ -2,7 +2,7 @@
 ghost use Rattle.std.specs.Prelude.{◌≡◌, ◌<◌, false, codes, length, drop, map, Ok, None};
 ghost use Rattle.std.specs.Option.{option_map};
 ghost use Rattle.script_text.specs.Asking as asking;
-ghost use Rattle.script_text.specs.Asking.{is_word, side_of, name_of, extra_of, terms_of, triples_of, names_of, if_right, long_of, asked_by, asked_of};
+ghost use Rattle.script_text.specs.Asking.{is_word, side_named, name_of, extra_of, terms_of, triples_of, withdrawals_of, if_right, long_of, asked_by, asked_of};
 ghost use Rattle.script_text.specs.Words.{words_of};
 ghost use Rattle.script_text.specs.Commands.{IsRight, right_command, right_option};
 ghost use Rattle.script_text.specs.model.Triples.{after_first, right_triple, given_uptimes, right_triples, right_withdrawals, shown_triple};
@@ -226,7 +226,7 @@ fn first_triple<'a>(words: &[&'a [u8]]) -> Result<Triple<'a>, LineFault>
 
 // The names of these words.
 fn withdrawals(alloc: Global, triples: &[Triple<'_>]) -> Result<Vec<Withdrawal>, LineFault>
-    ensures { IsRight (right_withdrawals result) (names_of (map shown_triple triples.now)) }
+    ensures { IsRight (right_withdrawals result) (withdrawals_of (map shown_triple triples.now)) }
 {
     let mut gone = Vec::new(alloc);
     for triple in triples {
@@ -270,7 +270,7 @@ fn extra(word: &[u8]) -> Result<[u8; 16], LineFault>
 }
 
 fn side(word: &[u8]) -> Result<SideId, LineFault>
-    ensures { result ≡ side_of word.now }
+    ensures { result ≡ side_named word.now }
 {
     match word {
         b"a" => Ok(SideId::A),

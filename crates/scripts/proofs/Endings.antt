@@ -7,15 +7,15 @@ use Rattle.std.proofs.KnownBytes.{Appends-kept, Consumes-trans, Consumes-nil, pr
 use Rattle.std.proofs.lemmas.Result.{IfOk-at_ok}
 use denote.Enum.Bare.{sameb}
 use Rattle.device.specs.Sending.{Sends, AppendsFront}
-use Rattle.script_text.specs.Lines.{Line, lines_of, line_of, EndsLine, HasNoEnd}
+use Rattle.script_text.specs.Lines.{Line, script_lines, script_line, EndsLine, HasNoEnd}
 use Rattle.script_text.specs.Reading.{left, FailsInLine, IsGone}
 use Rattle.script_text.specs.declared.input.Stop.{Stop}
 use Rattle.script_text.specs.declared.input.Stop.TheVariants.{LineFeed, End, Nothing}
 use Rattle.script_text.specs.contracts.input.Stop.{the_type}
-use Rattle.scripts.specs.Machines.{Machine}
+use Rattle.scripts.specs.Machines.{ScriptMachine}
 use Rattle.scripts.specs.Replies.{Answer, answer_text}
 use Rattle.scripts.specs.Steps.{Step}
-use Rattle.scripts.specs.Runs.{Run, text_from, status_of, answer_status, Ending, Starved, Finished, ReadFailed, Stopped, Writes, text_of, ending_status, IsRunFrom}
+use Rattle.scripts.specs.Runs.{Run, text_from, status_of, answer_status, Ending, Starved, Finished, ReadFailed, Stopped, Writes, ending_text, ending_status, IsRunFrom}
 use Rattle.scripts.specs.model.Progress.{Progress}
 use Rattle.scripts.proofs.LineLists.{lines_ended, lines_last, ends_line_last}
 use Rattle.scripts.proofs.LongerRuns.{run_longer, text_longer, status_longer}
@@ -29,18 +29,18 @@ unread (Some xs) None unused front h = h
 unread (Some xs) (Some ys) unused front h = h ∙ sym (append_assoc front unused ys)
 
 -- one more line was carried out
-pub record Carried (start : Machine) (read_old : Option (List ℕ)) (unused : List ℕ) (remaining : Option (List ℕ)) (stop : Stop)
-    (answers : List Answer) (machine : Machine) : Type 0 where
+pub record Carried (start : ScriptMachine) (read_old : Option (List ℕ)) (unused : List ℕ) (remaining : Option (List ℕ)) (stop : Stop)
+    (answers : List Answer) (machine : ScriptMachine) : Type 0 where
   pub front : List ℕ
   pub reads : Consumes read_old (left unused remaining) front
-  pub run : Run start (lines_of front) answers machine
+  pub run : Run start (script_lines front) answers machine
   pub reaches : EndsLine front ⊎ ((unused ≡ []) × IsAtEnd remaining)
   pub fed : stop ≡ LineFeed → EndsLine front
   pub ended : stop ≡ End → (unused ≡ []) × IsAtEnd remaining
 
 -- a text that ends a script early, with status 3
 written : {A E : Type 0} (ending : Ending) (answers : List Answer) (old new : Option (List ℕ)) (result : Result A E)
-    → ending ≢ Stopped → ending_status ending answers ≡ 3 → Sends old new (text_of ending answers) result
+    → ending ≢ Stopped → ending_status ending answers ≡ 3 → Sends old new (ending_text ending answers) result
     → Writes ending answers old new 3
 written ending answers old new (Ok x) fine three sent = inl (fine, sent, sym three)
 written ending answers old new (Err x) fine three sent = inr (sent, refl)
@@ -69,7 +69,7 @@ whole_front : (a b : Option (List ℕ)) (text : List ℕ) → Appends a b text �
 whole_front a b text h = (length text, subst (Appends a b) (sym (take-length text)) h)
 
 -- the answers so far are flushed
-pub flushed : (start : Machine) (read_old left_now written_old written_now new : Option (List ℕ)) (machine : Machine) (count status : ℕ)
+pub flushed : (start : ScriptMachine) (read_old left_now written_old written_now new : Option (List ℕ)) (machine : ScriptMachine) (count status : ℕ)
     → Progress start read_old left_now written_old written_now machine count status → Keeps written_now new
     → Progress start read_old left_now written_old new machine count status
 flushed start read_old left_now written_old written_now new machine count status p kept = record {
@@ -84,18 +84,18 @@ flushed start read_old left_now written_old written_now new machine count status
   writes = Appends-kept written_old written_now new (text_from 1 p.answers) p.writes kept;
 }
 
-module _ (start : Machine) (read_old left_now written_old written_now : Option (List ℕ)) (machine : Machine) (count status : ℕ)
+module _ (start : ScriptMachine) (read_old left_now written_old written_now : Option (List ℕ)) (machine : ScriptMachine) (count status : ℕ)
     (p : Progress start read_old left_now written_old written_now machine count status) where
-  run_on : (bytes text : List ℕ) (line : Line) (answer : Answer) (new : Machine) → line_of text ≡ line
-      → lines_of (p.front ++ bytes) ≡ lines_of p.front ++ line_of text ∷ [] → Step machine line answer new
-      → Run start (lines_of (p.front ++ bytes)) (p.answers ++ answer ∷ []) new
+  run_on : (bytes text : List ℕ) (line : Line) (answer : Answer) (new : ScriptMachine) → script_line text ≡ line
+      → script_lines (p.front ++ bytes) ≡ script_lines p.front ++ script_line text ∷ [] → Step machine line answer new
+      → Run start (script_lines (p.front ++ bytes)) (p.answers ++ answer ∷ []) new
   run_on bytes text line answer new same split step =
       subst (λ lines. Run start lines (p.answers ++ answer ∷ []) new) (sym split)
-      (run_longer start (lines_of p.front) p.answers machine (line_of text) answer new p.run
+      (run_longer start (script_lines p.front) p.answers machine (script_line text) answer new p.run
       (subst (λ l. Step machine l answer new) (sym same) step))
 
   pub carried : (stop : Stop) (text : List ℕ) (line : Line) (unused : List ℕ) (remaining : Option (List ℕ))
-      (answer : Answer) (new : Machine) → stop ≢ Nothing → HasNoEnd text → line_of text ≡ line
+      (answer : Answer) (new : ScriptMachine) → stop ≢ Nothing → HasNoEnd text → script_line text ≡ line
       → IsGone stop left_now unused remaining text → Step machine line answer new
       → Carried start read_old unused remaining stop (p.answers ++ answer ∷ []) new
   carried LineFeed text line unused remaining answer new some plain same gone step = record {
@@ -195,7 +195,7 @@ module _ (start : Machine) (read_old left_now written_old written_now : Option (
   }
 
   pub writing_failed : (stop : Stop) (unused : List ℕ) (remaining new : Option (List ℕ)) (answer : Answer)
-      (after : Machine) → Carried start read_old unused remaining stop (p.answers ++ answer ∷ []) after
+      (after : ScriptMachine) → Carried start read_old unused remaining stop (p.answers ++ answer ∷ []) after
       → AppendsFront written_old new (text_from 1 p.answers ++ answer_text (count + 1) answer)
       → IsRunFrom start read_old remaining written_old new 3
   writing_failed stop unused remaining new answer after c went = record {
@@ -211,7 +211,7 @@ module _ (start : Machine) (read_old left_now written_old written_now : Option (
   }
 
   pub last_line : (stop : Stop) (unused : List ℕ) (remaining new : Option (List ℕ)) (answer : Answer)
-      (after : Machine) (status' : ℕ) → Carried start read_old unused remaining stop (p.answers ++ answer ∷ []) after
+      (after : ScriptMachine) (status' : ℕ) → Carried start read_old unused remaining stop (p.answers ++ answer ∷ []) after
       → Appends written_old new (text_from 1 p.answers ++ answer_text (count + 1) answer) → stop ≡ End
       → status' ≡ max status (answer_status answer) → IsRunFrom start read_old remaining written_old new status'
   last_line stop unused remaining new answer after status' c went e s = record {
@@ -227,7 +227,7 @@ module _ (start : Machine) (read_old left_now written_old written_now : Option (
   }
 
   pub next_line_on : (stop : Stop) (unused : List ℕ) (remaining new : Option (List ℕ)) (line : Line)
-      (answer : Answer) (after : Machine) (status' : ℕ)
+      (answer : Answer) (after : ScriptMachine) (status' : ℕ)
       → Carried start read_old unused remaining stop (p.answers ++ answer ∷ []) after
       → Appends written_old new (text_from 1 p.answers ++ answer_text (count + 1) answer) → stop ≡ LineFeed
       → status' ≡ max status (answer_status answer) → Step machine line answer after
@@ -245,7 +245,7 @@ module _ (start : Machine) (read_old left_now written_old written_now : Option (
   }
 
 -- nothing was read
-pub starved : (start : Machine) (read written_old written_new : Option (List ℕ)) {A E : Type 0} (result : Result A E)
+pub starved : (start : ScriptMachine) (read written_old written_new : Option (List ℕ)) {A E : Type 0} (result : Result A E)
     → Sends written_old written_new (codes "refused 90\n") result → IsRunFrom start read read written_old written_new 3
 starved start read written_old written_new result sent = record {
   ending = Starved;

@@ -5,19 +5,19 @@ use Rattle.std.proofs.lemmas.Bool.Decides.{nat_tests}
 use Rattle.std.specs.List.{AllByRecursion}
 use Rattle.std.proofs.lemmas.List.Elements.{recursion_from_All}
 use Rattle.script_text.specs.Words.{onto_first}
-use Rattle.script_text.specs.Lines.{texts_of, lines_of, line_of, EndsLine, HasNoEnd}
+use Rattle.script_text.specs.Lines.{line_texts, script_lines, script_line, EndsLine, HasNoEnd}
 
 no_end : (b : ℕ) → b ≢ 10 → eqb b 10 ≡ false
 no_end b h = grind (arith, nat_tests)
 
-texts-cons : (b : ℕ) (bs : List ℕ) → b ≢ 10 → texts_of (b ∷ bs) ≡ onto_first b (texts_of bs)
-texts-cons b bs h = cond-false (eqb b 10) ([] ∷ texts_of bs) (onto_first b (texts_of bs)) (no_end b h)
+texts-cons : (b : ℕ) (bs : List ℕ) → b ≢ 10 → line_texts (b ∷ bs) ≡ onto_first b (line_texts bs)
+texts-cons b bs h = cond-false (eqb b 10) ([] ∷ line_texts bs) (onto_first b (line_texts bs)) (no_end b h)
 
-texts-ended_along : (text : List ℕ) → AllByRecursion (λ b. b ≢ 10) text → texts_of (text ++ 10 ∷ []) ≡ text ∷ []
+texts-ended_along : (text : List ℕ) → AllByRecursion (λ b. b ≢ 10) text → line_texts (text ++ 10 ∷ []) ≡ text ∷ []
 texts-ended_along [] h = refl
 texts-ended_along (b ∷ bs) h = texts-cons b (bs ++ 10 ∷ []) h.0 ∙ ap (onto_first b) (texts-ended_along bs h.1)
 
-texts-last_along : (text : List ℕ) → AllByRecursion (λ b. b ≢ 10) text → 0 < length text → texts_of text ≡ text ∷ []
+texts-last_along : (text : List ℕ) → AllByRecursion (λ b. b ≢ 10) text → 0 < length text → line_texts text ≡ text ∷ []
 texts-last_along [] h some = absurd (omega arith)
 texts-last_along (b ∷ []) h some = texts-cons b [] h.0
 texts-last_along (b ∷ c ∷ bs) h some = texts-cons b (c ∷ bs) h.0
@@ -34,21 +34,21 @@ onto_append : (t : Bool) (b : ℕ) (ys zs : List (List ℕ)) → (x : List ℕ) 
 onto_append true b ys zs x xs e = refl
 onto_append false b ys zs x xs e = subst (λ ys. onto_first b (ys ++ zs) ≡ onto_first b ys ++ zs) (sym e) refl
 
-pub texts-append : (front more : List ℕ) → EndsLine front → texts_of (front ++ more) ≡ texts_of front ++ texts_of more
+pub texts-append : (front more : List ℕ) → EndsLine front → line_texts (front ++ more) ≡ line_texts front ++ line_texts more
 texts-append [] more h = refl
-texts-append (b ∷ []) more h = subst (λ b. texts_of (b ∷ more) ≡ texts_of (b ∷ []) ++ texts_of more) (sym h) refl
+texts-append (b ∷ []) more h = subst (λ b. line_texts (b ∷ more) ≡ line_texts (b ∷ []) ++ line_texts more) (sym h) refl
 texts-append (b ∷ c ∷ bs) more h =
-    let some = onto_some (eqb c 10) c (texts_of bs) in
+    let some = onto_some (eqb c 10) c (line_texts bs) in
     ap (λ ps. cond (eqb b 10) ([] ∷ ps) (onto_first b ps)) (texts-append (c ∷ bs) more h)
-    ∙ onto_append (eqb b 10) b (texts_of (c ∷ bs)) (texts_of more) some.0 some.1 some.2
+    ∙ onto_append (eqb b 10) b (line_texts (c ∷ bs)) (line_texts more) some.0 some.1 some.2
 
-map-append_line : (xs ys : List (List ℕ)) → map line_of (xs ++ ys) ≡ map line_of xs ++ map line_of ys
+map-append_line : (xs ys : List (List ℕ)) → map script_line (xs ++ ys) ≡ map script_line xs ++ map script_line ys
 map-append_line [] ys = refl
-map-append_line (x ∷ xs) ys = ap (λ l. line_of x ∷ l) (map-append_line xs ys)
+map-append_line (x ∷ xs) ys = ap (λ l. script_line x ∷ l) (map-append_line xs ys)
 
-pub lines-append : (front more : List ℕ) → EndsLine front → lines_of (front ++ more) ≡ lines_of front ++ lines_of more
-lines-append front more h = ap (map line_of) (texts-append front more h)
-    ∙ map-append_line (texts_of front) (texts_of more)
+pub lines-append : (front more : List ℕ) → EndsLine front → script_lines (front ++ more) ≡ script_lines front ++ script_lines more
+lines-append front more h = ap (map script_line) (texts-append front more h)
+    ∙ map-append_line (line_texts front) (line_texts more)
 
 pub ends_line_last : (xs : List ℕ) → EndsLine (xs ++ 10 ∷ [])
 ends_line_last [] = refl
@@ -57,12 +57,12 @@ ends_line_last (b ∷ c ∷ bs) = ends_line_last (c ∷ bs)
 
 -- a line that a line feed ends, after others
 pub lines_ended : (front text : List ℕ) → EndsLine front → HasNoEnd text
-    → lines_of (front ++ (text ++ 10 ∷ [])) ≡ lines_of front ++ line_of text ∷ []
+    → script_lines (front ++ (text ++ 10 ∷ [])) ≡ script_lines front ++ script_line text ∷ []
 lines_ended front text h plain = lines-append front (text ++ 10 ∷ []) h
-    ∙ ap (λ ts. lines_of front ++ map line_of ts) (texts-ended_along text (recursion_from_All (λ b. b ≢ 10) text plain))
+    ∙ ap (λ ts. script_lines front ++ map script_line ts) (texts-ended_along text (recursion_from_All (λ b. b ≢ 10) text plain))
 
 pub lines_last : (front text : List ℕ) → EndsLine front → HasNoEnd text → 0 < length text
-    → lines_of (front ++ text) ≡ lines_of front ++ line_of text ∷ []
+    → script_lines (front ++ text) ≡ script_lines front ++ script_line text ∷ []
 lines_last front text h plain some = lines-append front text h
-    ∙ ap (λ ts. lines_of front ++ map line_of ts) (texts-last_along text (recursion_from_All
+    ∙ ap (λ ts. script_lines front ++ map script_line ts) (texts-last_along text (recursion_from_All
     (λ b. b ≢ 10) text plain) some)

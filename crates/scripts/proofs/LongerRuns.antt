@@ -1,15 +1,15 @@
 -- A run that goes on by one line.
 use Rattle.std.proofs.Common.{◌≡◌, ℕ, ◌+◌, List, [], ◌∷◌, ◌++◌, length, refl, sym, ap, subst, ◌∙◌, append_assoc, append-nil, arith, max, add-zero}
 use Rattle.script_text.specs.Lines.{Line}
-use Rattle.scripts.specs.Machines.{Machine}
+use Rattle.scripts.specs.Machines.{ScriptMachine}
 use Rattle.scripts.specs.Steps.{Step}
 use Rattle.scripts.specs.Runs.{Run, text_from, status_of, answer_status}
 use Rattle.scripts.specs.Replies.{Answer, answer_text}
 
-pub run_longer : (old : Machine) (lines : List Line) (answers : List Answer) (mid : Machine) (line : Line)
-    (answer : Answer) (new : Machine)
+pub run_longer : (old : ScriptMachine) (lines : List Line) (answers : List Answer) (mid : ScriptMachine) (line : Line)
+    (answer : Answer) (new : ScriptMachine)
     → Run old lines answers mid → Step mid line answer new → Run old (lines ++ line ∷ []) (answers ++ answer ∷ []) new
-run_longer old [] [] mid line answer new r s = (new, subst (λ (o : Machine). Step o line answer new) r s, refl)
+run_longer old [] [] mid line answer new r s = (new, subst (λ (o : ScriptMachine). Step o line answer new) r s, refl)
 run_longer old (l ∷ ls) (q ∷ qs) mid line answer new r s = (r.0, r.1, run_longer r.0 ls qs mid line answer new r.2 s)
 run_longer old [] (q ∷ qs) mid line answer new r s = absurd r
 run_longer old (l ∷ ls) [] mid line answer new r s = absurd r

@@ -3,11 +3,11 @@ use Rattle.std.proofs.Common.{◌≡◌, ◌⊎◌, inl, inr, ℕ, List, Option,
 use Rattle.script_text.specs.declared.fault.LineFault.{LineFault}
 use Rattle.script_text.specs.declared.fault.LineFault.TheVariants.{OutOfMemory}
 use Rattle.script_text.specs.Asking.{Asked, asked_of}
-use Rattle.script_text.specs.Faults.{line_fault_number}
+use Rattle.script_text.specs.Faults.{script_fault_number}
 use Rattle.script_text.specs.Lines.{Short}
 use Rattle.scripts.specs.declared.reply.Reply.{Reply}
 use Rattle.scripts.specs.declared.reply.Reply.TheVariants.{Silent, Refused}
-use Rattle.scripts.specs.Machines.{Machine}
+use Rattle.scripts.specs.Machines.{ScriptMachine}
 use Rattle.scripts.specs.Replies.{Answer, Says, reply_text, reply_status}
 use Rattle.scripts.specs.Steps.{AnswersLine, AnswersText, Refuses}
 use Rattle.scripts.specs.model.Progress.{SendsNext, IsSaid}
@@ -20,25 +20,25 @@ said IsAnswer number old new reply result is_answer sends status =
     record { answer = Says reply; is_answer = is_answer; sends = sends; status = status }
 
 -- any line may be refused when out of memory
-starved : (machine : Machine) (asked : Result (Option Asked) LineFault) (reply : Reply)
+starved : (machine : ScriptMachine) (asked : Result (Option Asked) LineFault) (reply : Reply)
     → Refuses 90 None machine reply machine → AnswersText machine asked (Says reply) machine
 starved machine (Ok (Some asked)) reply h = inr h
 starved machine (Ok None) reply h = inr h
 starved machine (Err fault) reply h = inr h
 
 -- an invalid line is refused
-pub fault_told : (machine : Machine) (text : List ℕ) (fault : LineFault) (reply : Reply)
+pub fault_told : (machine : ScriptMachine) (text : List ℕ) (fault : LineFault) (reply : Reply)
     → (asked_of text ≡ Err fault) ⊎ (fault ≡ OutOfMemory)
-    → reply ≡ Refused (record { number = line_fault_number fault; place = None })
+    → reply ≡ Refused (record { number = script_fault_number fault; place = None })
     → AnswersLine machine (Short text) (Says reply) machine
 fault_told machine text fault reply (inl e) told =
     subst (λ asked. AnswersText machine asked (Says reply) machine) (sym e) (inl (told, refl))
 fault_told machine text fault reply (inr e) told =
     starved machine (asked_of text) reply
-    (subst (λ f. reply ≡ Refused (record { number = line_fault_number f; place = None })) e told, refl)
+    (subst (λ f. reply ≡ Refused (record { number = script_fault_number f; place = None })) e told, refl)
 
 -- a blank line or a comment has an empty answer
-pub nothing_told : (machine : Machine) (text : List ℕ) → asked_of text ≡ Ok None
+pub nothing_told : (machine : ScriptMachine) (text : List ℕ) → asked_of text ≡ Ok None
     → AnswersLine machine (Short text) (Says Silent) machine
 nothing_told machine text e =
     subst (λ asked. AnswersText machine asked (Says Silent) machine) (sym e) (inl (refl, refl))

@@ -13,10 +13,10 @@ use Rattle.upload_store.specs.declared.fault.UploadFault.{UploadFault}
 use Rattle.upload_store.specs.laws.Places.{no_place}
 use Rattle.scripts.specs.declared.reply.Reply.{Reply}
 use Rattle.scripts.specs.declared.reply.Reply.TheVariants.{Refused}
-use Rattle.scripts.specs.Machines.{Machine}
+use Rattle.scripts.specs.Machines.{ScriptMachine}
 use Rattle.scripts.specs.Steps.{UnlessMemory, UploadStep, UploadsBytes, UploadsFile, UploadsWord, RefusesFile, is_free, by_digits, no_file_code, no_file}
 
-pub upload_refused : (old new : Machine) (word bytes : List ℕ) (fault : UploadFault) (reply : Reply)
+pub upload_refused : (old new : ScriptMachine) (word bytes : List ℕ) (fault : UploadFault) (reply : Reply)
     → HasCause upload_fault_number (IsUploadFault old.programs bytes) fault
     → reply ≡ Refused (record { number = upload_fault_number fault; place = upload_fault_place fault })
     → new ≡ old → UnlessMemory (UploadsBytes old word bytes) old reply new
@@ -35,7 +35,7 @@ free_if true word label found e is = (refl, ap (λ name. unwrap_or name []) (sym
 free_if false word label found e is = absurd (cc)
 
 -- a file is uploaded as its digits are
-pub file_uploaded : (old new : Machine) (label code : List ℕ) (reply : Reply) → is_free old.labels label ≡ true
+pub file_uploaded : (old new : ScriptMachine) (label code : List ℕ) (reply : Reply) → is_free old.labels label ≡ true
     → IsBytes code → OfBytes None (λ content. HasFileCode content code)
     → UnlessMemory (UploadsBytes old label code) old reply new → UnlessMemory (UploadsFile old label) old reply new
 file_uploaded old new label code reply free bytes h (inl uploads) =
@@ -48,7 +48,7 @@ file_uploaded old new label code reply free bytes h (inl uploads) =
 file_uploaded old new label code reply free bytes h (inr memory) = inr memory
 
 -- a file has no code, or can't be read
-pub file_refused : (old new : Machine) (label : List ℕ) (fault : FileFault) (reply : Reply)
+pub file_refused : (old new : ScriptMachine) (label : List ℕ) (fault : FileFault) (reply : Reply)
     → is_free old.labels label ≡ true → IsNoFileCode None fault
     → reply ≡ Refused (record { number = file_fault_number fault; place = file_fault_place fault })
     → new ≡ old → UnlessMemory (UploadsFile old label) old reply new
@@ -59,7 +59,7 @@ file_refused old new label fault reply free (starved e) said same =
     inr (said ∙ ap (λ n. Refused (record { number = n; place = None })) e, same)
 
 -- a word that names a file
-pub file_for_word : (old new : Machine) (label word file : List ℕ) (reply : Reply) → file_named word ≡ Some file
+pub file_for_word : (old new : ScriptMachine) (label word file : List ℕ) (reply : Reply) → file_named word ≡ Some file
     → UnlessMemory (UploadsFile old label) old reply new → UnlessMemory (UploadsWord old label word) old reply new
 file_for_word old new label word file reply e (inl h) =
     inl (subst (λ named. MatchOption named (UploadStep old label word reply new)

@@ -13,15 +13,15 @@ use Rattle.cluster.specs.Healings.{Healing}
 use Rattle.script_text.specs.Printed.{clash_line, notice_line, withdrawal_line, healed_line}
 
 -- the notices of a clash and its verdict. A program gives none
-abbrev pub notices_by : ResolverId → Clash → Verdict3 → List Notice
-notices_by (Builtin b) clash verdict = notices_of b clash.name clash.first.owner clash.second.owner verdict
-notices_by (Program id) clash verdict = []
+abbrev pub clash_notices : ResolverId → Clash → Verdict3 → List Notice
+clash_notices (Builtin b) clash verdict = notices_of b clash.name clash.first.owner clash.second.owner verdict
+clash_notices (Program id) clash verdict = []
 
 -- a clash, and its notices
 abbrev pub judged_text : Clash → Judged → List ℕ
 judged_text clash judged =
     clash_line clash.name judged.answer judged.word
-    ++ flat_map notice_line (notices_by clash.first.resolver clash judged.answer)
+    ++ flat_map notice_line (clash_notices clash.first.resolver clash judged.answer)
 
 -- the clashes in their order, each with its ruling, as texts
 abbrev pub each_text : (Clash → Judged → List ℕ) → List Clash → List Judged → List ℕ

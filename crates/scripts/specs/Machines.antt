@@ -17,13 +17,13 @@ use Rattle.scripts.specs.declared.labels.Label.{Label}
 use Rattle.scripts.specs.declared.machine.Machine as code
 
 -- the labels in the order in which they were given, the programs, the two halves, and the number of the latest exchange
-pub record Machine : Type 0 where
+pub record ScriptMachine : Type 0 where
   pub labels : List Label
   pub programs : Programs
   pub cluster : Cluster
   pub latest : ℕ
 
-abbrev pub machine_of : code.Machine → Machine
+abbrev pub machine_of : code.Machine → ScriptMachine
 machine_of m = record {
   labels = m.labels.items;
   programs = m.store;
@@ -32,7 +32,7 @@ machine_of m = record {
 }
 
 -- one whose halves may have this many names
-abbrev pub new_machine : ℕ → Machine
+abbrev pub new_machine : ℕ → ScriptMachine
 new_machine limit = record { labels = []; programs = empty; cluster = new_cluster limit; latest = 0 }
 
 -- ---- labels, and the words for resolvers
@@ -45,8 +45,8 @@ or_label (Some builtin) found = Some (Builtin builtin)
 or_label None found = option_map (λ label. Program label.program) found
 
 -- the resolver that a word names
-abbrev pub resolver_of : List Label → List ℕ → Option ResolverId
-resolver_of labels word = or_label (builtin_of word) (find (labelled word) labels)
+abbrev pub resolver_named : List Label → List ℕ → Option ResolverId
+resolver_named labels word = or_label (builtin_of word) (find (labelled word) labels)
 
 abbrev pub is_program : ProgramId → Label → Bool
 is_program id label = is_eq (id_cmp label.program id)
@@ -56,6 +56,6 @@ label_text (Some label) = label.text
 label_text None = []
 
 -- how a resolver is called: a program by its first label
-abbrev pub resolver_text : List Label → ResolverId → List ℕ
-resolver_text labels (Builtin builtin) = builtin_text builtin
-resolver_text labels (Program id) = label_text (find (is_program id) labels)
+abbrev pub shown_resolver : List Label → ResolverId → List ℕ
+shown_resolver labels (Builtin builtin) = builtin_text builtin
+shown_resolver labels (Program id) = label_text (find (is_program id) labels)

@@ -12,8 +12,8 @@ use Rattle.partition_table.specs.Tables.{Clash}
 use Rattle.partition_table.specs.declared.judged.Judged.{Judged}
 use Rattle.script_text.specs.Printed.{notice_line}
 use Rattle.scripts.specs.declared.labels.Label.{Label}
-use Rattle.scripts.specs.Machines.{resolver_text}
-use Rattle.scripts.specs.Healed.{notices_by}
+use Rattle.scripts.specs.Machines.{shown_resolver}
+use Rattle.scripts.specs.Healed.{clash_notices}
 
 -- a registration, as `1.10 (stamp 5, weight 0)`
 abbrev pub registration_words : Registration → List ℕ
@@ -35,7 +35,7 @@ keeper_words Neither = codes " that nobody keeps the name\n"
 -- the answer of the resolver at its word
 abbrev pub verdict_words : List Label → Clash → Judged → List ℕ
 verdict_words labels clash judged =
-    clash.name ++ codes ": " ++ resolver_text labels clash.first.resolver ++ codes " answers at word "
+    clash.name ++ codes ": " ++ shown_resolver labels clash.first.resolver ++ codes " answers at word "
     ++ decimal judged.word ++ keeper_words judged.answer
 
 -- a notice, after the name
@@ -46,4 +46,4 @@ notice_words name notice = name ++ codes ": notice " ++ notice_line notice
 abbrev pub narration : List Label → Clash → Judged → List ℕ
 narration labels clash judged =
     owners_words clash ++ verdict_words labels clash judged
-    ++ flat_map (notice_words clash.name) (notices_by clash.first.resolver clash judged.answer)
+    ++ flat_map (notice_words clash.name) (clash_notices clash.first.resolver clash judged.answer)

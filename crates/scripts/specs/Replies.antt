@@ -9,7 +9,7 @@ use Rattle.scripts.specs.Healed.{healing_text}
 use Rattle.scripts.specs.declared.reply.Reply.{Reply}
 use Rattle.scripts.specs.declared.reply.Reply.TheVariants.{Silent, Uploaded, Registered, Unregistered, Owned, Undefined, Refused}
 use Rattle.scripts.specs.declared.labels.Label.{Label}
-use Rattle.scripts.specs.Machines.{resolver_text}
+use Rattle.scripts.specs.Machines.{shown_resolver}
 
 -- the reply to the line of this number
 abbrev pub reply_text : ℕ → Reply → List ℕ
@@ -30,7 +30,7 @@ reply_status (Refused refusal) = refused_status refusal.number
 reply_status reply = 0
 
 abbrev pub shown_row : List Label → Name × Registration → List ℕ
-shown_row labels row = row_line row.0 row.1 (resolver_text labels row.1.resolver)
+shown_row labels row = row_line row.0 row.1 (shown_resolver labels row.1.resolver)
 
 -- the names of a side with their registrations
 abbrev pub rows_text : List Label → List (Name × Registration) → List ℕ

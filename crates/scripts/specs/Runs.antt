@@ -2,16 +2,16 @@
 use Rattle.std.specs.Prelude.{◌≡◌, ◌≢◌, ℕ, ◌+◌, ◌-◌, ◌^◌, ◌≤◌, ◌⊎◌, max, List, [], ◌∷◌, ◌++◌, length, codes, Option}
 use Rattle.std.specs.Io.KnownBytes.{Consumes, Appends, IsAtEnd}
 use Rattle.device.specs.Sending.{AppendsFront}
-use Rattle.script_text.specs.Lines.{Line, lines_of, EndsLine, HasNoEnd}
-use Rattle.scripts.specs.Machines.{Machine, new_machine}
+use Rattle.script_text.specs.Lines.{Line, script_lines, EndsLine, HasNoEnd}
+use Rattle.scripts.specs.Machines.{ScriptMachine, new_machine}
 use Rattle.scripts.specs.Replies.{Answer, Says, Shows, Heals, answer_text, reply_status}
 use Rattle.scripts.specs.Steps.{Step}
 
 -- from old, these lines may be answered so, one after another, and leave new
-abbrev pub Run : Machine → List Line → List Answer → Machine → Type 0
+abbrev pub Run : ScriptMachine → List Line → List Answer → ScriptMachine → Type 0
 Run old [] [] new = new ≡ old
 Run old (line ∷ lines) (answer ∷ answers) new =
-    (mid : Machine) × Step old line answer mid × Run mid lines answers new
+    (mid : ScriptMachine) × Step old line answer mid × Run mid lines answers new
 Run old [] (answer ∷ answers) new = ⊥
 Run old (line ∷ lines) [] new = ⊥
 
@@ -47,11 +47,11 @@ Reaches ReadFailed front rest left count = EndsLine front × (HasNoEnd rest ⊎ 
 Reaches Stopped front rest left count = EndsLine front ⊎ ((rest ≡ []) × IsAtEnd left)
 
 -- what there is to write
-abbrev pub text_of : Ending → List Answer → List ℕ
-text_of Starved answers = codes "refused 90\n"
-text_of ReadFailed answers = text_from 1 answers ++ codes "device fault\n"
-text_of Finished answers = text_from 1 answers
-text_of Stopped answers = text_from 1 answers
+abbrev pub ending_text : Ending → List Answer → List ℕ
+ending_text Starved answers = codes "refused 90\n"
+ending_text ReadFailed answers = text_from 1 answers ++ codes "device fault\n"
+ending_text Finished answers = text_from 1 answers
+ending_text Stopped answers = text_from 1 answers
 
 abbrev pub ending_status : Ending → List Answer → ℕ
 ending_status Finished answers = status_of answers
@@ -62,20 +62,20 @@ ending_status Stopped answers = 3
 -- all of it was written, or a beginning of it where the writer failed
 abbrev pub Writes : Ending → List Answer → Option (List ℕ) → Option (List ℕ) → ℕ → Type 0
 Writes ending answers old new status =
-    ((ending ≢ Stopped) × Appends old new (text_of ending answers) × (status ≡ ending_status ending answers))
-    ⊎ (AppendsFront old new (text_of ending answers) × (status ≡ 3))
+    ((ending ≢ Stopped) × Appends old new (ending_text ending answers) × (status ≡ ending_status ending answers))
+    ⊎ (AppendsFront old new (ending_text ending answers) × (status ≡ 3))
 
 -- what was read and written is a run from a machine, and the status is that of its end
-pub record IsRunFrom (start : Machine) (read_old read_new written_old written_new : Option (List ℕ)) (status : ℕ)
+pub record IsRunFrom (start : ScriptMachine) (read_old read_new written_old written_new : Option (List ℕ)) (status : ℕ)
     : Type 0 where
   pub ending : Ending
   pub front : List ℕ
   pub rest : List ℕ
   pub answers : List Answer
-  pub final : Machine
+  pub final : ScriptMachine
   pub reads : Consumes read_old read_new (front ++ rest)
   pub reaches : Reaches ending front rest read_new (length answers)
-  pub run : Run start (lines_of front) answers final
+  pub run : Run start (script_lines front) answers final
   pub writes : Writes ending answers written_old written_new status
 
 -- the run of a script: from an empty machine whose halves may have this many names

@@ -28,12 +28,12 @@ use Rattle.script_text.specs.declared.command.Terms.{Terms}
 use Rattle.clash_record.specs.declared.halves.Uptimes.{Uptimes}
 use Rattle.clash_record.specs.declared.halves.Withdrawal.{Withdrawal}
 use Rattle.script_text.specs.declared.fault.LineFault.{LineFault}
-use Rattle.script_text.specs.Faults.{line_fault_number}
+use Rattle.script_text.specs.Faults.{script_fault_number}
 use Rattle.script_text.specs.Asking.{Asked, Upload, Register, Unregister, Whereis, Show, Heal, asked_of}
 use Rattle.script_text.specs.Lines.{Line, Short, Long}
 use Rattle.cluster.specs.Causes.{IsCause}
 use Rattle.cluster.specs.Clusters.{AreFresh, at, with_standing, is_full_at}
-use Rattle.cluster.specs.Healing.{Plan, IsHealed, IsFailed}
+use Rattle.cluster.specs.Healing.{Plan, HealsSplit, IsFailed}
 use Rattle.cluster.specs.Healings.{Healing}
 use Rattle.cluster.specs.Faults.{heal_fault_number}
 use Rattle.cluster.specs.declared.fault.HealFault.{HealFault}
@@ -41,16 +41,16 @@ use Rattle.scripts.specs.declared.labels.Label.{Label}
 use Rattle.scripts.specs.declared.reply.Reply.{Reply}
 use Rattle.scripts.specs.declared.reply.Reply.TheVariants.{Silent, Uploaded, Registered, Unregistered, Owned, Undefined, Refused}
 use Rattle.clash_record.specs.Texts.{builtin_of}
-use Rattle.scripts.specs.Machines.{Machine, labelled, resolver_of}
+use Rattle.scripts.specs.Machines.{ScriptMachine, labelled, resolver_named}
 use Rattle.scripts.specs.Replies.{Answer, Says, Shows, Heals}
 
 -- the line is refused, and nothing changes
-abbrev pub Refuses : ℕ → Option Place → Machine → Reply → Machine → Type 0
+abbrev pub Refuses : ℕ → Option Place → ScriptMachine → Reply → ScriptMachine → Type 0
 Refuses number place old reply new =
     (reply ≡ Refused (record { number = number; place = place })) × (new ≡ old)
 
 -- so, unless the line is refused when out of memory
-abbrev pub UnlessMemory : (Reply → Machine → Type 0) → Machine → Reply → Machine → Type 0
+abbrev pub UnlessMemory : (Reply → ScriptMachine → Type 0) → ScriptMachine → Reply → ScriptMachine → Type 0
 UnlessMemory Is old reply new = Is reply new ⊎ Refuses 90 None old reply new
 
 -- ---- uploads
@@ -60,7 +60,7 @@ abbrev pub is_free : List Label → List ℕ → Bool
 is_free labels word = is_name word && (is_none (builtin_of word) && not (list_any (labelled word) labels))
 
 -- the store takes the bytes over, under their id, and the label names it
-pub record Uploads (old : Machine) (word bytes : List ℕ) (reply : Reply) (new : Machine) : Type 0 where
+pub record Uploads (old : ScriptMachine) (word bytes : List ℕ) (reply : Reply) (new : ScriptMachine) : Type 0 where
   pub id : ProgramId
   pub kept : IsKept old.programs bytes id new.programs
   pub said : reply ≡ Uploaded word (length kept.code)
@@ -69,31 +69,31 @@ pub record Uploads (old : Machine) (word bytes : List ℕ) (reply : Reply) (new 
   pub latest : new.latest ≡ old.latest
 
 -- the store refuses them
-pub record UploadRefused (old : Machine) (bytes : List ℕ) (reply : Reply) (new : Machine) : Type 0 where
+pub record UploadRefused (old : ScriptMachine) (bytes : List ℕ) (reply : Reply) (new : ScriptMachine) : Type 0 where
   pub fault : UploadFault
   pub cause : IsUploadFault old.programs bytes fault
   pub refused : Refuses (upload_fault_number fault) (upload_fault_place fault) old reply new
 
-abbrev pub UploadsBytes : Machine → List ℕ → List ℕ → Reply → Machine → Type 0
+abbrev pub UploadsBytes : ScriptMachine → List ℕ → List ℕ → Reply → ScriptMachine → Type 0
 UploadsBytes old word bytes reply new = Uploads old word bytes reply new ⊎ UploadRefused old bytes reply new
 
-abbrev pub UploadsHex : {E : Type 0} → Machine → List ℕ → Result (List ℕ) E → Reply → Machine → Type 0
+abbrev pub UploadsHex : {E : Type 0} → ScriptMachine → List ℕ → Result (List ℕ) E → Reply → ScriptMachine → Type 0
 UploadsHex old word (Ok bytes) reply new = UploadsBytes old word bytes reply new
 UploadsHex old word (Err fault) reply new = Refuses 50 None old reply new
 
 -- the label is checked before the code
-abbrev pub UploadStep : Machine → List ℕ → List ℕ → Reply → Machine → Type 0
+abbrev pub UploadStep : ScriptMachine → List ℕ → List ℕ → Reply → ScriptMachine → Type 0
 UploadStep old label code reply new =
     MatchBool (is_free old.labels label) (UploadsHex old label (decode_of code) reply new)
     (Refuses 53 None old reply new)
 
 -- the line is refused for its file, and nothing changes
-abbrev pub RefusesFile : FileFault → Machine → Reply → Machine → Type 0
+abbrev pub RefusesFile : FileFault → ScriptMachine → Reply → ScriptMachine → Type 0
 RefusesFile fault old reply new = Refuses (file_fault_number fault) (file_fault_place fault) old reply new
 
 -- a file, whose content is known only by reading it, is uploaded as the digits of its code are; or it has no code; or it
 -- can't be read. The label is checked before the file
-pub data UploadsFile (old : Machine) (label : List ℕ) (reply : Reply) (new : Machine) : Type 0 where
+pub data UploadsFile (old : ScriptMachine) (label : List ℕ) (reply : Reply) (new : ScriptMachine) : Type 0 where
   bad_label : is_free old.labels label ≡ false → Refuses 53 None old reply new → UploadsFile old label reply new
   by_digits : (content digits : List ℕ) → IsFileCode content digits → UploadStep old label digits reply new
       → UploadsFile old label reply new
@@ -102,15 +102,15 @@ pub data UploadsFile (old : Machine) (label : List ℕ) (reply : Reply) (new : M
   no_file : is_free old.labels label ≡ true → RefusesFile Unreadable old reply new → UploadsFile old label reply new
 
 -- the word for a program is `@` and a file, or hex digits
-abbrev pub UploadsWord : Machine → List ℕ → List ℕ → Reply → Machine → Type 0
+abbrev pub UploadsWord : ScriptMachine → List ℕ → List ℕ → Reply → ScriptMachine → Type 0
 UploadsWord old label word reply new =
     MatchOption (file_named word) (UploadStep old label word reply new) (λ file. UploadsFile old label reply new)
 
 -- ---- edits
 
 -- the same machine with this side, after this call
-abbrev pub with_side : Machine → SideId → Call → Side → Machine
-with_side machine id call side = record machine {
+abbrev pub machine_after : ScriptMachine → SideId → Call → Side → ScriptMachine
+machine_after machine id call side = record machine {
   cluster = with_standing machine.cluster id (record {
     side = side;
     calls = call ∷ (at machine.cluster id).calls;
@@ -119,13 +119,13 @@ with_side machine id call side = record machine {
 }
 
 -- an edit is refused where a refusal is due, and else carried out
-abbrev pub Edits : Machine → SideId → Call → Option SideFault → Option Side → Reply → Reply → Machine → Type 0
+abbrev pub Edits : ScriptMachine → SideId → Call → Option SideFault → Option Side → Reply → Reply → ScriptMachine → Type 0
 Edits old id call (Some fault) after done reply new = Refuses (side_fault_number fault) None old reply new
-Edits old id call None (Some side) done reply new = (reply ≡ done) × (new ≡ with_side old id call side)
+Edits old id call None (Some side) done reply new = (reply ≡ done) × (new ≡ machine_after old id call side)
 Edits old id call None None done reply new = ⊥
 
-abbrev pub registration_of : Terms → ResolverId → Registration
-registration_of terms resolver = record {
+abbrev pub registration_with : Terms → ResolverId → Registration
+registration_with terms resolver = record {
   owner = terms.owner;
   stamp = terms.stamp;
   weight = terms.weight;
@@ -133,8 +133,8 @@ registration_of terms resolver = record {
   resolver = resolver;
 }
 
-abbrev pub Registers : Machine → SideId → Name → Registration → Reply → Machine → Type 0
-Registers old id name registration reply new =
+abbrev pub RegistersOnSide : ScriptMachine → SideId → Name → Registration → Reply → ScriptMachine → Type 0
+RegistersOnSide old id name registration reply new =
     let standing = at old.cluster id in
     let call : Call = Register name (row_for old.programs registration) in
     Edits old id call
@@ -142,12 +142,12 @@ Registers old id name registration reply new =
     (carried_out standing.side call) Registered reply new
 
 -- the word for the resolver is checked before the call
-abbrev pub RegisterStep : Machine → SideId → Name → Terms → Option ResolverId → Reply → Machine → Type 0
+abbrev pub RegisterStep : ScriptMachine → SideId → Name → Terms → Option ResolverId → Reply → ScriptMachine → Type 0
 RegisterStep old id name terms (Some resolver) reply new =
-    Registers old id name (registration_of terms resolver) reply new
+    RegistersOnSide old id name (registration_with terms resolver) reply new
 RegisterStep old id name terms None reply new = Refuses 41 None old reply new
 
-abbrev pub UnregisterStep : Machine → SideId → Name → Reply → Machine → Type 0
+abbrev pub UnregisterStep : ScriptMachine → SideId → Name → Reply → ScriptMachine → Type 0
 UnregisterStep old id name reply new =
     let standing = at old.cluster id in
     Edits old id (Unregister name) (unregister_fault (is_full_at standing) standing.side name)
@@ -162,47 +162,47 @@ owned (Some registration) = Owned registration.owner
 owned None = Undefined
 
 -- of the table that a side shows: without the names that it withdrew while its exchange is open
-abbrev pub whereis_reply : Machine → SideId → Name → Reply
+abbrev pub whereis_reply : ScriptMachine → SideId → Name → Reply
 whereis_reply machine id name =
     owned (option_map (λ row. row.registration) (get (shown_table (at machine.cluster id).side) name))
 
 -- ---- healing
 
-abbrev pub plan_for : Machine → ℕ → Uptimes → List Withdrawal → Plan
+abbrev pub plan_for : ScriptMachine → ℕ → Uptimes → List Withdrawal → Plan
 plan_for old seed uptimes gone =
     record { number = old.latest + 1; seed = seed; uptimes = uptimes; gone = gone }
 
 -- nothing but the halves changes, and the number is used
-pub record HasHealed (old new : Machine) : Type 0 where
+pub record HasHealed (old new : ScriptMachine) : Type 0 where
   pub labels : new.labels ≡ old.labels
   pub programs : new.programs ≡ old.programs
   pub latest : new.latest ≡ old.latest + 1
 
 -- the exchange failed, with a fault that has its cause in the halves as they were, or with 39, 40 or 90
-pub record HealRefused (plan : Plan) (old : Machine) (reply : Reply) (new : Machine) : Type 0 where
+pub record HealRefused (plan : Plan) (old : ScriptMachine) (reply : Reply) (new : ScriptMachine) : Type 0 where
   pub fault : HealFault
   pub said : reply ≡ Refused (record { number = heal_fault_number fault; place = None })
   pub cause : IsCause plan old.cluster fault
   pub failed : IsFailed plan old.cluster new.cluster
   pub healed : HasHealed old new
 
-pub record HealsAs (plan : Plan) (old : Machine) (healing : Healing) (new : Machine) : Type 0 where
-  pub is_healed : IsHealed plan old.cluster new.cluster healing
+pub record HealsAs (plan : Plan) (old : ScriptMachine) (healing : Healing) (new : ScriptMachine) : Type 0 where
+  pub is_healed : HealsSplit plan old.cluster new.cluster healing
   pub healed : HasHealed old new
 
 -- ---- lines
 
 -- a reply to a request. A line may be refused when out of memory, and then nothing changes
-abbrev pub Replies : Machine → Asked → Reply → Machine → Type 0
+abbrev pub Replies : ScriptMachine → Asked → Reply → ScriptMachine → Type 0
 Replies old (Upload label code) reply new = UploadsWord old label code reply new
 Replies old (Register id name terms resolver) reply new =
-    RegisterStep old id name terms (resolver_of old.labels resolver) reply new
+    RegisterStep old id name terms (resolver_named old.labels resolver) reply new
 Replies old (Unregister id name) reply new = UnregisterStep old id name reply new
 Replies old (Whereis id name) reply new = (reply ≡ whereis_reply old id name) × (new ≡ old)
 Replies old (Show id) reply new = ⊥
 Replies old (Heal seed uptimes gone) reply new = HealRefused (plan_for old seed uptimes gone) old reply new
 
-abbrev pub Answers : Machine → Asked → Answer → Machine → Type 0
+abbrev pub Answers : ScriptMachine → Asked → Answer → ScriptMachine → Type 0
 Answers old asked (Says reply) new = UnlessMemory (Replies old asked) old reply new
 Answers old (Show id) (Shows labels rows) new =
     (labels ≡ old.labels) × (rows ≡ rows_of (shown_table (at old.cluster id).side)) × (new ≡ old)
@@ -210,30 +210,30 @@ Answers old (Heal seed uptimes gone) (Heals healing) new =
     HealsAs (plan_for old seed uptimes gone) old healing new
 Answers old asked answer new = ⊥
 
-abbrev pub AnswersText : Machine → Result (Option Asked) LineFault → Answer → Machine → Type 0
+abbrev pub AnswersText : ScriptMachine → Result (Option Asked) LineFault → Answer → ScriptMachine → Type 0
 AnswersText old (Ok (Some asked)) answer new = Answers old asked answer new
 AnswersText old (Ok None) (Says reply) new =
     UnlessMemory (λ reply new. (reply ≡ Silent) × (new ≡ old)) old reply new
 AnswersText old (Ok None) answer new = ⊥
 AnswersText old (Err fault) (Says reply) new =
-    UnlessMemory (Refuses (line_fault_number fault) None old) old reply new
+    UnlessMemory (Refuses (script_fault_number fault) None old) old reply new
 AnswersText old (Err fault) answer new = ⊥
 
 -- a line has this answer, and leaves new. A line that is too long is refused for any contents
-abbrev pub AnswersLine : Machine → Line → Answer → Machine → Type 0
+abbrev pub AnswersLine : ScriptMachine → Line → Answer → ScriptMachine → Type 0
 AnswersLine old (Short text) answer new = AnswersText old (asked_of text) answer new
 AnswersLine old Long (Says reply) new = Refuses 54 None old reply new
 AnswersLine old Long answer new = ⊥
 
 -- the journals of idle halves that were more than half full are renewed, and nothing else changed
-pub record IsRenewed (old new : Machine) : Type 0 where
+pub record IsRenewedMachine (old new : ScriptMachine) : Type 0 where
   pub labels : new.labels ≡ old.labels
   pub programs : new.programs ≡ old.programs
   pub cluster : AreFresh old.cluster new.cluster
   pub latest : new.latest ≡ old.latest
 
 -- long journals are renewed before each line
-pub record Step (old : Machine) (line : Line) (answer : Answer) (new : Machine) : Type 0 where
-  pub fresh : Machine
-  pub renewed : IsRenewed old fresh
+pub record Step (old : ScriptMachine) (line : Line) (answer : Answer) (new : ScriptMachine) : Type 0 where
+  pub fresh : ScriptMachine
+  pub renewed : IsRenewedMachine old fresh
   pub answered : AnswersLine fresh line answer new

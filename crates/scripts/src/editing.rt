@@ -19,7 +19,7 @@ impl Machine {
     /// nothing.
     pub fn register(&mut self, side: SideId, name: Name, terms: Terms, resolver: &[u8]) -> Reply
         ensures { UnlessMemory (RegisterStep (machine_of self.old) side name terms
-            (machines.resolver_of (machine_of self.old).labels resolver.now)) (machine_of self.old) result
+            (machines.resolver_named (machine_of self.old).labels resolver.now)) (machine_of self.old) result
             (machine_of self.new) }
     {
         let Some(resolver) = resolver_of(&self.labels, resolver) else {
@@ -54,7 +54,7 @@ impl Machine {
 
 // Returns the registration on these terms.
 fn registration_of(terms: Terms, resolver: ResolverId) -> Registration
-    ensures { result ≡ steps.registration_of terms resolver }
+    ensures { result ≡ steps.registration_with terms resolver }
 {
     let extra = terms.extra;
     Registration {

@@ -4,7 +4,7 @@ ghost use Rattle.std.specs.List.{flat_map};
 ghost use Rattle.device.specs.Sending.{SendsOn};
 ghost use Rattle.builtin_resolvers.specs.Telling.{notices_of};
 ghost use Rattle.cluster.specs.Healings.{healing_of};
-ghost use Rattle.scripts.specs.Healed.{each_text, notices_by, gone_text, healing_text};
+ghost use Rattle.scripts.specs.Healed.{each_text, clash_notices, gone_text, healing_text};
 ghost use Rattle.scripts.specs.model.Forms.{judged_in, notice_in, ruling_in};
 
 use crate::labels::Label;
@@ -106,7 +106,7 @@ fn print_notices<W: Write>(
     verdict: Verdict3,
 ) -> Result<(), DeviceFault>
     ensures { SendsOn sent (W.contents writer.old) (W.contents writer.new)
-        (flat_map (notice_in form.entry clash.now.name) (notices_by clash.now.first.resolver clash.now verdict))
+        (flat_map (notice_in form.entry clash.now.name) (clash_notices clash.now.first.resolver clash.now verdict))
         result }
 {
     let ResolverId::Builtin(builtin) = clash.resolver() else {

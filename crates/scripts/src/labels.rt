@@ -5,7 +5,7 @@ ghost use Rattle.std.specs.Option.{option_map};
 ghost use Rattle.clash_record.specs.Texts.{builtin_of};
 ghost use Rattle.clash_record.specs.declared.registrations.ResolverId.TheVariants as by;
 ghost use Rattle.scripts.specs.Machines as machines;
-ghost use Rattle.scripts.specs.Machines.{is_program, labelled, resolver_text};
+ghost use Rattle.scripts.specs.Machines.{is_program, labelled, shown_resolver};
 ghost use Rattle.scripts.specs.Steps.{is_free};
 
 use clash_record::{Builtin, Name, ProgramId, ResolverId, name};
@@ -62,7 +62,7 @@ fn is_label(labels: &[Label], word: &[u8]) -> bool
 
 // The resolver that a word names: one that is built in, or a program by its label.
 pub(crate) fn resolver_of(labels: &[Label], word: &[u8]) -> Option<ResolverId>
-    ensures { result ≡ machines.resolver_of labels.now word.now }
+    ensures { result ≡ machines.resolver_named labels.now word.now }
 {
     if let Some(builtin) = Builtin::of_word(word) {
         return Some(ResolverId::Builtin(builtin));
@@ -82,7 +82,7 @@ fn label_of<'a>(labels: &'a [Label], word: &[u8]) -> Option<&'a Label>
 
 // How a resolver is called: a program by its first label.
 pub(crate) fn resolver_text<'a>(labels: &'a [Label], resolver: &ResolverId) -> &'a [u8]
-    ensures { result.now ≡ machines.resolver_text labels.now resolver.now }
+    ensures { result.now ≡ machines.shown_resolver labels.now resolver.now }
 {
     match resolver {
         ResolverId::Builtin(builtin) => builtin.as_str().as_bytes(),
@@ -99,7 +99,7 @@ fn first_label<'a>(labels: &'a [Label], program: &ProgramId) -> Option<&'a Label
 
 // Returns the name of a program.
 fn label_text<'a>(labels: &'a [Label], program: &ProgramId) -> &'a [u8]
-    ensures { result.now ≡ machines.resolver_text labels.now (by.Program program.now) }
+    ensures { result.now ≡ machines.shown_resolver labels.now (by.Program program.now) }
 {
     match first_label(labels, program) {
         Some(label) => label.text.bytes(),

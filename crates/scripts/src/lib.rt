@@ -21,7 +21,9 @@ mod serving;
 mod showing;
 mod uploading;
 
+pub use crew::Crew;
 pub use healed::print_healing;
+pub use healing::Split;
 pub use labels::Label;
 pub use machine::Machine;
 pub use narrator::{Narrator, Silence};

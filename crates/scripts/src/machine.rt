@@ -39,7 +39,7 @@ impl Drop for Machine {
 impl Machine {
     ghost use Rattle.std.specs.Prelude.{◌≡◌};
     ghost use Rattle.scripts.specs.Machines.{machine_of, new_machine};
-    ghost use Rattle.scripts.specs.Steps.{IsRenewed, whereis_reply};
+    ghost use Rattle.scripts.specs.Steps.{IsRenewedMachine, whereis_reply};
 
     /// Without labels, programs, names and exchanges. Each half may have as many names as `limit`. Allocates nothing.
     pub fn new(alloc: Global, limit: NameLimit) -> Machine
@@ -60,7 +60,7 @@ impl Machine {
     /// Renews the journal of each idle half that is more than half full, so that no line is refused for a full journal.
     /// Allocates nothing.
     pub fn renew_long(&mut self)
-        ensures { IsRenewed (machine_of self.old) (machine_of self.new) }
+        ensures { IsRenewedMachine (machine_of self.old) (machine_of self.new) }
     {
         self.cluster.renew_long();
     }

@@ -8,7 +8,7 @@ ghost use Rattle.scripts.specs.Runs.{IsRunFrom, IsScriptRun};
 use crate::crew::Crew;
 use crate::machine::Machine;
 use crate::narrator::{Narrator, Silence};
-use crate::serving::serve;
+use crate::serving::{ReadLine, serve};
 use device::{DeviceFault, send_after};
 use judge_pool::{Gate, Workers};
 use partition_table::NameLimit;
@@ -48,22 +48,24 @@ where
     ensures { IsScriptRun limit.names (R.remaining reader.old) (R.remaining reader.new) (W.contents writer.old)
         (W.contents writer.new) result }
 {
-    let workers = Workers::new(workers).unwrap_or_default();
-    run_narrated(rt, reader, writer, limit, workers, gate, &Silence)
+    let crew = Crew {
+        rt,
+        workers: Workers::new(workers).unwrap_or_default(),
+        gate,
+        narrator: &Silence,
+    };
+    run_narrated(&crew, reader, writer, limit)
 }
 
-/// Carries out a script like `run_script`, with a narrator.
+/// Carries out a script like `run_script`, by a crew with a narrator.
 ///
 /// If the narrator listens, it hears of each refused line and of each healing once their answer is written and flushed.
 /// What it does changes neither the output nor the status.
 pub fn run_narrated<T, R, W, G, N>(
-    rt: &T,
+    crew: &Crew<'_, T, G, N>,
     reader: &mut R,
     writer: &mut W,
     limit: NameLimit,
-    workers: Workers,
-    gate: &G,
-    narrator: &N,
 ) -> u8
 where
     T: Files + Threads + Wait + Sync + AllocGlobal,
@@ -74,29 +76,33 @@ where
     ensures { IsScriptRun limit.names (R.remaining reader.old) (R.remaining reader.new) (W.contents writer.old)
         (W.contents writer.new) result }
 {
-    let alloc = rt.alloc();
-    let Ok((mut buffer, mut line)) = buffers(alloc) else {
+    let alloc = crew.rt.alloc();
+    let Ok(mut buffers) = Buffers::new(alloc) else {
         // That the device takes less doesn't change the status.
         let _ = send_after(Ok(()), writer, b"refused 90\n");
         return 3;
     };
-    let crew = Crew {
-        rt,
-        workers,
-        gate,
-        narrator,
-    };
     let mut machine = Machine::new(alloc, limit);
-    run_lines(&crew, &mut machine, &mut buffer, &mut line, reader, writer)
+    run_lines(crew, &mut machine, &mut buffers, reader, writer)
 }
 
-// Returns the buffer of unread bytes, and the buffer of a line.
-fn buffers(alloc: Global) -> Result<(ReadBuffer, LineBuffer), AllocError>
-    ensures { IfOk result (λ buffers. (buffers.0 ≡ []) × (buffers.1 ≡ [])) }
-{
-    let buffer = ReadBuffer::new(alloc)?;
-    let line = LineBuffer::new(alloc)?;
-    Ok((buffer, line))
+// The buffer of unread bytes, and the buffer of a line.
+#[derive(Drop)]
+struct Buffers {
+    unread: ReadBuffer,
+    line: LineBuffer,
+}
+
+impl Buffers {
+    // Returns empty buffers.
+    fn new(alloc: Global) -> Result<Buffers, AllocError>
+        ensures { IfOk result (λ buffers. (buffers.unread ≡ []) × (buffers.line ≡ [])) }
+    {
+        Ok(Buffers {
+            unread: ReadBuffer::new(alloc)?,
+            line: LineBuffer::new(alloc)?,
+        })
+    }
 }
 
 // Flushes the writer unless a whole line is buffered, so that no answer waits for the next read.
@@ -122,29 +128,32 @@ fn run_lines<
 >(
     crew: &Crew<'_, T, G, N>,
     machine: &mut Machine,
-    buffer: &mut ReadBuffer,
-    line: &mut LineBuffer,
+    buffers: &mut Buffers,
     reader: &mut R,
     writer: &mut W,
 ) -> u8
     requires fresh { (machine_of machine.old).latest ≡ 0 }
-    requires unread { buffer.old ≡ [] }
+    requires unread { buffers.old.unread ≡ [] }
     ensures { IsRunFrom (machine_of machine.old) (R.remaining reader.old) (R.remaining reader.new) (W.contents writer.old)
         (W.contents writer.new) result }
 {
     let mut status: u8 = 0;
     for before in 0..u64::MAX {
-        if flush_before_read(buffer, writer).is_err() {
+        if flush_before_read(&buffers.unread, writer).is_err() {
             return 3;
         }
-        let Ok(found) = next_line(buffer, reader, line) else {
+        let Ok(found) = next_line(&mut buffers.unread, reader, &mut buffers.line) else {
             let _ = send_after(Ok(()), writer, b"device fault\n");
             return 3;
         };
         if found.stop == Stop::Nothing {
             return status;
         }
-        match serve(crew, machine, writer, before + 1, line, found.is_long) {
+        let read = ReadLine {
+            line: &buffers.line,
+            is_long: found.is_long,
+        };
+        match serve(crew, machine, writer, before + 1, read) {
             Ok(of_line) => status = status.max(of_line),
             Err(_) => return 3,
         }

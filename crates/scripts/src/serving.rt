@@ -11,11 +11,11 @@ ghost use Rattle.scripts.specs.model.Progress.{SendsNext, Serves, ServesLine, Se
 
 use crate::crew::Crew;
 use crate::healed::print_healing;
+use crate::healing::Split;
 use crate::long_line::LineTooLong;
 use crate::machine::Machine;
 use crate::narrator::Narrator;
 use crate::reply::{Reply, print_reply};
-use clash_record::{Uptimes, Withdrawal};
 use cluster::Healing;
 use device::{DeviceFault, flush_after};
 use judge_pool::Gate;
@@ -24,6 +24,13 @@ use std::io::Write;
 use std::rt::Files;
 use std::sync::Wait;
 use std::thread::Threads;
+
+// A line as it was read: its bytes, and whether it is too long for them.
+#[derive(Clone, Copy)]
+pub(crate) struct ReadLine<'a> {
+    pub line: &'a LineBuffer,
+    pub is_long: bool,
+}
 
 // Carries out the line of this number and writes its answer. Returns the status of the line.
 pub(crate) fn serve<
@@ -36,18 +43,17 @@ pub(crate) fn serve<
     machine: &mut Machine,
     writer: &mut W,
     number: u64,
-    line: &LineBuffer,
-    is_long: bool,
+    read: ReadLine<'_>,
 ) -> Result<u8, DeviceFault>
     requires { (machine_of machine.old).latest < 2 ^ 64 - 1 }
-    ensures { Serves (machine_of machine.old) (machine_of machine.new) (seen_line is_long line.now) number
+    ensures { Serves (machine_of machine.old) (machine_of machine.new) (seen_line read.entry.is_long read.entry.line.now) number
         (W.contents writer.old) (W.contents writer.new) result }
 {
     machine.renew_long();
-    if is_long {
+    if read.is_long {
         return say(crew.narrator, writer, number, &Reply::refused(&LineTooLong));
     }
-    answer(crew, machine, writer, number, line.as_slice())
+    answer(crew, machine, writer, number, read.line.as_slice())
 }
 
 // Carries out a line that fits on a machine whose long journals are renewed, and writes its answer.
@@ -111,7 +117,14 @@ fn obey<T: Files + Threads + Wait + Sync + AllocGlobal, G: Gate + Sync, N: Narra
             seed,
             uptimes,
             gone,
-        } => heal(crew, machine, writer, number, *seed, *uptimes, gone),
+        } => {
+            let split = Split {
+                seed: *seed,
+                uptimes: *uptimes,
+                gone,
+            };
+            heal(crew, machine, writer, number, split)
+        }
     }
 }
 
@@ -139,24 +152,13 @@ fn heal<T: Files + Threads + Wait + Sync + AllocGlobal, G: Gate + Sync, N: Narra
     machine: &mut Machine,
     writer: &mut W,
     number: u64,
-    seed: u64,
-    uptimes: Uptimes,
-    gone: &[Withdrawal],
+    split: Split<'_>,
 ) -> Result<u8, DeviceFault>
     requires { (machine_of machine.old).latest < 2 ^ 64 - 1 }
-    ensures { ServesAsked (machine_of machine.old) (machine_of machine.new) (Heal seed uptimes gone.now) number
+    ensures { ServesAsked (machine_of machine.old) (machine_of machine.new) (Heal split.entry.seed split.entry.uptimes split.entry.gone.now) number
         (W.contents writer.old) (W.contents writer.new) result }
 {
-    let healed = machine.heal(
-        crew.rt,
-        crew.rt.alloc(),
-        crew.gate,
-        crew.workers,
-        seed,
-        uptimes,
-        gone,
-    );
-    match healed {
+    match machine.heal(crew, split) {
         Ok(healing) => {
             let sent = print_healing(Ok(()), writer, &healing);
             with_status(

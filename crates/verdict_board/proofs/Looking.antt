@@ -6,7 +6,7 @@ use Rattle.std.specs.Option.{option_and_then}
 use Rattle.once_cell.specs.Once.{Agrees}
 use Rattle.partition_table.specs.Tables.{Clash}
 use Rattle.partition_table.specs.Rulings.{Ruling}
-use Rattle.verdict_board.specs.Boards.{Place, Pass, ruling_at, word_seen, seen, LooksAt}
+use Rattle.verdict_board.specs.Boards.{Place, Pass, board_ruling, word_seen, seen, LooksAt}
 use Rattle.verdict_board.specs.Views.{WordNote, names, words, place_of, pass_of}
 
 itself : {A : Type 0} (o : Option A) → IfSome o (λ x. o ≡ Some x)
@@ -20,7 +20,7 @@ grows f (Some w) y h = subst (λ (o : Option ℕ). IfSome (f w) (λ r. option_an
     (itself (f w))
 
 abbrev pub ruled : Place → ℕ → Option ℕ → Option Ruling
-ruled p k word = option_and_then (ruling_at p.number p.seed p.clashes k) word
+ruled p k word = option_and_then (board_ruling p.number p.seed p.clashes k) word
 
 value_of : (notes : List WordNote) (k : ℕ)
     (old : WordNote) → k < length notes → old ≡ get_or notes k old → get_or (words notes) k None ≡ old.known
@@ -51,7 +51,7 @@ looks_set number seed clashes notes k old n inside is cell more =
     let q = pass_of number seed clashes (set notes k n) in
     let before = seen_is p b k old.known refl (value_of notes k old inside is) in
     let after = seen_is q b k n.known board (value_set notes k n inside) in
-    let f = ruling_at number seed clashes k in record {
+    let f = board_ruling number seed clashes k in record {
       same_board = board;
       stays = subst (λ (x : Option Ruling). IfSome x (λ r. seen q k ≡ Some r)) (sym before)
           (subst (λ (y : Option Ruling). IfSome (ruled b k old.known) (λ r. y ≡ Some r)) (sym after)

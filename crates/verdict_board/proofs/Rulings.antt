@@ -1,12 +1,12 @@
 -- The ruling that a pass sees at a word that it has found.
-use Rattle.std.proofs.Common.{◌≡◌, ◌≢◌, ℕ, zero, suc, ◌<◌, Bool, true, false, ◌||◌, ◌==◌, if◌then◌else◌, List, length, Option, Some, None, slice_get, eqb-true, eq-eqb, refl, sym, ap, ◌∙◌, subst, arith}
+use Rattle.std.proofs.Common.{◌≡◌, ◌≢◌, ℕ, Bool, true, if◌then◌else◌, List, length, Option, Some, None, slice_get, refl, sym, ap, ◌∙◌, subst}
 use Rattle.std.specs.Option.{option_and_then}
-use Rattle.partition_table.specs.Tables.{Clash, IsOneOfFour, word_of, answer}
+use Rattle.partition_table.specs.Tables.{Clash, IsOneOfFour, answer}
 use Rattle.partition_table.specs.Judged.{clash_of_verdict, word_of_verdict, answer_of_verdict}
 use Rattle.partition_table.specs.declared.verdict.Verdict.{Verdict}
 use Rattle.partition_table.specs.Rulings.{Ruling, ruling_of, is_one_of_four}
 use Rattle.partition_table.specs.laws.FourWords.{one_of_four, four_pass}
-use Rattle.verdict_board.specs.Boards.{Pass, Place, as_ruling_of, word_seen, seen, ruling_if, ruling_at}
+use Rattle.verdict_board.specs.Boards.{Pass, Place, as_ruling_of, word_seen, seen, ruling_if, board_ruling}
 
 -- ---- the ruling at a word
 
@@ -19,14 +19,14 @@ if_passes number seed clashes k word clash b is t =
 -- at one of the four words it is the ruling of the clash there
 pub ruling_is : (number seed : ℕ) (clashes : List Clash) (k word : ℕ)
     (clash : Clash) → slice_get clashes k ≡ Some clash → IsOneOfFour word seed (length clashes) k →
-    ruling_at number seed clashes k word ≡ Some (ruling_of number k word clash)
+    board_ruling number seed clashes k word ≡ Some (ruling_of number k word clash)
 ruling_is number seed clashes k word clash at four =
     ap (option_and_then (ruling_if number seed clashes k word)) at
     ∙ if_passes number seed clashes k word clash _ refl (four_pass word seed (length clashes) k four.0 four.1 four.2)
 
 -- what is seen of a word that was found
 abbrev pub at_place : Place → ℕ → Option ℕ → Option Ruling
-at_place p k word = option_and_then (ruling_at p.number p.seed p.clashes k) word
+at_place p k word = option_and_then (board_ruling p.number p.seed p.clashes k) word
 
 seen_at : (pass : Pass) (p : Place) (k : ℕ)
     (word : Option ℕ) → pass.place ≡ p → word_seen pass k ≡ word → seen pass k ≡ at_place p k word

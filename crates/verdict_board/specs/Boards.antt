@@ -48,8 +48,8 @@ abbrev pub ruling_if : ℕ → ℕ → List Clash → ℕ → ℕ → Clash → 
 ruling_if number seed clashes k word clash =
     if is_one_of_four word seed (length clashes) k then Some (ruling_of number k word clash) else None
 
-abbrev pub ruling_at : ℕ → ℕ → List Clash → ℕ → ℕ → Option Ruling
-ruling_at number seed clashes k word =
+abbrev pub board_ruling : ℕ → ℕ → List Clash → ℕ → ℕ → Option Ruling
+board_ruling number seed clashes k word =
     option_and_then (ruling_if number seed clashes k word) (slice_get clashes k)
 
 abbrev pub word_seen : Pass → ℕ → Option ℕ
@@ -58,7 +58,7 @@ word_seen pass k = slice_index_or pass.words k None
 -- the ruling of clash k that the pass has seen
 abbrev pub seen : Pass → ℕ → Option Ruling
 seen pass k =
-    option_and_then (ruling_at pass.place.number pass.place.seed pass.place.clashes k) (word_seen pass k)
+    option_and_then (board_ruling pass.place.number pass.place.seed pass.place.clashes k) (word_seen pass k)
 
 -- a step of a pass at clash k: what it has seen it sees still, and of the other clashes it has seen nothing new
 pub record LooksAt (k : ℕ) (before after : Pass) : Type 0 where

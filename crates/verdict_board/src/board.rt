@@ -4,7 +4,7 @@ ghost use Rattle.std.specs.Option.{option_map};
 ghost use Rattle.partition_table.specs.Tables.{IsOneOfFour};
 ghost use Rattle.partition_table.specs.Judged.{clash_of_verdict, word_of_verdict};
 ghost use Rattle.partition_table.specs.Rulings.{ruling_of};
-ghost use Rattle.verdict_board.specs.Boards.{as_ruling, most_seats, ruling_at, seen, LooksAt, IsAnswer};
+ghost use Rattle.verdict_board.specs.Boards.{as_ruling, most_seats, board_ruling, seen, LooksAt, IsAnswer};
 ghost use Rattle.verdict_board.specs.Draws.{rounds, taken, most_drawn, Draws, DrawsRow, EachOnce};
 ghost use Rattle.verdict_board.specs.model.Given.{hand};
 
@@ -248,7 +248,7 @@ impl<'p> Board<'p> {
     /// Runs the clash's resolver only if the board doesn't keep its answer at this word. Allocates nothing and never
     /// waits.
     pub fn ruling(&self, k: u32, word: u64) -> Option<Ruling<'p>>
-        ensures { option_map as_ruling result ≡ ruling_at self.entry.now.place.number self.entry.now.place.seed
+        ensures { option_map as_ruling result ≡ board_ruling self.entry.now.place.number self.entry.now.place.seed
             self.entry.now.place.clashes k word }
     {
         let clash = self.site.clashes.get(k)?;

@@ -2,13 +2,13 @@
 use Rattle.std.proofs.Common.{◌≡◌, ◌⊎◌, ℕ, inl, inr, sym, subst, ◌∙◌}
 use Rattle.std.specs.Prelude.{List, Result, Ok, Err, IfOk, IfErr, IsOkAnd}
 use Rattle.refusals.specs.Answers.{HasCause, ReturnsOrRunsOut, out_of_memory}
-use Rattle.c_calls.specs.Answers.{IsAnswer, Rejects, Takes}
+use Rattle.c_calls.specs.Answers.{GivesDueOrRunsOut, Rejects, TakesBytes}
 
 -- a value that was read is taken
 pub taken : {V F : Type 0} (Spells : V → Type 0) (IsFault : F → Type 0) (number : F → ℕ) (takes : V → Type 0) (stays : Type 0) (n : ℕ)
     (r : Result V F) (value : V) → r ≡ Ok value → IfOk r Spells
     → ((v : V) → Spells v → ReturnsOrRunsOut number r (Ok v)) → ((f : F) → IsFault f → ReturnsOrRunsOut number r (Err f))
-    → takes value → Takes V F Spells IsFault number takes stays n
+    → takes value → TakesBytes V F Spells IsFault number takes stays n
 taken Spells IsFault number takes stays n (Err f) value e spelled given told took = absurd (cc)
 taken {V} {F} Spells IsFault number takes stays n (Ok made) value e spelled given told took =
     let equal : made ≡ value = cc in
@@ -30,7 +30,7 @@ taken {V} {F} Spells IsFault number takes stays n (Ok made) value e spelled give
 pub rejected : {V F : Type 0} (Spells : V → Type 0) (IsFault : F → Type 0) (number : F → ℕ) (takes : V → Type 0) (stays : Type 0) (n : ℕ)
     (r : Result V F) (fault : F) → r ≡ Err fault → ((v : V) → Spells v → ReturnsOrRunsOut number r (Ok v))
     → IfErr r (HasCause number IsFault) → ((f : F) → IsFault f → ReturnsOrRunsOut number r (Err f)) → n ≡ number fault → stays
-    → ((v : V) → n ≡ out_of_memory → takes v) → Takes V F Spells IsFault number takes stays n
+    → ((v : V) → n ≡ out_of_memory → takes v) → TakesBytes V F Spells IsFault number takes stays n
 rejected Spells IsFault number takes stays n (Ok v) fault e given refused told is same spent = absurd (cc)
 rejected {V} {F} Spells IsFault number takes stays n (Err f) fault e given refused told is same spent = record {
   answer = by refused;
@@ -56,14 +56,15 @@ rejected {V} {F} Spells IsFault number takes stays n (Err f) fault e given refus
 
 -- every call may run out of memory
 pub spent : {V F : Type 0} (Spells : V → Type 0) (IsFault : F → Type 0) (number : F → ℕ) (takes : V → Type 0) (stays : Type 0) (n : ℕ)
-    → n ≡ out_of_memory → stays → ((v : V) → takes v) → Takes V F Spells IsFault number takes stays n
+    → n ≡ out_of_memory → stays → ((v : V) → takes v) → TakesBytes V F Spells IsFault number takes stays n
 spent Spells IsFault number takes stays n e same any = record {
   answer = inr (inr (e, same));
   taken = λ v spells. any v;
   reported = λ m cause. (inr e, same);
 }
 
-pub spent_answer : {X : Type 0} (due : Result X ℕ) (done : X → Type 0) (stays : Type 0) (n : ℕ) → n ≡ out_of_memory → stays → IsAnswer due done stays n
+pub spent_answer : {X : Type 0} (due : Result X ℕ) (done : X → Type 0) (stays : Type 0) (n : ℕ) → n ≡ out_of_memory → stays
+    → GivesDueOrRunsOut due done stays n
 spent_answer (Ok x) done stays n e s = inr (e, s)
 spent_answer (Err m) done stays n e s = (inr e, s)
 

@@ -9,7 +9,7 @@ use Rattle.clash_record.specs.declared.side_id.SideId.{SideId}
 use Rattle.clash_record.specs.declared.side_id.SideId.TheVariants.{A, B}
 use Rattle.exchange_codec.specs.declared.fault.Fault.{Fault}
 use Rattle.exchange_codec.specs.declared.fault.FieldFault.TheVariants as wrongs
-use Rattle.exchange_codec.specs.Names.{side_byte, name_bytes, side_at, name_at}
+use Rattle.exchange_codec.specs.Names.{side_byte, name_bytes, side_id_at, name_at}
 use Rattle.exchange_codec.specs.laws.Fields.{IsBytes, IsBytes-drop, IsBytes-rest, ok_is, Takes}
 
 -- a test that did not fail, before another step
@@ -26,9 +26,9 @@ not_true : (b : Bool) → b ≡ true → not b ≡ false
 not_true true e = refl
 not_true false e = absurd cc
 
-pub side_takes : (bytes : List ℕ) (x : SideId × List ℕ) → IsBytes bytes → side_at bytes ≡ Ok x
+pub side_takes : (bytes : List ℕ) (x : SideId × List ℕ) → IsBytes bytes → side_id_at bytes ≡ Ok x
     → Takes bytes (side_byte x.0 ∷ []) x.1
-unfolding side_at
+unfolding side_id_at
 side_takes [] x fits e = absurd cc
 side_takes (zero ∷ rest) x fits e =
     subst (λ (y : SideId × List ℕ). Takes (0 ∷ rest) (side_byte y.0 ∷ []) y.1) (ok_is (A, rest) x e)
@@ -38,8 +38,8 @@ side_takes (suc zero ∷ rest) x fits e =
     (record { parts = refl; rest_fits = IsBytes-rest 1 rest fits })
 side_takes (suc (suc n) ∷ rest) x fits e = absurd cc
 
-pub side_again : (side : SideId) (rest : List ℕ) → side_at (side_byte side ∷ rest) ≡ Ok (side, rest)
-unfolding side_at
+pub side_again : (side : SideId) (rest : List ℕ) → side_id_at (side_byte side ∷ rest) ≡ Ok (side, rest)
+unfolding side_id_at
 side_again A rest = refl
 side_again B rest = refl
 

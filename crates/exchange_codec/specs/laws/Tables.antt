@@ -5,7 +5,7 @@ use Rattle.std.specs.Int.{w32, to_le_bytes}
 use Rattle.partition_table.specs.Tables.{most_names}
 use Rattle.exchange_codec.specs.Reading.{count_at, many_at, ended}
 use Rattle.exchange_codec.specs.Rows.{RowText, row_bytes, row_at, IsRow}
-use Rattle.exchange_codec.specs.Tables.{table_bytes, IsTableText, rows_at, rows_of}
+use Rattle.exchange_codec.specs.Tables.{table_bytes, IsTableText, rows_at, whole_rows}
 use Rattle.exchange_codec.specs.laws.Fields.{IsBytes, bind_ok, Takes, Takes-then, count_takes, count_again, ended_ok}
 use Rattle.exchange_codec.specs.laws.Many.{many_take, many_again}
 use Rattle.exchange_codec.specs.laws.Rows.{row_takes, row_again}
@@ -31,9 +31,9 @@ rows_again rows rest fits =
       many_again row_at row_bytes IsRow row_again rows rest fits.each,
     ) refl
 
-pub rows_spelled : (bytes : List ℕ) (rows : List RowText) → IsBytes bytes → rows_of bytes ≡ Ok rows
+pub rows_spelled : (bytes : List ℕ) (rows : List RowText) → IsBytes bytes → whole_rows bytes ≡ Ok rows
     → IsTableText rows × (bytes ≡ table_bytes rows)
-unfolding rows_of
+unfolding whole_rows
 rows_spelled bytes rows fits e =
     let a = bind_ok (rows_at bytes) ended rows e in
     let g = ended_ok a.0 rows a.2 in
@@ -42,8 +42,8 @@ rows_spelled bytes rows fits e =
     k.0.parts ∙ ap (λ (r : List ℕ). table_bytes a.0.0 ++ r) g.1 ∙ append-nil (table_bytes a.0.0) in
     subst (λ (t : List RowText). IsTableText t × (bytes ≡ table_bytes t)) g.0 (k.1, whole)
 
-pub rows_read : (rows : List RowText) → IsTableText rows → rows_of (table_bytes rows) ≡ Ok rows
-unfolding rows_of
+pub rows_read : (rows : List RowText) → IsTableText rows → whole_rows (table_bytes rows) ≡ Ok rows
+unfolding whole_rows
 rows_read rows fits =
     let all : rows_at (table_bytes rows) ≡ Ok (rows, []) =
     ap rows_at (sym (append-nil (table_bytes rows))) ∙ rows_again rows [] fits in

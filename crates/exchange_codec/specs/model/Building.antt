@@ -25,7 +25,7 @@ use Rattle.exchange_codec.specs.declared.fault.MessageFault.TheVariants as messa
 use Rattle.exchange_codec.specs.Faults.{item_fault_number, message_fault_number}
 use Rattle.exchange_codec.specs.Rows.{RowText, has_id, ids_of, texts_of}
 use Rattle.exchange_codec.specs.Tables.{IsRowFault, IsFirstRowFault}
-use Rattle.exchange_codec.specs.Offers.{OfferText, text_of}
+use Rattle.exchange_codec.specs.Offers.{OfferText, offer_text}
 
 abbrev pub known_code : Known → List Insn
 known_code known = arc_value known.program
@@ -103,5 +103,5 @@ program_fault_of at f =
 
 -- the offer has this text
 pub record IsOfferOf (text : OfferText) (offer : Offer) : Type 0 where
-  pub told : text ≡ text_of offer
+  pub told : text ≡ offer_text offer
   pub kept : IsTable offer.table

@@ -1,7 +1,7 @@
 -- What the tests of lives, views and positions mean.
 use Rattle.std.proofs.Common.{◌≡◌, Bool, true, false, ◌&&◌, eqb-true, eq-eqb, ap}
 use Rattle.std.proofs.lemmas.Bool.{and_parts}
-use Rattle.replica_law.specs.Worlds.{Life, View, Position, same_life, same_view, same_position}
+use Rattle.replica_law.specs.Groups.{Life, View, Position, same_life, same_view, same_position}
 
 pub same_life_is : (a b : Life) → same_life a b ≡ true → a ≡ b
 same_life_is a b e =

@@ -8,7 +8,7 @@ use Rattle.partition_table.specs.declared.judged.Judged.{Judged}
 use Rattle.script_text.specs.Printed.{clash_line, notice_line}
 use Rattle.scripts.specs.declared.healed.Form.{Form}
 use Rattle.scripts.specs.declared.healed.Form.TheVariants.{Answer, Narration}
-use Rattle.scripts.specs.Healed.{notices_by}
+use Rattle.scripts.specs.Healed.{clash_notices}
 use Rattle.scripts.specs.Narrated.{owners_words, verdict_words, notice_words}
 
 -- a clash with its ruling
@@ -24,4 +24,4 @@ notice_in (Narration labels) = notice_words
 abbrev pub judged_in : Form → Clash → Judged → List ℕ
 judged_in form clash judged =
     ruling_in form clash judged
-    ++ flat_map (notice_in form clash.name) (notices_by clash.first.resolver clash judged.answer)
+    ++ flat_map (notice_in form clash.name) (clash_notices clash.first.resolver clash judged.answer)

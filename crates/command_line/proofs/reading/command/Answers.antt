@@ -7,7 +7,7 @@ use Rattle.command_line.specs.declared.faults.CommandFault.TheVariants.{Parse}
 use Rattle.clap.proofs.OnLiterals.{clap_on_literals}
 use Rattle.command_line.specs.declared.task.Task.{Task}
 use Rattle.command_line.specs.declared.faults.CommandFault.{CommandFault}
-use Rattle.command_line.specs.Asked.{Asked, Asks, IsForMemory, asked_by, asked_of, asks_refusals, asks_version, heal_app}
+use Rattle.command_line.specs.Asked.{AskedTask, Asks, IsForMemory, asked_task, subcommand_asked, asks_refusals, asks_version, heal_app}
 use Rattle.command_line.proofs.reading.command.Goals as goal
 
 is_simple_heal : is_simple heal_app ≡ true
@@ -20,18 +20,18 @@ is_free_heal = refl
 
 -- the task that the rows give
 given : (words : List Text) (o : Option Task) (r : Result Task CommandFault) (e : CommandFault) → r ≡ ok_or o e
-    → fault_of heal_app words ≡ [] → option_map asked_by o ≡ option_and_then asked_of (subcommand_of heal_app words)
-    → IfOk r (λ t. Asks words (asked_by t))
+    → fault_of heal_app words ≡ [] → option_map asked_task o ≡ option_and_then subcommand_asked (subcommand_of heal_app words)
+    → IfOk r (λ t. Asks words (asked_task t))
 given words None r e is none same = rw is tt
 given words (Some t) r e is none same = rw is (inr (none, sym same))
 
 -- words that don't ask by themselves ask by a subcommand
-by_subcommand : (words : List Text) (task : Asked) → asks_version words ≡ false → asks_refusals words ≡ false
-    → Asks words task → option_and_then asked_of (subcommand_of heal_app words) ≡ Some task
+by_subcommand : (words : List Text) (task : AskedTask) → asks_version words ≡ false → asks_refusals words ≡ false
+    → Asks words task → option_and_then subcommand_asked (subcommand_of heal_app words) ≡ Some task
 by_subcommand words task v r (inr h) = h.1
 by_subcommand words task v r (inl h) = let none = rw (v, r) at h in absurd (cc)
 
-fault_free : (words : List Text) (task : Asked) → asks_version words ≡ false → asks_refusals words ≡ false
+fault_free : (words : List Text) (task : AskedTask) → asks_version words ≡ false → asks_refusals words ≡ false
     → Asks words task → fault_of heal_app words ≡ []
 fault_free words task v r (inr h) = h.0
 fault_free words task v r (inl h) = let none = rw (v, r) at h in absurd (cc)
@@ -39,8 +39,8 @@ fault_free words task v r (inl h) = let none = rw (v, r) at h in absurd (cc)
 -- if the rows give no task, neither do the words
 not_given : (words : List Text) (o : Option Task) (r : Result Task CommandFault) (e : CommandFault) → r ≡ ok_or o e
     → asks_version words ≡ false → asks_refusals words ≡ false
-    → option_map asked_by o ≡ option_and_then asked_of (subcommand_of heal_app words)
-    → IfErr r (λ f. IsForMemory f ⊎ ((task : Asked) → Asks words task → ⊥))
+    → option_map asked_task o ≡ option_and_then subcommand_asked (subcommand_of heal_app words)
+    → IfErr r (λ f. IsForMemory f ⊎ ((task : AskedTask) → Asks words task → ⊥))
 not_given words (Some t) r e is v f same = rw is tt
 not_given words None r e is v f same = rw is (inr (λ task asks. let two = by_subcommand words task v f asks in cc))
 
@@ -52,7 +52,7 @@ returns-clause-ok g c =
     let rows = c.in_ok-matches.ensures.matches (ap is_simple app_is ∙ is_simple_heal) in
     given words c.task_of.result c.ok_or.result _ c.ok_or.ensures.value
     (ap (λ a. fault_of a words) (sym app_is) ∙ none)
-    (c.task_of.ensures ∙ ap (option_and_then asked_of) (rows.1 ∙ ap (λ a. subcommand_of a words) app_is))
+    (c.task_of.ensures ∙ ap (option_and_then subcommand_asked) (rows.1 ∙ ap (λ a. subcommand_of a words) app_is))
 
 pub returns-clause-err : goal.returns-clause-err
 returns-clause-err g c =
@@ -61,12 +61,12 @@ returns-clause-err g c =
     let rows = c.in_ok-matches.ensures.matches (ap is_simple app_is ∙ is_simple_heal) in
     not_given words c.task_of.result c.ok_or.result _ c.ok_or.ensures.value
     (sym c.asks_version.ensures ∙ c.if-asks_version.false) (sym c.asks_refusals.ensures ∙ c.if-asks_refusals.false)
-    (c.task_of.ensures ∙ ap (option_and_then asked_of) (rows.1 ∙ ap (λ a. subcommand_of a words) app_is))
+    (c.task_of.ensures ∙ ap (option_and_then subcommand_asked) (rows.1 ∙ ap (λ a. subcommand_of a words) app_is))
 
 -- words that clap refuses request nothing, unless memory ran out
 refused : (words : List Text) (error : Error) → asks_version words ≡ false → asks_refusals words ≡ false
     → HasKind (fault_of heal_app words) error
-    → IsForMemory (Parse error) ⊎ ((task : Asked) → Asks words task → ⊥)
+    → IsForMemory (Parse error) ⊎ ((task : AskedTask) → Asks words task → ⊥)
 refused words error v r (inl memory) = inl memory
 refused words error v r (inr among) = inr (λ task asks. let none = fault_free words task v r asks in
     let bad : IsAmong (kind_of error) [] = rw none at among in bad)
@@ -74,7 +74,7 @@ refused words error v r (inr among) = inr (λ task asks. let none = fault_free w
 refused_as : (words : List Text) (error : Error) (result : Result Task CommandFault)
     → IsErrAnd result (λ f. f ≡ Parse error) → asks_version words ≡ false → asks_refusals words ≡ false
     → HasKind (fault_of heal_app words) error
-    → IfErr result (λ f. IsForMemory f ⊎ ((task : Asked) → Asks words task → ⊥))
+    → IfErr result (λ f. IsForMemory f ⊎ ((task : AskedTask) → Asks words task → ⊥))
 refused_as words error (Ok task) is v r kind = tt
 refused_as words error (Err fault) is v r kind = rw is (refused words error v r kind)
 

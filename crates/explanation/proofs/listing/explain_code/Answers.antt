@@ -2,14 +2,14 @@ use Rattle.std.proofs.Common.{◌≡◌, ◌∙◌, ◌++◌, [], ◌≤◌, ref
 use Rattle.std.specs.Prelude.{string_bytes}
 use Rattle.std.proofs.lemmas.List.Sums.{sum_by_more}
 use Rattle.instruction_set.specs.Machine.{slot_count, slots_of}
-use Rattle.explanation.specs.Listings.{IsListed, IsSlotText, none}
+use Rattle.explanation.specs.Listings.{ListsCode, IsSlotText, none}
 use Rattle.explanation.proofs.Listed.{end_inside, one_more}
 use Rattle.explanation.proofs.listing.explain_code.Goals as goal
 
 pub loop-insn-init : goal.loop-insn-init
 loop-insn-init g c = record {
   place = refl;
-  listed = subst (IsListed g.D.Domain.ops c.args.code.now []) (sym c.new-text.ensures.bytes) none;
+  listed = subst (ListsCode g.D.Domain.ops c.args.code.now []) (sym c.new-text.ensures.bytes) none;
 }
 
 pub overflow_add-at : goal.overflow_add-at

@@ -1,5 +1,5 @@
-use Rattle.replica.proofs.Agreement.{have_one_half, edits_lead, has_one_edit, holds_snapshots, takes_entries, hold_the_merge}
-use Rattle.replica.proofs.Calls.{are_calls, refusals_change_nothing, lives_start, calls_happen}
+use Rattle.replica.proofs.Agreement.{have_one_half, edits_lead, entries_agree, snapshots_agree, next_entries_apply, hold_the_merge}
+use Rattle.replica.proofs.Calls.{are_calls, refusals_change_nothing, lives_start, node_calls_happen}
 use Rattle.replica.proofs.Logs.{logs_restore}
 use Rattle.replica.proofs.theorem.replicas_theorem.Goals as goal
 
@@ -16,17 +16,17 @@ returns-clause-edits c =
 pub returns-clause-one_edit : goal.returns-clause-one_edit
 returns-clause-one_edit c =
     let law = c.agreement_theorem.ensures in
-    has_one_edit law.view_tells law.edits law.follows law.applies law.one_edit
+    entries_agree law.view_tells law.edits law.follows law.applies law.one_edit
 
 pub returns-clause-snapshots : goal.returns-clause-snapshots
 returns-clause-snapshots c =
     let law = c.agreement_theorem.ensures in
-    holds_snapshots law.view_tells law.edits law.follows law.applies law.snapshots
+    snapshots_agree law.view_tells law.edits law.follows law.applies law.snapshots
 
 pub returns-clause-takes : goal.returns-clause-takes
 returns-clause-takes c =
     let law = c.agreement_theorem.ensures in
-    takes_entries law.view_tells law.edits law.follows law.applies law.takes
+    next_entries_apply law.view_tells law.edits law.follows law.applies law.takes
 
 pub returns-clause-calls : goal.returns-clause-calls
 returns-clause-calls c = are_calls
@@ -38,7 +38,7 @@ pub returns-clause-starts : goal.returns-clause-starts
 returns-clause-starts c = lives_start
 
 pub returns-clause-happen : goal.returns-clause-happen
-returns-clause-happen c = calls_happen
+returns-clause-happen c = node_calls_happen
 
 pub returns-clause-merge : goal.returns-clause-merge
 returns-clause-merge c =
@@ -49,4 +49,4 @@ pub returns-clause-logs : goal.returns-clause-logs
 returns-clause-logs c =
     let law = c.agreement_theorem.ensures in
     logs_restore (have_one_half law.view_tells law.edits law.follows law.applies law.lasting)
-    (takes_entries law.view_tells law.edits law.follows law.applies law.takes)
+    (next_entries_apply law.view_tells law.edits law.follows law.applies law.takes)

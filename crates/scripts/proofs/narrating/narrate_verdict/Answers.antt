@@ -1,6 +1,6 @@
 use Rattle.std.proofs.Common.{◌++◌, codes, List, ℕ}
 use Rattle.std.specs.Fmt.{decimal}
-use Rattle.scripts.specs.Machines.{resolver_text}
+use Rattle.scripts.specs.Machines.{shown_resolver}
 use Rattle.scripts.specs.Narrated.{keeper_words}
 use Rattle.scripts.proofs.Pieces.{then_sent}
 use Rattle.scripts.proofs.narrating.narrate_verdict.Goals as goal
@@ -21,7 +21,7 @@ returns g c =
     let w6 = g.W.Write.contents c.send_after.new.writer in
     let t1 : List ℕ = clash.name in
     let t2 : List ℕ = codes ": " in
-    let t3 : List ℕ = resolver_text c.args.labels.now clash.first.resolver in
+    let t3 : List ℕ = shown_resolver c.args.labels.now clash.first.resolver in
     let t4 : List ℕ = codes " answers at word " in
     let t5 : List ℕ = decimal judged.word in
     let t6 : List ℕ = keeper_words judged.answer in

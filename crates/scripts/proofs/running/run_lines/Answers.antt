@@ -24,7 +24,7 @@ loop-before-init g c = record {
 pub returns-then-is_err : goal.returns-then-is_err
 returns-then-is_err g c =
     flush_failed _ _ _ _ _ _ _ _ (flushed _ _ _ _ _ _ _ _ _ c.loop-before.invariant c.flush_before_read.ensures)
-    c.loop-before.buffer _ refl
+    c.loop-before.buffers.unread _ refl
 
 pub returns-in_default : goal.returns-in_default
 returns-in_default g c =
@@ -81,4 +81,4 @@ loop-before-preserved g c =
     served.is_answer
 
 pub returns : goal.returns
-returns g c = numbers_spent _ _ _ _ _ _ _ _ c.loop-before.invariant c.loop-before.buffer _ refl (omega arith)
+returns g c = numbers_spent _ _ _ _ _ _ _ _ c.loop-before.invariant c.loop-before.buffers.unread _ refl (omega arith)

@@ -5,5 +5,5 @@ use Rattle.scripts.proofs.running.run_lines.Given as goal
 
 abbrev pub invariant-loop-before : goal.invariant-loop-before
 invariant-loop-before g l =
-    Progress (machine_of l.fn.machine) (g.R.Read.remaining l.fn.reader) (left l.buffer (g.R.Read.remaining l.reader))
+    Progress (machine_of l.fn.machine) (g.R.Read.remaining l.fn.reader) (left l.buffers.unread (g.R.Read.remaining l.reader))
     (g.W.Write.contents l.fn.writer) (g.W.Write.contents l.writer) (machine_of l.machine) l.before l.status

@@ -12,16 +12,16 @@ answer-requires g c =
     let early = subst (λ (n : ℕ). n < 2 ^ 64 - 1) (sym c.renew_long.ensures.latest) c.requires in
     (c.type_bounds.sync-T, (c.type_bounds.sync-G, early))
 
-pub returns-then-is_long : goal.returns-then-is_long
-returns-then-is_long g c =
+pub returns-then-read : goal.returns-then-read
+returns-then-read g c =
     let fresh = machine_of c.renew_long.new.self in
-    said (λ answer. Step (machine_of c.args.machine.now) (seen_line c.args.is_long c.args.line.now) answer fresh) _ _ _
+    said (λ answer. Step (machine_of c.args.machine.now) (seen_line c.args.read.is_long c.args.read.line.now) answer fresh) _ _ _
     c.refused.result c.say.result
     (record {
       fresh = fresh;
       renewed = c.renew_long.ensures;
-      answered = subst (λ (long : Bool). AnswersLine fresh (seen_line long c.args.line.now) (Says c.refused.result) fresh)
-          (sym c.if-is_long.true) (c.refused.ensures, refl);
+      answered = subst (λ (long : Bool). AnswersLine fresh (seen_line long c.args.read.line.now) (Says c.refused.result) fresh)
+          (sym c.if-read.true) (c.refused.ensures, refl);
     })
     c.say.ensures.sends c.say.ensures.status
 
@@ -35,8 +35,8 @@ returns g c =
       is_answer = record {
         fresh = fresh;
         renewed = c.renew_long.ensures;
-        answered = subst (λ (long : Bool). AnswersLine fresh (seen_line long c.args.line.now) line.answer after)
-            (sym c.if-is_long.false)
+        answered = subst (λ (long : Bool). AnswersLine fresh (seen_line long c.args.read.line.now) line.answer after)
+            (sym c.if-read.false)
             (subst (λ (text : List ℕ). AnswersLine fresh (Short text) line.answer after) c.as_slice.ensures line.is_answer);
       };
       sends = line.sends;

@@ -3,7 +3,7 @@ use Rattle.std.specs.Arc.{arc_value}
 use Rattle.clash_record.specs.declared.side_id.SideId.TheVariants.{A}
 use Rattle.clash_record.specs.declared.halves.Withdrawal.{Withdrawal}
 use Rattle.exchange_core.specs.Shown.{shown}
-use Rattle.cluster.specs.Healing.{plan_of, gone_of_side, IsHealed}
+use Rattle.cluster.specs.Healing.{plan_of, gone_of_side, HealsSplit}
 use Rattle.cluster.specs.model.Stages.{halves_of}
 use Rattle.partition_table.specs.Tables.{Clash}
 use Rattle.cluster.specs.Healings.{Healing}
@@ -41,7 +41,7 @@ returns-clause-healed g c = λ was sides rest.
       names = c.in_ok-rulings.names;
     } in
     let healed = c.in_ok-rulings.ensures.healed was sides trying (are ∙ shown) in
-    subst (λ (h : Healing). IsHealed plan was (halves_of c.settle.new.self) h)
+    subst (λ (h : Healing). HealsSplit plan was (halves_of c.settle.new.self) h)
     (λ i. outcome (are i) (sym c.in_ok-withdrawn.ensures i)) healed
 
 pub returns-in_err-withdrawn-clause-failed : goal.returns-in_err-withdrawn-clause-failed

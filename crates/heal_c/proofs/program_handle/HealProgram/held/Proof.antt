@@ -37,7 +37,7 @@ use Rattle.std.proofs.raw_atomic.Walks.{proved}
 use Rattle.handles.specs.Handles.{handle_owns}
 use Rattle.handles.proofs.Values.{both}
 use Rattle.handles.proofs.Words.{Z, either, word_good}
-use Rattle.heal_c.specs.Lent.{with_program}
+use Rattle.heal_c.specs.Lent.{holding_program}
 use Rattle.heal_c.proofs.ProgramWords.{H, R, held_in, held_out}
 use Rattle.heal_c.specs.contracts.program_handle.HealProgram.held as f
 use Rattle.heal_c.specs.contracts.program_handle.HealProgram.held.Key.{name as #self}
@@ -56,13 +56,13 @@ module _ {M : Type 1} {𝓤 : Ura M} (𝓛 : Logic 𝓤) (κ : Lft) (rb ro : ℕ
   abbrev Rest : Fml
   Rest = fsep (fsep (ghosts.dealloc_token d.alloc (bare (lone R.mir)) (block_ptr b o)) (Z.own_val d.alloc (h ∷ []))) (cell_at full_share H.mir (both (vptr b o) h ∷ []) rb ro)
 
-  back : d.at ≡ block_ptr b o → (w : R.Denot) → ent 𝓤 (sep 𝓤 (sem 𝓛 ((mem R).own_at w b o)) (sem 𝓛 Rest)) (sem 𝓛 ((mem H).own_at (with_program d w) rb ro))
+  back : d.at ≡ block_ptr b o → (w : R.Denot) → ent 𝓤 (sep 𝓤 (sem 𝓛 ((mem R).own_at w b o)) (sem 𝓛 Rest)) (sem 𝓛 ((mem H).own_at (holding_program d w) rb ro))
   unfolding part_of
   back is w =
       qed 𝓛 (‵ (part_at R full_share w b o) ∷ ‵ Rest ∷ []) ∵ move ! (1 ∷ []) $ fsplit ! $ fsplit ! $ move ! (3 ∷ 0 ∷ []) $ fjoin ! $
       rewrite ! 0 (λ (p : Ptr). ‵ (box_owns (ghosts.dealloc_token d.alloc) R p w)) (sym is) refl $ rewrite ! 2 (λ (p : Ptr). ‵ (cell_at full_share H.mir (both (ptr_val p) h ∷ []) rb ro)) (sym is) refl $
-      held_in ! h (with_program d w) $ move ! (1 ∷ 0 ∷ []) $ fjoin ! $
-      fpack ! (List Val) (λ us. fsep (cell_at full_share H.mir us rb ro) (H.own_val (with_program d w) us)) (both (ptr_val d.at) h ∷ []) $ done !
+      held_in ! h (holding_program d w) $ move ! (1 ∷ 0 ∷ []) $ fjoin ! $
+      fpack ! (List Val) (λ us. fsep (cell_at full_share H.mir us rb ro) (H.own_val (holding_program d w) us)) (both (ptr_val d.at) h ∷ []) $ done !
 
 pub held_spec : {M : Type 1} → statement M
 unfolding follows_by
@@ -99,8 +99,8 @@ held_spec 𝓤 𝓛 𝓜 𝓡 wired =
     sets ! (of_opd ! (get ! refl)) refl (tt, tt) $ sets_last ! (agg ! (and_then ! (lit ! tt) (and_then ! (get ! refl) (no_more !)))) refl good $
     exec ! 𝓣.C 𝓣.Λ Ev (after 4 (code.function).body) (at_ret Ev Post) $ sets ! (of_opd ! (get ! refl)) refl good $
     move ! (1 ∷ 2 ∷ []) $ fjoin ! $ move ! (0 ∷ 2 ∷ []) $ fjoin ! $ move ! (2 ∷ 3 ∷ 4 ∷ 1 ∷ 0 ∷ []) $ group ! 5 $
-    use1 𝓛 (later (some (λ (γ' : GName). ‵ (Lent.own_val (r γ') (vptr b o ∷ [])) ⊛ ‵ (flft κ q) ⊛ ‵ (follows H R γ γ' (with_program d)))))
-    (lends_Part 𝓛 H R (with_program d) (named 0) κ q rb ro b o γ (sem 𝓛 (Rest 𝓛 κ rb ro d b o h)) (back 𝓛 κ rb ro d b o h is) (H.coded.code d) (H.coded.code d) x) $ await ! tt $ pick ! (λ γ'.
+    use1 𝓛 (later (some (λ (γ' : GName). ‵ (Lent.own_val (r γ') (vptr b o ∷ [])) ⊛ ‵ (flft κ q) ⊛ ‵ (follows H R γ γ' (holding_program d)))))
+    (lends_Part 𝓛 H R (holding_program d) (named 0) κ q rb ro b o γ (sem 𝓛 (Rest 𝓛 κ rb ro d b o h)) (back 𝓛 κ rb ro d b o h is) (H.coded.code d) (H.coded.code d) x) $ await ! tt $ pick ! (λ γ'.
     returns ! (look_at ! 0 refl) $ free_all ! refl $ keep ! (0 ∷ []) $ split3 ! $ use1 𝓛 (‵ (Out.own_val (Some (r γ')) (v ∷ []))) (Some-of 𝓛 Lent (r γ') (vptr b o)) $
     suffices ! _ (ends_at 𝓛 f.ended stayed c y v (Some (r γ')) (tt, tt) (tt, tt)) $
     nothing ! $ nothing ! $ fjoin ! $ join ! $ nothing ! $ move ! (2 ∷ 0 ∷ []) $ join ! $ join ! $ frame ! $ says ! some_x $ done !)))))))

@@ -1,5 +1,4 @@
-use Rattle.std.proofs.Common.{◌≡◌, ◌+◌, ◌-◌, ap, ◌∙◌, arith}
-use Rattle.std.proofs.lemmas.Grind.{common_steps}
+use Rattle.std.proofs.Common.{◌-◌, ap, ◌∙◌, arith}
 use Rattle.verdict_board.specs.Draws.{Seat}
 use Rattle.judge_pool.specs.Work.{posts}
 use Rattle.judge_pool.proofs.Drawing.{draws_none, draws_row, last_row, most_are_spent}

@@ -1,5 +1,5 @@
 use Rattle.std.proofs.Common.{◌≡◌, ◌-◌, ◌∙◌, ◌++◌, ap, arith, length, take, drop, subst, List, ℕ}
-use Rattle.script_text.specs.Lines.{line_of}
+use Rattle.script_text.specs.Lines.{script_line}
 use Rattle.script_text.specs.Reading.{seen_line}
 use Rattle.script_text.specs.model.Feeds.{before_feed, from_feed}
 use Rattle.script_text.proofs.Feeds.{taken, taken_len, within_part, rest_of_part}
@@ -44,5 +44,5 @@ returns-clause-line c = λ text seen.
     taken c.text_len-len.result _ c.text_len-len.ensures
     ∙ ap (λ (bs : List ℕ). before_feed (take (inside.end - inside.start) (drop inside.start bs))) c.deref.ensures.value
     ∙ ap before_feed c.self.view_is in
-    subst (λ (part : List ℕ). line_of (text ++ part) ≡ seen_line c.take_part-result.result c.take_part-result.new.line)
+    subst (λ (part : List ℕ). script_line (text ++ part) ≡ seen_line c.take_part-result.result c.take_part-result.new.line)
     part (c.take_part-result.ensures text seen)

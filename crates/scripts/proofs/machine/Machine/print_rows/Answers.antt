@@ -6,7 +6,7 @@ use Rattle.exchange_law.specs.Sides.{shown_table}
 use Rattle.exchange_core.specs.Rows.{rows_left}
 use Rattle.script_text.specs.Printed.{row_line}
 use Rattle.cluster.specs.Clusters.{at, cluster_of}
-use Rattle.scripts.specs.Machines.{resolver_text}
+use Rattle.scripts.specs.Machines.{shown_resolver}
 use Rattle.scripts.specs.Replies.{shown_row}
 use Rattle.scripts.proofs.Rows.{one_more, all_sent}
 use Rattle.scripts.proofs.machine.Machine.print_rows.Goals as goal
@@ -23,7 +23,7 @@ loop-name-preserved g c =
     c.loop-name.invariant c.in-Some.ensures.steps
     (subst (λ text. SendsOn c.loop-name.sent (contents c.loop-name.writer) (contents c.print_row-sent.new.writer)
     (row_line name registration text) c.print_row-sent.result)
-    (c.resolver_text-resolver.ensures ∙ ap (λ labels. resolver_text labels registration.resolver) c.deref.ensures.value)
+    (c.resolver_text-resolver.ensures ∙ ap (λ labels. shown_resolver labels registration.resolver) c.deref.ensures.value)
     c.print_row-sent.ensures)
 
 pub returns : goal.returns
