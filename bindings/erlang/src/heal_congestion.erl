@@ -2,12 +2,13 @@
 %%
 %% A message that a full connection refuses isn't sent. Entries, answers and what belongs to an exchange wait until the connection has room;
 %% then the node announces its position, since that may have been refused too. A member for which too many entries wait gets a snapshot
-%% instead, after a pause: a large one may fill the connection again.
+%% instead, after a pause: a large one may fill the connection again. Edits wait while the connection to the primary is full, and a primary
+%% for which one waits too long is given up.
 -module(heal_congestion).
 
 -include("heal_part.hrl").
 
--export([refused/3, drained/2, rested/2, is_full/2, forget/2]).
+-export([refused/3, overdue/1, drained/2, rested/2, is_refusing/2, is_full/2, forget/2]).
 
 %% How many entries and other messages wait for a connection, at most.
 -define(MOST, 10000).
@@ -20,6 +21,12 @@ refused(Node, Bodies, Part = #part{full = Full, links = Links}) when is_map_key(
 refused(_Node, _Bodies, Part) ->
     Part.
 
+wait(Node, {request, View, Number, Edit}, Part) ->
+    case {element(1, heal_state:primary(Part)), heal_state:view(Part)} of
+        {Node, View} -> heal_entries:unsent(Number, Edit, Part);
+        %% The request waits already: it is to be made in a later view.
+        _ -> Part
+    end;
 wait(Node, Body, Part = #part{full = Full}) ->
     #{Node := {refusing, Count, Bodies}} = Full,
     Later = Count + weight(Body),
@@ -52,15 +59,24 @@ is_query(_Reference, _Heal) -> false.
 is_open(Number, #open{number = Number}) -> true;
 is_open(_Number, _Heal) -> false.
 
-%% A primary that takes no requests is given up. A member that has missed an entry gets no other ones before a snapshot.
+%% A member that has missed an entry gets no other ones before a snapshot.
 missed(Node, Body, Part = #part{members = Members, full = Full}) ->
-    case {element(1, Body), heal_state:primary(Part), Members} of
-        {request, {Node, _}, _} -> heal_peers:give_up(Node, Part);
-        {Kind, _, #{Node := Member}} when Kind =:= edit; Kind =:= snapshot ->
+    case {element(1, Body), Members} of
+        {Kind, #{Node := Member}} when Kind =:= edit; Kind =:= snapshot ->
             #{Node := {refusing, _, Bodies}} = Full,
             Others = [Other || Other <- Bodies, element(1, Other) =/= edit],
             Part#part{members = Members#{Node := Member#member{is_lagging = true}},
                       full = Full#{Node := {refusing, length(Others), Others}}};
+        _ -> Part
+    end.
+
+%% A primary for which a caller's edit has waited too long is given up, while there is time left to carry the edit out elsewhere.
+-spec overdue(#part{}) -> #part{}.
+overdue(Part = #part{waiting = Waiting, edit_timeout = Timeout, now = Now}) ->
+    {Node, _} = heal_state:primary(Part),
+    Latest = Now + Timeout - heal_state:patience(Part),
+    case is_refusing(Node, Part) andalso [Call || Call = #call{deadline = Deadline} <- Waiting, is_integer(Deadline), Deadline =< Latest] of
+        [_ | _] -> heal_peers:give_up(Node, Part);
         _ -> Part
     end.
 
@@ -91,6 +107,14 @@ rested(Node, Part = #part{full = Full}) ->
     case Full of
         #{Node := resting} -> forget(Node, Part);
         _ -> Part
+    end.
+
+%% Returns whether the connection to a node takes no messages.
+-spec is_refusing(node(), #part{}) -> boolean().
+is_refusing(Node, #part{full = Full}) ->
+    case Full of
+        #{Node := {refusing, _, _}} -> true;
+        _ -> false
     end.
 
 %% Returns whether the connection to a node takes no snapshot.

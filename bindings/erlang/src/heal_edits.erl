@@ -1,8 +1,8 @@
 %% @private The edits of a node's callers: which of them wait, and what their callers receive.
 %%
 %% The primary carries edits out (heal_orders) and sends their entries to its members (heal_entries), which request theirs from it.
-%% The process of another node is registered by that node (heal_adopting). While a node waits for an exchange or a new view, its
-%% edits wait too.
+%% The process of another node is registered by that node (heal_adopting). While a node waits for an exchange, a new view or a full
+%% connection to the primary, its edits wait too.
 -module(heal_edits).
 
 -include("heal_part.hrl").
@@ -41,8 +41,12 @@ edit(Call, Part) ->
 
 waits(#part{heal = #open{}}) -> true;
 waits(#part{limbo = Limbo}) when Limbo =/= none -> true;
-waits(#part{awaited = Awaited}) when Awaited =:= #{} -> false;
-waits(Part) -> heal_state:is_primary(Part).
+waits(#part{awaited = Awaited, full = Full}) when Awaited =:= #{}, Full =:= #{} -> false;
+waits(Part = #part{awaited = Awaited}) ->
+    case heal_state:is_primary(Part) of
+        true -> Awaited =/= #{};
+        false -> heal_congestion:is_refusing(element(1, heal_state:primary(Part)), Part)
+    end.
 
 %% Lets an edit wait.
 -spec wait(#call{}, #part{}) -> #part{}.

@@ -3,7 +3,7 @@
 
 -include("heal_part.hrl").
 
--export([request/2, entries/6, answered/5, finish/3, restart/1, skipped/1]).
+-export([request/2, unsent/3, entries/6, answered/5, finish/3, restart/1, skipped/1]).
 
 %% Has the primary carry an edit out.
 -spec request(#call{}, #part{}) -> #part{}.
@@ -15,6 +15,15 @@ request(Call = #call{edit = Edit}, Part = #part{requests = Last, requested = Req
         _ -> Requested#{Next => (heal_edits:timed(Call, Part))#call{is_sent = true, released = none}}
     end,
     heal_state:send(Primary, {request, View, Next, Edit}, Part#part{requests = Next, requested = Kept}).
+
+%% The connection to the primary has refused a request: its edit waits. A request of an earlier view may have been sent.
+-spec unsent(Number :: pos_integer(), heal_edits:edit(), #part{}) -> #part{}.
+unsent(Number, Edit, Part = #part{requested = Requested, waiting = Waiting}) ->
+    {Call, Rest} = case maps:take(Number, Requested) of
+        error -> {#call{edit = Edit}, Requested};
+        Known -> Known
+    end,
+    Part#part{requested = Rest, waiting = [Call#call{is_sent = Call#call.is_repeated} | Waiting]}.
 
 %% Applies entries of this node's view in their order. If one is missing, the primary sends a snapshot.
 -spec entries(node(), heal_replica:position(), [heal_replica:edit()], By, heal_edits:answer(), #part{}) -> #part{}

@@ -178,7 +178,7 @@ event({continue, settle}, Part) ->
 event({continue, Step}, Part) ->
     act(heal_meeting:continue(Step, Part));
 event(tick, Part) ->
-    act(heal_meeting:expired(heal_edits:expired(heal_peers:pulse(Part))));
+    act(heal_meeting:expired(heal_edits:expired(heal_congestion:overdue(heal_peers:pulse(Part)))));
 event({Kind, Node}, Part) when Kind =:= connecting; Kind =:= attempted ->
     settled(heal_peers:Kind(Node, Part));
 event(Event = {Kind, Node}, Part) when Kind =:= down; Kind =:= stopped; Kind =:= absent ->

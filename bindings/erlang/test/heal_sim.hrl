@@ -18,7 +18,8 @@
 %% How many milliseconds a primary keeps entries that nobody waits for, and how long a node handles messages before it sends, at most.
 -define(POSTED, 100).
 -define(BUSY, 20).
-%% How long a connection is full, and how much longer a node sends no snapshot, in milliseconds and at most.
+%% How long a connection is full, one in eight of them four times as long, and how much longer a node sends no snapshot, in milliseconds and
+%% at most.
 -define(FULL, 400).
 -define(RESTED, 300).
 -define(TRACE, 60).

@@ -30,7 +30,9 @@ offer(From, To, Epoch, Body, Rates, Sim = #sim{full = Full, nodes = Nodes, now =
 filled(From, To, Epoch, Body, Sim = #sim{faults = #{full := Rate}, full = Full}) ->
     Fills = case element(1, Body) of Kind when Kind =:= snapshot; Kind =:= offer -> 10 * Rate; _ -> Rate end,
     case rand:uniform(1000) =< Fills of
-        true -> heal_sim_trace:at(rand:uniform(?FULL), {drained, From, To, Epoch}, Sim#sim{full = Full#{{From, To} => Epoch}});
+        true ->
+            Longest = case rand:uniform(8) of 1 -> 4 * ?FULL; _ -> ?FULL end,
+            heal_sim_trace:at(rand:uniform(Longest), {drained, From, To, Epoch}, Sim#sim{full = Full#{{From, To} => Epoch}});
         false -> Sim
     end.
 

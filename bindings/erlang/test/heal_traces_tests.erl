@@ -44,13 +44,20 @@ bodies({again, To, Bodies}) -> [{To, Body} || Body <- Bodies];
 bodies({post, Nodes, Entries}) -> [{To, Entries} || To <- Nodes];
 bodies(_Other) -> [].
 
+%% Handles an event at a time, which sends nothing that arrives.
+event_at(Now, Node, Event, Parts) ->
+    Parts#{Node := element(2, handled(Node, Event, Now, maps:get(Node, Parts)))}.
+
 %% Handles an event and the steps that follow it.
 handled(Node, Event, Part) ->
-    {Actions, Next} = heal_part:handle(Event, 2, Part),
+    handled(Node, Event, 2, Part).
+
+handled(Node, Event, Now, Part) ->
+    {Actions, Next} = heal_part:handle(Event, Now, Part),
     put(done, [{Node, Action} || Action <- Actions] ++ get(done)),
     one_table_at_a_position(element(1, heal_part:position(Next)), (heal_state:half(Next))#half.names),
     lists:foldl(fun(Step, {Before, Sum}) ->
-        {More, Last} = handled(Node, Step, Sum),
+        {More, Last} = handled(Node, Step, Now, Sum),
         {Before ++ More, Last}
     end, {Actions, Next}, [{continue, Step} || {Kind, Step} <- Actions, Kind =:= continue orelse Kind =:= later]).
 
@@ -119,13 +126,45 @@ full_connection_test() ->
     ?assertEqual(position(a, Last), position(b, Last)),
     Entry = {edit, position(a, Last), lists:duplicate(5001, {unregister, ?NAME}), none, ok},
     {_, Full} = heal_part:handle({refused, b, [Entry, Entry]}, 3, maps:get(a, Last)),
-    ?assertMatch(#part{members = #{b := #member{is_lagging = true}}, full = #{b := {refusing, 0, []}}}, Full),
-    %% A member whose requests its primary doesn't take gives it up, and heals with it.
-    #{b := B} = Last,
-    {_, Alone} = heal_part:handle({refused, a, [{request, none, 1, bad}]}, 3, B),
-    ?assertNotEqual(position(a, Last), element(1, heal_part:position(Alone))),
-    Healed = event(b, {drained, a}, fun none_lost/3, Last#{b := Alone}),
-    ?assertEqual(position(a, Healed), position(b, Healed)).
+    ?assertMatch(#part{members = #{b := #member{is_lagging = true}}, full = #{b := {refusing, 0, []}}}, Full).
+
+%% A connection takes no requests, and later takes messages again: the primary gets them in their order.
+waiting_requests_test() ->
+    Joined = connect(a, b, fun none_lost/3, start([{a, #{}}, {b, #{}}])),
+    Refused = refuse(b, upload(2), a, refuse(b, upload(1), a, Joined)),
+    ?assertEqual(position(a, Joined), position(b, Refused)),
+    Drained = event(b, {drained, a}, fun none_lost/3, Refused),
+    ?assertEqual(element(1, position(a, Joined)), element(1, position(b, Drained))),
+    ?assertEqual([{reply, N, {ok, <<N:256>>}} || N <- [2, 1]], [Reply || Reply = {reply, _, _} <- done(b)]).
+
+%% A member whose edits wait for half of their time gives its primary up: it makes them itself, and the two heal. Requests of an earlier view
+%% are dropped.
+primary_takes_no_requests_test() ->
+    Joined = connect(a, b, fun none_lost/3, start([{a, #{}}, {b, #{}}])),
+    View = element(1, position(b, Joined)),
+    Handle = fun(Event, Now, Part) -> element(2, heal_part:handle(Event, Now, Part)) end,
+    IsLeading = fun(Part) -> element(1, element(1, heal_part:position(Part))) =/= View end,
+    Late = refuse(b, upload(1), a, Joined),
+    ?assertNot(IsLeading(Handle(tick, 501, maps:get(b, Late)))),
+    Alone = event_at(502, b, tick, Late),
+    ?assert(IsLeading(maps:get(b, Alone))),
+    ?assertEqual([{reply, 1, {ok, <<1:256>>}}], [Reply || Reply = {reply, _, _} <- done(b)]),
+    Healed = event(b, {drained, a}, fun none_lost/3, Alone),
+    ?assertEqual(position(a, Healed), position(b, Healed)),
+    Earlier = {refused, a, [{request, {{a, 1}, 1}, 1, {unregister, ?NAME, any}}]},
+    ?assertMatch(#part{waiting = []}, Handle(Earlier, 3, maps:get(b, Joined))).
+
+%% A full connection refuses that a node has followed its primary, and then a request. Once it has room, the primary hears first that the node
+%% has followed: it takes no requests of others.
+joins_before_its_request_test() ->
+    Pair = connect(a, b, fun none_lost/3, start([{a, #{}}, {b, #{}}])),
+    Again = event(a, {up, b, visible}, fun(b, a, {finished, _, _, _, _}) -> true; (_, _, _) -> false end,
+                  event(a, {down, b}, fun none_lost/3, Pair)),
+    ?assertMatch(#{a := #part{members = #{b := #member{is_joined = false}}}}, Again),
+    Refused = event(b, {refused, a, [{finished, 1, position(b, Again), 0, []}]}, fun none_lost/3, Again),
+    Drained = event(b, {drained, a}, fun none_lost/3, event(b, upload(1), fun none_lost/3, Refused)),
+    ?assertMatch(#{a := #part{members = #{b := #member{is_joined = true}}}}, Drained),
+    ?assertEqual([{reply, 1, {ok, <<1:256>>}}], [Reply || Reply = {reply, _, _} <- done(b)]).
 
 %% An announcement that a full connection refuses is made good once the connection takes messages again, so that all nodes know who is in
 %% their part.
@@ -285,3 +324,16 @@ repeated_change_test() ->
     Called = event(b, {call, 7, {change, ?NAME, any, #{weight => 1}}}, Lost, Joined),
     _ = event(b, {down, a}, fun none_lost/3, Called),
     ?assertEqual([{reply, 7, {error, {timeout, unknown}}}], [Reply || Reply = {reply, 7, _} <- done(b)]).
+
+%% A request was sent in an earlier view, and a full connection refuses it in the next one. It isn't known whether it is made.
+refused_again_test() ->
+    Pair = connect(b, c, fun none_lost/3, start([{a, #{}}, {b, #{}}, {c, #{}}])),
+    Joined = connect(a, c, fun none_lost/3, connect(a, b, fun none_lost/3, Pair)),
+    Refused = fun(c, _, {request, _, _, _} = Body) -> put(request, Body), true; (_, _, _) -> false end,
+    Called = event(c, {call, 7, {unregister, ?NAME, any}}, Refused, Joined),
+    Left = event(c, {down, a}, Refused, event(b, {down, a}, Refused, Called)),
+    ?assertMatch({{b, 1}, _}, element(1, position(c, Left))),
+    ?assertEqual(element(1, position(c, Left)), element(2, get(request))),
+    Full = event(c, {refused, b, [get(request)]}, fun none_lost/3, Left),
+    _ = event_at(902, c, tick, Full),
+    ?assertEqual([{reply, 7, {error, {timeout, unknown}}}], [Reply || Reply = {reply, 7, _} <- done(c)]).
