@@ -18,7 +18,7 @@ HERE = os.path.dirname(os.path.realpath(__file__))
 # Words after the script's file, and the number of workers.
 ROWS = [([], 4), (["--workers", "1"], 1), (["--workers", "2"], 2), (["--workers", "16"], 16)]
 SCRIPT = "".join(f"register {half} n{i} {node}.{i} 0 0 - exit\n" for half, node in (("a", 1), ("b", 2)) for i in range(64))
-WORKERS_IGNORED = [("cluster/src/settling.rt", "clashes, workers.count())?", "clashes, workers.count().min(1))?")]
+WORKERS_IGNORED = [("cluster/src/settling.rt", "clashes, crew.workers.count())?", "clashes, crew.workers.count().min(1))?")]
 
 
 def started(program, work, words):
