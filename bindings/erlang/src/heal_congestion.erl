@@ -72,10 +72,14 @@ missed(Node, Body, Part = #part{members = Members, full = Full}) ->
 
 %% A primary for which a caller's edit has waited too long is given up, while there is time left to carry the edit out elsewhere.
 -spec overdue(#part{}) -> #part{}.
-overdue(Part = #part{waiting = Waiting, edit_timeout = Timeout, now = Now}) ->
+overdue(Part = #part{full = Full}) when Full =:= #{} ->
+    Part;
+overdue(Part = #part{waiting = Waiting, requested = Requested, edit_timeout = Timeout, now = Now}) ->
     {Node, _} = heal_state:primary(Part),
     Latest = Now + Timeout - heal_state:patience(Part),
-    case is_refusing(Node, Part) andalso [Call || Call = #call{deadline = Deadline} <- Waiting, is_integer(Deadline), Deadline =< Latest] of
+    %% A connection that has room for a moment may refuse a request again.
+    Refused = [Call || Call = #call{is_refused = true} <- maps:values(Requested)],
+    case is_full(Node, Part) andalso [Call || Call = #call{deadline = Deadline} <- Waiting ++ Refused, is_integer(Deadline), Deadline =< Latest] of
         [_ | _] -> heal_peers:give_up(Node, Part);
         _ -> Part
     end.

@@ -23,7 +23,7 @@ unsent(Number, Edit, Part = #part{requested = Requested, waiting = Waiting}) ->
         error -> {#call{edit = Edit}, Requested};
         Known -> Known
     end,
-    Part#part{requested = Rest, waiting = [Call#call{is_sent = Call#call.is_repeated} | Waiting]}.
+    Part#part{requested = Rest, waiting = [Call#call{is_sent = Call#call.is_repeated, is_refused = true} | Waiting]}.
 
 %% Applies entries of this node's view in their order. If one is missing, the primary sends a snapshot.
 -spec entries(node(), heal_replica:position(), [heal_replica:edit()], By, heal_edits:answer(), #part{}) -> #part{}

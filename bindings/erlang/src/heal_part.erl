@@ -148,7 +148,7 @@ owned(true, Part = #part{own = Own, heal = Heal}) ->
     }.
 
 call(Earlier) ->
-    case later(Earlier, record_info(size, call), [false]) of
+    case later(Earlier, record_info(size, call), [false, false]) of
         Call = #call{edit = {register, Name, Row}} -> Call#call{edit = {register, Name, heal_row:upgrade(Name, Row)}};
         Call -> Call
     end.

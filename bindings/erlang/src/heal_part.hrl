@@ -45,7 +45,9 @@
     released = none :: none | heal:owner(),
     is_sent = false :: boolean(),
     %% It was sent in an earlier view, which may have made it.
-    is_repeated = false :: boolean()
+    is_repeated = false :: boolean(),
+    %% A full connection to the primary has refused it.
+    is_refused = false :: boolean()
 }).
 
 %% An exchange: this node leads it and waits for an answer (`asking'), has answered (`engaged'), or both have begun (`open').

@@ -151,6 +151,9 @@ primary_takes_no_requests_test() ->
     ?assertEqual([{reply, 1, {ok, <<1:256>>}}], [Reply || Reply = {reply, _, _} <- done(b)]),
     Healed = event(b, {drained, a}, fun none_lost/3, Alone),
     ?assertEqual(position(a, Healed), position(b, Healed)),
+    %% The same if the connection has room for a moment, and refuses the request again, which the node doesn't know yet.
+    Again = event(b, {drained, a}, fun(From, _, _) -> From =:= b end, Late),
+    ?assert(IsLeading(Handle(tick, 502, maps:get(b, Again)))),
     Earlier = {refused, a, [{request, {{a, 1}, 1}, 1, {unregister, ?NAME, any}}]},
     ?assertMatch(#part{waiting = []}, Handle(Earlier, 3, maps:get(b, Joined))).
 
