@@ -240,8 +240,9 @@ link_lost_after_merge(A, B) ->
 %% ---- Answers, and halves that don't fit ----
 
 fits_test_() ->
-    {inparallel, 3, [heal_cluster:halves(#{exchange_timeout => 200}, Test)
-     || Test <- [fun programs/2, fun too_many_names/2, fun missed_entry/2]]}.
+    %% A node that has missed an entry learns so from the next announcement: the first pulse is to come later than the entries of the test.
+    {inparallel, 3, [heal_cluster:halves(#{exchange_timeout => Timeout}, Test)
+     || {Timeout, Test} <- [{200, fun programs/2}, {200, fun too_many_names/2}, {60000, fun missed_entry/2}]]}.
 
 alarms(It) ->
     [Alarm || Alarm = {{heal_registry, _}, _} <- heal_cluster:call(It, alarm_handler, get_alarms, [])].
