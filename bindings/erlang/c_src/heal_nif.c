@@ -284,27 +284,23 @@ static bool get_owner(ErlNifEnv *env, term map, heal_owner *to)
         && get_u32(env, words[0], &to->node) && get_u32(env, words[1], &to->serial);
 }
 
-static bool get_extra(ErlNifEnv *env, term map, uint8_t to[EXTRA_LEN])
+static bool get_extra(ErlNifEnv *env, term value, uint8_t to[EXTRA_LEN])
 {
-    term value;
     ErlNifBinary bytes;
-    if (!enif_get_map_value(env, map, atom_extra, &value))
-        return true;
     if (!get_bytes(env, value, &bytes) || bytes.size != EXTRA_LEN)
         return false;
     memcpy(to, bytes.data, EXTRA_LEN);
     return true;
 }
 
-/* Reads `exit`, `notify`, `notify_all` or `{program, Id}`; `exit` if the key is missing. */
-static bool get_resolver(ErlNifEnv *env, term map, heal_registration *to)
+/* Reads `exit`, `notify`, `notify_all` or `{program, Id}`. */
+static bool get_resolver(ErlNifEnv *env, term value, heal_registration *to)
 {
-    term value;
     int arity;
     const term *words;
     ErlNifBinary id;
     to->resolver = HEAL_EXIT;
-    if (!enif_get_map_value(env, map, atom_resolver, &value) || enif_is_identical(value, atom_exit))
+    if (enif_is_identical(value, atom_exit))
         return true;
     if (enif_is_identical(value, atom_notify)) {
         to->resolver = HEAL_NOTIFY;
@@ -322,11 +318,49 @@ static bool get_resolver(ErlNifEnv *env, term map, heal_registration *to)
     return true;
 }
 
+/* Reads a map. Without weight and extra bytes these are zero; without a resolver it is `exit`. */
 static bool get_registration(ErlNifEnv *env, term map, heal_registration *to)
 {
+    term value;
     memset(to, 0, sizeof *to);
+    to->resolver = HEAL_EXIT;
     return enif_is_map(env, map) && get_owner(env, map, &to->owner) && get_field(env, map, atom_stamp, true, &to->stamp)
-        && get_field(env, map, atom_weight, false, &to->weight) && get_extra(env, map, to->extra) && get_resolver(env, map, to);
+        && get_field(env, map, atom_weight, false, &to->weight)
+        && (!enif_get_map_value(env, map, atom_extra, &value) || get_extra(env, value, to->extra))
+        && (!enif_get_map_value(env, map, atom_resolver, &value) || get_resolver(env, value, to));
+}
+
+/* What a registration has besides its serial and its stamp, as a term and as it was read or will be written. Rows that follow each other
+   often have it alike. */
+typedef struct {
+    bool is_known;
+    term term;
+    heal_registration registration;
+} alike;
+
+/* Reads {Node, Weight, Extra, Resolver}. */
+static bool get_alike(ErlNifEnv *env, term from, heal_registration *to)
+{
+    int arity;
+    const term *words;
+    memset(to, 0, sizeof *to);
+    return enif_get_tuple(env, from, &arity, &words) && arity == 4 && get_u32(env, words[0], &to->owner.node)
+        && get_u64(env, words[1], &to->weight) && get_extra(env, words[2], to->extra) && get_resolver(env, words[3], to);
+}
+
+/* Reads {Serial, Stamp, Alike}. */
+static bool get_values(ErlNifEnv *env, term from, alike *last, heal_registration *to)
+{
+    int arity;
+    const term *words;
+    if (!enif_get_tuple(env, from, &arity, &words) || arity != 3)
+        return false;
+    if (!last->is_known || last->term != words[2]) {
+        last->is_known = get_alike(env, words[2], &last->registration);
+        last->term = words[2];
+    }
+    *to = last->registration;
+    return last->is_known && get_u32(env, words[0], &to->owner.serial) && get_u64(env, words[1], &to->stamp);
 }
 
 static bool get_facts(ErlNifEnv *env, term map, heal_facts *to)
@@ -377,6 +411,21 @@ static term registration_term(ErlNifEnv *env, const heal_registration *from)
     term values[] = {owner_term(env, from->owner), enif_make_uint64(env, from->stamp), enif_make_uint64(env, from->weight),
         copy_of(env, from->extra, EXTRA_LEN), resolver_term(env, from)};
     return map_of(env, keys, values, sizeof keys / sizeof *keys);
+}
+
+/* Makes {Serial, Stamp, Alike}. */
+static term values_term(ErlNifEnv *env, const heal_registration *from, alike *last)
+{
+    heal_registration shared = *from;
+    shared.owner.serial = 0;
+    shared.stamp = 0;
+    if (!last->is_known || memcmp(&shared, &last->registration, sizeof shared) != 0) {
+        last->is_known = true;
+        last->registration = shared;
+        last->term = enif_make_tuple4(env, enif_make_uint(env, from->owner.node), enif_make_uint64(env, from->weight),
+            copy_of(env, from->extra, EXTRA_LEN), resolver_term(env, from));
+    }
+    return enif_make_tuple3(env, enif_make_uint(env, from->owner.serial), enif_make_uint64(env, from->stamp), last->term);
 }
 
 static term name_term(ErlNifEnv *env, const heal_name *name)
@@ -542,22 +591,23 @@ static term register_name_body(ErlNifEnv *env, resource *held, const term argv[]
 }
 IN_TURN(register_name, side_type)
 
-/* Reads {Name, Registration}. */
-static bool get_row(ErlNifEnv *env, term from, ErlNifBinary *name, heal_registration *to)
+/* Reads {Name, Registration} or {Name, Values}. */
+static bool get_row(ErlNifEnv *env, term from, alike *last, ErlNifBinary *name, heal_registration *to)
 {
     int arity;
     const term *words;
     return enif_get_tuple(env, from, &arity, &words) && arity == 2 && get_bytes(env, words[0], name)
-        && get_registration(env, words[1], to);
+        && (enif_is_map(env, words[1]) ? get_registration(env, words[1], to) : get_values(env, words[1], last, to));
 }
 
 static bool are_rows(ErlNifEnv *env, term rows)
 {
     term head;
     ErlNifBinary name;
+    alike last = {.is_known = false};
     heal_registration registration;
     while (enif_get_list_cell(env, rows, &head, &rows))
-        if (!get_row(env, head, &name, &registration))
+        if (!get_row(env, head, &last, &name, &registration))
             return false;
     return enif_is_empty_list(env, rows);
 }
@@ -567,11 +617,12 @@ static term register_all_body(ErlNifEnv *env, resource *held, const term argv[])
 {
     term head, rest = argv[1];
     ErlNifBinary name;
+    alike last = {.is_known = false};
     heal_registration registration;
     uint32_t number = 0;
     if (!are_rows(env, rest))
         return enif_make_badarg(env);
-    while (number == 0 && enif_get_list_cell(env, rest, &head, &rest) && get_row(env, head, &name, &registration))
+    while (number == 0 && enif_get_list_cell(env, rest, &head, &rest) && get_row(env, head, &last, &name, &registration))
         number = heal_side_register(&held->handle.side, name.data, name.size, &registration);
     return done(env, number);
 }
@@ -623,9 +674,10 @@ static term rows_body(ErlNifEnv *env, resource *held, const term argv[])
 WITH_READERS(rows, side_type)
 
 /* Looks many names up in one call. */
-static term owners_body(ErlNifEnv *env, resource *held, const term argv[])
+static term values_body(ErlNifEnv *env, resource *held, const term argv[])
 {
-    term head, rest = argv[1], owners = enif_make_list(env, 0);
+    term head, rest = argv[1], rows = enif_make_list(env, 0), lacking = rows;
+    alike last = {.is_known = false};
     while (enif_get_list_cell(env, rest, &head, &rest)) {
         ErlNifBinary name;
         heal_registration found;
@@ -633,58 +685,15 @@ static term owners_body(ErlNifEnv *env, resource *held, const term argv[])
             return enif_make_badarg(env);
         uint32_t number = heal_side_whereis(&held->handle.side, name.data, name.size, &found);
         if (number == 0)
-            owners = enif_make_list_cell(env, enif_make_tuple2(env, head, owner_term(env, found.owner)), owners);
-        else if (number != NO_SUCH_NAME)
+            rows = enif_make_list_cell(env, enif_make_tuple2(env, head, values_term(env, &found, &last)), rows);
+        else if (number == NO_SUCH_NAME)
+            lacking = enif_make_list_cell(env, head, lacking);
+        else
             return refused(env, number);
-    }
-    return enif_is_empty_list(env, rest) ? ok(env, owners) : enif_make_badarg(env);
-}
-WITH_READERS(owners, side_type)
-
-/* What a caller knows of a name: its registration, or nothing. */
-typedef struct {
-    term key;
-    ErlNifBinary name;
-    bool is_known;
-    heal_registration registration;
-} known_row;
-
-/* Reads {Name, Registration}, or the name alone. */
-static bool get_known(ErlNifEnv *env, term from, known_row *to)
-{
-    int arity;
-    const term *words;
-    to->is_known = enif_get_tuple(env, from, &arity, &words);
-    if (!to->is_known) {
-        to->key = from;
-        return get_bytes(env, from, &to->name);
-    }
-    if (arity != 2)
-        return false;
-    to->key = words[0];
-    return get_bytes(env, words[0], &to->name) && get_registration(env, words[1], &to->registration);
-}
-
-/* Compares the table with what the caller knows, in one call. */
-static term differing_body(ErlNifEnv *env, resource *held, const term argv[])
-{
-    term head, rest = argv[1], rows = enif_make_list(env, 0), lacking = rows;
-    known_row known;
-    heal_registration found;
-    while (enif_get_list_cell(env, rest, &head, &rest)) {
-        if (!get_known(env, head, &known))
-            return enif_make_badarg(env);
-        uint32_t number = heal_side_whereis(&held->handle.side, known.name.data, known.name.size, &found);
-        if (number != 0 && number != NO_SUCH_NAME)
-            return refused(env, number);
-        if (number != 0)
-            lacking = enif_make_list_cell(env, known.key, lacking);
-        else if (!known.is_known || memcmp(&known.registration, &found, sizeof found) != 0)
-            rows = enif_make_list_cell(env, enif_make_tuple2(env, known.key, registration_term(env, &found)), rows);
     }
     return enif_is_empty_list(env, rest) ? enif_make_tuple3(env, atom_ok, rows, lacking) : enif_make_badarg(env);
 }
-WITH_READERS(differing, side_type)
+WITH_READERS(values, side_type)
 
 static term begin_body(ErlNifEnv *env, resource *held, const term argv[])
 {
@@ -925,6 +934,37 @@ static term rulings_body(ErlNifEnv *env, resource *held, const term argv[])
     return number == 0 ? ok(env, rulings) : refused(env, number);
 }
 READING(rulings, outcome_type)
+
+/* {Name, Owner, Position, Verdict, Resolver, Winner} of a clash whose name the half doesn't keep; the half has the registration at this
+   position. */
+static term loss_term(ErlNifEnv *env, const heal_clash *from, bool has_first, alike *last)
+{
+    const heal_registration *own = has_first ? &from->first : &from->second, *other = has_first ? &from->second : &from->first;
+    return enif_make_tuple6(env, name_term(env, &from->name), owner_term(env, own->owner), has_first ? atom_first : atom_second,
+        verdict_term(from->verdict), resolver_kind(&from->first),
+        from->keeps == HEAL_NEITHER ? atom_none : values_term(env, other, last));
+}
+
+/* The number of clashes, and what a half loses by them. */
+static term losses_body(ErlNifEnv *env, resource *held, const term argv[])
+{
+    size_t count = 0;
+    heal_clash read;
+    alike last = {.is_known = false};
+    term losses = enif_make_list(env, 0);
+    bool is_a = enif_is_identical(argv[1], atom_a);
+    if (!is_a && !enif_is_identical(argv[1], atom_b))
+        return enif_make_badarg(env);
+    uint32_t number = heal_outcome_clashes(&held->handle.outcome, &count);
+    for (size_t i = count; number == 0 && i > 0; i--) {
+        number = heal_outcome_clash(&held->handle.outcome, i - 1, &read);
+        bool has_first = (read.first_half == HEAL_A) == is_a;
+        if (number == 0 && read.keeps != (has_first ? HEAL_FIRST : HEAL_SECOND))
+            losses = enif_make_list_cell(env, loss_term(env, &read, has_first, &last), losses);
+    }
+    return number == 0 ? enif_make_tuple3(env, atom_ok, enif_make_uint64(env, count), losses) : refused(env, number);
+}
+READING(losses, outcome_type)
 
 /* ---- Replicas ---- */
 
@@ -1183,8 +1223,7 @@ static ErlNifFunc functions[] = {
     {"whereis_in_turn", 2, whereis_name, 0},
     {"count_in_turn", 1, count, 0},
     {"rows_in_turn", 1, rows, DIRTY},
-    {"owners_in_turn", 2, owners, DIRTY},
-    {"differing_in_turn", 2, differing, DIRTY},
+    {"values_in_turn", 2, values, DIRTY},
     {"begin_exchange_in_turn", 4, begin, DIRTY},
     {"hear_in_turn", 2, hear, DIRTY},
     {"settle_in_turn", 1, settle, DIRTY},
@@ -1216,6 +1255,7 @@ static ErlNifFunc functions[] = {
     {"merged", 1, merged, 0},
     {"clashes", 1, clashes, DIRTY},
     {"rulings", 1, rulings, DIRTY},
+    {"losses", 2, losses, DIRTY},
 };
 
 ERL_NIF_INIT(heal, functions, on_load, NULL, on_upgrade, NULL)

@@ -17,15 +17,15 @@
 
 -export([load/1, judge/2, program_id/1, record/6, refusal_words/1, peek/1]).
 -export([side/1, side/2, upload/2, forget/2, programs/1, code/2, register/3, register_all/2, unregister/2, whereis/2]).
--export([count/1, rows/1, owners/2, differing/2]).
+-export([count/1, rows/1, values/2]).
 -export([query/1, events/1, renew/1, give_up/1]).
 -export([begin_exchange/4, hear/2, settle/1, withdraw/2, close_list/1, hear_list/2, finish/1, abandon/1]).
--export([number/1, merged/1, clashes/1, rulings/1]).
+-export([number/1, merged/1, clashes/1, rulings/1, losses/2]).
 -export([replica/2, replica_query/1, replica_register/3, replica_unregister/2, replica_upload/2, replica_limit/2, replica_begin/2]).
 -export([replica_lead/1, replica_snapshot/1, replica_follow/2, replica_apply/2, replica_whereis/2, replica_rows/1]).
 -export([replica_side/2, replica_change/3, log_front/1]).
 -export([serials/0]).
--export_type([program/0, side/0, outcome/0, name/0, owner/0, resolver/0, registration/0, facts/0, clash/0, notice/0, ruling/0]).
+-export_type([program/0, side/0, outcome/0, name/0, owner/0, resolver/0, registration/0, values/0, facts/0, clash/0, notice/0, ruling/0, loss/0]).
 -export_type([state/0, head/0, refusal/0, replica/0, position/0, replica_state/0]).
 
 -on_load(init/0).
@@ -49,6 +49,9 @@
 -type resolver() :: exit | notify | notify_all | {program, id()}.
 -type registration() :: #{owner := owner(), stamp := word(), weight => word(), extra => <<_:128>>, resolver => resolver()}.
 %% Without weight and extra bytes these are zero; without a resolver it is `exit'. Results have all keys.
+-type values() :: {Serial :: 0..16#ffffffff, Stamp :: word(),
+                   {Node :: 0..16#ffffffff, Weight :: word(), Extra :: <<_:128>>, resolver()}}.
+%% A registration without the names of its fields. The rows that a call returns share what they have alike.
 -type facts() :: #{size := word(), uptime := word()}.
 -type notice() :: {exit, owner()} | {conflict, owner()} | {conflict_with, owner(), Other :: owner()}.
 -type clash() :: #{
@@ -65,6 +68,9 @@
 -type ruling() :: {name(), First :: owner(), Second :: owner(), FirstHalf :: a | b, Verdict :: first | second | neither,
                    OfFirst :: exit | notify | notify_all | program}.
 %% A clash in short.
+-type loss() :: {name(), Owner :: owner(), first | second, Verdict :: first | second | neither,
+                 OfFirst :: exit | notify | notify_all | program, Winner :: values() | none}.
+%% A clash in short, for a half whose owner has the registration at this position and doesn't keep the name. `Winner' keeps it.
 -type state() :: #{
     side := a | b,
     open := word() | none,
@@ -159,7 +165,7 @@ code(Side, Id) -> turn(fun() -> code_in_turn(Side, Id) end).
 register(Side, Name, Registration) -> turn(fun() -> register_in_turn(Side, Name, Registration) end).
 
 %% @doc Registers names on an idle side, one after the other. A refusal ends that, and the names before it stay.
--spec register_all(side(), [{name(), registration()}]) -> result().
+-spec register_all(side(), [{name(), registration() | values()}]) -> result().
 register_all(Side, Rows) -> turn(fun() -> register_all_in_turn(Side, Rows) end).
 
 %% @doc Unregisters a name on an idle side.
@@ -178,15 +184,9 @@ count(Side) -> turn(fun() -> count_in_turn(Side) end).
 -spec rows(side()) -> result([{name(), registration()}]).
 rows(Side) -> turn(fun() -> rows_in_turn(Side) end).
 
-%% @doc Returns those of the names that are registered, each with its owner, in no order.
--spec owners(side(), [name()]) -> result([{name(), owner()}]).
-owners(Side, Names) -> turn(fun() -> owners_in_turn(Side, Names) end).
-
-%% @doc Compares the side with known rows, and with names whose rows aren't known. Returns the rows of these names that differ, and
-%% the names that the side lacks, both in no order.
--spec differing(side(), [{name(), registration()} | name()]) ->
-    {ok, [{name(), registration()}], Lacking :: [name()]} | {error, refusal()}.
-differing(Side, Known) -> turn(fun() -> differing_in_turn(Side, Known) end).
+%% @doc Looks names up. Returns the rows of those that are registered, and those that aren't, both in no order.
+-spec values(side(), [name()]) -> {ok, [{name(), values()}], Lacking :: [name()]} | {error, refusal()}.
+values(Side, Names) -> turn(fun() -> values_in_turn(Side, Names) end).
 
 %% @doc Opens an exchange and returns the offer for the other half. Both halves use the same number and seed.
 -spec begin_exchange(side(), Number :: word(), Seed :: word(), Uptime :: word()) -> result(Offer :: binary()).
@@ -251,6 +251,10 @@ clashes(_Outcome) -> missing().
 %% @doc Returns the clashes in the order of names, in short.
 -spec rulings(outcome()) -> result([ruling()]).
 rulings(_Outcome) -> missing().
+
+%% @doc Returns the number of clashes, and those whose name this half doesn't keep, in the order of names.
+-spec losses(outcome(), a | b) -> {ok, Clashes :: non_neg_integer(), [loss()]} | {error, refusal()}.
+losses(_Outcome, _Half) -> missing().
 
 %% @doc Starts a life of a node: a replica with an empty half, as the primary of its first view. No two lives of a node may share an
 %% incarnation.
@@ -347,8 +351,7 @@ unregister_in_turn(_Side, _Name) -> missing().
 whereis_in_turn(_Side, _Name) -> missing().
 count_in_turn(_Side) -> missing().
 rows_in_turn(_Side) -> missing().
-owners_in_turn(_Side, _Names) -> missing().
-differing_in_turn(_Side, _Known) -> missing().
+values_in_turn(_Side, _Names) -> missing().
 begin_exchange_in_turn(_Side, _Number, _Seed, _Uptime) -> missing().
 hear_in_turn(_Side, _Offer) -> missing().
 settle_in_turn(_Side) -> missing().

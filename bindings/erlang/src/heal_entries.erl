@@ -44,12 +44,12 @@ entries(_Node, _At, [], _By, _Answer, Part) ->
 
 entry(already, _Edit, _By, _Applied, Part) ->
     Part;
-entry(now, {register, Name, _}, By, Applied, Part = #part{own = Own, lost = Lost}) ->
+entry(now, {register, Name, _}, By, Applied, Part = #part{lost = Lost}) ->
     #{Name := Row} = (heal_state:half(Applied))#half.names,
     Done = heal_orders:applied({register, Name, Row}, By, Part, claimed_by(By, Row, Name, Applied)),
-    case is_map_key(Name, Own) andalso heal_home:conflicts([], #half{names = #{Name => Row}}, Done) of
-        [Name | _] when not is_map_key(Name, Lost) -> heal_view:lead_alone(Done);
-        _ -> Done
+    case heal_home:is_conflict(Name, Row, Done) andalso not is_map_key(Name, Lost) of
+        true -> heal_view:lead_alone(Done);
+        false -> Done
     end;
 entry(now, Edit, By, Applied, Part) ->
     heal_orders:applied(Edit, By, Part, Applied).

@@ -6,46 +6,43 @@
 
 -include("heal_replica.hrl").
 
--export([prepare/4, update/3, open/3, hear/2, withdraw/2, close/1, finish/3, seed/0, serial/0, is_alive/1]).
--export_type([process/0, handle/0]).
+-export([prepare/4, update/3, open/3, hear/2, withdraw/2, close/1, finish/3, rulings/1, seed/0, serial/0, is_alive/1]).
+-export_type([handle/0, rulings/0]).
 
--type process() :: {heal:owner(), pid(), Term :: term(), Home :: heal_replica:life()}.
 -type refused() :: {error, pos_integer()}.
-%% A side, and the rows that it was made of.
--opaque handle() :: {heal:side(), [{heal:name(), heal:registration()}]}.
+-opaque handle() :: {a | b, heal:side()}.
+-opaque rulings() :: heal:outcome().
 
 %% Makes a side of these names, which may have as many names as the limit. The leader is side a.
 -spec prepare(a | b, #{heal:name() => #row{}}, #{binary() => binary()}, Limit :: pos_integer()) -> {ok, handle()} | refused().
 prepare(Id, Names, Programs, Limit) ->
     {ok, Side} = heal:side(Id, Limit),
-    Rows = [{Name, heal_row:registration(Row)} || {Name, Row} <- maps:to_list(Names)],
+    Rows = [{Name, heal_row:values(Row)} || {Name, Row} <- maps:to_list(Names)],
     Calls = [fun() -> plain(heal:upload(Side, Code)) end || Code <- maps:values(Programs)]
         ++ [fun() -> heal:register_all(Side, Rows) end, fun() -> heal:renew(Side) end],
-    with({Side, Rows}, all(Calls)).
+    with({Id, Side}, all(Calls)).
 
 %% Replaces names: those that are gone, and these rows.
 -spec update(Put :: [{heal:name(), #row{}}], Gone :: [heal:name()], handle()) -> {ok, handle()} | refused().
-update(Put, Gone, {Side, Rows}) ->
-    New = [{Name, heal_row:registration(Row)} || {Name, Row} <- Put],
-    Old = maps:from_keys(Gone, gone),
+update(Put, Gone, Handle = {_, Side}) ->
+    Rows = [{Name, heal_row:values(Row)} || {Name, Row} <- Put],
     Calls = [fun() -> heal:unregister(Side, Name) end || Name <- Gone]
-        ++ [fun() -> heal:register(Side, Name, Registration) end || {Name, Registration} <- New]
-        ++ [fun() -> heal:renew(Side) end],
-    with({Side, New ++ [Entry || Entry = {Name, _} <- Rows, not is_map_key(Name, Old)]}, all(Calls)).
+        ++ [fun() -> heal:register_all(Side, Rows) end, fun() -> heal:renew(Side) end],
+    with(Handle, all(Calls)).
 
 %% Begins the exchange, and returns the offer.
 -spec open(Number :: pos_integer(), Seed :: non_neg_integer(), handle()) -> {ok, Offer :: binary(), handle()} | refused().
-open(Number, Seed, Handle = {Side, _}) ->
+open(Number, Seed, Handle = {_, Side}) ->
     with(Handle, heal:begin_exchange(Side, Number, Seed, heal_names:uptime())).
 
 %% Hears the other's offer and judges every clash.
 -spec hear(Offer :: binary(), handle()) -> {ok, handle()} | refused().
-hear(Offer, Handle = {Side, _}) ->
+hear(Offer, Handle = {_, Side}) ->
     with(Handle, all([fun() -> heal:hear(Side, Offer) end, fun() -> heal:settle(Side) end])).
 
 %% Withdraws a name whose process is gone. `late' means that the list is closed.
 -spec withdraw(heal:name(), handle()) -> {ok, handle()} | late.
-withdraw(Name, Handle = {Side, _}) ->
+withdraw(Name, Handle = {_, Side}) ->
     case heal:withdraw(Side, Name) of
         ok -> {ok, Handle};
         {error, _} -> late
@@ -53,22 +50,28 @@ withdraw(Name, Handle = {Side, _}) ->
 
 %% Closes the list of withdrawn names, and returns it.
 -spec close(handle()) -> {ok, List :: binary(), handle()} | refused().
-close(Handle = {Side, _}) ->
+close(Handle = {_, Side}) ->
     with(Handle, heal:close_list(Side)).
 
-%% Hears the other's list. Returns the registrations of the merge that this side didn't have, of its own names and of these
-%% others; which of all these names the merge lacks; and the clashes.
--spec finish(List :: binary(), Others :: [heal:name()], handle()) ->
-    {ok, [{heal:name(), heal:registration()}], Lacking :: [heal:name()], [heal:ruling()]} | refused().
-finish(List, Others, {Side, Rows}) ->
+%% Hears the other's list. Returns how many names clash, what this side loses by that, and all rulings; and what the merge has under these
+%% names.
+-spec finish(List :: binary(), [heal:name()], handle()) ->
+    {ok, {Clashes :: non_neg_integer(), [heal:loss()], rulings()}, [{heal:name(), heal:values()}], Lacking :: [heal:name()]} | refused().
+finish(List, Names, {Id, Side}) ->
     case all([fun() -> heal:hear_list(Side, List) end, fun() -> heal:finish(Side) end]) of
         {ok, Outcome} ->
-            {ok, Rulings} = heal:rulings(Outcome),
-            {ok, Changed, Lacking} = heal:differing(Side, Others ++ Rows),
-            {ok, Changed, Lacking, Rulings};
+            {ok, Clashes, Losses} = heal:losses(Outcome, Id),
+            {ok, Rows, Lacking} = heal:values(Side, Names),
+            {ok, {Clashes, Losses, Outcome}, Rows, Lacking};
         Refused ->
             Refused
     end.
+
+%% Returns the clashes in short.
+-spec rulings(rulings()) -> [heal:ruling()].
+rulings(Outcome) ->
+    {ok, Rulings} = heal:rulings(Outcome),
+    Rulings.
 
 %% Returns a random seed.
 -spec seed() -> non_neg_integer().

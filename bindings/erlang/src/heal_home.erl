@@ -6,27 +6,25 @@
 
 -include("heal_part.hrl").
 
--export([claim/3, change/3, missing/2, is_taken/3, disown/2, is_own/3, waiting/1, conflicts/3, losers/5]).
--export([plan/4, is_current/2, losers/1, conflicts/1, swap/2, differences/1, differences/2, settle/1, restrict/2]).
--export_type([loss/0, loser/0, changes/0, plan/0]).
+-export([claim/3, change/3, missing/2, is_taken/3, disown/2, is_own/3, waiting/1, conflicts/2, is_conflict/3]).
+-export([plan/5, is_current/2, losers/1, conflicts/1, swap/2, show/2, differences/1, differences/2, settle/1, restrict/2]).
+-export_type([changes/0, plan/0]).
 
 -define(MAX_PROGRAMS, 256).
 
--type loss() :: {heal_names:notice(), Rival :: pid()}.
--type loser() :: {heal:name(), heal:owner(), loss()}.
 %% The rows of a half that differ from those of the half before, and the names that it lacks.
 -type changes() :: {Put :: [{heal:name(), #row{}}], Drop :: [heal:name()]}.
 
 %% What changes on a node whose part takes another half. It follows from the half and from the first three fields.
 -record(plan, {
-    losers :: [loser()],
+    losers :: heal_losers:losers(),
     own :: #{heal:name() => #row{}},
     before :: #{heal:name() => #row{}},
     %% Names of this node that the half gives to another process, though no exchange decided so.
     conflicts :: [heal:name()],
     changes :: changes(),
     %% The registrations that an exchange takes names from.
-    lost :: #{heal:name() => loss()},
+    lost :: #{heal:name() => heal_losers:loss()},
     %% Names whose process another node answers for.
     moved :: [heal:name()],
     %% Registrations that the table lacks.
@@ -37,6 +35,16 @@
     lacking :: [heal_edits:edit()]
 }).
 -opaque plan() :: #plan{}.
+
+%% How a table differs from the registrations of this node. `moved' has names whose process another node answers for, `missing' the
+%% registrations that the table lacks or that have lost their names, `restored' and `changed' the edits that make the table as they are.
+-record(found, {
+    conflicts = [] :: [heal:name()],
+    moved = [] :: [heal:name()],
+    missing = [] :: [{heal:name(), #row{}}],
+    restored = [] :: [heal_edits:edit()],
+    changed = [] :: [heal_edits:edit()]
+}).
 
 %% Answers for a registration from now on, unless this node answers for another one of the name.
 -spec claim(heal:name(), #row{}, #part{}) -> #part{}.
@@ -80,58 +88,70 @@ is_own(Name, Owner, #part{own = Own}) ->
 owner(Row) -> heal_row:owner(Row).
 
 %% Returns the losers whose notice still waits.
--spec waiting(#part{}) -> [loser()].
+-spec waiting(#part{}) -> [heal_losers:loser()].
 waiting(#part{own = Own, lost = Lost}) ->
     [{Name, owner(map_get(Name, Own)), Loss} || {Name, Loss} <- maps:to_list(Lost)].
 
-%% Returns the names of this node that a half has given to another process, except those that an exchange decided.
--spec conflicts([loser()], #half{}, #part{}) -> [heal:name()].
-conflicts(Losers, #half{names = Names}, Part = #part{own = Own}) ->
-    case [Name || {Name, Row} <- maps:to_list(Own), is_rival(Row, maps:get(Name, Names, Row))] of
-        [] -> [];
-        Rivals ->
-            Lost = maps:from_keys([Name || {Name, Owner, _} <- Losers, is_own(Name, Owner, Part)], lost),
-            [Name || Name <- Rivals, not is_map_key(Name, Lost)]
+%% Returns the names of this node that a half has given to another process.
+-spec conflicts(#half{}, #part{}) -> [heal:name()].
+conflicts(#half{names = Names}, #part{own = Own}) ->
+    (found(Own, Names, #{}))#found.conflicts.
+
+%% Returns whether a row gives a name of this node to another process.
+-spec is_conflict(heal:name(), #row{}, #part{}) -> boolean().
+is_conflict(Name, Row, #part{own = Own}) ->
+    case Own of
+        #{Name := Mine} -> (found(Name, Mine, #{Name => Row}, #{}, #found{}))#found.conflicts =/= [];
+        _ -> false
     end.
 
-is_rival(#row{pid = Pid}, #row{pid = Pid}) -> false;
-is_rival(Row, Other) -> not heal_row:are_of_one(Row, Other).
-
-%% Computes what changes on this node when its part takes this half from an exchange with these losers, or without one. The changes are
-%% those of its rows, unless they aren't known.
--spec plan([loser()], #half{}, changes() | unknown, #part{}) -> plan().
-plan(Losers, #half{names = New}, Changes, Part = #part{own = Own}) ->
-    #half{names = Old} = heal_state:half(Part),
-    Lost = lost_by(Losers, Own),
+%% Computes what changes on this node when its part takes this half, from an exchange with these losers or without one, and had the other
+%% half before. The changes are those of its rows, unless they aren't known.
+-spec plan(heal_losers:losers(), #half{}, changes() | unknown, Before :: #half{}, #part{}) -> plan().
+plan(Losers, #half{names = New}, Changes, #half{names = Old}, Part = #part{own = Own}) ->
+    Lost = heal_losers:lost(Losers, Own),
     Found = found(Own, New, Lost),
     #plan{
         losers = Losers,
         own = Own,
         before = Old,
-        conflicts = [Name || {Name, Row, Other = #row{}} <- Found, is_rival(Row, Other), not is_map_key(Name, Lost)],
+        conflicts = Found#found.conflicts,
         changes = case Changes of unknown -> changes(Old, New); _ -> Changes end,
         lost = Lost,
-        moved = [Name || {Name, Row, Other} <- Found, is_moved(Row, Other)],
-        missing = [{Name, Row} || {Name, Row, Other} <- Found, Other =:= none orelse is_map_key(Name, Lost), not is_moved(Row, Other)],
+        moved = Found#found.moved,
+        missing = Found#found.missing,
         strange = strange(maps:to_list(New), Part),
-        lacking = lacking(Found, Lost)
+        lacking = lacking(Found)
     }.
 
-%% The registrations that the table doesn't have as they are, and those that an exchange has taken names from, each with the row that the
-%% table has under its name.
+%% How a table differs from the registrations of this node, some of which have lost their names.
 found(Own, Names, Lost) ->
-    [{Name, Row, Other} || {Name, Row} <- maps:to_list(Own), Other <- other(Name, Row, Names, Lost)].
+    lists:foldl(fun({Name, Row}, Sum) -> found(Name, Row, Names, Lost, Sum) end, #found{}, maps:to_list(Own)).
 
-other(Name, Row, Names, Lost) ->
+found(Name, Row, Names, Lost, Found) ->
     case Names of
-        #{Name := Row} when not is_map_key(Name, Lost) -> [];
-        #{Name := Other} -> [Other];
-        _ -> [none]
+        #{Name := Row} when not is_map_key(Name, Lost) -> Found;
+        #{Name := Other} -> other(Name, Row, Other, is_map_key(Name, Lost), Found);
+        _ when is_map_key(Name, Lost) -> missing(Name, Row, Found);
+        _ -> missing(Name, Row, Found#found{restored = [{register, Name, Row} | Found#found.restored]})
     end.
 
-%% The registrations that an exchange has taken names from.
-lost_by(Losers, Own) ->
-    maps:from_list([{Name, Loss} || {Name, Owner, Loss} <- Losers, #{Name := Row} <- [Own], heal_row:is_of(Owner, Row)]).
+%% The table has another row under the name.
+other(Name, Row = #row{pid = Pid}, Other = #row{pid = Of}, IsLost, Found) ->
+    case {heal_row:are_of_one(Row, Other), IsLost} of
+        {false, _} when Pid =:= Of -> Found#found{moved = [Name | Found#found.moved]};
+        {_, true} -> missing(Name, Row, Found);
+        {false, false} -> Found#found{conflicts = [Name | Found#found.conflicts]};
+        {true, false} ->
+            Change = {change, Name, owner(Row), maps:remove(owner, heal_row:registration(Row))},
+            Found#found{changed = [Change | Found#found.changed]}
+    end.
+
+missing(Name, Row, Found = #found{missing = Missing}) ->
+    Found#found{missing = [{Name, Row} | Missing]}.
+
+lacking(#found{restored = Restored, changed = Changed}) ->
+    Restored ++ Changed.
 
 changes(Old, New) ->
     Put = [Entry || Entry = {Name, Row} <- maps:to_list(New), not (is_map_key(Name, Old) andalso map_get(Name, Old) =:= Row)],
@@ -143,23 +163,32 @@ is_current(#plan{own = Own, before = Before}, Part = #part{own = Now}) ->
     Own =:= Now andalso Before =:= (heal_state:half(Part))#half.names.
 
 %% Returns the losers of a plan.
--spec losers(plan()) -> [loser()].
+-spec losers(plan()) -> heal_losers:losers().
 losers(#plan{losers = Losers}) -> Losers.
 
 %% Returns the names of this node that the half of a plan gives to another process, except those that an exchange decided.
 -spec conflicts(plan()) -> [heal:name()].
 conflicts(#plan{conflicts = Conflicts}) -> Conflicts.
 
-%% Replaces the table that processes read by that of the replica, and notes which registrations have lost their names. Names of
-%% processes that ended are hidden already.
+%% Notes which registrations have lost their names, now that the replica has the half of the plan.
 -spec swap(plan(), #part{}) -> #part{}.
-swap(#plan{changes = {Put, Drop}, lost = Lost, moved = Moved, missing = Missing, strange = Strange}, Part) ->
+swap(#plan{lost = Lost, moved = Moved}, Part) ->
     #half{programs = Known} = heal_state:half(Part),
     All = maps:merge(Part#part.programs, Known),
-    Noted = Part#part{lost = Lost, programs = All},
-    Shown = heal_state:add({rows, Put, Drop}, kept(Missing, lists:foldl(fun disown/2, Noted, Moved))),
-    Hide = fun({Name, _}, Sum) -> heal_state:add({hide, Name}, Sum) end,
-    lists:foldl(Hide, heal_state:add({keep, programs, All}, Shown), Strange).
+    heal_state:add({keep, programs, All}, lists:foldl(fun disown/2, Part#part{lost = Lost, programs = All}, Moved)).
+
+%% Replaces the table that processes read by that of the plan, but for what edits have changed since. Names of processes that ended are
+%% hidden already.
+-spec show(plan(), #part{}) -> #part{}.
+show(#plan{changes = {Put, Drop}, missing = Missing, strange = Strange}, Part = #part{own = Own}) ->
+    #half{names = Names} = heal_state:half(Part),
+    Kept = kept(held(Missing, Own), Part),
+    Shown = heal_state:add({rows, held(Put, Names), [Name || Name <- Drop, not is_map_key(Name, Names)]}, Kept),
+    lists:foldl(fun({Name, _}, Sum) -> heal_state:add({hide, Name}, Sum) end, Shown, held(Strange, Names)).
+
+%% Those of the rows that a map has.
+held(Rows, Map) ->
+    [Entry || Entry = {Name, Row} <- Rows, #{Name := Same} <- [Map], Same =:= Row].
 
 %% The rows that this node answered for and does no more.
 strange(Rows, Part = #part{own = Own}) ->
@@ -172,16 +201,12 @@ is_one_of(Name, Row, Own) ->
         _ -> false
     end.
 
-%% Another node answers for the same process under this name.
-is_moved(Row = #row{pid = Pid}, Other = #row{pid = Pid}) -> not heal_row:are_of_one(Row, Other);
-is_moved(_Row, _Other) -> false.
-
 %% Returns the edits that the part lacks: registrations and programs of this node, their changes, and names that it answers for no
 %% more.
 -spec differences(#part{}) -> [heal_edits:edit()].
 differences(Part = #part{own = Own, lost = Lost}) ->
     #half{names = Names} = heal_state:half(Part),
-    dropped(strange(maps:to_list(Names), Part)) ++ uploads(Part) ++ lacking(found(Own, Names, Lost), Lost).
+    dropped(strange(maps:to_list(Names), Part)) ++ uploads(Part) ++ lacking(found(Own, Names, Lost)).
 
 %% The same right after a plan, of which most of it follows.
 -spec differences(plan(), #part{}) -> [heal_edits:edit()].
@@ -189,12 +214,6 @@ differences(#plan{own = Own, lost = Lost, strange = Strange, lacking = Lacking},
     dropped(Strange) ++ uploads(Part) ++ Lacking;
 differences(_Plan, Part) ->
     differences(Part).
-
-lacking(Found, Lost) ->
-    Restored = [{register, Name, Row} || {Name, Row, none} <- Found, not is_map_key(Name, Lost)],
-    Changed = [{change, Name, owner(Row), maps:remove(owner, heal_row:registration(Row))}
-               || {Name, Row, Shown = #row{}} <- Found, Shown =/= Row, heal_row:are_of_one(Shown, Row), not is_map_key(Name, Lost)],
-    Restored ++ Changed.
 
 dropped(Strange) ->
     [{unregister, Name, owner(Row)} || {Name, Row} <- Strange].
@@ -231,13 +250,3 @@ lost(Losers, Part) -> heal_state:add({lost, Losers}, Part).
 restrict(Homes, Part) ->
     Half = #half{names = Names} = heal_state:half(Part),
     Half#half{names = maps:filter(fun(_, #row{home = Home}) -> lists:member(Home, Homes) end, Names)}.
-
-%% Adds the losers of a clash of two processes, that of this side and that of the other one.
--spec losers(heal:ruling(), a | b, pid(), pid(), [loser()]) -> [loser()].
-losers({Name, First, Second, Half, Verdict, Resolver}, Side, OfOwn, OfOther, Others) ->
-    {OfFirst, OfSecond} = case Half of Side -> {OfOwn, OfOther}; _ -> {OfOther, OfOwn} end,
-    case heal_names:notices(Verdict, Resolver) of
-        [Notice = {_, first}] -> [{Name, First, {Notice, OfSecond}} | Others];
-        [Notice = {_, second}] -> [{Name, Second, {Notice, OfFirst}} | Others];
-        [One, Other] -> [{Name, First, {One, OfSecond}}, {Name, Second, {Other, OfFirst}} | Others]
-    end.

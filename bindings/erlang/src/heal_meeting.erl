@@ -12,7 +12,8 @@
 
 -type member() :: {heal_replica:life(), Number :: non_neg_integer()}.
 %% What an exchange has come to: what heal_exchange:finish/3 returned, and the names that the other node has withdrawn.
--type outcome() :: {[{heal:name(), heal:registration()}], Lacking :: [heal:name()], [heal:ruling()], Withdrawn :: [heal:name()]}.
+-type outcome() :: {{Clashes :: non_neg_integer(), [heal:loss()], heal_exchange:rulings()}, [{heal:name(), heal:values()}],
+                    Lacking :: [heal:name()], Withdrawn :: [heal:name()]}.
 
 -define(MAX_PROGRAMS, 256).
 
@@ -221,9 +222,10 @@ opened({error, Refusal}, _Reference, Number, _Seed, Node, Part) ->
 
 open(Node, Side, Number, Seed, Members, Part = #part{now = Now, exchange_timeout = Timeout}) ->
     case begin_with(ready(Side, Members, Part), Number, Seed, Part) of
-        {ok, Bytes, Handle, #prepared{at = At, names = Names, processes = Processes}} ->
+        {ok, Bytes, Handle, #prepared{at = At, names = Names}} ->
             Open = #open{node = Node, number = Number, side = Side, from = At, handle = Handle, own = Names,
                          members = Members, begun = Now, deadline = Now + Timeout},
+            Processes = heal_processes:sent(heal_processes:groups(Names), heal_peers:takes_groups(Node, Part)),
             {ok, {Bytes, Processes, (heal_state:half(Part))#half.programs, members(Part)}, Open};
         Refused ->
             Refused
@@ -255,14 +257,12 @@ ready(Side, Members, Part = #part{prepared = Prepared}) ->
 
 updated(Prepared = #prepared{touched = Touched}, Part) when Touched =:= #{} ->
     {ok, Prepared#prepared{at = heal_state:at(Part)}};
-updated(#prepared{side = Side, members = Members, names = Names, processes = Processes, handle = Handle, touched = Touched},
-        Part = #part{world = World}) ->
+updated(#prepared{side = Side, members = Members, names = Names, handle = Handle, touched = Touched}, Part = #part{world = World}) ->
     Rows = offered(Side, Members, maps:with(maps:keys(Touched), (heal_state:half(Part))#half.names)),
     Gone = [Name || Name <- maps:keys(Touched), is_map_key(Name, Names)],
     case World:update(maps:to_list(Rows), Gone, Handle) of
         {ok, Updated} ->
-            Replace = fun(Map, New) -> maps:merge(maps:without(Gone, Map), New) end,
-            {ok, prepared(Side, Members, Replace(Names, Rows), Replace(Processes, processes(Rows)), Updated, Part)};
+            {ok, prepared(Side, Members, maps:merge(maps:without(Gone, Names), Rows), Updated, Part)};
         _Refused ->
             prepare(Side, Members, Part)
     end.
@@ -280,15 +280,12 @@ prepare(Side, Members, Part = #part{world = World, replica = Replica}) ->
     #half{names = All, programs = Programs} = heal_state:half(Part),
     Names = offered(Side, Members, All),
     case World:prepare(Side, Names, Programs, heal_replica:limit(Replica)) of
-        {ok, Handle} -> {ok, prepared(Side, Members, Names, processes(Names), Handle, Part)};
+        {ok, Handle} -> {ok, prepared(Side, Members, Names, Handle, Part)};
         Refused -> Refused
     end.
 
-prepared(Side, Members, Names, Processes, Handle, Part) ->
-    #prepared{at = heal_state:at(Part), side = Side, members = Members, names = Names, processes = Processes, handle = Handle}.
-
-processes(Names) ->
-    maps:map(fun(_, Row) -> process(Row) end, Names).
+prepared(Side, Members, Names, Handle, Part) ->
+    #prepared{at = heal_state:at(Part), side = Side, members = Members, names = Names, handle = Handle}.
 
 %% Nodes that both parts claim count as the leader's.
 offered(a, _Members, Names) ->
@@ -296,8 +293,6 @@ offered(a, _Members, Names) ->
 offered(b, Members, Names) ->
     Theirs = maps:from_keys([Life || {Life, _} <- Members], member),
     maps:without([Name || {Name, #row{home = Home}} <- maps:to_list(Names), is_map_key(Home, Theirs)], Names).
-
-process(Row = #row{pid = Pid, term = Term, home = Home}) -> {heal_row:owner(Row), Pid, Term, Home}.
 
 %% The other node begins too, and sends its offer.
 accept(Node, Number, Seed, Members, Continue, Part) ->
@@ -314,7 +309,7 @@ accept(Node, Number, Seed, Members, Continue, Part) ->
 hear({Bytes, Processes, Programs, Members}, Open = #open{handle = Handle}, Part = #part{world = World}, Continue) ->
     case World:hear(Bytes, Handle) of
         {ok, Heard} ->
-            Next = Open#open{handle = Heard, others = Processes, programs = Programs, members = Members},
+            Next = Open#open{handle = Heard, others = heal_processes:received(Processes), programs = Programs, members = Members},
             Continue(Part#part{heal = extended(Next, Part)});
         {error, Refusal} ->
             refused(Refusal, Part)
@@ -334,9 +329,11 @@ close(Part = #part{world = World, heal = Open = #open{node = Node, number = Numb
 
 %% Ends the exchange. The leader names the view that begins with the merge, and both nodes compute the merge at the same time.
 finish({List, Withdrawn}, Open = #open{handle = Handle, own = Own, others = Others, side = Side}, Part = #part{world = World}) ->
-    case World:finish(List, [Name || Name <- maps:keys(Others), not is_map_key(Name, Own)], Handle) of
-        {ok, Changed, Lacking, Rulings} when Side =:= a -> lead(Open, {Changed, Lacking, Rulings, Withdrawn}, Part);
-        {ok, Changed, Lacking, Rulings} -> keep(Open, merge({Changed, Lacking, Rulings, Withdrawn}, Open, Part), Part);
+    %% Besides the names that clash, only those of one side alone and those that are withdrawn may change.
+    Gone = [Name || Name <- Withdrawn ++ Open#open.withdrawn, is_map_key(Name, Own)],
+    case World:finish(List, Gone ++ heal_processes:alone(Others, Own), Handle) of
+        {ok, Judged, Rows, Lacking} when Side =:= a -> lead(Open, {Judged, Rows, Lacking, Withdrawn}, Part);
+        {ok, Judged, Rows, Lacking} -> keep(Open, merge({Judged, Rows, Lacking, Withdrawn}, Open, Part), Part);
         {error, Refusal} -> refused(Refusal, Part)
     end.
 
@@ -351,42 +348,27 @@ lead(#open{node = Node, number = Number, from = From}, Outcome, Part = #part{rep
             refused(Refusal, Part)
     end.
 
-%% The other node keeps the merge until it hears of the leader's view.
-keep(Open, {Half, Plan, Facts}, Part) ->
+%% The other node keeps the merge until it hears of the leader's view, with what it changes on this node.
+keep(Open, {Half, Losers, Changes, Facts}, Part) ->
+    Plan = heal_home:plan(Losers, Half, Changes, heal_state:half(Part), Part),
     heal_state:add({healed, Facts}, Part#part{heal = extended(Open#open{stage = {done, Half, Plan}}, Part)}).
 
-%% The merge, with what it changes on this node, and what is reported of it.
-merge({Changed, Lacking, Rulings, Withdrawn}, Open, Part) ->
-    {Half, Changes} = merged(Changed, Lacking, Open, Part),
-    Plan = heal_home:plan(losers(Rulings, Withdrawn ++ Open#open.withdrawn, Open), Half, Changes, Part),
-    {Half, Plan, facts(length(Rulings), Half, Open, Part)}.
-
-losers(Rulings, Withdrawn, #open{side = Side, own = Own, others = Others}) ->
-    Gone = maps:from_keys(Withdrawn, withdrawn),
-    Add = fun(Ruling, Sum) ->
-        Name = element(1, Ruling),
-        case is_map_key(Name, Gone) orelse {Own, Others} of
-            %% A process that clashes with itself loses nothing.
-            {#{Name := #row{pid = OfOwn}}, #{Name := {_, OfOther, _, _}}} when OfOwn =/= OfOther ->
-                heal_home:losers(Ruling, Side, OfOwn, OfOther, Sum);
-            _ ->
-                Sum
-        end
-    end,
-    lists:foldr(Add, [], Rulings).
+%% The merge, its losers, how its rows differ, and what is reported of it.
+merge({{Clashes, Losses, Rulings}, Rows, Lacking, Withdrawn}, Open, Part = #part{world = World}) ->
+    Won = [{Name, Values} || {Name, _, _, _, _, Values} <- Losses, Values =/= none],
+    Lost = [Name || {Name, _, _, _, _, none} <- Losses],
+    {Half, Changes} = merged(maps:from_list(Rows ++ Won), Lacking ++ Lost, Open, Part),
+    {Half, heal_losers:judged({Losses, Rulings}, Withdrawn, Open, Half, World), Changes, facts(Clashes, Half, Open, Part)}.
 
 facts(Clashes, #half{names = Names}, #open{node = Node, number = Number, begun = Begun}, #part{now = Now}) ->
     #{with => Node, number => Number, clashes => Clashes, names => map_size(Names), milliseconds => Now - Begun}.
 
-%% The merge, and what it changes.
-merged(Changed, Lacking, Open, Part) ->
-    #open{number = Number, side = Side, own = Own, programs = Theirs} = Open,
+%% The merge, and what it changes: it has these registrations of the other side, and lacks these names.
+merged(Gained, Lacking, Open, Part) ->
+    #open{number = Number, side = Side, own = Own, others = Others, programs = Theirs} = Open,
     #half{names = Names, programs = Ours} = heal_state:half(Part),
     Programs = case Side of a -> united(Ours, Theirs); b -> united(Theirs, Ours) end,
-    {Rows, _} = lists:mapfoldl(fun({Name, Registration}, Shared) ->
-        {Row, Next} = heal_row:share(row(Name, Registration, Open), Shared),
-        {{Name, Row}, Next}
-    end, #{}, Changed),
+    Rows = heal_processes:rows(Others, Gained),
     Merge = maps:merge(maps:without(Lacking, Own), maps:from_list(Rows)),
     Changes = case Names of
         Own -> {Rows, [Name || Name <- Lacking, is_map_key(Name, Own)]};
@@ -399,20 +381,12 @@ united(OfA, OfB) ->
     More = lists:sort(maps:to_list(maps:without(maps:keys(OfA), OfB))),
     maps:merge(OfA, maps:from_list(lists:sublist(More, ?MAX_PROGRAMS - map_size(OfA)))).
 
-row(Name, Registration = #{owner := Owner}, #open{own = Own, others = Others}) ->
-    case is_map_key(Name, Own) andalso heal_row:owner(map_get(Name, Own)) of
-        %% Both parts have the registration, one of them before a change.
-        Owner -> heal_row:change(map_get(Name, Own), Registration);
-        _ ->
-            #{Name := {Owner, Pid, Term, Home}} = Others,
-            heal_row:new(Name, Registration, Pid, Term, Home)
-    end.
-
 %% The leader starts the view with the merge.
 led(Outcome, Open = #open{node = Node, from = From}, Part = #part{replica = Replica}) ->
-    {Half, Plan, Facts} = merge(Outcome, Open, Part),
+    {Half, Losers, Changes, Facts} = merge(Outcome, Open, Part),
     {ok, Led} = heal_replica:change(From, Half, Replica),
-    heal_view:start(Led, united_members(Node, Open, Part), Node, Plan, heal_state:add({healed, Facts}, succeeded(Node, Part))).
+    Healed = heal_state:add({healed, Facts}, succeeded(Node, Part)),
+    heal_view:start(Led, united_members(Node, Open, Part), Node, {Losers, Changes}, Healed).
 
 %% The members of the new view are those of both parts.
 united_members(Node, #open{members = Theirs}, Part = #part{members = Members, peers = Peers, node = Self}) ->

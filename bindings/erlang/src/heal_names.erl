@@ -2,7 +2,7 @@
 -module(heal_names).
 
 -export([bytes/1, name/1, is_name/1, is_same/2, options/1, are_options/1, registration/3, serial/0, seed/0, uptime/0]).
--export([notices/1, notices/2, deliver/3]).
+-export([notices/1, notices/2, notice/3, deliver/3]).
 -export_type([notice/0]).
 
 -type notice() :: {exit | conflict | conflict_with, first | second}.
@@ -120,16 +120,21 @@ uptime() ->
 
 %% Returns the notices of a clash, each with the position of the owner that receives it. Two owners may be equal by mistake,
 %% so the verdict gives the positions. libheal has no notices for a program's verdict, whose losers are notified as by `notify'
-%% and `notify_all', nor for a loser whose rival was withdrawn, which heal_losers registers again.
+%% and `notify_all', nor for a loser whose rival was withdrawn, which heal_home registers again.
 -spec notices(heal:clash()) -> [notice()].
 notices(#{verdict := Verdict, first := #{resolver := Resolver}}) ->
     notices(Verdict, Resolver).
 
 %% The same for the first registration's resolver.
 -spec notices(Verdict :: first | second | neither, Resolver :: term()) -> [notice()].
-notices(first, Resolver) -> [{kind(Resolver), second}];
-notices(second, Resolver) -> [{kind(Resolver), first}];
-notices(neither, _Resolver) -> [{conflict_with, first}, {conflict_with, second}].
+notices(Verdict, Resolver) ->
+    [Notice || Position <- [first, second], Notice <- [notice(Position, Verdict, Resolver)], Notice =/= none].
+
+%% Returns the notice that the owner at a position receives.
+-spec notice(first | second, Verdict :: first | second | neither, Resolver :: term()) -> notice() | none.
+notice(Position, Position, _Resolver) -> none;
+notice(Position, neither, _Resolver) -> {conflict_with, Position};
+notice(Position, _Other, Resolver) -> {kind(Resolver), Position}.
 
 kind(exit) -> exit;
 kind(_NotifyOrProgram) -> conflict.

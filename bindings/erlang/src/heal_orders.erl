@@ -52,8 +52,9 @@ make(Call, Edit, Answer, Part = #part{replica = Replica}) ->
         {ok, {At, Made}, Edited} ->
             {By, Numbered} = by(Call, Made, Part),
             Claimed = claimed(Call, Made, heal_meeting:touched(Made, Numbered#part{replica = Edited})),
-            Sent = heal_view:broadcast({edit, At, [Made], By, Answer}, awaited(By, Made, Part), applied(Made, By, Part, Claimed)),
-            made(Call, By, Answer, Sent);
+            %% The caller doesn't wait for what is sent.
+            Answered = made(Call, By, Answer, applied(Made, By, Part, Claimed)),
+            heal_view:broadcast({edit, At, [Made], By, Answer}, awaited(By, Made, Part), Answered);
         {error, Number} ->
             heal_entries:finish(Call, {error, Number}, Part)
     end.

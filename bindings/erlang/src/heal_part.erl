@@ -61,7 +61,7 @@
     | {begin_with, Reference :: term(), Greatest :: non_neg_integer(), [heal_meeting:member()]}
     | {propose, Reference :: term(), Number :: pos_integer(), Seed :: non_neg_integer(), [heal_meeting:member()]}
     | {lead, Number :: pos_integer(), heal_meeting:outcome()}
-    | settle.
+    | welcome | settle.
 -type action() ::
     {send, node(), Body :: term()}
     %% What a connection has refused, which goes before what waits to be sent to the node.
@@ -75,7 +75,7 @@
     | {own, heal:name(), #row{}}
     | {disown, heal:name(), #row{}}
     %% Processes that have lost their names: this node answers for them no more, and notifies them.
-    | {lost, [{heal:name(), #row{}, heal_home:loss()}]}
+    | {lost, [{heal:name(), #row{}, heal_losers:loss()}]}
     | {keep, Key :: term(), Value :: term()}
     %% Registrations that this node answers for, and that the table lacks.
     | {keep_own, [{heal:name(), #row{}}]}
@@ -120,11 +120,11 @@ taken(Part = #part{out = Out}) ->
 %% Takes the state of an earlier version over: the fields that it lacks are the last ones.
 -spec upgrade(Earlier :: part()) -> part().
 upgrade(Earlier) ->
-    Part = later(Earlier, record_info(size, part), [none, none, [], none, #{}, #{}, #{}]),
+    Part = later(Earlier, record_info(size, part), [none, none, [], none, #{}, #{}, #{}, #{}]),
     #part{replica = Replica, waiting = Waiting, requested = Requested, unreleased = Unreleased, adopting = Adopting} = Part,
-    #part{arriving = Arriving, leaving = Leaving, storing = Storing, prepared = Prepared} = Part,
+    #part{arriving = Arriving, leaving = Leaving, storing = Storing} = Part,
     Each = fun(_, Call) -> call(Call) end,
-    owned(tuple_size(Earlier) < #part.lost, Part#part{
+    owned(tuple_size(Earlier) < #part.lost, given_up(tuple_size(Earlier) < #part.grouping, Part#part{
         replica = heal_replica:upgrade(Replica),
         waiting = [call(Call) || Call <- Waiting],
         requested = maps:map(Each, Requested),
@@ -132,19 +132,22 @@ upgrade(Earlier) ->
         adopting = maps:map(fun(_, {Node, Call}) -> {Node, call(Call)} end, Adopting),
         arriving = maps:map(Each, Arriving),
         leaving = maps:map(Each, Leaving),
-        storing = [{Id, call(Call)} || {Id, Call} <- Storing],
-        prepared = case Prepared of #prepared{} -> Prepared; _ -> none end
-    }).
+        storing = [{Id, call(Call)} || {Id, Call} <- Storing]
+    })).
 
-%% A version before the field `lost' kept a registration that this node answers for with what became of it. Its exchange goes no further.
+%% An exchange of a version before the field `grouping' goes no further: it knows the processes of the other side otherwise.
+given_up(false, Part) ->
+    Part;
+given_up(true, Part = #part{heal = Heal}) ->
+    Part#part{heal = case Heal of #open{} -> idle; _ -> Heal end, prepared = none}.
+
+%% A version before the field `lost' kept a registration that this node answers for with what became of it.
 owned(false, Part) ->
     Part;
-owned(true, Part = #part{own = Own, heal = Heal}) ->
+owned(true, Part = #part{own = Own}) ->
     Part#part{
         own = maps:map(fun(Name, {own, Row, _}) -> heal_row:upgrade(Name, Row) end, Own),
-        lost = maps:filtermap(fun(_, {own, _, Loss}) -> Loss =/= none andalso {true, Loss} end, Own),
-        heal = case Heal of #open{} -> idle; _ -> Heal end,
-        prepared = none
+        lost = maps:filtermap(fun(_, {own, _, Loss}) -> Loss =/= none andalso {true, Loss} end, Own)
     }.
 
 call(Earlier) ->
@@ -173,6 +176,8 @@ event({sync, From}, Part = #part{syncing = Syncing}) ->
     settled(Part#part{syncing = [From | Syncing]});
 event({disk, Ids, Lacking, Problem}, Part) ->
     settled(heal_storing:reported(Ids, Lacking, Problem, Part));
+event({continue, welcome}, Part) ->
+    act(Part);
 event({continue, settle}, Part) ->
     act(heal_view:continue(Part));
 event({continue, Step}, Part) ->

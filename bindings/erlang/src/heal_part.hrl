@@ -60,7 +60,7 @@
     handle :: term(),
     %% The rows that this side offered, and those of the other side.
     own = #{} :: #{heal:name() => #row{}},
-    others = none :: none | #{heal:name() => heal_exchange:process()},
+    others = none :: none | heal_processes:groups(),
     programs = #{} :: #{binary() => binary()},
     members = [] :: [heal_meeting:member()],
     withdrawn = [] :: [heal:name()],
@@ -75,7 +75,6 @@
     at :: heal_replica:position(),
     members :: [heal_meeting:member()],
     names :: #{heal:name() => #row{}},
-    processes :: #{heal:name() => heal_exchange:process()},
     handle :: term(),
     side :: a | b,
     touched = #{} :: #{heal:name() => edited}
@@ -105,7 +104,7 @@
     %% Of a primary. The losers of the exchange that started its view are kept until all have joined.
     members = #{} :: #{node() => #member{}},
     settle_by = none :: none | integer(),
-    losers = [] :: [heal_home:loser()],
+    losers = [] :: heal_losers:losers(),
     %% What it has unregistered or changed in its view after the operation `since', with the operation.
     dropped = #{} :: #{heal:owner() => pos_integer()},
     since = 0 :: non_neg_integer(),
@@ -142,7 +141,9 @@
     %% Primaries whose query this one has declined, with the nodes of their parts: it invites them once it is ready.
     declined = #{} :: #{node() => {Reference :: term(), [node()]}},
     %% Which of `own' an exchange gave to another process, while the notice waits.
-    lost = #{} :: #{heal:name() => heal_home:loss()},
+    lost = #{} :: #{heal:name() => heal_losers:loss()},
     %% Nodes whose connections are full, with the bodies that wait for them, the newest first; or have been a moment ago.
-    full = #{} :: #{node() => {refusing, Count :: non_neg_integer(), [Body :: term()]} | resting}
+    full = #{} :: #{node() => {refusing, Count :: non_neg_integer(), [Body :: term()]} | resting},
+    %% Nodes that take the processes of an offer in groups.
+    grouping = #{} :: #{node() => true}
 }).

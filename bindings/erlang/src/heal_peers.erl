@@ -4,7 +4,7 @@
 -include("heal_part.hrl").
 
 -export([link/2, connecting/2, attempted/2, here/3, announce/1, announce_to/2, hurry/2, moved/4, pulse/1]).
--export([has_met/3, is_silent/2, is_connected/2, is_in_setting/2, is_primary/1, followers/1, give_up/2, heard_of/2]).
+-export([has_met/3, takes_groups/2, is_silent/2, is_connected/2, is_in_setting/2, is_primary/1, followers/1, give_up/2, heard_of/2]).
 -export([retry/4, hopeful/2, arrived/1, sync/1, report/1]).
 -export_type([refusal/0, problems/0, here/0]).
 
@@ -23,8 +23,9 @@
     members := [node()],
     is_settled := boolean(),
     is_first := boolean(),
-    %% The node takes several bodies in one message. Nodes of earlier versions don't announce it.
-    bundles => boolean()
+    %% The node takes several bodies in one message, and the processes of an offer in groups. Nodes of earlier versions don't announce it.
+    bundles => boolean(),
+    groups => boolean()
 }.
 
 %% ---- Links ----
@@ -55,8 +56,8 @@ link({Kind, Node}, Part = #part{links = Links}) ->
 give_up(Node, Part) ->
     forget(Node, mark(Node, deaf, Part)).
 
-forget(Node, Part = #part{peers = Peers}) ->
-    Part#part{peers = maps:remove(Node, Peers)}.
+forget(Node, Part = #part{peers = Peers, grouping = Grouping}) ->
+    Part#part{peers = maps:remove(Node, Peers), grouping = maps:remove(Node, Grouping)}.
 
 mark(Node, State, Part = #part{links = Links, awaited = Awaited}) ->
     case Links of
@@ -120,7 +121,8 @@ announce_to(Node, IsFirst, Part = #part{seq = Seq, number = Number, nodes = Node
         members => heal_view:members(Part),
         is_settled => SettleBy =:= none,
         is_first => IsFirst,
-        bundles => true
+        bundles => true,
+        groups => true
     },
     heal_state:send(Node, {here, Here}, Part#part{seq = Seq + 1}).
 
@@ -154,14 +156,21 @@ linked(Node, Part = #part{links = Links}) ->
     #{Node := Link} = Links,
     Part#part{links = Links#{Node := Link#link{state = peer}}}.
 
-heard(Node, #{seq := Seq, at := At, members := Members, is_settled := IsSettled}, Peer, Part = #part{peers = Peers, now = Now}) ->
+heard(Node, Here = #{seq := Seq, at := At, members := Members, is_settled := IsSettled}, Peer, Part = #part{peers = Peers, now = Now}) ->
     Retry = case Peer of
         #peer{at = At, retry = Known} -> Known;
         #peer{failed = none} -> 0;
         #peer{retry = Known} -> Known
     end,
     Heard = Peer#peer{seq = Seq, at = At, members = Members, is_settled = IsSettled, heard = Now, retry = Retry},
-    Part#part{peers = Peers#{Node => Heard}}.
+    grouping(Node, Here, Part#part{peers = Peers#{Node => Heard}}).
+
+grouping(Node, #{groups := true}, Part = #part{grouping = Grouping}) -> Part#part{grouping = Grouping#{Node => true}};
+grouping(Node, _Here, Part = #part{grouping = Grouping}) -> Part#part{grouping = maps:remove(Node, Grouping)}.
+
+%% Returns whether a node takes the processes of an offer in groups.
+-spec takes_groups(node(), #part{}) -> boolean().
+takes_groups(Node, #part{grouping = Grouping}) -> is_map_key(Node, Grouping).
 
 %% A node has moved, as another message than an announcement shows. Returns false if that is older than what is known.
 -spec moved(node(), Seq :: pos_integer(), heal_replica:position(), #part{}) -> {true, #part{}} | false.

@@ -6,7 +6,8 @@
 
 -include("heal_replica.hrl").
 
--export([new/5, owner/1, is_of/2, are_of_one/2, resolver/1, registration/1, change/2, share/2, sent/1, received/2, upgrade/2]).
+-export([new/5, of_values/5, values/1, owner/1, is_of/2, are_of_one/2, resolver/1, registration/1, change/2, share/2]).
+-export([sent/1, received/2, upgrade/2]).
 -export_type([alike/0, sent/0, shared/0]).
 
 -define(NOTHING, <<0:128>>).
@@ -24,8 +25,17 @@
 -spec new(heal:name(), heal:registration(), pid(), Term :: term(), Home :: heal_replica:life()) -> #row{}.
 new(Name, Registration, Pid, Term, Home) ->
     #{owner := {Node, Serial}, stamp := Stamp, weight := Weight, extra := Extra, resolver := Resolver} = Registration,
+    of_values(Name, {Serial, Stamp, {Node, Weight, Extra, Resolver}}, Pid, Term, Home).
+
+%% Makes the row of a name from what libheal has of it.
+-spec of_values(heal:name(), heal:values(), pid(), Term :: term(), Home :: heal_replica:life()) -> #row{}.
+of_values(Name, {Serial, Stamp, Alike}, Pid, Term, Home) ->
     Spelled = if Term =:= Name -> Name; true -> Term end,
-    #row{serial = Serial, stamp = Stamp, alike = {Node, Weight, Extra, Resolver}, pid = Pid, term = Spelled, home = Home}.
+    #row{serial = Serial, stamp = Stamp, alike = Alike, pid = Pid, term = Spelled, home = Home}.
+
+%% Returns what libheal has of the row.
+-spec values(#row{}) -> heal:values().
+values(#row{serial = Serial, stamp = Stamp, alike = Alike}) -> {Serial, Stamp, Alike}.
 
 %% Returns the owner.
 -spec owner(#row{}) -> heal:owner().
@@ -51,7 +61,7 @@ registration(#row{serial = Serial, stamp = Stamp, alike = {Node, Weight, Extra, 
     #{owner => {Node, Serial}, stamp => Stamp, weight => Weight, extra => Extra, resolver => Resolver}.
 
 %% Changes those of the stamp and the options that are given.
--spec change(#row{}, heal_replica:changes() | heal:registration()) -> #row{}.
+-spec change(#row{}, heal_replica:changes()) -> #row{}.
 change(Row = #row{stamp = Stamp, alike = {Node, Weight, Extra, Resolver}}, Changes) ->
     Of = fun(Key, Before) -> maps:get(Key, Changes, Before) end,
     Row#row{stamp = Of(stamp, Stamp), alike = {Node, Of(weight, Weight), Of(extra, Extra), Of(resolver, Resolver)}}.

@@ -42,7 +42,7 @@
     log = none :: none | {pid(), Monitor :: reference()},
     outbox = heal_outbox:new() :: heal_outbox:outbox(),
     %% Processes that have lost names, and aren't notified so far.
-    losers = [] :: [{heal:name(), #row{}, heal_home:loss()}],
+    losers = [] :: [{heal:name(), #row{}, heal_losers:loss()}],
     %% Processes that wait until the connection to a node takes messages again.
     waiters = #{} :: #{pid() => node()},
     %% What full connections have refused, the newest first.
@@ -322,13 +322,15 @@ heard(Node, Body = {adopt, _, Edit}, State) ->
 heard(Node, Body = {here, Here}, State = #server{outbox = Outbox}) ->
     Bundles = maps:get(bundles, Here, false) =:= true,
     event({message, Node, Body}, watched(Node, State#server{outbox = heal_outbox:bundles(Node, Bundles, Outbox)}));
-heard(Node, Body, State) when element(1, Body) =:= ask; element(1, Body) =:= hello ->
+heard(Node, Body, State) when element(1, Body) =:= ask ->
     %% The registry checks which processes are gone when the offers have come.
+    event({message, Node, Body}, State);
+heard(Node, Body, State) when element(1, Body) =:= hello ->
     event({message, Node, Body}, cleaned(State));
 heard(Node, Body = {propose, _, _, _, _}, State) ->
     event({message, Node, Body}, roomy(0, State));
 heard(Node, Body = {offer, _, _, {_, Processes, _, _}, _}, State) ->
-    event({message, Node, Body}, release_dead(roomy(map_size(Processes), State)));
+    event({message, Node, Body}, release_dead(roomy(heal_processes:count(Processes), State)));
 heard(Node, Body, State) ->
     case heal_wire:is_of_edit(Body) of
         true -> event({message, Node, Body}, State);
@@ -453,8 +455,12 @@ perform(Actions, State = #server{subscribers = Subscribers}) ->
 continued(Actions, State) ->
     case [Step || Step = {continue, _} <- Actions] of
         [] -> State;
-        Steps -> lists:foldl(fun event/2, drained(State), Steps)
+        Steps -> lists:foldl(fun step/2, drained(State), Steps)
     end.
+
+%% The node that is to hear of this one makes room too, at the same time.
+step(Step = {continue, {prepare, _, _}}, State) -> event(Step, cleaned(State));
+step(Step, State) -> event(Step, State).
 
 %% Keeps the position of the replica after the rows that it has.
 positioned(State = #server{part = Part, view = View, operation = Last}) ->

@@ -19,7 +19,7 @@ resume(Part = #part{replica = Replica, now = Now}) ->
     Homes = homes(Half, Part),
     %% It has announced the latest view that it was to lead, perhaps without a position in it.
     IsPrimary = heal_state:primary(Part) =:= heal_state:life(Part),
-    case {IsPrimary, {heal_replica:position(Replica), heal_replica:led(Replica)}, heal_home:conflicts([], Half, Part)} of
+    case {IsPrimary, {heal_replica:position(Replica), heal_replica:led(Replica)}, heal_home:conflicts(Half, Part)} of
         {true, {{{_, 1}, 0}, 1}, _} -> heal_orders:make_each(heal_home:differences(Part), 0, Part);
         {true, _, []} -> lead(heal_home:restrict([heal_state:life(Part) | lives(Homes)], Part), Homes, Part);
         %% The notice of an exchange that has given a name away is lost with the registry: another exchange decides.
@@ -76,10 +76,15 @@ members(Part = #part{node = Node, members = Members, peers = Peers}) ->
 
 %% ---- The primary ----
 
-%% A node that follows an earlier view of this one gets a snapshot, and so does one that follows this view and isn't a member.
+%% A node that follows an earlier view of this one gets a snapshot, and so does one that follows this view and isn't a member. A large
+%% snapshot takes a while to send, so the messages that have arrived go before the next one.
 followers(Part = #part{peers = Peers}) ->
-    Behind = [Node || {Node, Peer} <- maps:to_list(Peers), is_behind(Node, Peer, Part), not heal_peers:is_silent(Peer, Part)],
-    lists:foldl(fun send_once/2, Part, Behind).
+    case [Node || {Node, Peer} <- maps:to_list(Peers), is_behind(Node, Peer, Part), not has_snapshot(Node, Part),
+                  not heal_peers:is_silent(Peer, Part)] of
+        [] -> Part;
+        [Node] -> welcome(Node, Part);
+        [Node | _] -> heal_state:later(welcome, welcome(Node, Part))
+    end.
 
 is_behind(Node, #peer{life = Of, at = {{Life, Number}, _}}, Part = #part{members = Members}) ->
     case {heal_state:view(Part), Members} of
@@ -89,10 +94,11 @@ is_behind(Node, #peer{life = Of, at = {{Life, Number}, _}}, Part = #part{members
         _ -> false
     end.
 
-send_once(Node, Part = #part{members = Members}) ->
+%% Returns whether a node got a snapshot, and has yet to follow.
+has_snapshot(Node, #part{members = Members}) ->
     case Members of
-        #{Node := #member{is_joined = false, is_lagging = false}} -> Part;
-        _ -> welcome(Node, Part)
+        #{Node := #member{is_joined = false, is_lagging = false}} -> true;
+        _ -> false
     end.
 
 %% Drops the members that are gone, follow another view, or don't join in time, and their names.
@@ -188,7 +194,8 @@ replaced(Node, Before, Part) when is_map_key(Node, Before) -> drop_strangers(Par
 replaced(_Node, _Before, Part) -> Part.
 
 send_snapshot(Node, Part = #part{replica = Replica, losers = Losers}) ->
-    heal_state:send(Node, {snapshot, {heal_replica:snapshot(Replica), Losers}}, Part).
+    All = heal_losers:list(Losers),
+    heal_state:send(Node, {snapshot, {heal_replica:snapshot(Replica), All}}, Part#part{losers = All}).
 
 %% A node has followed this view. Its edits are those that its home has and the view lacks.
 -spec joined(node(), {pos_integer(), heal_replica:position(), non_neg_integer(), [heal_edits:edit()]}, #part{}) -> #part{}.
@@ -222,20 +229,26 @@ renewed(Node, Before, Part = #part{members = Members}) ->
 %% Starts a view with this half, whose members are to follow it.
 lead(Half, Members, Part = #part{replica = Replica}) ->
     {ok, Led} = heal_replica:change(heal_replica:position(Replica), Half, Replica),
-    start(Led, Members, none, heal_home:plan([], Half, unknown, Part), Part).
+    start(Led, Members, none, {[], unknown}, Part).
 
-%% Starts the view of a replica that leads. Members that are connected get a snapshot, except the one that has the half already.
--spec start(heal_replica:replica(), #{node() => #member{}}, Has :: none | node(), heal_home:plan(), #part{}) -> #part{}.
-start(Led, Members, Has, Plan, Part = #part{now = Now, peers = Peers}) ->
-    %% A member that hasn't announced itself yet gets the snapshot when it does.
-    Pending = maps:map(fun(Node, Member) -> Member#member{is_lagging = not is_map_key(Node, Peers)} end, Members),
-    Moved = Part#part{replica = Led, members = Pending, settle_by = Now + heal_state:patience(Part), limbo = none,
-                      losers = heal_home:losers(Plan), dropped = #{}, since = 0},
-    Swapped = heal_entries:restart(heal_home:swap(Plan, Moved)),
-    Lacking = [Node || Node <- maps:keys(Members), Node =/= Has, is_map_key(Node, Peers)],
-    %% A member that heard of the view before its snapshot would take it for another part.
-    Announced = viewed(heal_peers:announce(lists:foldl(fun send_snapshot/2, Swapped, Lacking))),
-    heal_orders:make_each(heal_home:differences(Plan, Announced), 0, Announced).
+%% Starts the view of a replica that leads, whose half comes from an exchange with these losers and changes rows so, or from none. Callers
+%% that wait receive their answers first: what follows on this node takes a while with a large table, and so does sending it. Members get
+%% a snapshot next (followers/1), except the one that has the half already.
+-spec start(heal_replica:replica(), #{node() => #member{}}, Has :: none | node(),
+            {heal_losers:losers(), heal_home:changes() | unknown}, #part{}) -> #part{}.
+start(Led, Members, Has, {Losers, Changes}, Part = #part{now = Now, peers = Peers, links = Links}) ->
+    Pending = maps:map(fun(Node, Member) -> Member#member{is_lagging = Node =/= Has} end, Members),
+    Moved = Part#part{replica = Led, members = Pending, settle_by = Now + heal_state:patience(Part), limbo = none, losers = Losers,
+                      lost = #{}, dropped = #{}, since = 0},
+    Resumed = heal_edits:resume(heal_peers:arrived(heal_entries:restart(Moved))),
+    Plan = heal_home:plan(Losers, heal_state:half(Resumed), Changes, heal_state:half(Part), Resumed),
+    Swapped = heal_home:swap(Plan, Resumed),
+    {_, Operation} = heal_state:at(Swapped),
+    Shown = heal_home:show(Plan, heal_orders:make_each(heal_home:differences(Plan, Swapped), Operation, Swapped)),
+    %% A member that heard of the view before its snapshot would take it for another part. One that hasn't announced itself yet gets the
+    %% snapshot when it does.
+    Later = [Node || Node <- maps:keys(Members), Node =/= Has, is_map_key(Node, Peers)],
+    viewed(lists:foldl(fun heal_peers:announce_to/2, Shown, lists:sort(maps:keys(Links)) -- Later)).
 
 viewed(Part) ->
     heal_state:add({view, heal_state:view(Part), members(Part)}, Part).
@@ -318,7 +331,7 @@ successor(Part = #part{node = Node, now = Now, limbo = Limbo}) ->
     Left = maps:filter(fun(_, Peer) -> not heal_peers:is_silent(Peer, Part) end, heal_peers:followers(Part)),
     Members = maps:map(fun(_, #peer{life = Life}) -> #member{life = Life, was = View} end, Left),
     Lives = [heal_state:life(Part) | lives(Members)],
-    case {lists:min([Node | maps:keys(Left)]), heal_home:conflicts([], heal_state:half(Part), Part)} of
+    case {lists:min([Node | maps:keys(Left)]), heal_home:conflicts(heal_state:half(Part), Part)} of
         {Node, []} -> lead(heal_home:restrict(Lives, Part), Members, Part);
         {Node, _} -> lead_alone(Part);
         _ when Limbo =:= none -> Part#part{limbo = Now + heal_state:patience(Part)};
@@ -372,7 +385,7 @@ restored({Edits, Part}) -> join_with(Edits, Part).
 
 %% A primary has sent a snapshot. A node that is a primary joins another one by an exchange alone. One that has what the snapshot
 %% has joins again: its primary doesn't know so.
--spec snapshot(node(), {heal_replica:snapshot(), [heal_home:loser()]}, #part{}) -> #part{}.
+-spec snapshot(node(), {heal_replica:snapshot(), [heal_losers:loser()]}, #part{}) -> #part{}.
 snapshot(Node, {Snapshot = {{{Life, _}, _} = At, _}, Losers}, Part = #part{peers = Peers}) ->
     case Peers of
         #{Node := #peer{life = Life}} ->
@@ -393,20 +406,20 @@ is_next(Node, {View = {{_, Incarnation}, Number}, Operation}, Part = #part{follo
     end.
 
 %% Follows a snapshot, unless it gives a name of this node to another process. Then an exchange is to decide.
--spec follow(heal_replica:snapshot(), [heal_home:loser()], node(), #part{}) -> #part{}.
+-spec follow(heal_replica:snapshot(), [heal_losers:loser()], node(), #part{}) -> #part{}.
 follow(Snapshot = {{View, _}, Half}, Losers, Node, Part) ->
     {Lost, Continue} = case heal_state:view(Part) of
         View -> {Losers ++ heal_home:waiting(Part), fun heal_entries:skipped/1};
         _ -> {Losers, fun entered/1}
     end,
-    taken(Snapshot, heal_home:plan(Lost, Half, unknown, Part), Continue, noted(View, Node, Part)).
+    taken(Snapshot, heal_home:plan(Lost, Half, unknown, heal_state:half(Part), Part), Continue, noted(View, Node, Part)).
 
 %% Follows the view of another primary, which begins with the outcome of an exchange.
 -spec follow_merge(heal_replica:view(), #half{}, heal_home:plan(), node(), #part{}) -> #part{}.
 follow_merge(View, Half, Plan, Node, Part) ->
     Current = case heal_home:is_current(Plan, Part) of
         true -> Plan;
-        false -> heal_home:plan(heal_home:losers(Plan), Half, unknown, Part)
+        false -> heal_home:plan(heal_home:losers(Plan), Half, unknown, heal_state:half(Part), Part)
     end,
     taken({{View, 0}, Half}, Current, fun entered/1, noted(View, Node, Part)).
 
@@ -422,7 +435,7 @@ taken(Snapshot, Plan, Continue, Part = #part{replica = Replica}) ->
         [] ->
             {ok, Following} = heal_replica:follow(Snapshot, Replica),
             Moved = Part#part{replica = Following, members = #{}, settle_by = none, losers = [], limbo = none},
-            Swapped = Continue(heal_home:swap(Plan, Moved)),
+            Swapped = Continue(heal_home:show(Plan, heal_home:swap(Plan, Moved))),
             heal_peers:announce(join_with(heal_home:differences(Plan, Swapped), Swapped));
         _ ->
             lead_alone(Part)

@@ -129,8 +129,7 @@ is_request({Node, Number}) -> is_atom(Node) andalso is_count(Number);
 is_request(_Other) -> false.
 
 is_offer({Offer, Processes, Programs, Members}) ->
-    is_binary(Offer) andalso are_names(Processes, fun is_process/1) andalso are_programs(Programs)
-        andalso all(fun is_member/1, Members);
+    is_binary(Offer) andalso are_processes(Processes) andalso are_programs(Programs) andalso all(fun is_member/1, Members);
 is_offer(_Other) ->
     false.
 
@@ -139,6 +138,16 @@ are_names(Names, Is) ->
 
 are_programs(Programs) ->
     is_map(Programs) andalso all(fun({Id, Code}) -> is_binary(Id) andalso is_binary(Code) end, maps:to_list(Programs)).
+
+are_processes(Groups) when is_list(Groups) -> all(fun is_group/1, Groups);
+are_processes(Processes) -> are_names(Processes, fun is_process/1).
+
+is_group({Node, Home, Processes}) -> is_word(Node) andalso is_life(Home) andalso all(fun is_grouped/1, Processes);
+is_group(_Other) -> false.
+
+is_grouped({Name, Serial, Pid}) -> is_name(Name) andalso is_word(Serial) andalso is_pid(Pid);
+is_grouped({Name, Serial, Pid, _Term}) -> is_name(Name) andalso is_word(Serial) andalso is_pid(Pid);
+is_grouped(_Other) -> false.
 
 is_process({Owner, Pid, _Term, Home}) -> is_owner(Owner) andalso is_pid(Pid) andalso is_life(Home);
 is_process(_Other) -> false.

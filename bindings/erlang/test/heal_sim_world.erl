@@ -6,7 +6,7 @@
 -module(heal_sim_world).
 
 -export([start/1, end_process/1]).
--export([prepare/4, update/3, open/3, hear/2, withdraw/2, close/1, finish/3, seed/0, serial/0, is_alive/1]).
+-export([prepare/4, update/3, open/3, hear/2, withdraw/2, close/1, finish/3, rulings/1, seed/0, serial/0, is_alive/1]).
 
 -record(handle, {side, seed = none, names, other = none, withdrawn = [], is_closed = false}).
 
@@ -46,20 +46,28 @@ withdraw(Name, Handle = #handle{withdrawn = Withdrawn}) -> {ok, Handle#handle{wi
 close(Handle = #handle{withdrawn = Withdrawn}) ->
     {ok, Withdrawn, Handle#handle{is_closed = true}}.
 
-%% Returns what the merge changes of the side's names and of these others, and the clashes. A winner that is withdrawn leaves the name
-%% without an owner.
-finish(Heard, Others, #handle{side = Side, names = Own, other = Other, withdrawn = Ours, seed = Seed}) ->
+%% Returns how many names clash, what the side loses by that, and all rulings; and what the merge has under these names. A winner that is
+%% withdrawn leaves the name without an owner.
+finish(Heard, Names, #handle{side = Side, names = Own, other = Other, withdrawn = Ours, seed = Seed}) ->
     Theirs = case get({?MODULE, fault}) of deaf -> []; _ -> Heard end,
     {A, B, GoneA, GoneB} = case Side of a -> {Own, Other, Ours, Theirs}; b -> {Other, Own, Theirs, Ours} end,
     Clashes = [clash(Name, One, maps:get(Name, B), {Seed, drawn(Side)}) || {Name, One} <- lists:sort(maps:to_list(A)), is_map_key(Name, B)],
     Alone = maps:merge(maps:without(maps:keys(B) ++ GoneA, A), maps:without(maps:keys(A) ++ GoneB, B)),
     Won = maps:from_list([{Name, Winner} || Clash = #{name := Name} <- Clashes, Winner <- winner(Clash, GoneA, GoneB)]),
-    {Changed, Lacking} = differing(maps:merge(maps:from_keys(Others, none), Own), maps:merge(Alone, Won)),
-    {ok, Changed, Lacking, [ruling(Clash) || Clash <- Clashes]}.
+    Merged = maps:merge(Alone, Won),
+    Losses = [loss(Clash, Side, maps:get(Name, Merged, none)) || Clash = #{name := Name} <- Clashes,
+                                                                 maps:get(Name, Merged, none) =/= map_get(Name, Own)],
+    {ok, {length(Clashes), Losses, [ruling(Clash) || Clash <- Clashes]},
+     [{Name, values(Registration)} || Name <- Names, #{Name := Registration} <- [Merged]], [Name || Name <- Names, not is_map_key(Name, Merged)]}.
 
-differing(Known, Merged) ->
-    {[{Name, Registration} || {Name, Before} <- maps:to_list(Known), #{Name := Registration} <- [Merged], Registration =/= Before],
-     [Name || Name <- maps:keys(Known), not is_map_key(Name, Merged)]}.
+rulings(Rulings) -> Rulings.
+
+loss(#{name := Name, first := First, second := Second, verdict := Verdict, first_half := Half}, Side, Kept) ->
+    {#{owner := Owner}, Position} = case Half of Side -> {First, first}; _ -> {Second, second} end,
+    {Name, Owner, Position, Verdict, maps:get(resolver, First), case Kept of none -> none; _ -> values(Kept) end}.
+
+values(#{owner := {Node, Serial}, stamp := Stamp, weight := Weight, extra := Extra, resolver := Resolver}) ->
+    {Serial, Stamp, {Node, Weight, Extra, Resolver}}.
 
 ruling(#{name := Name, first := First, second := Second, verdict := Verdict, first_half := Half}) ->
     #{owner := OfFirst, resolver := Resolver} = First,

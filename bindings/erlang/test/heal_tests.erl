@@ -14,6 +14,10 @@ registration(Node, Serial, Stamp, Resolver) ->
 full(Registration) ->
     maps:merge(#{weight => 0, extra => <<0:128>>}, Registration).
 
+values(Registration) ->
+    #{owner := {Node, Serial}, stamp := Stamp, weight := Weight, extra := Extra, resolver := Resolver} = full(Registration),
+    {Serial, Stamp, {Node, Weight, Extra, Resolver}}.
+
 side(Id, Rows) ->
     {ok, Side} = heal:side(Id),
     [?assertEqual(ok, heal:register(Side, Name, Registration)) || {Name, Registration} <- Rows],
@@ -51,29 +55,46 @@ exchange_of_every_resolver_test() ->
                   {<<"notify">>, first, [{conflict, {2, 2}}], 6},
                   {<<"program">>, second, [], 7}],
                  [{Name, Verdict, Notices, Word} || #{name := Name, verdict := Verdict, notices := Notices, word := Word} <- Clashes]),
-    ?assertEqual({ok, [{<<"all">>, {1, 3}, {2, 3}, a, neither, notify_all}, {<<"exit">>, {1, 1}, {2, 1}, a, second, exit},
-                       {<<"notify">>, {1, 2}, {2, 2}, a, first, notify}, {<<"program">>, {1, 6}, {2, 6}, a, second, program}]},
-                 heal:rulings(OfA)),
-    ?assertEqual(heal:rulings(OfA), heal:rulings(OfB)),
+    Rulings = [{<<"all">>, {1, 3}, {2, 3}, a, neither, notify_all}, {<<"exit">>, {1, 1}, {2, 1}, a, second, exit},
+               {<<"notify">>, {1, 2}, {2, 2}, a, first, notify}, {<<"program">>, {1, 6}, {2, 6}, a, second, program}],
+    [?assertEqual({ok, Rulings}, heal:rulings(Of)) || Of <- [OfA, OfB]],
+    ?assertEqual({ok, 4, [{<<"all">>, {1, 3}, first, neither, notify_all, none},
+                          {<<"exit">>, {1, 1}, first, second, exit, values(registration(2, 1, 9, exit))},
+                          {<<"program">>, {1, 6}, first, second, program, values(registration(2, 6, 9, exit))}]}, heal:losses(OfA, a)),
+    ?assertEqual({ok, 4, [{<<"all">>, {2, 3}, second, neither, notify_all, none},
+                          {<<"notify">>, {2, 2}, second, first, notify, values(registration(1, 2, 5, notify))}]}, heal:losses(OfB, b)),
     {ok, Rows} = heal:rows(A),
     ?assertEqual({ok, Rows}, heal:rows(B)),
     ?assertEqual([{<<"exit">>, full(registration(2, 1, 9, exit))}, {<<"notify">>, full(registration(1, 2, 5, notify))},
                   {<<"only">>, full(registration(2, 5, 9, exit))}, {<<"program">>, full(registration(2, 6, 9, exit))}], Rows),
-    ?assertEqual([{<<"exit">>, {2, 1}}, {<<"only">>, {2, 5}}], owners(B, [<<"only">>, <<"dead">>, <<"exit">>])),
     ?assertEqual({ok, 4}, heal:count(A)).
-
-owners(Side, Names) ->
-    {ok, Owners} = heal:owners(Side, Names),
-    lists:sort(Owners).
 
 %% The second half may have the first registration, and an outcome no clash.
 rulings_test() ->
     Row = registration(1, 1, 5, notify_all),
     {OfA, OfB} = healed(side(a, [{<<"x">>, registration(2, 1, 5, exit)}]), side(b, [{<<"x">>, Row}]), 1, []),
-    ?assertEqual({ok, [{<<"x">>, {1, 1}, {2, 1}, b, neither, notify_all}]}, heal:rulings(OfA)),
-    ?assertEqual(heal:rulings(OfA), heal:rulings(OfB)),
+    [?assertEqual({ok, [{<<"x">>, {1, 1}, {2, 1}, b, neither, notify_all}]}, heal:rulings(Of)) || Of <- [OfA, OfB]],
     {OfNone, _} = healed(side(a, [{<<"x">>, Row}]), side(b, []), 1, []),
-    ?assertEqual({ok, []}, heal:rulings(OfNone)).
+    ?assertEqual({ok, []}, heal:rulings(OfNone)),
+    ?assertEqual({ok, 0, []}, heal:losses(OfNone, a)).
+
+%% What each half loses where the second one has the first registration, and where the winner is withdrawn.
+losses_test() ->
+    First = (full(registration(1, 1, 5, exit)))#{weight := 6, extra := <<7:128>>},
+    Second = registration(2, 1, 5, notify),
+    Clash = fun(Gone) ->
+        %% The words of the names are 4 and 5, and the lowest bit of a word chooses.
+        Names = [<<"x">>, <<"y">>],
+        healed(side(a, [{Name, Second} || Name <- Names]), side(b, [{Name, First} || Name <- Names]), 1, Gone)
+    end,
+    {OfA, OfB} = Clash([]),
+    OfX = {<<"x">>, {2, 1}, second, first, exit, values(First)},
+    OfY = {<<"y">>, {1, 1}, first, second, exit, values(Second)},
+    ?assertEqual({ok, 2, [OfX]}, heal:losses(OfA, a)),
+    ?assertEqual({ok, 2, [OfY]}, heal:losses(OfB, b)),
+    {GoneA, GoneB} = Clash([<<"x">>, <<"y">>]),
+    ?assertEqual({ok, 2, [OfX, {<<"y">>, {2, 1}, second, second, exit, none}]}, heal:losses(GoneA, a)),
+    ?assertEqual({ok, 2, [setelement(6, OfY, none)]}, heal:losses(GoneB, b)).
 
 %% Names that are registered in one call, up to the one that is refused.
 register_all_test() ->
@@ -93,24 +114,28 @@ register_all_test() ->
     {ok, _} = heal:begin_exchange(Side, 1, 1, 0),
     ?assertMatch({error, {33, _}}, heal:register_all(Side, [{<<"y">>, Row}])).
 
-%% What a side has otherwise than its caller.
-differing_test() ->
+%% Rows without the names of their fields are registered and returned. They share what they have alike, and nothing else.
+values_test() ->
     {ok, Id} = heal:upload(Side = side(a, []), later()),
-    Row = (full(registration(1, 1, 5, notify)))#{weight := 6, extra := <<7:128>>},
-    OfProgram = Row#{owner := {1, 2}, resolver := {program, Id}},
-    ok = heal:register_all(Side, [{<<"x">>, Row}, {<<"y">>, OfProgram}]),
-    ?assertEqual({ok, [], []}, heal:differing(Side, [])),
-    ?assertEqual({ok, [], []}, heal:differing(Side, [{<<"x">>, Row}, {<<"y">>, OfProgram}])),
-    ?assertEqual({ok, [{<<"y">>, OfProgram}], [<<"z">>]}, heal:differing(Side, [{<<"x">>, Row}, <<"y">>, <<"z">>])),
-    ?assertEqual({ok, [], [<<"z">>]}, heal:differing(Side, [{<<"z">>, Row}])),
-    [?assertEqual({ok, [{<<"x">>, Row}], []}, heal:differing(Side, [{<<"x">>, Row#{Key := Value}}]))
-     || {Key, Value} <- [{owner, {1, 9}}, {owner, {9, 1}}, {stamp, 9}, {weight, 9}, {extra, <<9:128>>}, {resolver, exit},
-                         {resolver, {program, Id}}]],
-    ?assertEqual({ok, [{<<"y">>, OfProgram}], []}, heal:differing(Side, [{<<"y">>, OfProgram#{resolver := {program, <<0:256>>}}}])),
+    Alike = {1, 6, <<7:128>>, notify},
+    Other = [{2, 6, <<7:128>>, notify}, {1, 9, <<7:128>>, notify}, {1, 6, <<8:128>>, notify}, {1, 6, <<7:128>>, exit},
+             {1, 6, <<7:128>>, notify_all}, {1, 6, <<7:128>>, {program, Id}}],
+    Rows = [{integer_to_binary(N), {N, 100 + N, Of}} || {N, Of} <- lists:enumerate([Alike, Alike] ++ Other ++ [Alike, Alike])],
+    Names = [Name || {Name, _} <- Rows],
+    ?assertEqual(ok, heal:register_all(Side, Rows)),
+    [?assertEqual({ok, full(#{owner => {Node, Serial}, stamp => Stamp, weight => Weight, extra => Extra, resolver => Resolver})},
+                  heal:whereis(Side, Name)) || {Name, {Serial, Stamp, {Node, Weight, Extra, Resolver}}} <- Rows],
+    Found = fun(Asked) -> {ok, Has, Lacking} = heal:values(Side, Asked), {lists:sort(Has), lists:sort(Lacking)} end,
+    ?assertEqual({lists:sort(Rows), []}, Found(Names)),
+    ?assertEqual({[hd(Rows)], [<<"x">>, <<"y">>]}, Found([<<"x">>, <<"1">>, <<"y">>])),
+    ?assertEqual({[], []}, Found([])),
+    {ok, [{_, {_, _, One}}, {_, {_, _, Same}}], []} = heal:values(Side, [<<"1">>, <<"2">>]),
+    ?assert(erts_debug:same(One, Same)),
+    ?assertMatch({error, {41, _}}, heal:register_all(Side, [{<<"z">>, {1, 1, {1, 0, <<0:128>>, {program, <<0:256>>}}}}])),
     %% A name that is withdrawn isn't there.
     {ok, _} = heal:begin_exchange(Side, 1, 1, 0),
-    ok = heal:withdraw(Side, <<"x">>),
-    ?assertEqual({ok, [], [<<"x">>]}, heal:differing(Side, [{<<"x">>, Row}])).
+    ok = heal:withdraw(Side, <<"1">>),
+    ?assertEqual({[], [<<"1">>]}, Found([<<"1">>])).
 
 registration_keeps_its_fields_test() ->
     Registration = #{owner => {4294967295, 7}, stamp => 18446744073709551615, weight => 3, extra => <<"sixteen bytes ok">>,
@@ -175,7 +200,9 @@ record_layout_test() ->
 badarg_test() ->
     Side = side(a, []),
     {ok, Program} = heal:load(later()),
+    {Outcome, _} = healed(side(a, []), side(b, []), 1, []),
     Row = registration(1, 1, 1, exit),
+    {_, _, Alike} = values(Row),
     Calls = [{load, [x]}, {judge, [Program, <<0:8>>]}, {judge, [Side, <<0:1280>>]}, {judge, [make_ref(), <<0:1280>>]}, {side, [c]},
              {count, [Program]}, {register, [Side, x, Row]}, {register, [Side, <<"x">>, []]},
              {register, [Side, <<"x">>, maps:remove(owner, Row)]}, {register, [Side, <<"x">>, maps:remove(stamp, Row)]},
@@ -188,11 +215,14 @@ badarg_test() ->
              {register_all, [Side, [{<<"x">>, Row}, {<<"y">>, Row, Row}]]}, {register_all, [Side, [{<<"x">>, Row}, {y, Row}]]},
              {register_all, [Side, [{<<"x">>, Row}, {<<"y">>, maps:remove(owner, Row)}]]},
              {register_all, [Side, [{<<"x">>, Row}, {<<"y">>, Row#{resolver => {program, <<1>>}}}]]},
-             {differing, [Side, x]}, {differing, [Program, []]}, {differing, [Side, [x]]}, {differing, [Side, [<<"x">> | <<"y">>]]},
-             {differing, [Side, [{<<"x">>}]]}, {differing, [Side, [{<<"x">>, Row, Row}]]}, {differing, [Side, [{x, Row}]]},
-             {differing, [Side, [{<<"x">>, []}]]}, {differing, [Side, [{<<"x">>, Row#{stamp := -1}}]]},
              {rulings, [Side]}, {rulings, [Program]}, {rulings, [x]}, {rulings, [make_ref()]},
-             {owners, [Side, x]}, {owners, [Side, [<<"x">> | <<"y">>]]}, {owners, [Side, [x]]}, {refusal_words, [-1]}],
+             {losses, [Side, a]}, {losses, [x, a]}, {losses, [Outcome, c]},
+             {values, [Side, x]}, {values, [Program, []]}, {values, [Side, [<<"x">> | <<"y">>]]}, {values, [Side, [x]]},
+             {refusal_words, [-1]}]
+        ++ [{register_all, [Side, [{<<"x">>, values(Row)}, {<<"y">>, Values}]]}
+            || Values <- [x, {}, {1, 1}, {1, 1, x}, {1, 1, Alike, 1}, {-1, 1, Alike}, {1 bsl 32, 1, Alike}, {1, -1, Alike}, {1, 1 bsl 64, Alike}]
+                ++ [{1, 1, Other} || Other <- [{}, {1, 0, <<0:128>>}, {x, 0, <<0:128>>, exit}, {1, x, <<0:128>>, exit}, {1, 0, <<0:120>>, exit},
+                                               {1, 0, x, exit}, {1, 0, <<0:128>>, later}, {1, 0, <<0:128>>, {program, <<0:248>>}}]]],
     [?assertError(badarg, apply(heal, Function, Args)) || {Function, Args} <- Calls],
     ?assertEqual({ok, 0}, heal:count(Side)).
 

@@ -223,13 +223,13 @@ one_registration_in_two_parts_test() ->
                 || {Node, Side, Row, Other} <- [{a, a, row(c, 1, c, 0), row(c, 1, c, 9)}, {b, b, row(c, 1, c, 9), row(c, 1, c, 0)}]].
 
 %% The row that a node takes from an exchange, which ends with the other's list.
-merged(Node, Side, Row, Other = #row{pid = Pid, home = Home}, Part) ->
+merged(Node, Side, Row, Other, Part) ->
     [Peer] = [a, b] -- [Side],
     {ok, Prepared} = heal_sim_world:prepare(Side, #{?NAME => Row}, #{}, 10),
     {ok, _, Begun} = heal_sim_world:open(1, 7, Prepared),
     {ok, Heard} = heal_sim_world:hear({Peer, 7, #{?NAME => heal_row:registration(Other)}}, Begun),
     Open = #open{node = Peer, number = 1, side = Side, from = position(Node, #{Node => Part}), handle = Heard, own = #{?NAME => Row},
-                 others = #{?NAME => {heal_row:owner(Row), Pid, ?NAME, Home}}, begun = 1, deadline = 9,
+                 others = heal_processes:groups(#{?NAME => Other}), begun = 1, deadline = 9,
                  members = [{{Peer, 1}, erlang:phash2(Peer, 1000)}],
                  stage = case Side of a -> listed; b -> offered end},
     {_, Finished} = handled(Node, {message, Peer, {list, 1, {[], []}}}, Part#part{heal = Open}),
@@ -252,8 +252,8 @@ ready_offer_test() ->
         {Actions, Open} = heal_part:handle(Offer, 902, Of),
         [{keep, greatest, 1}, {send, a, {offer, 1, 7, {_, Processes, _, _}, none}}, Hear] = Actions,
         ?assertMatch({continue, {hear, 1, _}}, Hear),
-        ?assertMatch({_, #part{heal = #open{others = #{}}, prepared = none}}, heal_part:handle(Hear, 902, Open)),
-        {Of#part.prepared, maps:keys(Processes)}
+        ?assertMatch({_, #part{heal = #open{others = []}, prepared = none}}, heal_part:handle(Hear, 902, Open)),
+        {Of#part.prepared, maps:keys(heal_processes:pids(Processes))}
     end,
     ?assertMatch({#prepared{}, []}, Offers(Ready)),
     Options = #{stamp => 1, weight => 0, extra => <<0:128>>, resolver => notify},
@@ -280,12 +280,52 @@ leader_offer_test() ->
     {_, Left} = heal_part:handle({call, 3, {unregister, <<"n2">>, any}}, 900, Two),
     {[{keep, greatest, 1}, {send, b, {propose, 1, _, _, Reference}}, Open], Proposed} = heal_part:handle({continue, Step}, 900, Left),
     {Actions, Opened} = heal_part:handle(Open, 900, Proposed),
-    ?assertMatch([{send, b, {offer, 1, _, {{a, _, #{?NAME := _}}, #{?NAME := {_, {pid, a, 1}, _, _}}, _, _}, Reference}}], Actions),
-    [{send, b, {offer, 1, _, {{a, _, Names}, Processes, _, _}, _}}] = Actions,
-    ?assertEqual({[?NAME], [?NAME]}, {maps:keys(Names), maps:keys(Processes)}),
+    ?assertMatch([{send, b, {offer, 1, _, {{a, _, #{?NAME := _}}, [{_, {a, 1}, [{?NAME, _, {pid, a, 1}}]}], _, _}, Reference}}], Actions),
+    [{send, b, {offer, 1, _, {{a, _, Names}, _, _, _}, _}}] = Actions,
+    ?assertEqual([?NAME], maps:keys(Names)),
     ?assertMatch(#part{heal = #open{number = 1}, prepared = none}, Opened),
     %% A step of another query changes nothing.
     ?assertMatch({[], _}, heal_part:handle({continue, Step}, 900, Opened)).
+
+%% A node of an earlier version sends and takes the processes of an offer as a map.
+earlier_offer_test() ->
+    Silent = fun(From, _, Body) -> From =:= b andalso element(1, Body) =:= hello end,
+    #{a := Part = #part{heal = {asking, #asking{reference = Reference}}}} = connect(a, b, Silent, start([{a, #{}}, {b, #{}}])),
+    [Here | _] = [Of || {send, a, {here, Of}} <- done(b)],
+    Options = #{stamp => 1, weight => 0, extra => <<0:128>>, resolver => notify},
+    Offer = fun(Announced) ->
+        Do = fun(Event, Of) -> element(2, heal_part:handle(Event, 900, Of)) end,
+        Filled = lists:foldl(Do, Part, [tick, {message, b, {here, Announced#{seq := 99}}}, {call, 1, {adopt, ?NAME, term, Options, {pid, a, 1}, a}}]),
+        {[{later, Step}], Ready} = heal_part:handle({message, b, {hello, Reference, 0, []}}, 900, Filled),
+        {[_, _, Open], Proposed} = heal_part:handle({continue, Step}, 900, Ready),
+        {[{send, b, {offer, _, _, {_, Processes, _, _}, _}}], _} = heal_part:handle(Open, 900, Proposed),
+        Processes
+    end,
+    Number = erlang:phash2(a, 1000),
+    [Groups, Map] = Offers = [Offer(Here), Offer(maps:remove(groups, Here))],
+    ?assertMatch([{Number, {a, 1}, [{?NAME, _, {pid, a, 1}, term}]}], Groups),
+    ?assertMatch(#{?NAME := {{Number, _}, {pid, a, 1}, term, {a, 1}}}, Map),
+    ?assertMatch([{Number, {a, 1}, [{?NAME, _, {pid, a, 1}, term}]}], heal_processes:received(Map)),
+    ?assertEqual([1, 1], [heal_processes:count(Of) || Of <- Offers]).
+
+%% A leader answers the callers that wait before it sends snapshots, and sends one after the other.
+waiting_callers_test() ->
+    Halves = connect(c, d, fun none_lost/3, connect(a, b, fun none_lost/3, start([{Node, #{}} || Node <- [a, b, c, d]]))),
+    Linked = lists:foldl(fun({One, Other}, Sum) -> connect(One, Other, fun none_lost/3, Sum) end, Halves, [{b, c}, {b, d}, {a, d}]),
+    Waits = event(a, {up, c, visible}, fun none_lost/3, Linked),
+    Options = #{stamp => 1, weight => 0, extra => <<0:128>>, resolver => notify},
+    Called = event(a, {call, 7, {adopt, ?NAME, ?NAME, Options, {pid, a, 1}, a}}, fun none_lost/3, Waits),
+    ?assertEqual([], [Reply || Reply = {reply, 7, _} <- done(a)]),
+    put(done, []),
+    Healed = event(c, {up, a, visible}, fun none_lost/3, Called),
+    ?assertMatch([{{{a, 1}, _}, _}], lists:usort([position(Node, Healed) || Node <- [a, b, c, d]])),
+    ?assertEqual([[?NAME]], lists:usort([maps:keys((heal_state:half(Part))#half.names) || Part <- maps:values(Healed)])),
+    Sent = [Action || Action <- done(a), element(1, Action) =:= reply orelse element(1, Action) =:= later orelse is_snapshot(Action)],
+    %% The events are here with the last one first.
+    ?assertMatch([{send, d, _}, {reply, 7, ok}, {send, b, _}, {later, welcome} | _], Sent).
+
+is_snapshot({send, _, {snapshot, _}}) -> true;
+is_snapshot(_Action) -> false.
 
 %% A primary declines the query of a part that it isn't fully connected with. Once it is, the parts heal without another tick. An earlier
 %% version sends no invitation.
@@ -316,8 +356,7 @@ upgraded_exchange_test() ->
     Open = #open{node = b, number = 1, side = a, from = position(a, #{a => Part}), handle = make_ref(), begun = 1, deadline = 9},
     Begun = Part#part{heal = Open},
     Cut = fun(Size) -> list_to_tuple(lists:sublist(tuple_to_list(Begun), Size)) end,
-    ?assertMatch(#part{heal = idle}, heal_part:upgrade(Cut(#part.lost - 1))),
-    ?assertMatch(#part{heal = Open}, heal_part:upgrade(Cut(#part.full - 1))),
+    [?assertMatch(#part{heal = idle}, heal_part:upgrade(Cut(Size - 1))) || Size <- [#part.lost, #part.full, #part.grouping]],
     ?assertMatch(#part{heal = Open}, heal_part:upgrade(Begun)).
 
 %% A change that was sent to a primary which is lost may have been made, so a refusal by the next one means nothing.
