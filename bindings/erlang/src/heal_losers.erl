@@ -21,7 +21,7 @@
 -type loss() :: {heal_names:notice(), Rival :: pid()}.
 -type loser() :: {heal:name(), heal:owner(), loss()}.
 %% The list of all takes a while, and a node needs it only for the snapshots that it sends.
--opaque losers() :: [loser()] | #judged{}.
+-type losers() :: [loser()] | #judged{}.
 
 %% Returns the losers of an exchange in which the other side has withdrawn these names, and which has this merge.
 -spec judged({Losses :: [heal:loss()], heal_exchange:rulings()}, Withdrawn :: [heal:name()], #open{}, Merged :: #half{}, World :: module()) ->
