@@ -232,23 +232,22 @@ lead(Half, Members, Part = #part{replica = Replica}) ->
     start(Led, Members, none, {[], unknown}, Part).
 
 %% Starts the view of a replica that leads, whose half comes from an exchange with these losers and changes rows so, or from none. Callers
-%% that wait receive their answers first: what follows on this node takes a while with a large table, and so does sending it. Members get
-%% a snapshot next (followers/1), except the one that has the half already.
+%% that wait receive their answers before members get a snapshot (followers/1), which takes a while with a large table. One member has the
+%% half already.
 -spec start(heal_replica:replica(), #{node() => #member{}}, Has :: none | node(),
             {heal_losers:losers(), heal_home:changes() | unknown}, #part{}) -> #part{}.
 start(Led, Members, Has, {Losers, Changes}, Part = #part{now = Now, peers = Peers, links = Links}) ->
     Pending = maps:map(fun(Node, Member) -> Member#member{is_lagging = Node =/= Has} end, Members),
     Moved = Part#part{replica = Led, members = Pending, settle_by = Now + heal_state:patience(Part), limbo = none, losers = Losers,
                       lost = #{}, dropped = #{}, since = 0},
-    Resumed = heal_edits:resume(heal_peers:arrived(heal_entries:restart(Moved))),
-    Plan = heal_home:plan(Losers, heal_state:half(Resumed), Changes, heal_state:half(Part), Resumed),
-    Swapped = heal_home:swap(Plan, Resumed),
-    {_, Operation} = heal_state:at(Swapped),
-    Shown = heal_home:show(Plan, heal_orders:make_each(heal_home:differences(Plan, Swapped), Operation, Swapped)),
+    Plan = heal_home:plan(Losers, heal_state:half(Moved), Changes, heal_state:half(Part), Moved),
+    Swapped = heal_entries:restart(heal_home:show(Plan, heal_home:swap(Plan, Moved))),
+    Restored = heal_orders:make_each(heal_home:differences(Plan, Swapped), 0, Swapped),
+    Resumed = heal_edits:resume(heal_peers:arrived(Restored)),
     %% A member that heard of the view before its snapshot would take it for another part. One that hasn't announced itself yet gets the
     %% snapshot when it does.
     Later = [Node || Node <- maps:keys(Members), Node =/= Has, is_map_key(Node, Peers)],
-    viewed(lists:foldl(fun heal_peers:announce_to/2, Shown, lists:sort(maps:keys(Links)) -- Later)).
+    viewed(lists:foldl(fun heal_peers:announce_to/2, Resumed, lists:sort(maps:keys(Links)) -- Later)).
 
 viewed(Part) ->
     heal_state:add({view, heal_state:view(Part), members(Part)}, Part).
