@@ -7,7 +7,7 @@
 -include("heal_part.hrl").
 
 -export([claim/3, change/3, missing/2, is_taken/3, disown/2, is_own/3, waiting/1, conflicts/2, is_conflict/3]).
--export([plan/5, is_current/2, losers/1, conflicts/1, swap/2, show/2, differences/1, differences/2, settle/1, restrict/2]).
+-export([plan/4, is_current/2, losers/1, conflicts/1, swap/2, differences/1, differences/2, settle/1, restrict/2]).
 -export_type([changes/0, plan/0]).
 
 -define(MAX_PROGRAMS, 256).
@@ -105,10 +105,11 @@ is_conflict(Name, Row, #part{own = Own}) ->
         _ -> false
     end.
 
-%% Computes what changes on this node when its part takes this half, from an exchange with these losers or without one, and had the other
-%% half before. The changes are those of its rows, unless they aren't known.
--spec plan(heal_losers:losers(), #half{}, changes() | unknown, Before :: #half{}, #part{}) -> plan().
-plan(Losers, #half{names = New}, Changes, #half{names = Old}, Part = #part{own = Own}) ->
+%% Computes what changes on this node when its part takes this half, from an exchange with these losers or without one. The changes are
+%% those of its rows, unless they aren't known.
+-spec plan(heal_losers:losers(), #half{}, changes() | unknown, #part{}) -> plan().
+plan(Losers, #half{names = New}, Changes, Part = #part{own = Own}) ->
+    #half{names = Old} = heal_state:half(Part),
     Lost = heal_losers:lost(Losers, Own),
     Found = found(Own, New, Lost),
     #plan{
@@ -170,25 +171,15 @@ losers(#plan{losers = Losers}) -> Losers.
 -spec conflicts(plan()) -> [heal:name()].
 conflicts(#plan{conflicts = Conflicts}) -> Conflicts.
 
-%% Notes which registrations have lost their names, now that the replica has the half of the plan.
+%% Notes which registrations have lost their names and replaces the table that processes read, now that the replica has the half of the
+%% plan. Names of processes that ended are hidden already.
 -spec swap(plan(), #part{}) -> #part{}.
-swap(#plan{lost = Lost, moved = Moved}, Part) ->
+swap(#plan{lost = Lost, moved = Moved, missing = Missing, strange = Strange, changes = {Put, Drop}}, Part) ->
     #half{programs = Known} = heal_state:half(Part),
     All = maps:merge(Part#part.programs, Known),
-    heal_state:add({keep, programs, All}, lists:foldl(fun disown/2, Part#part{lost = Lost, programs = All}, Moved)).
-
-%% Replaces the table that processes read by that of the plan, but for what edits have changed since. Names of processes that ended are
-%% hidden already.
--spec show(plan(), #part{}) -> #part{}.
-show(#plan{changes = {Put, Drop}, missing = Missing, strange = Strange}, Part = #part{own = Own}) ->
-    #half{names = Names} = heal_state:half(Part),
-    Kept = kept(held(Missing, Own), Part),
-    Shown = heal_state:add({rows, held(Put, Names), [Name || Name <- Drop, not is_map_key(Name, Names)]}, Kept),
-    lists:foldl(fun({Name, _}, Sum) -> heal_state:add({hide, Name}, Sum) end, Shown, held(Strange, Names)).
-
-%% Those of the rows that a map has.
-held(Rows, Map) ->
-    [Entry || Entry = {Name, Row} <- Rows, #{Name := Same} <- [Map], Same =:= Row].
+    Noted = heal_state:add({keep, programs, All}, lists:foldl(fun disown/2, Part#part{lost = Lost, programs = All}, Moved)),
+    Shown = heal_state:add({rows, Put, Drop}, kept(Missing, Noted)),
+    lists:foldl(fun({Name, _}, Sum) -> heal_state:add({hide, Name}, Sum) end, Shown, Strange).
 
 %% The rows that this node answered for and does no more.
 strange(Rows, Part = #part{own = Own}) ->

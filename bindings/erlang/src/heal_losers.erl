@@ -43,8 +43,8 @@ loss({Name, Owner, Position, Verdict, Resolver, Winner}, #judged{withdrawn = Gon
     case {heal_names:notice(Position, Verdict, Resolver), Own} of
         {none, _} -> [];
         {Notice, #{Name := Row = #row{pid = Pid}}} when not is_map_key(Name, Gone) ->
-            Rival = case Winner of none -> map_get(Name, Pids); _ -> (map_get(Name, Merged))#row.pid end,
-            %% A process that clashes with itself loses nothing.
+            Rival = case Winner of none -> maps:get(Name, Pids, Pid); _ -> (map_get(Name, Merged))#row.pid end,
+            %% A process that clashes with itself loses nothing, nor does one against a name that the other side offered without a process.
             [{Notice, Rival} || Rival =/= Pid, heal_row:is_of(Owner, Row)];
         _ -> []
     end.

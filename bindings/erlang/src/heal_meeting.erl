@@ -350,7 +350,7 @@ lead(#open{node = Node, number = Number, from = From}, Outcome, Part = #part{rep
 
 %% The other node keeps the merge until it hears of the leader's view, with what it changes on this node.
 keep(Open, {Half, Losers, Changes, Facts}, Part) ->
-    Plan = heal_home:plan(Losers, Half, Changes, heal_state:half(Part), Part),
+    Plan = heal_home:plan(Losers, Half, Changes, Part),
     heal_state:add({healed, Facts}, Part#part{heal = extended(Open#open{stage = {done, Half, Plan}}, Part)}).
 
 %% The merge, its losers, how its rows differ, and what is reported of it.

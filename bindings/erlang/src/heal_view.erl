@@ -239,9 +239,10 @@ lead(Half, Members, Part = #part{replica = Replica}) ->
 start(Led, Members, Has, {Losers, Changes}, Part = #part{now = Now, peers = Peers, links = Links}) ->
     Pending = maps:map(fun(Node, Member) -> Member#member{is_lagging = Node =/= Has} end, Members),
     Moved = Part#part{replica = Led, members = Pending, settle_by = Now + heal_state:patience(Part), limbo = none, losers = Losers,
-                      lost = #{}, dropped = #{}, since = 0},
-    Plan = heal_home:plan(Losers, heal_state:half(Moved), Changes, heal_state:half(Part), Moved),
-    Swapped = heal_entries:restart(heal_home:show(Plan, heal_home:swap(Plan, Moved))),
+                      dropped = #{}, since = 0},
+    Plan = heal_home:plan(Losers, heal_state:half(Moved), Changes, Part),
+    %% Callers read their own writes, so they are answered after the table has them.
+    Swapped = heal_entries:restart(heal_home:swap(Plan, Moved)),
     Restored = heal_orders:make_each(heal_home:differences(Plan, Swapped), 0, Swapped),
     Resumed = heal_edits:resume(heal_peers:arrived(Restored)),
     %% A member that heard of the view before its snapshot would take it for another part. One that hasn't announced itself yet gets the
@@ -411,14 +412,14 @@ follow(Snapshot = {{View, _}, Half}, Losers, Node, Part) ->
         View -> {Losers ++ heal_home:waiting(Part), fun heal_entries:skipped/1};
         _ -> {Losers, fun entered/1}
     end,
-    taken(Snapshot, heal_home:plan(Lost, Half, unknown, heal_state:half(Part), Part), Continue, noted(View, Node, Part)).
+    taken(Snapshot, heal_home:plan(Lost, Half, unknown, Part), Continue, noted(View, Node, Part)).
 
 %% Follows the view of another primary, which begins with the outcome of an exchange.
 -spec follow_merge(heal_replica:view(), #half{}, heal_home:plan(), node(), #part{}) -> #part{}.
 follow_merge(View, Half, Plan, Node, Part) ->
     Current = case heal_home:is_current(Plan, Part) of
         true -> Plan;
-        false -> heal_home:plan(heal_home:losers(Plan), Half, unknown, heal_state:half(Part), Part)
+        false -> heal_home:plan(heal_home:losers(Plan), Half, unknown, Part)
     end,
     taken({{View, 0}, Half}, Current, fun entered/1, noted(View, Node, Part)).
 
@@ -434,7 +435,7 @@ taken(Snapshot, Plan, Continue, Part = #part{replica = Replica}) ->
         [] ->
             {ok, Following} = heal_replica:follow(Snapshot, Replica),
             Moved = Part#part{replica = Following, members = #{}, settle_by = none, losers = [], limbo = none},
-            Swapped = Continue(heal_home:show(Plan, heal_home:swap(Plan, Moved))),
+            Swapped = Continue(heal_home:swap(Plan, Moved)),
             heal_peers:announce(join_with(heal_home:differences(Plan, Swapped), Swapped));
         _ ->
             lead_alone(Part)

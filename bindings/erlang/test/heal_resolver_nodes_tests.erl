@@ -19,12 +19,9 @@ nodes_test_() ->
     {inparallel, 4, [test([7, 7], fun one_number/1) | [test([2, 1], It) || It <- Silent]] ++
                     [test([1, 2], It) || It <- Two] ++ [test([3, 2, 1], It) || It <- Three]}.
 
+%% Runs a test on nodes that are apart and have these numbers. Each runs the application. A node that hangs ends too.
 test(Numbers, Test) ->
     {name, Name} = erlang:fun_info(Test, name),
-    {atom_to_list(Name), numbered(Numbers, Test)}.
-
-%% Runs a test on nodes that are apart and have these numbers. Each runs the application. A node that hangs ends too.
-numbered(Numbers, Test) ->
     {setup,
         fun() ->
             Nodes = [heal_cluster:start(Letter) || Letter <- lists:sublist([a, b, c], length(Numbers))],
@@ -33,7 +30,7 @@ numbered(Numbers, Test) ->
             [{It, heal_cluster:call(It, os, getpid, [])} || It <- Nodes]
         end,
         fun(Nodes) -> [begin _ = os:cmd("kill -KILL " ++ Os), heal_cluster:stop(It) end || {It, Os} <- Nodes] end,
-        fun(Nodes) -> {timeout, 240, fun() -> Test([It || {It, _} <- Nodes]) end} end}.
+        fun(Nodes) -> {timeout, 240, {atom_to_list(Name), fun() -> Test([It || {It, _} <- Nodes]) end}} end}.
 
 start(It, Numbers) ->
     _ = heal_cluster:call(It, application, load, [heal]),
@@ -41,12 +38,6 @@ start(It, Numbers) ->
     {ok, _} = heal_cluster:call(It, application, ensure_all_started, [heal]).
 
 %% ---- What tests do with nodes ----
-
-%% Stops a node until the function that this returns is called.
-freeze(It) ->
-    Os = heal_cluster:call(It, os, getpid, []),
-    "" = os:cmd("kill -STOP " ++ Os),
-    fun() -> "" = os:cmd("kill -CONT " ++ Os) end.
 
 kill(It) ->
     "" = os:cmd("kill -KILL " ++ heal_cluster:call(It, os, getpid, [])).
@@ -119,9 +110,9 @@ frozen([A, B]) ->
     [without_global(It) || It <- [A, B]],
     heal_cluster:connect(A, B),
     knows(A, n20, lists:last(OnB)),
-    Continue = freeze(B),
+    Frozen = heal_cluster:freeze(B),
     {Time, Kept} = resolve_each(A, lists:zip3(names(20), OnB, OnA)),
-    Continue(),
+    heal_cluster:thaw(Frozen),
     ?assertEqual(OnA, Kept),
     ?assert(Time < 2000000),
     ?assertEqual(no_mail(OnA), mails(A, OnA)),
@@ -135,10 +126,10 @@ frozen_before_it_sent([A, B]) ->
     [without_global(It) || It <- [A, B]],
     heal_cluster:connect(A, B),
     knows(A, n100, lists:last(OnB)),
-    Continue = freeze(B),
+    Frozen = heal_cluster:freeze(B),
     heal_cluster:call(A, heal_facts, drop_node, [heal_cluster:node_of(B)]),
     {Time, Kept} = resolve_each(A, lists:zip3(names(100), OnB, OnA)),
-    Continue(),
+    heal_cluster:thaw(Frozen),
     ?assertEqual(OnA, Kept),
     ?assert(Time < ?SOON),
     ?assertEqual(no_mail(OnA), mails(A, OnA)),
@@ -200,10 +191,10 @@ third_node_knows([A, B, C]) ->
     OnB = own_each(B, 20, 9, Later),
     knows(C, n20, lists:last(OnB)),
     [without_global(It) || It <- [A, B, C]],
-    Continue = freeze(B),
+    Frozen = heal_cluster:freeze(B),
     heal_cluster:connect(A, C),
     {Time, Kept} = resolve_each(A, lists:zip3(names(20), OnB, OnA)),
-    Continue(),
+    heal_cluster:thaw(Frozen),
     ?assertEqual(OnB, Kept),
     ?assert(Time < ?SOON),
     ?assertEqual(no_mail(OnB), mails(B, OnB)),

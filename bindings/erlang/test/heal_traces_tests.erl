@@ -44,7 +44,7 @@ bodies({again, To, Bodies}) -> [{To, Body} || Body <- Bodies];
 bodies({post, Nodes, Entries}) -> [{To, Entries} || To <- Nodes];
 bodies(_Other) -> [].
 
-%% Handles an event at a time, which sends nothing that arrives.
+%% Handles an event at this time. Nothing that it sends arrives.
 event_at(Now, Node, Event, Parts) ->
     Parts#{Node := element(2, handled(Node, Event, Now, maps:get(Node, Parts)))}.
 
@@ -326,6 +326,30 @@ waiting_callers_test() ->
 
 is_snapshot({send, _, {snapshot, _}}) -> true;
 is_snapshot(_Action) -> false.
+
+%% A caller whose registration comes with the merge is answered after the leader's table has it.
+merged_registration_test() ->
+    Connected = connect(a, c, fun unasked/3, start([{a, #{}}, {c, #{}}])),
+    %% Edits no longer wait for the exchange.
+    Apart = event_at(900, c, tick, event_at(900, a, tick, Connected)),
+    Options = #{stamp => 1, weight => 0, extra => <<0:128>>, resolver => notify},
+    Called = event(a, {call, 7, {adopt, ?NAME, ?NAME, Options, {pid, c, 1}, c}}, fun unasked/3, Apart),
+    ?assertEqual(1, map_size((maps:get(a, Called))#part.arriving)),
+    Left = event(c, {down, a}, fun none_lost/3, event(a, {down, c}, fun none_lost/3, Called)),
+    put(done, []),
+    Healed = connect(a, c, fun none_lost/3, Left),
+    ?assertEqual(position(a, Healed), position(c, Healed)),
+    ?assertMatch([{rows, [{?NAME, _}], []}, {reply, 7, ok}], [Action || Action <- done(a), lists:member(element(1, Action), [rows, reply])]).
+
+%% A name that the other side offers without a process takes nothing from this node, also if nobody keeps it.
+offered_without_a_process_test() ->
+    Row = row(a, 1, a, 0),
+    Open = #open{node = b, number = 1, side = a, from = none, handle = none, own = #{?NAME => Row}, others = [], begun = 1, deadline = 9},
+    Losses = [{?NAME, heal_row:owner(Row), first, neither, notify_all, none}],
+    Losers = fun(Others) -> heal_losers:judged({Losses, []}, [], Open#open{others = Others}, #half{names = #{}}, heal_sim_world) end,
+    Lost = fun(Others) -> maps:keys(heal_losers:lost(Losers(Others), #{?NAME => Row})) end,
+    ?assertEqual([?NAME], Lost([{erlang:phash2(b, 1000), {b, 1}, [{?NAME, 1, {pid, b, 1}}]}])),
+    ?assertEqual([], Lost([])).
 
 %% A primary declines the query of a part that it isn't fully connected with. Once it is, the parts heal without another tick. An earlier
 %% version sends no invitation.
