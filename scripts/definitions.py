@@ -3,11 +3,12 @@
 
 For each promise of docs/PROOFS.md it follows the words of the contracts that carry it, and of the views of the types in
 their signatures, to the definitions in crates/*/specs, and counts these with their lines (comments included, imports
-and blank lines not). Definitions of the toolchain's crates are counted apart. It also copies the definitions that the page shows.
+and blank lines not). Definitions of the toolchain's crates are counted apart, and proofs that a definition carries aren't counted, nor
+how the values of a type are coded: the prover has checked them. It also copies the definitions that the page shows.
 
 Without an option it prints the table. --write puts the table and the definitions into docs/PROOFS.md, --check fails if they
-differ there, or if two crates define one word that SHARED doesn't list, and --list NAME prints the definitions of the promises whose
-text contains NAME, by module.
+differ there, or if two crates define one word, and --list NAME prints the definitions of the promises whose text contains NAME, by
+module.
 """
 import collections
 import glob
@@ -19,12 +20,6 @@ TOP = os.path.join(os.path.dirname(os.path.abspath(__file__)), "..")
 PAGE = os.path.join(TOP, "docs", "PROOFS.md")
 # The definitions that the page shows, by name, with their modules.
 SHOWN = {"IsLawfulMerge": "Rattle.exchange_law.specs.History"}
-
-# The words that two crates or more define, each in a sense of its own.
-SHARED = {
-    "IsFirstFault", "IsKept", "IsRefused", "IsRejectedOver", "Keeps", "code_for", "entry", "fault_number", "fault_place", "is_in", "is_name",
-    "operand", "register_fault", "without", "word_of", "◌>>=◌",
-}
 
 # Each promise with the public functions whose contracts carry it.
 PROMISES = [
@@ -70,6 +65,7 @@ PROMISES = [
 
 DEFINITION = re.compile(
     r"^(?:abbrev pub|abbrev|unfoldable pub|unfoldable|pub record|record|pub data|data|pub)\s+([^\s:{(]+)")
+LAW = re.compile(r"pub (?!record |data )")
 TOKEN = re.compile(r"[A-Za-z_][\w.']*")
 
 
@@ -77,7 +73,7 @@ class Module:
     """The imports, aliases and definitions of one file of specs/."""
 
     def __init__(self, text):
-        self.imports, self.aliases, self.definitions, self.constructors = {}, {}, {}, {}
+        self.imports, self.aliases, self.definitions, self.constructors, self.laws = {}, {}, {}, {}, set()
         read_imports(text.split("\n"), "use", self)
         block = []
         for line in text.split("\n") + [""]:
@@ -99,6 +95,8 @@ class Module:
         if name is None:
             return
         self.definitions[name] = [line for line in block if not re.match(r"(pub )?use ", line)]
+        if LAW.match(line):
+            self.laws.add(name)
         if any(re.match(r"(pub )?data ", line) for line in block):
             for line in block:
                 match = re.match(r"\s+(\w+)\s*:", line)
@@ -135,8 +133,7 @@ class Source:
                 owner = block.group(1)
                 if " Model for " in line:
                     end = next(i for i in range(at, len(lines)) if lines[i] == "}")
-                    self.views[owner] = "\n".join(
-                        l for l in lines[at:end] if "ghost use" not in l and "invariant" not in l)
+                    self.views[owner] = "\n".join(l for l in lines[at:end] if not re.search("ghost (use|coded|invariant)", l))
             elif line == "}":
                 owner = None
             function = re.match(r'\s*(?:pub(?:\(crate\))? )?(?:extern "C" )?fn (\w+)', line)
@@ -212,7 +209,7 @@ def contract(path):
 
 
 def reach(roots):
-    """The definitions that these reach, in this repository and outside."""
+    """The definitions that these reach, in this repository and outside, without proofs and what only proofs reach."""
     inside, outside, queue = set(), set(), list(roots)
     while queue:
         place = resolve(*queue.pop())
@@ -221,8 +218,10 @@ def reach(roots):
         if place[0] not in MODULES:
             outside.add(place)
             continue
-        inside.add(place)
         here = MODULES[place[0]]
+        if place[1] in here.laws:
+            continue
+        inside.add(place)
         own = "\n".join(here.definitions[place[1]])
         queue += words(own, here)
         own = re.sub(r'"[^"]*"', "", re.sub(r"--.*", "", own))
@@ -303,8 +302,8 @@ def main():
     for name, module in SHOWN.items():
         new = with_part(new, name, "\n".join(["```", *MODULES[module].definitions[name], "```"]))
     if sys.argv[1] == "--check":
-        if shared_words() != SHARED:
-            sys.exit(f"definitions.py: SHARED differs from the words of two crates: {sorted(shared_words() ^ SHARED)}")
+        if shared := shared_words():
+            sys.exit(f"definitions.py: two crates define one word: {sorted(shared)}")
         sys.exit(0 if old == new else "definitions.py: parts of docs/PROOFS.md are stale; run scripts/definitions.py --write")
     open(PAGE, "w", encoding="utf-8").write(new)
 

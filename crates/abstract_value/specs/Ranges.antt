@@ -176,13 +176,13 @@ abbrev pub where_equal : Interval → Interval → Option (Interval × Interval)
 where_equal a b = both (nonempty (max a.lo b.lo) (min a.hi b.hi)) (nonempty (max a.lo b.lo) (min a.hi b.hi))
 
 -- a without its ends that are b's only word
-abbrev pub without : Interval → Interval → Option Interval
-without a b =
+abbrev pub without_end : Interval → Interval → Option Interval
+without_end a b =
     if is_single b then nonempty (if a.lo == b.lo then a.lo + 1 else a.lo) (if a.hi == b.lo then a.hi - 1 else a.hi)
     else Some a
 
 abbrev pub where_different : Interval → Interval → Option (Interval × Interval)
-where_different a b = both (without a b) (without b a)
+where_different a b = both (without_end a b) (without_end b a)
 
 abbrev pub where_greater : Interval → Interval → Option (Interval × Interval)
 where_greater a b = both (nonempty (max a.lo (b.lo + 1)) a.hi) (nonempty b.lo (min b.hi (a.hi - 1)))

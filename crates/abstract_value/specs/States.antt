@@ -67,8 +67,8 @@ abbrev pub view : {D : Type 0} → State D → View D
 view s = record { registers = λ r. slice_index_or s.registers r Unreadable; written = is_written s.stack }
 
 -- at entry R1 is the record's address, R10 is the address just past the stack, and no byte is written
-abbrev pub entry : {D : Type 0} → View D
-entry = record {
+abbrev pub first_view : {D : Type 0} → View D
+first_view = record {
   registers = λ r.
       if r == 1 then Record (make_span (pos 0) (pos 0))
       else (if r == 10 then Stack (make_span (pos 0) (pos 0)) else Unreadable);

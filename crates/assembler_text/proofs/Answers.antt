@@ -6,7 +6,7 @@ use Rattle.instruction_set.specs.declared.insn.Insn.{Insn}
 use Rattle.assembler_text.specs.declared.faults.Fault.{Fault}
 use Rattle.assembler_text.specs.declared.faults.LineFault.{LineFault}
 use Rattle.assembler_text.specs.Grammar.{lines_of, IsLine, IsTextOf}
-use Rattle.assembler_text.specs.Refusals.{IsLineFault, IsFirstFault}
+use Rattle.assembler_text.specs.Refusals.{IsLineFault, IsFirstTextFault}
 use Rattle.assembler_text.specs.Faults.{line_fault_number}
 use Rattle.assembler_text.specs.model.Lines.{line_at}
 use Rattle.assembler_text.specs.model.Texts.{code_of}
@@ -25,7 +25,7 @@ answer_is (Err f) text h = tt
 
 pub refusal_is : (r : Result (List Insn) LineFault) (text : List ℕ)
     → ReturnsOrRunsOut line_fault_number r (code_of (lines_of text))
-    → IfErr r (HasCause line_fault_number (IsFirstFault text))
+    → IfErr r (HasCause line_fault_number (IsFirstTextFault text))
 refusal_is (Ok code) text h = tt
 refusal_is (Err f) text (inl same) = inl (fault_is text f (sym same))
 refusal_is (Err f) text (inr out) = inr out
@@ -38,7 +38,7 @@ code_answered r text (inr out) code g = inr out
 
 pub fault_answered : (r : Result (List Insn) LineFault) (text : List ℕ)
     → ReturnsOrRunsOut line_fault_number r (code_of (lines_of text))
-    → (f : LineFault) → IsFirstFault text f → ReturnsOrRunsOut line_fault_number r (Err f)
+    → (f : LineFault) → IsFirstTextFault text f → ReturnsOrRunsOut line_fault_number r (Err f)
 fault_answered r text (inl same) f g = inl (same ∙ first_told text f g)
 fault_answered r text (inr out) f g = inr out
 
@@ -63,20 +63,20 @@ one_line_fault line f g h k = one_err (line_at line) f g (line_told line f h) (l
 
 -- ---- one way to read a text
 
-pub some_text : (text : List ℕ) → ((code : List Insn) × IsTextOf text code) ⊎ ((f : LineFault) × IsFirstFault text f)
+pub some_text : (text : List ℕ) → ((code : List Insn) × IsTextOf text code) ⊎ ((f : LineFault) × IsFirstTextFault text f)
 some_text text = from_read (either_way (code_of (lines_of text)))
   where
     from_read : ((c : List Insn) × (code_of (lines_of text) ≡ Ok c))
         ⊎ ((f : LineFault) × (code_of (lines_of text) ≡ Err f))
-        → ((code : List Insn) × IsTextOf text code) ⊎ ((f : LineFault) × IsFirstFault text f)
+        → ((code : List Insn) × IsTextOf text code) ⊎ ((f : LineFault) × IsFirstTextFault text f)
     from_read (inl h) = inl (h.0, text_is text h.0 h.1)
     from_read (inr h) = inr (h.0, fault_is text h.0 h.1)
 
-pub either_text : (text : List ℕ) (code : List Insn) (f : LineFault) → IsTextOf text code → IsFirstFault text f → ⊥
+pub either_text : (text : List ℕ) (code : List Insn) (f : LineFault) → IsTextOf text code → IsFirstTextFault text f → ⊥
 either_text text code f h g = not_both (code_of (lines_of text)) code f (text_reads text code h) (first_told text f g)
 
 pub one_code : (text : List ℕ) (a b : List Insn) → IsTextOf text a → IsTextOf text b → a ≡ b
 one_code text a b h k = one_ok (code_of (lines_of text)) a b (text_reads text a h) (text_reads text b k)
 
-pub one_first_fault : (text : List ℕ) (f g : LineFault) → IsFirstFault text f → IsFirstFault text g → f ≡ g
+pub one_first_fault : (text : List ℕ) (f g : LineFault) → IsFirstTextFault text f → IsFirstTextFault text g → f ≡ g
 one_first_fault text f g h k = one_err (code_of (lines_of text)) f g (first_told text f h) (first_told text g k)

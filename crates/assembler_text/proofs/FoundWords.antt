@@ -6,7 +6,7 @@ use Rattle.std.specs.Int.{w16, w32}
 use Rattle.std.proofs.lemmas.Int.{ints}
 use Rattle.instruction_set.specs.declared.insn.Register.{Register}
 use Rattle.assembler_text.specs.declared.lexer.Class.TheVariants as class
-use Rattle.assembler_text.specs.Words.{is_in, AreIn, StopsAt}
+use Rattle.assembler_text.specs.Words.{is_of_class, AreIn, StopsAt}
 use Rattle.assembler_text.specs.model.Words.{front, rest, word, after}
 use Rattle.assembler_text.specs.Text.{Operand, OfRegister, OfImm, OfValue, OfAddress, OfStep, register_text, step_text}
 use Rattle.assembler_text.specs.Grammar.{AreBlanks, IsOperand, IsHex, Begins, AreSeparated, AreOperands}
@@ -79,11 +79,11 @@ word_stops (c ∷ cs) t h = no_blank c h.0
 
 comma_stops : (t : List ℕ) → AtComma t → StopsAt class.Blank t
 comma_stops [] h = tt
-comma_stops (c ∷ cs) h = ap (is_in class.Blank) h
+comma_stops (c ∷ cs) h = ap (is_of_class class.Blank) h
 
 behind_stops : (b t : List ℕ) → AreBlanks b → AtComma t → StopsAt class.Operand (b ++ t)
 behind_stops [] [] h k = tt
-behind_stops [] (c ∷ cs) h k = ap (is_in class.Operand) k
+behind_stops [] (c ∷ cs) h k = ap (is_of_class class.Operand) k
 behind_stops (c ∷ cs) t h k = ap (λ b. not b && not (c == 44)) h.0
 
 -- the operand is the first word of the text, and this stands after it

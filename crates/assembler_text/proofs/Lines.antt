@@ -8,13 +8,13 @@ use Rattle.assembler_text.specs.declared.faults.Fault.{Fault}
 use Rattle.assembler_text.specs.declared.faults.Fault.TheVariants as fault
 use Rattle.assembler_text.specs.declared.lexer.Class.TheVariants as class
 use Rattle.assembler_text.specs.declared.mnemonic.Mnemonic.{Mnemonic}
-use Rattle.assembler_text.specs.Words.{is_blank, is_in, AreIn, StopsAt}
+use Rattle.assembler_text.specs.Words.{is_blank, is_of_class, AreIn, StopsAt}
 use Rattle.assembler_text.specs.Text.{mnemonic_of, operands_of}
 use Rattle.assembler_text.specs.Grammar.{IsComment, AreOperands, IsEmptyLine, IsInsnLine, IsLine}
 use Rattle.assembler_text.specs.Refusals.{kinds_of, IsFaultIn, IsFaultOf, no_mnemonic, in_operands, IsLineFault}
 use Rattle.assembler_text.specs.model.Words.{front, rest}
 use Rattle.assembler_text.specs.model.Mnemonics.{mnemonic_at, IsKnown}
-use Rattle.assembler_text.specs.model.Results.{◌>>=◌}
+use Rattle.refusals.specs.Answers.{◌>>=◌}
 use Rattle.assembler_text.specs.model.Lines.{operands, operands_at, kinds, made, insn_at, insn_from, body, body_at, line_at}
 use Rattle.assembler_text.proofs.Pieces.{by_test, parts, front_is, rest_is, front_in, front_among, rest_stops}
 use Rattle.assembler_text.proofs.Results.{done, ok_is, err_is, not_err, clash, bind_ok, only_first}
@@ -160,7 +160,7 @@ line_is line o h = from_body (body line) refl h
 
 comment_stops : (cs : List ℕ) → IsComment cs → StopsAt class.Instruction cs
 comment_stops [] h = tt
-comment_stops (c ∷ cs) h = ap (is_in class.Instruction) h
+comment_stops (c ∷ cs) h = ap (is_of_class class.Instruction) h
 
 name_first : (name t : List ℕ) → (name ≡ [] → ⊥) → AreIn class.Mnemonic name → StopsAt class.Blank (name ++ t)
 name_first [] t n h = absurd (n refl)

@@ -5,12 +5,12 @@ use Rattle.std.proofs.lemmas.Bool.Decides.{nat_tests}
 use Rattle.assembler_text.specs.declared.faults.Fault.{Fault}
 use Rattle.assembler_text.specs.declared.faults.Fault.TheVariants as fault
 use Rattle.assembler_text.specs.declared.lexer.Class.TheVariants as class
-use Rattle.assembler_text.specs.Words.{is_blank, is_in, StopsAt}
+use Rattle.assembler_text.specs.Words.{is_blank, is_of_class, StopsAt}
 use Rattle.assembler_text.specs.Text.{Operand, OfRegister, OfImm, OfValue, OfAddress, OfStep}
 use Rattle.assembler_text.specs.Grammar.{AreBlanks, IsOperand, Begins, AreSeparated, AreOperands}
 use Rattle.assembler_text.specs.Refusals.{OperandKind, ASource, AnImm, AValue, AnAddress, AStep, ALongStep, Takes, IsSplit, IsFaultIn, none_asked, wrong_word, no_comma, behind_comma, line_end}
 use Rattle.assembler_text.specs.model.Words.{front, rest, word, after}
-use Rattle.assembler_text.specs.model.Results.{◌>>=◌}
+use Rattle.refusals.specs.Answers.{◌>>=◌}
 use Rattle.assembler_text.specs.model.Reading.{asked, strip}
 use Rattle.assembler_text.specs.model.Operands.{comma, end_at}
 use Rattle.assembler_text.specs.model.Lines.{Read, AllRead, operand_of, operands, operand_at, operands_at}
@@ -187,7 +187,7 @@ separated_read k (l ∷ ks) text a h t =
 
 -- ---- a blank before the first operand
 
-blank_first : (c : ℕ) → is_in class.Mnemonic c ≡ false → is_blank c ≡ true
+blank_first : (c : ℕ) → is_of_class class.Mnemonic c ≡ false → is_blank c ≡ true
 blank_first c h = by_test (is_blank c) (λ t. t) (λ f. let is : true ≡ false = sym (ap not f) ∙ h in absurd cc)
 
 -- it changes nothing

@@ -10,7 +10,7 @@ use Rattle.assembler_text.specs.declared.lexer.Class.TheVariants as class
 use Rattle.assembler_text.specs.Text.{register_text}
 use Rattle.assembler_text.specs.Refusals.{OperandKind, ARegister, ASource, AnImm, AValue, AnAddress, AStep, ALongStep, IsPastImm, IsPastAddress, IsOutOfRange}
 use Rattle.assembler_text.specs.model.Words.{front, rest}
-use Rattle.assembler_text.specs.model.Results.{◌>>=◌}
+use Rattle.refusals.specs.Answers.{◌>>=◌}
 use Rattle.assembler_text.specs.model.Reading.{asked, strip, imm_at, step_at}
 use Rattle.assembler_text.specs.model.Operands.{registers, register_number, register_at, source_from, source_at, inner_from, inner, address_from, address_at}
 use Rattle.assembler_text.specs.model.Lines.{operand_at}

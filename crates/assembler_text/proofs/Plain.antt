@@ -8,7 +8,7 @@ use Rattle.std.proofs.lemmas.Bool.Decides.{nat_tests}
 use Rattle.std.proofs.lemmas.Fmt.{decimal_is_IsNumeral}
 use Rattle.assembler_text.specs.declared.lexer.Class.{Class}
 use Rattle.assembler_text.specs.declared.lexer.Class.TheVariants as class
-use Rattle.assembler_text.specs.Words.{is_blank, is_in, AreIn}
+use Rattle.assembler_text.specs.Words.{is_blank, is_of_class, AreIn}
 use Rattle.assembler_text.specs.Grammar.{AreBlanks}
 use Rattle.assembler_text.proofs.Pieces.{by_test}
 
@@ -40,17 +40,17 @@ four true true false d h = absurd cc
 four true false c d h = absurd cc
 four false b c d h = absurd cc
 
-pub in_operand : (c : ℕ) → is_plain c ≡ true → is_in class.Operand c ≡ true
+pub in_operand : (c : ℕ) → is_plain c ≡ true → is_of_class class.Operand c ≡ true
 in_operand c h = let p = four (not (is_blank c)) (not (c == 44)) (not (c == 59)) (not (c == 10)) h in
     (λ i. p.0 i && p.1 i)
 
-pub in_mnemonic : (c : ℕ) → is_plain c ≡ true → is_in class.Mnemonic c ≡ true
+pub in_mnemonic : (c : ℕ) → is_plain c ≡ true → is_of_class class.Mnemonic c ≡ true
 in_mnemonic c h = (four (not (is_blank c)) (not (c == 44)) (not (c == 59)) (not (c == 10)) h).0
 
-pub in_instruction : (c : ℕ) → is_plain c ≡ true → is_in class.Instruction c ≡ true
+pub in_instruction : (c : ℕ) → is_plain c ≡ true → is_of_class class.Instruction c ≡ true
 in_instruction c h = (four (not (is_blank c)) (not (c == 44)) (not (c == 59)) (not (c == 10)) h).2
 
-pub in_line : (c : ℕ) → is_plain c ≡ true → is_in class.Line c ≡ true
+pub in_line : (c : ℕ) → is_plain c ≡ true → is_of_class class.Line c ≡ true
 in_line c h = (four (not (is_blank c)) (not (c == 44)) (not (c == 59)) (not (c == 10)) h).3
 
 pub opposite : (b : Bool) → not b ≡ true → b ≡ false
@@ -60,7 +60,7 @@ opposite false h = refl
 pub no_blank : (c : ℕ) → is_plain c ≡ true → is_blank c ≡ false
 no_blank c h = opposite (is_blank c) ((four (not (is_blank c)) (not (c == 44)) (not (c == 59)) (not (c == 10)) h).0)
 
-pub among : (k : Class) → ((c : ℕ) → is_plain c ≡ true → is_in k c ≡ true) → (w : List ℕ) → ArePlain w → AreIn k w
+pub among : (k : Class) → ((c : ℕ) → is_plain c ≡ true → is_of_class k c ≡ true) → (w : List ℕ) → ArePlain w → AreIn k w
 among k f [] h = tt
 among k f (c ∷ cs) h = (f c h.0, among k f cs h.1)
 
@@ -96,7 +96,7 @@ plain_digit c h =
     (λ i. not (unlike 32 c h (lit≤ tt) i || unlike 9 c h (lit≤ tt) i)
     && (not (unlike 44 c h (lit≤ tt) i) && (not (unlike 59 c h (lit≤ tt) i) && not (unlike 10 c h (lit≤ tt) i))))
 
-pub digits_in : (k : Class) → ((c : ℕ) → digit_value c < 16 → is_in k c ≡ true) → (ds : List ℕ) → AllDigits 16 ds
+pub digits_in : (k : Class) → ((c : ℕ) → digit_value c < 16 → is_of_class k c ≡ true) → (ds : List ℕ) → AllDigits 16 ds
     → AreIn k ds
 digits_in k f [] h = tt
 digits_in k f (c ∷ cs) h = (f c h.0, digits_in k f cs h.1)

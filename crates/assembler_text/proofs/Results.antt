@@ -1,6 +1,6 @@
 -- Steps that may fail: what one of them gave, from what all gave.
 use Rattle.std.proofs.Common.{◌≡◌, refl, ap, ◌∙◌, sym, Result, Ok, Err, inl, inr, ◌⊎◌}
-use Rattle.assembler_text.specs.model.Results.{◌>>=◌}
+use Rattle.refusals.specs.Answers.{◌>>=◌}
 
 abbrev pub done : {E A : Type 0} → A → Result A E
 done x = Ok x

@@ -12,9 +12,9 @@ use Rattle.assembler_text.specs.declared.faults.Fault.{Fault}
 use Rattle.assembler_text.specs.declared.faults.LineFault.{LineFault}
 use Rattle.assembler_text.specs.declared.faults.LineFault.TheVariants as fault
 use Rattle.assembler_text.specs.Grammar.{IsLine, lines_of, AreLines, IsTextOf}
-use Rattle.assembler_text.specs.Refusals.{IsBefore, IsFirstOf, IsFirstFault}
+use Rattle.assembler_text.specs.Refusals.{IsBefore, IsFirstOf, IsFirstTextFault}
 use Rattle.assembler_text.specs.model.Lines.{line_at}
-use Rattle.assembler_text.specs.model.Results.{◌>>=◌}
+use Rattle.refusals.specs.Answers.{◌>>=◌}
 use Rattle.assembler_text.specs.model.Texts.{with_line, some_code, code_after, code_of}
 use Rattle.assembler_text.proofs.Outcomes.{Outcome, of_ok, of_err}
 use Rattle.assembler_text.proofs.Texts.{one_slot}
@@ -122,5 +122,5 @@ text_is text code h =
       };
     }
 
-pub fault_is : (text : List ℕ) (f : LineFault) → code_of (lines_of text) ≡ Err f → IsFirstFault text f
+pub fault_is : (text : List ℕ) (f : LineFault) → code_of (lines_of text) ≡ Err f → IsFirstTextFault text f
 fault_is text f h = of_err (AreWhole (lines_of text)) (IsFirstOf (lines_of text)) _ f (all_lines_give (lines_of text)) h

@@ -10,10 +10,10 @@ use Rattle.assembler_text.specs.declared.faults.Fault.{Fault}
 use Rattle.assembler_text.specs.declared.faults.LineFault.{LineFault}
 use Rattle.assembler_text.specs.declared.faults.LineFault.TheVariants as fault
 use Rattle.assembler_text.specs.Grammar.{lines_of, AreLines, IsTextOf}
-use Rattle.assembler_text.specs.model.Results.{◌>>=◌}
+use Rattle.refusals.specs.Answers.{◌>>=◌}
 use Rattle.assembler_text.specs.model.Texts.{with_line, code_after, code_of}
 use Rattle.assembler_text.proofs.Texts.{some_slots}
-use Rattle.assembler_text.specs.Refusals.{IsBefore, IsFirstOf, IsFirstFault}
+use Rattle.assembler_text.specs.Refusals.{IsBefore, IsFirstOf, IsFirstTextFault}
 use Rattle.assembler_text.proofs.Lines.{line_reads, line_told}
 
 add-zero : (n : ℕ) → n + 0 ≡ n
@@ -106,5 +106,5 @@ first_read lines (fault.TooLong number) h =
 first_read lines fault.Empty h =
     ap (code_after 0 []) (sym (append-nil lines)) ∙ read_before lines [] h 0 [] (omega arith) []
 
-pub first_told : (text : List ℕ) (f : LineFault) → IsFirstFault text f → code_of (lines_of text) ≡ Err f
+pub first_told : (text : List ℕ) (f : LineFault) → IsFirstTextFault text f → code_of (lines_of text) ≡ Err f
 first_told text f h = first_read (lines_of text) f h

@@ -3,7 +3,7 @@ use Rattle.std.proofs.Common.{◌≡◌, ℕ, ◌+◌, ◌<◌, ◌≤◌, Bool,
 use Rattle.std.specs.Prelude.{◌==◌, not, sum_by}
 use Rattle.std.specs.List.{prefix_len}
 use Rattle.std.proofs.lemmas.List.Sums.{sum_by-cons}
-use Rattle.refusals.specs.Answers.{HasCause, ReturnsOrRunsOut}
+use Rattle.refusals.specs.Answers.{◌>>=◌, HasCause, ReturnsOrRunsOut}
 use Rattle.instruction_set.specs.Machine.{slots_of}
 use Rattle.instruction_set.specs.declared.insn.Insn.{Insn}
 use Rattle.instruction_set.specs.declared.insn.Insn.TheVariants.{LoadWide}
@@ -11,32 +11,31 @@ use Rattle.assembler_text.specs.declared.faults.LineFault.{LineFault}
 use Rattle.assembler_text.specs.declared.faults.LineFault.TheVariants as fault
 use Rattle.assembler_text.specs.declared.lexer.Class.TheVariants as class
 use Rattle.assembler_text.specs.Faults.{line_fault_number}
-use Rattle.assembler_text.specs.Words.{is_in}
+use Rattle.assembler_text.specs.Words.{is_of_class}
 use Rattle.assembler_text.specs.model.Words.{front, rest}
 use Rattle.assembler_text.specs.Grammar.{lines_of, with_first}
 use Rattle.assembler_text.specs.model.Lines.{line_at}
 use Rattle.assembler_text.proofs.Pieces.{by_test, front_in, front_out, rest_in, rest_out}
-use Rattle.assembler_text.specs.model.Results.{◌>>=◌}
 use Rattle.assembler_text.specs.model.Texts.{with_line, code_after, some_code, FailsWith}
 
-not_newline : (c : ℕ) (b : Bool) → (c == 10) ≡ b → is_in class.Line c ≡ not b
+not_newline : (c : ℕ) (b : Bool) → (c == 10) ≡ b → is_of_class class.Line c ≡ not b
 not_newline c b h = ap not h
 
 goes_with : (c : ℕ) (cs : List ℕ) → lines_of cs ≡ front class.Line cs ∷ lines_of (drop 1 (rest class.Line cs))
-    → is_in class.Line c ≡ true
+    → is_of_class class.Line c ≡ true
     → with_first c (lines_of cs) ≡ front class.Line (c ∷ cs) ∷ lines_of (drop 1 (rest class.Line (c ∷ cs)))
 goes_with c cs so h =
     ap (with_first c) so
     ∙ ap (λ (t : List ℕ). t ∷ lines_of (drop 1 (rest class.Line cs))) (sym (front_in class.Line c cs h))
     ∙ ap (λ (t : List ℕ). front class.Line (c ∷ cs) ∷ lines_of (drop 1 t)) (sym (rest_in class.Line c cs h))
 
-ends_here : (c : ℕ) (cs : List ℕ) → is_in class.Line c ≡ false
+ends_here : (c : ℕ) (cs : List ℕ) → is_of_class class.Line c ≡ false
     → [] ∷ lines_of cs ≡ front class.Line (c ∷ cs) ∷ lines_of (drop 1 (rest class.Line (c ∷ cs)))
 ends_here c cs h =
     ap (λ (t : List ℕ). t ∷ lines_of cs) (sym (front_out class.Line c cs h))
     ∙ ap (λ (t : List ℕ). front class.Line (c ∷ cs) ∷ lines_of (drop 1 t)) (sym (rest_out class.Line c cs h))
 
-last_with : (c : ℕ) → is_in class.Line c ≡ true
+last_with : (c : ℕ) → is_of_class class.Line c ≡ true
     → with_first c [] ≡ front class.Line (c ∷ []) ∷ lines_of (drop 1 (rest class.Line (c ∷ [])))
 last_with c h =
     ap (λ (t : List ℕ). t ∷ []) (sym (front_in class.Line c [] h))
@@ -111,7 +110,7 @@ not_empty code h e = omega (arith, ap (sum_by slots_of) e)
 
 pub behind_shorter : (text : List ℕ) → 0 < length text → length (drop 1 (rest class.Line text)) < length text
 behind_shorter text h =
-    omega (arith, length-drop 1 (rest class.Line text), length-drop (prefix_len (is_in class.Line) text) text)
+    omega (arith, length-drop 1 (rest class.Line text), length-drop (prefix_len (is_of_class class.Line) text) text)
 
 abbrev pub made : List Insn → Result (List Insn) LineFault
 made code = Ok code

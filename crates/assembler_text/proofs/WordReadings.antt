@@ -17,9 +17,9 @@ use Rattle.instruction_set.specs.declared.insn.Source.TheVariants.{Imm, Reg}
 use Rattle.assembler_text.specs.declared.faults.Fault.{Fault}
 use Rattle.assembler_text.specs.declared.faults.Fault.TheVariants as fault
 use Rattle.assembler_text.specs.declared.lexer.Class.TheVariants as class
-use Rattle.assembler_text.specs.Words.{is_in, AreIn, StopsAt}
+use Rattle.assembler_text.specs.Words.{is_of_class, AreIn, StopsAt}
 use Rattle.assembler_text.specs.model.Words.{front, rest}
-use Rattle.assembler_text.specs.model.Results.{◌>>=◌}
+use Rattle.refusals.specs.Answers.{◌>>=◌}
 use Rattle.assembler_text.specs.model.Reading.{asked, strip, number_after, within, number_at, has_leading_zero, decimal_at, negated, negative_at, hex_digits, unsigned_imm_at, imm_from, imm_at, value_from, value_at, step_at}
 use Rattle.assembler_text.specs.model.Operands.{registers, register_number, register_at, source_from, source_at, inner, address_from, address_at}
 use Rattle.assembler_text.specs.Refusals.{IsPast, IsPastImm, IsPastValue, IsPastStep, IsPastAddress}
@@ -282,10 +282,10 @@ source_past w p = from_register (register_at w) refl
 
 -- ---- addresses
 
-unlike_bracket : (c : ℕ) → digit_value c < 16 → is_in class.Bracketed c ≡ true
+unlike_bracket : (c : ℕ) → digit_value c < 16 → is_of_class class.Bracketed c ≡ true
 unlike_bracket c h = ap not (unlike 93 c h (lit≤ tt))
 
-unlike_sign : (c : ℕ) → digit_value c < 16 → is_in class.Base c ≡ true
+unlike_sign : (c : ℕ) → digit_value c < 16 → is_of_class class.Base c ≡ true
 unlike_sign c h = (λ i. not (unlike 43 c h (lit≤ tt) i) && not (unlike 45 c h (lit≤ tt) i))
 
 register_digits : (r : Register) → AllDigits 16 (decimal r.number)

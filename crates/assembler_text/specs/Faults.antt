@@ -8,18 +8,18 @@ use Rattle.assembler_text.specs.declared.faults.Fault.TheVariants as fault
 use Rattle.assembler_text.specs.declared.faults.LineFault.{LineFault}
 use Rattle.assembler_text.specs.declared.faults.LineFault.TheVariants.{Line, TooLong, Empty, OutOfMemory}
 
-abbrev pub fault_number : Fault → ℕ
-fault_number fault.Mnemonic = 60
-fault_number fault.Operand = 61
-fault_number fault.NumberRange = 62
-fault_number fault.LineEnd = 63
+abbrev pub text_fault_number : Fault → ℕ
+text_fault_number fault.Mnemonic = 60
+text_fault_number fault.Operand = 61
+text_fault_number fault.NumberRange = 62
+text_fault_number fault.LineEnd = 63
 
 -- a fault without its line
-abbrev pub fault_place : Fault → Option Place
-fault_place f = None
+abbrev pub text_fault_place : Fault → Option Place
+text_fault_place f = None
 
 abbrev pub line_fault_number : LineFault → ℕ
-line_fault_number (Line f line) = fault_number f
+line_fault_number (Line f line) = text_fault_number f
 line_fault_number (TooLong line) = 2
 line_fault_number Empty = 1
 line_fault_number OutOfMemory = out_of_memory

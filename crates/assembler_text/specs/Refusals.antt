@@ -205,5 +205,5 @@ IsFirstOf lines line_fault.Empty = AreLines lines []
 IsFirstOf lines line_fault.OutOfMemory = ⊥
 
 -- the first fault of a text
-abbrev pub IsFirstFault : List ℕ → LineFault → Type 0
-IsFirstFault text f = IsFirstOf (lines_of text) f
+abbrev pub IsFirstTextFault : List ℕ → LineFault → Type 0
+IsFirstTextFault text f = IsFirstOf (lines_of text) f

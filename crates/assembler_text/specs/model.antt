@@ -1,4 +1,3 @@
-pub mod Results
 pub mod Words
 pub mod Mnemonics
 pub mod Reading

@@ -8,7 +8,7 @@ ghost use Rattle.assembler_text.specs.declared.faults.Fault.{Fault};
 ghost use Rattle.assembler_text.specs.declared.faults.LineFault.{LineFault};
 ghost use Rattle.assembler_text.specs.Text.{text_of, code_text};
 ghost use Rattle.assembler_text.specs.Grammar.{lines_of, IsLine, IsTextOf};
-ghost use Rattle.assembler_text.specs.Refusals.{IsLineFault, IsFirstFault};
+ghost use Rattle.assembler_text.specs.Refusals.{IsLineFault, IsFirstTextFault};
 ghost use Rattle.assembler_text.specs.Faults.{line_fault_number};
 ghost use Rattle.assembler_text.specs.model.Lines.{line_at};
 ghost use Rattle.assembler_text.specs.model.Texts.{with_line, code_of, FailsWith};
@@ -81,9 +81,9 @@ pub fn assemble(alloc: Global, text: &str) -> Result<Code, LineFault>
     ensures read { IfOk result (IsTextOf text.now) }
     // A text of code is assembled, unless memory runs out.
     ensures complete { (code : List Insn) → IsTextOf text.now code → ReturnsOrRunsOut line_fault_number result (Ok code) }
-    ensures refused { IfErr result (HasCause line_fault_number (IsFirstFault text.now)) }
+    ensures refused { IfErr result (HasCause line_fault_number (IsFirstTextFault text.now)) }
     // The first fault is returned, unless memory runs out.
-    ensures reported { (fault : LineFault) → IsFirstFault text.now fault
+    ensures reported { (fault : LineFault) → IsFirstTextFault text.now fault
         → ReturnsOrRunsOut line_fault_number result (Err fault) }
 {
     read_lines(alloc, text)
@@ -103,10 +103,11 @@ pub fn line_theorem()
 /// States that a text either is the text of exactly one code or has exactly one first fault. Does nothing at run time.
 pub fn text_theorem()
     ensures some { (text : List ℕ) → ((code : List Insn) × IsTextOf text code)
-        ⊎ ((f : LineFault) × IsFirstFault text f) }
-    ensures either { (text : List ℕ) (code : List Insn) (f : LineFault) → IsTextOf text code → IsFirstFault text f → ⊥ }
+        ⊎ ((f : LineFault) × IsFirstTextFault text f) }
+    ensures either { (text : List ℕ) (code : List Insn) (f : LineFault)
+        → IsTextOf text code → IsFirstTextFault text f → ⊥ }
     ensures one_code { (text : List ℕ) (a b : List Insn) → IsTextOf text a → IsTextOf text b → a ≡ b }
-    ensures one_fault { (text : List ℕ) (f g : LineFault) → IsFirstFault text f → IsFirstFault text g → f ≡ g }
+    ensures one_fault { (text : List ℕ) (f g : LineFault) → IsFirstTextFault text f → IsFirstTextFault text g → f ≡ g }
     // The canonical text of code is a text of it.
     ensures written { (code : List Insn) → IsCode code → IsTextOf (code_text code) code }
 {}

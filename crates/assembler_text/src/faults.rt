@@ -1,5 +1,5 @@
 //! The faults of texts.
-ghost use Rattle.assembler_text.specs.Faults.{fault_number, fault_place, line_fault_number, line_fault_place};
+ghost use Rattle.assembler_text.specs.Faults.{text_fault_number, text_fault_place, line_fault_number, line_fault_place};
 
 use refusals::{Numbered, OUT_OF_MEMORY, Place, words_of};
 use thiserror::Error;
@@ -36,9 +36,9 @@ pub enum LineFault {
 }
 
 impl Numbered for Fault {
-    ghost number_of = { fault_number };
+    ghost number_of = { text_fault_number };
 
-    ghost place_of = { fault_place };
+    ghost place_of = { text_fault_place };
 
     fn number(&self) -> u32 {
         match self {

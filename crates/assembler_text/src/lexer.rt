@@ -1,7 +1,7 @@
 //! Splits text into lines, comments, blanks and words.
 ghost use Rattle.std.specs.Prelude.{◌≡◌, ◌≤◌, length, take, drop, map};
 ghost use Rattle.std.specs.List.{prefix_len};
-ghost use Rattle.assembler_text.specs.Words.{is_in};
+ghost use Rattle.assembler_text.specs.Words.{is_of_class};
 ghost use Rattle.assembler_text.specs.model.Words.{front, rest, lookup};
 
 /// The class of the characters of a piece of text.
@@ -23,8 +23,8 @@ pub enum Class {
     Line,
 }
 
-fn is_in(class: Class, byte: u8) -> bool
-    ensures { result ≡ is_in class byte }
+fn is_of_class(class: Class, byte: u8) -> bool
+    ensures { result ≡ is_of_class class byte }
 {
     let is_blank = byte == b' ' || byte == b'\t';
     match class {
@@ -39,11 +39,11 @@ fn is_in(class: Class, byte: u8) -> bool
 }
 
 fn run_len(class: Class, text: &[u8]) -> usize
-    ensures value { result ≡ prefix_len (is_in class) text.now }
+    ensures value { result ≡ prefix_len (is_of_class class) text.now }
     ensures within { result ≤ length text.now }
 {
     let mut len = 0;
-    while len < text.len() && is_in(class, text[len]) {
+    while len < text.len() && is_of_class(class, text[len]) {
         len += 1;
     }
     len

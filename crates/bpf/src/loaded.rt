@@ -3,10 +3,9 @@ ghost use Rattle.std.specs.Prelude.{◌≡◌, ◌≤◌, List, Ok, Err, IfOk, I
 ghost use Rattle.refusals.specs.Answers.{HasCause, ReturnsOrRunsOut};
 ghost use Rattle.instruction_set.specs.declared.insn.Insn.{Insn};
 ghost use Rattle.instruction_set.specs.Machine.{IsSafeFor};
-ghost use Rattle.verifier.specs.Stores.{code_for};
-ghost use Rattle.verifier.specs.Programs.{program_fault_number};
+ghost use Rattle.verifier.specs.Stores.{code_with_len};
+ghost use Rattle.verifier.specs.Programs.{program_fault_number, IsLoadable, IsLoadFault, IsLoadableOver, IsLoadFaultOver};
 ghost use Rattle.verifier.specs.declared.program_fault.ProgramFault.{ProgramFault};
-ghost use Rattle.bpf.specs.Loading.{IsLoadable, IsLoadFault, IsLoadableOver, IsLoadFaultOver};
 
 use crate::memory::Memory;
 use crate::running::{Ended, run_for};
@@ -109,7 +108,7 @@ fn load_over<D: Domain>(
     ensures length { IfOk result (λ loaded. loaded.context_len ≡ context_len) }
     ensures safe { IfOk result (λ loaded. IsSafeFor context_len loaded.code) }
     ensures taken { (code : List Insn) → IsLoadableOver D.ops context_len bytes.now code
-        → ReturnsOrRunsOut program_fault_number result (Ok (code_for code context_len)) }
+        → ReturnsOrRunsOut program_fault_number result (Ok (code_with_len code context_len)) }
     ensures refused { IfErr result (HasCause program_fault_number (IsLoadFaultOver D.ops context_len bytes.now)) }
     ensures reported { (fault : ProgramFault) → IsLoadFaultOver D.ops context_len bytes.now fault
         → ReturnsOrRunsOut program_fault_number result (Err fault) }
@@ -135,7 +134,7 @@ pub fn load(alloc: Global, bytes: &[u8], context_len: u16) -> Result<Loaded, Pro
     ensures safe { IfOk result (λ loaded. IsSafeFor context_len loaded.code) }
     // Accepted code is returned, unless memory runs out.
     ensures taken { (code : List Insn) → IsLoadable context_len bytes.now code
-        → ReturnsOrRunsOut program_fault_number result (Ok (code_for code context_len)) }
+        → ReturnsOrRunsOut program_fault_number result (Ok (code_with_len code context_len)) }
     ensures refused { IfErr result (HasCause program_fault_number (IsLoadFault context_len bytes.now)) }
     // The fault of the bytes is returned, unless memory runs out; bytes have at most one.
     ensures reported { (fault : ProgramFault) → IsLoadFault context_len bytes.now fault

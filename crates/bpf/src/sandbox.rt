@@ -3,10 +3,9 @@ ghost use Rattle.std.specs.Prelude.{◌≡◌, ◌≢◌, List, Ok, Err, IfOk, I
 ghost use Rattle.refusals.specs.Answers.{HasCause, ReturnsOrRunsOut};
 ghost use Rattle.instruction_set.specs.declared.insn.Insn.{Insn};
 ghost use Rattle.instruction_set.specs.Machine.{IsSafeFor};
-ghost use Rattle.verifier.specs.Stores.{code_for};
-ghost use Rattle.verifier.specs.Programs.{program_fault_number};
+ghost use Rattle.verifier.specs.Stores.{code_with_len};
+ghost use Rattle.verifier.specs.Programs.{program_fault_number, IsLoadable, IsLoadFault};
 ghost use Rattle.verifier.specs.declared.program_fault.ProgramFault.{ProgramFault};
-ghost use Rattle.bpf.specs.Loading.{IsLoadable, IsLoadFault};
 
 use crate::loaded::{Loaded, load};
 use crate::memory::Memory;
@@ -15,7 +14,7 @@ use std::alloc::{AllocError, Global};
 use std::marker::Model;
 use verifier::{ProgramFault, VerifyFault};
 
-/// A loaded program with a memory of its own.
+/// A loaded program with its own memory.
 ///
 /// Contracts see it as the list of the program's instructions and the length of its contexts.
 #[derive(Debug)]
@@ -86,7 +85,7 @@ pub fn load_sandbox(alloc: Global, bytes: &[u8], context_len: u16) -> Result<San
     ensures safe { IfOk result (λ sandbox. IsSafeFor context_len sandbox.code) }
     // Accepted code is returned, unless memory runs out.
     ensures taken { (code : List Insn) → IsLoadable context_len bytes.now code
-        → ReturnsOrRunsOut program_fault_number result (Ok (code_for code context_len)) }
+        → ReturnsOrRunsOut program_fault_number result (Ok (code_with_len code context_len)) }
     ensures refused { IfErr result (HasCause program_fault_number (IsLoadFault context_len bytes.now)) }
     // The fault of the bytes is returned, unless memory runs out; bytes have at most one.
     ensures reported { (fault : ProgramFault) → IsLoadFault context_len bytes.now fault

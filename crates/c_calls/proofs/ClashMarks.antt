@@ -1,4 +1,4 @@
--- What a merge keeps of each clash.
+-- The registration that a merge keeps of each clash.
 use Rattle.std.proofs.Common.{◌≡◌, ℕ, Bool, true, false, cond, if◌then◌else◌, not, filter, length, map, Option, Some, None, is_some, List, [], ◌∷◌, refl, ap, sym, subst, ◌∙◌, suc}
 use Rattle.std.proofs.lemmas.Bool.{and_parts}
 use Rattle.std.proofs.lemmas.Map.Keys.{sorted_head, sorted_tail}

@@ -1,4 +1,4 @@
--- The ids of kept programs, whatever holds their code.
+-- The ids of kept programs.
 use Rattle.std.proofs.Common.{◌≡◌, List, [], ◌∷◌, ℕ, zero, suc, Option, Some, None, refl, sym, ap, inl, inr, ◌∙◌, slice_get}
 use Rattle.std.specs.Prelude.{IfSome}
 use Rattle.std.specs.Option.{option_map}

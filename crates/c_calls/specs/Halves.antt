@@ -1,4 +1,4 @@
--- What contracts see of a half.
+-- The parts of a half that contracts see.
 use Rattle.std.specs.Prelude.{refl}
 use Rattle.std.specs.Coded.{Coded, code_by, coded×}
 use Rattle.upload_store.specs.Programs.{Programs, coded_programs}

@@ -59,7 +59,7 @@ pub record IsNamed (id : ProgramId) (table : Table) (code : List Insn) : Type 0 
 abbrev pub HasCodeUnder : ProgramId → SideAndStore → List Insn → Type 0
 HasCodeUnder id half code = (map.get half.store id ≡ Some code) ⊎ IsNamed id (shown half.side).table code
 
--- the bytes that spell code of the half under the id, or 41 if there is none
+-- the bytes that spell code of the half under the id, or 41 if it has no such code
 abbrev pub GivesCode : ProgramId → SideAndStore → Option (List ℕ) → Option (List ℕ) → ℕ → Type 0
 GivesCode id half before after n =
     ((code : List Insn) × HasCodeUnder id half code × (after ≡ Some (flat_map insn_bytes code)) × (n ≡ 0))

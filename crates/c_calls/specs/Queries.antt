@@ -1,4 +1,4 @@
--- What a half knows of its names in an open exchange.
+-- The knowledge of a half about its names in an open exchange.
 use Rattle.std.specs.Prelude.{ℕ, Bool, true, false, List, length, Option, Some, None, Result, slice_get, is_some, unwrap_or}
 use Rattle.std.specs.List.{find}
 use Rattle.std.specs.Option.{option_map, option_map_or, option_and_then, ok_or}

@@ -1,4 +1,4 @@
-//! What a half knows of its names in an open exchange.
+//! The knowledge of a half about its names in an open exchange.
 ghost use Rattle.std.specs.Prelude.{◌≡◌, slice_get, is_some};
 ghost use Rattle.std.specs.List.{find};
 ghost use Rattle.std.specs.Option.{option_map, option_and_then};

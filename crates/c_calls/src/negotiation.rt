@@ -16,7 +16,7 @@ use crate::message::{Message, boxed};
 use crate::outcome::Outcome;
 use clash_record::{Name, SideId};
 use exchange_codec::{
-    MessageHead, decode_offer, decode_withdrawals, peek, spell_offer, spell_withdrawals,
+    MessageHead, OfferHead, decode_offer, decode_withdrawals, peek, spell_offer, spell_withdrawals,
 };
 use exchange_core::{Offer, Side, Withdrawals};
 use refusals::{Numbered, OUT_OF_MEMORY};
@@ -40,7 +40,13 @@ impl Half {
         if let Some(fault) = side.begin_refusal(number) {
             return Err(fault.number());
         }
-        let spelled = spell_offer(alloc, side.id(), number, seed, uptime, side.table());
+        let head = OfferHead {
+            side: side.id(),
+            number,
+            seed,
+            uptime,
+        };
+        let spelled = spell_offer(alloc, head, side.table());
         let Ok(message) = boxed(alloc, spelled) else {
             return Err(OUT_OF_MEMORY);
         };

@@ -1,4 +1,4 @@
--- What contracts of the calls cite.
+-- The definitions that contracts of the calls cite.
 pub mod Edits
 pub mod Exchanges
 pub mod Following

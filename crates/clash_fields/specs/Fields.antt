@@ -10,7 +10,7 @@ use Rattle.script_text.specs.declared.fault.LineFault.{LineFault}
 use Rattle.script_text.specs.declared.fault.LineFault.TheVariants.{Word}
 use Rattle.script_text.specs.Asking.{if_right, long_of, name_of, terms_of}
 use Rattle.script_text.specs.Words.{words_of}
-use Rattle.clash_fields.specs.declared.half.Half.{Half}
+use Rattle.clash_record.specs.declared.records.Contender.{Contender}
 
 -- the words of a registration, and of the size and the uptime of the half that holds it
 pub record HalfWords : Type 0 where
@@ -77,14 +77,14 @@ registration_on terms = record {
 }
 
 -- the words, read as a script reads them
-abbrev pub half_by : HalfWords → Result Half LineFault
+abbrev pub half_by : HalfWords → Result Contender LineFault
 half_by words =
     if_right (terms_of words.owner words.stamp words.weight words.extra) (λ terms. if_right (long_of words.size)
     (λ size. if_right (long_of words.uptime) (λ uptime.
     Ok (record { registration = registration_on terms; facts = record { size = size; uptime = uptime } }))))
 
 -- an owner, and then parts
-abbrev pub half_of_words : List (List ℕ) → Result Half LineFault
+abbrev pub half_of_words : List (List ℕ) → Result Contender LineFault
 half_of_words [] = Err Word
 half_of_words (owner ∷ parts) = if_right (with_parts (bare owner) parts) half_by
 
@@ -93,7 +93,7 @@ abbrev pub spaced : List ℕ → List ℕ
 spaced text = map (λ byte. if byte == 44 then 32 else byte) text
 
 -- a registration and its half, as `1.10,stamp=5`
-abbrev pub half_of_text : List ℕ → Result Half LineFault
+abbrev pub half_of_text : List ℕ → Result Contender LineFault
 half_of_text text = half_of_words (words_of (spaced text))
 
 -- the record of a clash. The leftmost invalid word counts

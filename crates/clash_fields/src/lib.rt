@@ -2,11 +2,9 @@
 //! told in words.
 #![tactic(auto)]
 
-mod half;
 mod reading;
 mod telling;
 mod words;
 
-pub use half::Half;
 pub use reading::clash_of_fields;
 pub use telling::record_text;

@@ -4,9 +4,8 @@ ghost use Rattle.script_text.specs.Commands.{IsRight};
 ghost use Rattle.clash_fields.specs.Fields.{bare, clash_from_words, half_of_text, half_of_words, spaced, with_parts};
 ghost use Rattle.clash_fields.specs.model.Views.{right_words, words_by};
 
-use crate::half::Half;
 use crate::words::HalfWords;
-use clash_record::{ClashRecord, record};
+use clash_record::{ClashRecord, Contender, record};
 use script_text::{LineFault, long, name_in, words_in};
 use std::alloc::{AllocError, Global};
 
@@ -33,7 +32,7 @@ fn with_parts<'a>(words: HalfWords<'a>, parts: &[&'a [u8]]) -> Result<HalfWords<
 }
 
 // Reads the words of a registration and its half.
-fn half_of_words(words: &[&[u8]]) -> Result<Half, LineFault>
+fn half_of_words(words: &[&[u8]]) -> Result<Contender, LineFault>
     ensures { result ≡ half_of_words (map (λ word. word.now) words.now) }
 {
     match words {
@@ -43,7 +42,7 @@ fn half_of_words(words: &[&[u8]]) -> Result<Half, LineFault>
 }
 
 // Reads a registration and its half.
-fn half_of(alloc: Global, text: &[u8]) -> Result<Half, LineFault>
+fn half_of(alloc: Global, text: &[u8]) -> Result<Contender, LineFault>
     ensures { IsRight result (half_of_text text.now) }
 {
     let spaced = spaced(alloc, text)?;

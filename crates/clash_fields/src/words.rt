@@ -4,8 +4,7 @@ ghost use Rattle.clash_fields.specs.Fields as fields;
 ghost use Rattle.clash_fields.specs.Fields.{bare, half_by};
 ghost use Rattle.clash_fields.specs.model.Views.{right_words, words_by};
 
-use crate::half::Half;
-use clash_record::{Builtin, Facts, Registration, ResolverId};
+use clash_record::{Builtin, Contender, Facts, Registration, ResolverId};
 use script_text::{LineFault, long, terms};
 
 // The words of a registration, and of the size and the uptime of the half that holds it.
@@ -54,7 +53,7 @@ impl<'a> HalfWords<'a> {
     }
 
     // Reads the words as a script reads them.
-    pub(crate) fn read(&self) -> Result<Half, LineFault>
+    pub(crate) fn read(&self) -> Result<Contender, LineFault>
         ensures { result ≡ half_by (words_by self.now) }
     {
         let terms = terms(self.owner, self.stamp, self.weight, self.extra)?;
@@ -69,7 +68,7 @@ impl<'a> HalfWords<'a> {
         let size = long(self.size)?;
         let uptime = long(self.uptime)?;
         let facts = Facts { size, uptime };
-        Ok(Half {
+        Ok(Contender {
             registration,
             facts,
         })

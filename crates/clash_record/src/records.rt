@@ -59,6 +59,13 @@ pub struct Facts {
     pub uptime: u64,
 }
 
+/// A registration in a clash, and the facts about the half that holds it.
+#[derive(Clone, Copy, Debug, PartialEq, Eq)]
+pub struct Contender {
+    pub registration: Registration,
+    pub facts: Facts,
+}
+
 /// Returns the record of a clash of two registrations of a name at a word, with the facts of each registration's half.
 pub fn record(
     name: &Name,
@@ -70,8 +77,16 @@ pub fn record(
 ) -> ClashRecord
     ensures { result ≡ clash_bytes name.now first.now second.now word of_first of_second }
 {
+    let first = Contender {
+        registration: *first,
+        facts: of_first,
+    };
+    let second = Contender {
+        registration: *second,
+        facts: of_second,
+    };
     let mut bytes = [0; RECORD_LEN];
-    write_record(&mut bytes, name, first, second, word, of_first, of_second);
+    write_record(&mut bytes, name, &first, &second, word);
     ClashRecord { bytes }
 }
 
@@ -90,24 +105,23 @@ pub fn record_of(bytes: [u8; RECORD_LEN]) -> ClashRecord
     ClashRecord { bytes }
 }
 
-/// Writes the record of a clash of two registrations of a name at a word, with the facts of each registration's half.
+/// Writes the record of a clash of two registrations of a name at a word.
 ///
 /// Requires 160 bytes, and sets all of them.
-pub fn write_record(
-    out: &mut [u8],
-    name: &Name,
-    first: &Registration,
-    second: &Registration,
-    word: u64,
-    of_first: Facts,
-    of_second: Facts,
-)
+pub fn write_record(out: &mut [u8], name: &Name, first: &Contender, second: &Contender, word: u64)
     requires { length out.old ≡ record_len }
-    ensures { out.new ≡ clash_bytes name.now first.now second.now word of_first of_second }
+    ensures { out.new ≡ clash_bytes name.now first.now.registration second.now.registration word first.now.facts
+        second.now.facts }
 {
-    write_registrations(&mut out[..128], name, first, second, word);
-    write_facts(&mut out[128..144], of_first);
-    write_facts(&mut out[144..], of_second);
+    write_registrations(
+        &mut out[..128],
+        name,
+        &first.registration,
+        &second.registration,
+        word,
+    );
+    write_facts(&mut out[128..144], first.facts);
+    write_facts(&mut out[144..], second.facts);
 }
 
 /// Sets the word of a record: eight bytes from 40 on, the least first. Keeps the other bytes.

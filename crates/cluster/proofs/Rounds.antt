@@ -15,7 +15,7 @@ use Rattle.partition_table.specs.Rulings.{Ruling}
 use Rattle.exchange_core.specs.Finished.{Finished, IsFinished, finished_from}
 use Rattle.exchange_core.specs.Shown.{shown}
 use Rattle.verdict_board.specs.Boards.{Pass, seen}
-use Rattle.registry_lock.specs.Meeting.{judged_of, Keeps}
+use Rattle.registry_lock.specs.Meeting.{judged_of, StillSees}
 use Rattle.registry_lock.specs.Telling.{all_carried_out, takes_of, HasSeen, IsTold}
 use Rattle.cluster.specs.Clusters.{Cluster}
 use Rattle.cluster.specs.Healing.{Plan, gone_of_side, IsFailed, IsLeft, AreLeft, none_merged, a_merged, b_merged}
@@ -79,7 +79,7 @@ still None y judged kept e = absurd (cc)
 still (Some r) y judged kept e = ap judged_of kept ∙ e
 
 kept_rounds : (plan : Plan) (was : Cluster) (before after : Pass) (id : SideId) (finished : Option Finished)
-    (now : Side) → Keeps before after → IsInRounds plan was before id finished now →
+    (now : Side) → StillSees before after → IsInRounds plan was before id finished now →
     IsInRounds plan was after id finished now
 kept_rounds plan was before after id None now kept t =
     holds_more plan was (seen_by before) (seen_by after) id (gone_of_side id plan.gone) now
@@ -138,7 +138,7 @@ finished_one plan was pass id None old new f none e given lawful t =
 finished_one plan was pass id (Some g) old new f none e given lawful m = absurd (cc)
 
 pub told_both : (before pass : Pass) (n : ℕ) (old_a old_b new_a new_b : code.Side) (plan : Plan) (was : Cluster)
-    (of_a of_b : Option Finished) → Keeps before pass → IsTold pass n old_a new_a → IsTold pass n old_b new_b →
+    (of_a of_b : Option Finished) → StillSees before pass → IsTold pass n old_a new_a → IsTold pass n old_b new_b →
     AreInRounds plan was before of_a of_b (pair old_a old_b) → AreInRounds plan was pass of_a of_b (pair new_a new_b)
 told_both before pass n old_a old_b new_a new_b plan was of_a of_b kept a b rounds = record {
   a = told_half n plan was pass A of_a old_a new_a a (kept_rounds plan was before pass A of_a (shown old_a) kept rounds.a);

@@ -1,4 +1,4 @@
--- Why a healing fails.
+-- The causes for which a healing fails.
 use Rattle.std.specs.Prelude.{◌≡◌, IsTrue}
 use Rattle.clash_record.specs.declared.side_id.SideId.TheVariants.{A, B}
 use Rattle.refusals.specs.Answers.{out_of_memory}

@@ -1,4 +1,4 @@
-//! What judges the clashes of an exchange.
+//! The workers that judge the clashes of an exchange, and their gate.
 use judge_pool::Workers;
 use std::alloc::Global;
 

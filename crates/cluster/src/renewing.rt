@@ -1,10 +1,9 @@
 //! Renewing the journals of the halves.
 ghost use Rattle.std.specs.Prelude.{◌≡◌, ◌≢◌, [], IfErr, OnOk, OnErr};
 ghost use Rattle.exchange_core.specs.Refusals as due;
-ghost use Rattle.exchange_core.specs.Refusals.{IsDecidedBy};
 ghost use Rattle.exchange_core.specs.Faults.{side_fault_number};
 ghost use Rattle.exchange_law.specs.Sides.{withdrawn_by};
-ghost use Rattle.refusals.specs.Answers.{out_of_memory};
+ghost use Rattle.refusals.specs.Answers.{IsDecidedBy, out_of_memory};
 ghost use Rattle.cluster.specs.Clusters.{standing_of, cluster_of, at, AreFresh, HasChanged, IsFresh, IsGivenUp, IsRenewed};
 ghost use Rattle.cluster.specs.model.Stages.{halves_of};
 

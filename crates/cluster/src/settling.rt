@@ -56,7 +56,7 @@ impl Cluster {
             (cluster_of self.new) (healing_of healing)) }
         // A failure leaves each half in one of four known states, and at most one half merged.
         ensures failed { OnErr result (IsFailed (plan_of plan.entry.now) (cluster_of self.old) (cluster_of self.new)) }
-        // The fault has its cause in the halves as they were, or is 39, 40 or 90.
+        // The fault has its cause in the halves before the call, or is 39, 40 or 90.
         ensures cause { IfErr result (IsCause (plan_of plan.entry.now) (cluster_of self.old)) }
     {
         let crew = Crew {
@@ -216,7 +216,7 @@ impl Halves {
         requires seats { All (λ s. s.draws ≡ board.now.draws) seats.items }
         requires round { turn.round < rounds }
         requires own { IsTrue turn.is_own → heard_clashes (shown self.old.a) ≡ Some board.now.place.clashes }
-        ensures keeps { meeting.Keeps pass.old pass.new }
+        ensures keeps { meeting.StillSees pass.old pass.new }
         ensures a { IsTold pass.new (length board.entry.now.place.clashes) self.old.a self.new.a }
         ensures b { IsTold pass.new (length board.entry.now.place.clashes) self.old.b self.new.b }
         ensures seats { All (λ s. s.draws ≡ board.entry.now.draws) result.items }

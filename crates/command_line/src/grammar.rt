@@ -100,7 +100,7 @@ fn profile_arg<'a>(alloc: Global) -> Arg<'a>
         .help("The ranges of the verifier. 1: unsigned; 2: unsigned and signed [default: 2]")
 }
 
-// Returns the option that asks for an explanation.
+// Returns the option for an explanation.
 fn explain_arg<'a>(alloc: Global, help: &'a str) -> Arg<'a>
     ensures rule { rule_of result ≡ explain_option }
     ensures global { result.global ≡ false }

@@ -8,7 +8,8 @@ use Rattle.exchange_codec.specs.declared.fault.FieldFault.TheVariants.{Trailing}
 use Rattle.exchange_codec.specs.declared.fault.ReadError.{ReadError}
 use Rattle.exchange_codec.specs.declared.fault.ReadError.TheVariants as errors
 use Rattle.exchange_codec.specs.declared.offers.OfferHead.{OfferHead}
-use Rattle.exchange_codec.specs.Reading.{◌>>=◌, Fails, wrong, number_at, header_at, ended}
+use Rattle.refusals.specs.Answers.{◌>>=◌}
+use Rattle.exchange_codec.specs.Reading.{Fails, wrong, number_at, header_at, ended}
 use Rattle.exchange_codec.specs.Names.{side_byte, side_id_at}
 use Rattle.exchange_codec.specs.Rows.{RowText}
 use Rattle.exchange_codec.specs.Tables.{table_bytes, rows_at, whole_rows}

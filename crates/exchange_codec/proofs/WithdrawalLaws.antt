@@ -10,7 +10,7 @@ use Rattle.std.proofs.lemmas.List.{append-nil, length-take, length-drop, length-
 use Rattle.std.proofs.lemmas.List.Concat.{flat_map-cons}
 use Rattle.clash_record.specs.Name.{Name, is_name}
 use Rattle.partition_table.specs.Tables.{most_names, is_in}
-use Rattle.partition_table.specs.Tables.{is_name as same_name}
+use Rattle.partition_table.specs.Tables.{is_same_name as same_name}
 use Rattle.partition_table.specs.laws.Sameness.{equivalent_by, name_decides}
 use Rattle.exchange_law.specs.Lists.{IsNameList}
 use Rattle.exchange_law.specs.Sides.{Withdrawals}
@@ -18,10 +18,10 @@ use Rattle.exchange_codec.specs.declared.fault.Fault.{Fault}
 use Rattle.exchange_codec.specs.declared.fault.MessageFault.{MessageFault}
 use Rattle.exchange_codec.specs.declared.fault.ReadError.{ReadError}
 use Rattle.exchange_codec.specs.declared.fault.ReadError.TheVariants as errors
-use Rattle.refusals.specs.Answers.{ReturnsOrRunsOut}
+use Rattle.refusals.specs.Answers.{◌>>=◌, ReturnsOrRunsOut}
 use Rattle.exchange_codec.specs.Faults.{message_fault_number}
 use Rattle.exchange_codec.specs.Placing.{told_of}
-use Rattle.exchange_codec.specs.Reading.{◌>>=◌, Fails, number_at, header_at, count_at, many_at, ended}
+use Rattle.exchange_codec.specs.Reading.{Fails, number_at, header_at, count_at, many_at, ended}
 use Rattle.exchange_codec.specs.Names.{side_byte, name_bytes, side_id_at, name_at}
 use Rattle.exchange_codec.specs.Withdrawals.{withdrawals_header, counted_bytes, withdrawals_bytes, names_bytes, first_again, SpellsWithdrawals, list_at, whole_list, list_due, unless_name_again}
 use Rattle.exchange_codec.specs.laws.Fields.{IsBytes, bind_ok, ok_is, Takes, Takes-then, wide64, number_takes, number_again, header_takes, header_again, count_takes, count_again, ended_ok}

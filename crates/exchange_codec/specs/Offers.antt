@@ -7,7 +7,8 @@ use Rattle.exchange_codec.specs.declared.offers.OfferHead.{OfferHead}
 use Rattle.exchange_codec.specs.declared.fault.Fault.{Fault}
 use Rattle.exchange_codec.specs.declared.fault.MessageFault.{MessageFault}
 use Rattle.exchange_codec.specs.declared.fault.MessageFault.TheVariants as message
-use Rattle.exchange_codec.specs.Reading.{◌>>=◌, number_at, header_at, ended}
+use Rattle.refusals.specs.Answers.{◌>>=◌}
+use Rattle.exchange_codec.specs.Reading.{number_at, header_at, ended}
 use Rattle.exchange_codec.specs.Names.{side_byte, side_id_at}
 use Rattle.exchange_codec.specs.Rows.{RowText}
 use Rattle.exchange_codec.specs.Tables.{table_bytes, table_text, IsTableText, rows_at}

@@ -5,7 +5,8 @@ use Rattle.exchange_law.specs.Sides.{Offer, Withdrawals}
 use Rattle.exchange_codec.specs.declared.fault.Fault.{Fault}
 use Rattle.exchange_codec.specs.declared.head.MessageHead.{MessageHead}
 use Rattle.exchange_codec.specs.declared.head.MessageKind.TheVariants as kind
-use Rattle.exchange_codec.specs.Reading.{◌>>=◌, wrong, number_at, header_fault}
+use Rattle.refusals.specs.Answers.{◌>>=◌}
+use Rattle.exchange_codec.specs.Reading.{wrong, number_at, header_fault}
 use Rattle.exchange_codec.specs.Names.{side_id_at}
 use Rattle.exchange_codec.specs.Offers.{offers_header}
 use Rattle.exchange_codec.specs.Withdrawals.{withdrawals_header}

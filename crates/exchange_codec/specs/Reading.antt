@@ -2,6 +2,7 @@
 -- the faulty field begins.
 use Rattle.std.specs.Prelude.{◌≡◌, ℕ, zero, suc, ◌%◌, ◌/◌, ◌^◌, not, ◌&&◌, List, [], ◌∷◌, length, take, drop, Result, Ok, Err, nat_lt, ◌==◌, if◌then◌else◌}
 use Rattle.std.specs.Int.{Width, w32, w64, byte_len, from_le_bytes}
+use Rattle.refusals.specs.Answers.{◌>>=◌}
 use Rattle.exchange_codec.specs.declared.fault.FieldFault.{FieldFault}
 use Rattle.exchange_codec.specs.declared.fault.FieldFault.TheVariants.{Cut, Header, Trailing, Count, Version}
 use Rattle.exchange_codec.specs.declared.fault.Fault.{Fault}
@@ -9,11 +10,6 @@ use Rattle.exchange_codec.specs.declared.fault.ReadError.{ReadError}
 use Rattle.exchange_codec.specs.declared.fault.ReadError.TheVariants as errors
 use Rattle.exchange_codec.specs.declared.fault.MessageFault.{MessageFault}
 use Rattle.exchange_codec.specs.Placing.{placed}
-
-infixl 10 ◌>>=◌
-abbrev pub ◌>>=◌ : {A B : Type 0} → Result A Fault → (A → Result B Fault) → Result B Fault
-(Ok x) >>= f = f x
-(Err e) >>= f = Err e
 
 -- the fault of a field that begins where these bytes do
 abbrev pub wrong : {A : Type 0} → FieldFault → List ℕ → Result A Fault

@@ -17,7 +17,8 @@ use Rattle.clash_record.specs.Name.{Name, is_name}
 use Rattle.partition_table.specs.Tables.{Row, same_id}
 use Rattle.exchange_codec.specs.declared.fault.Fault.{Fault}
 use Rattle.exchange_codec.specs.declared.fault.FieldFault.TheVariants as wrongs
-use Rattle.exchange_codec.specs.Reading.{◌>>=◌, wrong, number_at, bytes_at, count_at}
+use Rattle.refusals.specs.Answers.{◌>>=◌}
+use Rattle.exchange_codec.specs.Reading.{wrong, number_at, bytes_at, count_at}
 use Rattle.exchange_codec.specs.Names.{name_bytes, name_at}
 
 -- the most bytes that the code of a program has

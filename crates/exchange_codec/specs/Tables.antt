@@ -16,7 +16,8 @@ use Rattle.exchange_codec.specs.declared.fault.ItemFault.TheVariants as item
 use Rattle.exchange_codec.specs.declared.fault.MessageFault.{MessageFault}
 use Rattle.exchange_codec.specs.declared.fault.MessageFault.TheVariants as message
 use Rattle.exchange_codec.specs.Faults.{item_fault_number}
-use Rattle.exchange_codec.specs.Reading.{◌>>=◌, count_at, many_at, ended}
+use Rattle.refusals.specs.Answers.{◌>>=◌}
+use Rattle.exchange_codec.specs.Reading.{count_at, many_at, ended}
 use Rattle.exchange_codec.specs.Rows.{RowText, Named, Code, row_bytes, row_at, IsRow, has_id, ids_of, texts_of}
 
 abbrev pub table_bytes : List RowText → List ℕ

@@ -11,7 +11,8 @@ use Rattle.exchange_codec.specs.declared.fault.MessageFault.{MessageFault}
 use Rattle.exchange_codec.specs.declared.fault.MessageFault.TheVariants as message
 use Rattle.exchange_codec.specs.declared.fault.ItemFault.TheVariants as item
 use Rattle.exchange_codec.specs.Placing.{placed}
-use Rattle.exchange_codec.specs.Reading.{◌>>=◌, number_at, header_at, count_at, many_at, ended}
+use Rattle.refusals.specs.Answers.{◌>>=◌}
+use Rattle.exchange_codec.specs.Reading.{number_at, header_at, count_at, many_at, ended}
 use Rattle.exchange_codec.specs.Names.{side_byte, name_bytes, side_id_at, name_at}
 
 -- "HEALXC", version 1, message 2

@@ -33,7 +33,7 @@ pub struct MessageHead {
     pub seed: Option<u64>,
 }
 
-/// Reads the first fields of untrusted bytes: 25 bytes of an offer, 17 of a list. What follows isn't looked at.
+/// Reads the first fields of untrusted bytes: 25 bytes of an offer, 17 of a list. Ignores what follows.
 ///
 /// Rejects the first invalid field, with its byte: 70 if the bytes end within it, 71 for no message, 74 for neither side
 /// and 82 for another version.

@@ -24,45 +24,41 @@ use std::alloc::{AllocError, Global};
 pub(crate) const HEADER: u64 = 0x0101_4358_4C41_4548;
 
 /// All of an offer but its table.
-#[derive(Clone, Copy)]
-pub(crate) struct OfferHead {
-    pub(crate) side: SideId,
-    pub(crate) number: u64,
-    pub(crate) seed: u64,
-    pub(crate) uptime: u64,
+#[derive(Clone, Copy, Debug, PartialEq, Eq)]
+pub struct OfferHead {
+    /// The side that made it.
+    pub side: SideId,
+    /// The number of its exchange.
+    pub number: u64,
+    /// The seed of its exchange.
+    pub seed: u64,
+    /// How long the side's half has been up.
+    pub uptime: u64,
 }
 
 /// Encodes an offer. Fails only when out of memory.
 pub fn encode_offer(alloc: Global, offer: &Offer) -> Result<Vec<u8>, AllocError>
     ensures { IfOk result (λ bytes. SpellsOffer bytes.items offer.now) }
 {
-    let (number, seed, uptime) = (offer.number(), offer.seed(), offer.uptime());
-    spell_offer(alloc, offer.side(), number, seed, uptime, offer.table())
+    let head = OfferHead {
+        side: offer.side(),
+        number: offer.number(),
+        seed: offer.seed(),
+        uptime: offer.uptime(),
+    };
+    spell_offer(alloc, head, offer.table())
 }
 
 /// Encodes the offer that a side with this table makes when it begins an exchange. Fails only when out of memory.
-pub fn spell_offer(
-    alloc: Global,
-    side: SideId,
-    number: u64,
-    seed: u64,
-    uptime: u64,
-    table: &Table,
-) -> Result<Vec<u8>, AllocError>
+pub fn spell_offer(alloc: Global, head: OfferHead, table: &Table) -> Result<Vec<u8>, AllocError>
     ensures { IfOk result (λ bytes. SpellsOffer bytes.items record {
-      side = side;
-      number = number;
-      seed = seed;
-      uptime = uptime;
+      side = head.side;
+      number = head.number;
+      seed = head.seed;
+      uptime = head.uptime;
       table = table.now;
     }) }
 {
-    let head = OfferHead {
-        side,
-        number,
-        seed,
-        uptime,
-    };
     let mut out = Vec::new(alloc);
     push_u64(&mut out, HEADER)?;
     push_head(&mut out, head)?;

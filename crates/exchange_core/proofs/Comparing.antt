@@ -1,4 +1,4 @@
--- What a side's state keeps of the comparison of the two tables.
+-- The comparison of the two tables that a side's state keeps.
 use Rattle.std.proofs.Common.{◌≡◌, ℕ, Option, Some, None, ap, sym, ◌∙◌, option_map, option_and_then}
 use Rattle.std.specs.Arc.{arc_value}
 use Rattle.clash_record.specs.declared.side_id.SideId.{SideId}

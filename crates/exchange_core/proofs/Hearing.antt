@@ -1,4 +1,4 @@
--- What is left to refuse an offer to which nothing is due early.
+-- The refusals of an offer that are left when nothing is due early.
 use Rattle.std.proofs.Common.{◌≡◌, ◌≤◌, ◌==◌, ◌&&◌, ℕ, Bool, true, false, not, nat_le, if◌then◌else◌, Option, Some, None, is_some, is_none, refl, ap, sym, ◌∙◌, arith, option_map, option_and_then}
 use Rattle.std.proofs.lemmas.Bool.{and_parts, and_from, leb-true}
 use Rattle.std.proofs.lemmas.Bool.Decides.{nat_tests}

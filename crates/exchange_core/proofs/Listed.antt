@@ -7,7 +7,7 @@ use Rattle.std.specs.Option.{option_map_or}
 use Rattle.std.specs.List.{list_all, list_any}
 use Rattle.std.specs.FinMap.{contains_key, contains_key-keys, entries, keys, len, len-entries}
 use Rattle.clash_record.specs.Name.{Name}
-use Rattle.partition_table.specs.Tables.{Table, IsTable, is_name}
+use Rattle.partition_table.specs.Tables.{Table, IsTable, is_same_name}
 use Rattle.partition_table.specs.laws.Sameness.{name_decides}
 use Rattle.exchange_law.specs.Calls.{Call}
 use Rattle.exchange_law.specs.Sides.{Exchange, Side}
@@ -18,13 +18,13 @@ use Rattle.exchange_law.specs.laws.Replays.{is_name_equivalence, none_apart, rep
 
 -- a name that equals one of these names of the table is a name of the table
 member_there : (table : Table) (names : List Name) → list_all (contains_key table) names ≡ true → (q : Name) →
-    list_any (is_name q) names ≡ true → contains_key table q ≡ true
+    list_any (is_same_name q) names ≡ true → contains_key table q ≡ true
 member_there table [] all q any = cc
 member_there table (n ∷ names) all q any =
-    let parts = and_parts _ _ all in by_name parts.0 (member_there table names parts.1 q) (is_name q n) refl any
+    let parts = and_parts _ _ all in by_name parts.0 (member_there table names parts.1 q) (is_same_name q n) refl any
   where
-    by_name : contains_key table n ≡ true → (list_any (is_name q) names ≡ true → contains_key table q ≡ true) →
-        (b : Bool) → is_name q n ≡ b → (b || list_any (is_name q) names) ≡ true → contains_key table q ≡ true
+    by_name : contains_key table n ≡ true → (list_any (is_same_name q) names ≡ true → contains_key table q ≡ true) →
+        (b : Bool) → is_same_name q n ≡ b → (b || list_any (is_same_name q) names) ≡ true → contains_key table q ≡ true
     by_name first rest true same any = subst (λ k. contains_key table k ≡ true) (sym ((name_decides q n).0 same)) first
     by_name first rest false same any = rest any
 

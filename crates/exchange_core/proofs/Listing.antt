@@ -7,7 +7,7 @@ use Rattle.std.specs.BTreeSet.{BTreeSet, Updates}
 use Rattle.clash_record.specs.Name.{Name}
 use Rattle.clash_record.specs.Orders.{name_cmp}
 use Rattle.clash_record.specs.laws.Orders.{names_total}
-use Rattle.partition_table.specs.Tables.{is_in, is_name}
+use Rattle.partition_table.specs.Tables.{is_in, is_same_name}
 use Rattle.exchange_core.specs.model.Listing.{IsSetOf}
 
 -- the name is in it, or it was
@@ -22,5 +22,5 @@ pub one_more_listed : (set more : BTreeSet Name) (names : List Name) (name : Nam
 one_more_listed set more names name is updates q =
     updates.0 q ∙ ap (cond (eq_by_cmp name_cmp name q) true) (is q)
     ∙ ap (λ b. cond b true (is_in q names)) ((eq_by_cmp_equiv names_total).symm name q)
-    ∙ either (is_name q name) (is_in q names)
-    ∙ sym (list_any-append (is_name q) names (name ∷ []))
+    ∙ either (is_same_name q name) (is_in q names)
+    ∙ sym (list_any-append (is_same_name q) names (name ∷ []))

@@ -10,7 +10,7 @@ use Rattle.clash_record.specs.laws.Orders.{names_total}
 use Rattle.partition_table.specs.Tables.{Row, Table}
 use Rattle.partition_table.specs.declared.fault.TableFault.{TableFault}
 use Rattle.partition_table.specs.declared.fault.TableFault.TheVariants.{NameTaken, Full}
-use Rattle.partition_table.specs.Faults.{register_fault}
+use Rattle.partition_table.specs.Faults.{row_fault}
 use Rattle.exchange_law.specs.Sides.{Side, register}
 use Rattle.exchange_law.specs.laws.Carried.{some_inj}
 
@@ -30,7 +30,7 @@ registered_row side name row new e = by_test _ e
 
 -- a registration that is due no refusal has room
 pub registered_room : (limit : ℕ) (table : Table) (name : Name) (r : Registration) (store : Programs) →
-    register_fault limit table name r store ≡ None → len table < limit
+    row_fault limit table name r store ≡ None → len table < limit
 registered_room limit table name r store e = by_test (contains_key table name) (nat_lt (len table) limit) _ refl e
   where
     below : (n m : ℕ) → nat_lt n m ≡ true → n < m

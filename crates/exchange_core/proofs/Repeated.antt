@@ -12,7 +12,7 @@ use Rattle.std.proofs.lemmas.List.Folds.{list_any-append}
 use Rattle.clash_record.specs.Name.{Name}
 use Rattle.clash_record.specs.Orders.{name_cmp}
 use Rattle.clash_record.specs.laws.Orders.{names_total}
-use Rattle.partition_table.specs.Tables.{is_in, is_name, most_names}
+use Rattle.partition_table.specs.Tables.{is_in, is_same_name, most_names}
 use Rattle.exchange_law.specs.Lists.{IsNameList}
 use Rattle.exchange_core.specs.Repeats.{first_again}
 use Rattle.exchange_core.specs.model.Listing.{IsSetOf}
@@ -20,17 +20,17 @@ use Rattle.exchange_law.specs.laws.Replays.{is_name_equivalence, none_apart}
 use Rattle.exchange_core.proofs.Listing.{one_more_listed}
 
 -- a name after names other than it
-apart_after : (name n : Name) (names : List Name) → AllByRecursion (λ y. is_name n y ≡ false) names →
-    is_name name n ≡ false → AllByRecursion (λ y. is_name n y ≡ false) (names ++ name ∷ [])
+apart_after : (name n : Name) (names : List Name) → AllByRecursion (λ y. is_same_name n y ≡ false) names →
+    is_same_name name n ≡ false → AllByRecursion (λ y. is_same_name n y ≡ false) (names ++ name ∷ [])
 apart_after name n [] h e = (is_name_equivalence.symm n name ∙ e, tt)
 apart_after name n (m ∷ names) h e = (h.0, apart_after name n names h.1 e)
 
-one_more_apart : (names : List Name) (name : Name) → IsDistinct is_name names → is_in name names ≡ false →
-    IsDistinct is_name (names ++ name ∷ [])
+one_more_apart : (names : List Name) (name : Name) → IsDistinct is_same_name names → is_in name names ≡ false →
+    IsDistinct is_same_name (names ++ name ∷ [])
 unfolding IsDistinct
 one_more_apart [] name h e = (tt, tt)
 one_more_apart (n ∷ names) name h e =
-    let parts = or_parts (is_name name n) (is_in name names) e in
+    let parts = or_parts (is_same_name name n) (is_in name names) e in
     (apart_after name n names h.0 parts.0, one_more_apart names name h.1 parts.1)
 
 by_first : (b : Bool) (before : List Name) (k : ℕ) (name : Name) (names : List Name) → is_in name before ≡ b
@@ -40,12 +40,12 @@ by_first true before k name names e h = absurd cc
 by_first false before k name names e h = (e, h)
 
 -- names of which none repeats an earlier one are distinct
-apart_on : (before : List Name) (k : ℕ) (names : List Name) → IsDistinct is_name before
-    → first_again before k names ≡ None → IsDistinct is_name (before ++ names)
-apart_on before k [] apart none = subst (IsDistinct is_name) (sym (append-nil before)) apart
+apart_on : (before : List Name) (k : ℕ) (names : List Name) → IsDistinct is_same_name before
+    → first_again before k names ≡ None → IsDistinct is_same_name (before ++ names)
+apart_on before k [] apart none = subst (IsDistinct is_same_name) (sym (append-nil before)) apart
 apart_on before k (name ∷ names) apart none =
     let first = by_first (is_in name before) before k name names refl none in
-    subst (IsDistinct is_name) (append_assoc before (name ∷ []) names)
+    subst (IsDistinct is_same_name) (append_assoc before (name ∷ []) names)
     (apart_on (before ++ name ∷ []) (k + 1) names (one_more_apart before name apart first.0) first.1)
 
 pub is_list : (names : List Name) → length names ≤ most_names → first_again [] 0 names ≡ None → IsNameList names
@@ -98,7 +98,7 @@ less Less e = refl
 less Equal e = absurd cc
 less Greater e = absurd cc
 
-other_name : (a name : Name) → is_lt (name_cmp a name) ≡ true → is_name name a ≡ false
+other_name : (a name : Name) → is_lt (name_cmp a name) ≡ true → is_same_name name a ≡ false
 other_name a name e = ap is_eq (names_total.antisymm name a) ∙ reversed (name_cmp a name) e
 
 some_inj : {A : Type 0} (x y : A) → Some x ≡ Some y → x ≡ y
@@ -142,7 +142,7 @@ ascent_on names k last name some within last_is there lt a =
           let higher : is_lt (name_cmp name next) ≡ true = ap (λ (n : Name). is_lt (name_cmp n next)) same ∙ above in
           let over : is_lt (name_cmp last next) ≡ true =
           ap is_lt (names_total.trans last name next (less _ lt) (less _ higher)) in
-          ap (is_in next) grown ∙ list_any-append (is_name next) (take k names) (name ∷ [])
+          ap (is_in next) grown ∙ list_any-append (is_same_name next) (take k names) (name ∷ [])
           ∙ rw (a.below last next before over, other_name name next higher) refl;
     }
 

@@ -1,5 +1,5 @@
 -- The refusal that is due at each call of a side: the least that applies.
-use Rattle.std.specs.Prelude.{◌≡◌, ℕ, ◌+◌, ◌-◌, Bool, not, ◌&&◌, ◌==◌, nat_lt, nat_le, if◌then◌else◌, List, [], ◌∷◌, length, Option, Some, None, Result, Ok, Err, is_some, is_none, filter}
+use Rattle.std.specs.Prelude.{ℕ, ◌+◌, ◌-◌, Bool, not, ◌&&◌, ◌==◌, nat_lt, nat_le, if◌then◌else◌, List, [], ◌∷◌, length, Option, Some, None, is_some, is_none, filter}
 use Rattle.std.specs.Option.{option_map_or}
 use Rattle.std.specs.FinMap.{len, contains_key}
 use Rattle.clash_record.specs.declared.registrations.Registration.{Registration}
@@ -17,11 +17,6 @@ use Rattle.exchange_core.specs.declared.fault.SideFault.TheVariants.{Healing, No
 use Rattle.exchange_core.specs.declared.fault.SideFault.TheVariants as of
 use Rattle.exchange_core.specs.Journal.{max_events}
 use Rattle.exchange_law.specs.Sides.{Offer, Withdrawals, Judged, Heard, Exchange, Side, is_one_of_four, is_side, is_above, is_theirs, clashes_of, has_clash}
-
--- a call that needs no memory succeeds exactly where no refusal is due, and else returns that refusal
-abbrev pub IsDecidedBy : {A : Type 0} → Option SideFault → Result A SideFault → Type 0
-IsDecidedBy due (Ok value) = due ≡ None
-IsDecidedBy due (Err fault) = due ≡ Some fault
 
 -- In each of these, `limit` is the most names that the side may have, and `full` whether its journal holds no more events.
 

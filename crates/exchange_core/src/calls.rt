@@ -15,10 +15,10 @@ ghost use Rattle.exchange_law.specs.Calls as call;
 ghost use Rattle.exchange_law.specs.Worlds.{offer_of, list_of};
 ghost use Rattle.exchange_core.specs.Journal.{max_events};
 ghost use Rattle.exchange_core.specs.Finished.{finished_from};
-ghost use Rattle.refusals.specs.Answers.{IsAnswered, out_of_memory};
+ghost use Rattle.refusals.specs.Answers.{IsAnswered, IsDecidedBy, out_of_memory};
 ghost use Rattle.exchange_core.specs.Faults.{side_fault_number};
 ghost use Rattle.exchange_core.specs.Refusals as due;
-ghost use Rattle.exchange_core.specs.Refusals.{IsDecidedBy, count_lacking};
+ghost use Rattle.exchange_core.specs.Refusals.{count_lacking};
 ghost use Rattle.exchange_core.specs.Shown.{shown, calls, limit_of, is_full, IsDone, IsUntouched};
 
 use crate::fault::SideFault;

@@ -26,6 +26,13 @@ struct Merged {
     table: MergedTable,
 }
 
+// The same, with the table that the side holds now.
+#[derive(Drop)]
+struct Outcome {
+    rulings: Vec<Judged>,
+    table: Arc<Table>,
+}
+
 impl State {
     // Makes the table the merge of the two, and closes the exchange.
     pub(crate) fn finish(&mut self, alloc: Global) -> Result<Finished, AllocError>
@@ -57,7 +64,8 @@ impl State {
             unreachable!()
         };
         let own = mem::replace(&mut self.table, held);
-        Ok(finished_with(self.id, own, exchange, compared.first_of_a, rulings, table))
+        let outcome = Outcome { rulings, table };
+        Ok(finished_with(self.id, own, exchange, compared.first_of_a, outcome))
     }
 }
 
@@ -122,16 +130,16 @@ fn finished_with(
     own: HeldTable,
     exchange: Exchange,
     first_of_a: Vec<bool>,
-    rulings: Vec<Judged>,
-    table: Arc<Table>,
+    outcome: Outcome,
 ) -> Finished
     requires ready { IsMergeable id own exchange }
     requires marked { IsMarkedIn id own exchange first_of_a.items }
-    requires merged { IsMergeOf id own exchange rulings.items (arc_value table) }
+    requires merged { IsMergeOf id own exchange outcome.rulings.items (arc_value outcome.table) }
     ensures { (heard : sides.Heard) (theirs : List Name) → exchange.heard ≡ Some heard
         → exchange.their_list ≡ Some theirs
-        → result ≡ finished_at id own exchange heard theirs rulings.items (arc_value table) }
+        → result ≡ finished_at id own exchange heard theirs outcome.rulings.items (arc_value outcome.table) }
 {
+    let Outcome { rulings, table } = outcome;
     let (Some(heard), Some(other_gone)) = (exchange.heard, exchange.their_list) else {
         unreachable!()
     };

@@ -3,7 +3,7 @@ ghost use Rattle.std.specs.Prelude.{◌≡◌, IsTrue, IfOk, OnOk, OnErr};
 ghost use Rattle.std.specs.Arc.{arc_value};
 ghost use Rattle.std.specs.FinMap.{insert};
 ghost use Rattle.refusals.specs.Answers.{IsAnswered};
-ghost use Rattle.partition_table.specs.Faults.{register_fault, table_fault_number};
+ghost use Rattle.partition_table.specs.Faults.{row_fault, table_fault_number};
 ghost use Rattle.partition_table.specs.Tables.{agrees_with, row_for};
 
 use clash_record::{Name, Registration};
@@ -111,7 +111,7 @@ impl HeldTable {
         store: &UploadStore,
     ) -> Result<(), TableFault>
         requires { IsTrue is_known → IsTrue (agrees_with self.old (row_for store.now registration)) }
-        ensures answer { IsAnswered table_fault_number (register_fault limit.names self.old name registration store.now) result }
+        ensures answer { IsAnswered table_fault_number (row_fault limit.names self.old name registration store.now) result }
         ensures registered { OnOk result (self.new ≡ insert self.old name (row_for store.now registration)) }
         ensures unchanged { OnErr result (self.new ≡ self.old) }
     {

@@ -10,8 +10,8 @@ ghost use Rattle.exchange_core.specs.model.Pairing.{fit_fault_for, merged_for, I
 use builtin_resolvers::Verdict3;
 use clash_record::{Name, SideId};
 use partition_table::{
-    Compared, MergedTable, NameLimit, Table, TableFault, compare_within, fit_theorem, fit_within,
-    merge_compared,
+    Compared, HalfTable, MergedTable, NameLimit, Table, TableFault, compare_within, fit_theorem,
+    fit_within, merge_compared,
 };
 use std::alloc::{AllocError, Global};
 
@@ -29,17 +29,17 @@ pub(crate) fn compare(
     alloc: Global,
     limit: NameLimit,
     id: SideId,
-    own: &Table,
-    own_uptime: u64,
-    other: &Table,
-    other_uptime: u64,
+    own: HalfTable<'_>,
+    other: HalfTable<'_>,
 ) -> Result<Compared, TableFault>
-    ensures answer { IsAnswered table_fault_number (fit_fault_for limit.names id own.now other.now) result }
-    ensures compared { IfOk result (IsComparedFor id own.now own_uptime other.now other_uptime) }
+    ensures answer { IsAnswered table_fault_number
+        (fit_fault_for limit.names id own.entry.table.now other.entry.table.now) result }
+    ensures compared { IfOk result (IsComparedFor id own.entry.table.now own.entry.uptime
+        other.entry.table.now other.entry.uptime) }
 {
     match id {
-        SideId::A => compare_within(alloc, limit, own, own_uptime, other, other_uptime),
-        SideId::B => compare_within(alloc, limit, other, other_uptime, own, own_uptime),
+        SideId::A => compare_within(alloc, limit, own, other),
+        SideId::B => compare_within(alloc, limit, other, own),
     }
 }
 

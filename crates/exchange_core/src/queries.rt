@@ -2,7 +2,7 @@
 ghost use Rattle.std.specs.Prelude.{◌≡◌, false, Some, IfSome};
 ghost use Rattle.std.specs.Option.{option_and_then, option_map, option_map_or};
 ghost use Rattle.std.specs.Cmp.Lexicographic.{pointwise};
-ghost use Rattle.partition_table.specs.Tables.{is_name};
+ghost use Rattle.partition_table.specs.Tables.{is_same_name};
 ghost use Rattle.exchange_core.specs.Refusals as due;
 ghost use Rattle.exchange_core.specs.Shown.{shown, limit_of, is_full};
 ghost use Rattle.exchange_law.specs.Sides as sides;
@@ -188,7 +188,7 @@ impl Exchange {
 
 // Checks whether the two lists have the same names in the same order.
 fn is_same_names(a: &[Name], b: &[Name]) -> bool
-    ensures { result ≡ pointwise is_name a.now b.now }
+    ensures { result ≡ pointwise is_same_name a.now b.now }
 {
     a == b
 }

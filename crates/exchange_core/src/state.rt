@@ -26,7 +26,7 @@ use crate::messages::{Offer, Withdrawals};
 use crate::pairing::compare;
 use crate::shown_rows::ShownRows;
 use clash_record::{Name, Registration, SideId};
-use partition_table::{ClashList, Compared, Judged, NameLimit, Table, TableFault};
+use partition_table::{ClashList, Compared, HalfTable, Judged, NameLimit, Table, TableFault};
 use std::alloc::{AllocError, Global};
 use std::marker::Model;
 use std::sync::Arc;
@@ -188,7 +188,7 @@ impl State {
     ) -> Result<(), TableFault>
         requires idle { self.old.exchange ≡ None }
         requires known { IsTrue is_known → IsTrue (agrees_with self.old.table (row_for store.now registration)) }
-        ensures answer { IsAnswered table.table_fault_number (table.register_fault limit.names self.old.table name registration store.now) result }
+        ensures answer { IsAnswered table.table_fault_number (table.row_fault limit.names self.old.table name registration store.now) result }
         ensures done { OnOk result (sides.register self.old name (row_for store.now registration) ≡ Some self.new) }
         ensures unchanged { OnErr result (self.new ≡ self.old) }
     {
@@ -279,15 +279,15 @@ impl State {
         let Some(exchange) = &self.exchange else {
             unreachable!()
         };
-        compare(
-            alloc,
-            limit,
-            self.id,
-            self.table.table(),
-            exchange.uptime(),
-            offer.table(),
-            offer.uptime(),
-        )
+        let own = HalfTable {
+            table: self.table.table(),
+            uptime: exchange.uptime(),
+        };
+        let other = HalfTable {
+            table: offer.table(),
+            uptime: offer.uptime(),
+        };
+        compare(alloc, limit, self.id, own, other)
     }
 
     // Keeps the first offer, and what its comparison found.

@@ -1,9 +1,9 @@
 //! A side that begins with a table.
 ghost use Rattle.std.specs.Prelude.{◌≡◌, ◌≤◌, ◌+◌, Some, None, IfOk, if◌then◌else◌, nat_le, length};
 ghost use Rattle.std.specs.FinMap.{len};
+ghost use Rattle.refusals.specs.Answers.{IsDecidedBy};
 ghost use Rattle.partition_table.specs.declared.fault.TableFault.TheVariants.{Full};
 ghost use Rattle.exchange_core.specs.declared.fault.SideFault.TheVariants as of;
-ghost use Rattle.exchange_core.specs.Refusals.{IsDecidedBy};
 ghost use Rattle.exchange_core.specs.Shown.{shown, calls, limit_of};
 
 use crate::fault::SideFault;

@@ -7,7 +7,7 @@ use Rattle.std.specs.FinMap.{empty, insert, remove, contains_key, len}
 use Rattle.builtin_resolvers.specs.declared.verdicts.Verdict3.{Verdict3}
 use Rattle.builtin_resolvers.specs.declared.verdicts.Verdict3.TheVariants.{Neither}
 use Rattle.clash_record.specs.Name.{Name}
-use Rattle.partition_table.specs.Tables.{Row, Table, most_names, agrees_with, same_clash, same_table, is_name, Clash, clashes, merge, is_in, fit_together}
+use Rattle.partition_table.specs.Tables.{Row, Table, most_names, agrees_with, same_clash, same_table, is_same_name, Clash, clashes, merge, is_in, fit_together}
 pub use Rattle.partition_table.specs.declared.judged.Judged.{Judged}
 pub use Rattle.partition_table.specs.Rulings.{is_one_of_four, is_answer, is_lawful}
 use Rattle.clash_record.specs.declared.side_id.SideId.{SideId}
@@ -266,7 +266,8 @@ heard_other_offer side offer =
 
 -- the exchange heard a list of other names
 abbrev pub other_list : Exchange → List Name → Bool
-other_list exchange names = option_map_or (λ theirs. not (pointwise is_name theirs names)) exchange.their_list false
+other_list exchange names =
+    option_map_or (λ theirs. not (pointwise is_same_name theirs names)) exchange.their_list false
 
 -- a list of the other side and the open number that isn't the one that was heard
 abbrev pub heard_other_list : Side → Withdrawals → Bool

@@ -45,9 +45,9 @@ pub use exchange_core::{
 };
 pub use judge_pool::{Gate, MAX_WORKERS, OpenGate, Workers};
 pub use partition_table::{
-    Agreement, Clash, ClashList, Compared, MAX_NAMES, MergedTable, NameLimit, Rows, RowsAfter,
-    Ruling, Table, TableBuilder, TableFault, Verdict, clashes, compare_within, fit, fit_within,
-    merge, merge_compared, word,
+    Agreement, Clash, ClashList, Compared, HalfTable, MAX_NAMES, MergedTable, NameLimit, Rows,
+    RowsAfter, Ruling, Table, TableBuilder, TableFault, Verdict, clashes, compare_within, fit,
+    fit_within, merge, merge_compared, word,
 };
 pub use refusals::{
     Numbered, NumberedRefusal, OUT_OF_MEMORY, Place, REFUSALS, refusal_of, words_of,

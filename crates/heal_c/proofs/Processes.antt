@@ -357,7 +357,7 @@ module _ {p : Processes} (l : Like p) (id : SideId) (new : SideAndStore) where
       by_side A h = h
       by_side B h = h
 
-  -- a half that gives up is as one that abandons, if an exchange is open
+  -- a half that calls `give_up` is as one that abandons, if an exchange is open
   gave_up : shown new.side ≡ rested (shown (process_half p id).side) → Like (with_half p id new)
   gave_up e = by_open (abandon (shown (process_half p id).side)) refl
     where

@@ -2,7 +2,7 @@
 use Rattle.std.specs.Prelude.{◌≡◌, ◌≢◌, ◌<◌, ◌≤◌, ◌⊎◌, ℕ, List, length, Option}
 use Rattle.instruction_set.specs.Machine.{EndsFor, meaning_for}
 use Rattle.verifier.specs.Stores.{CodeFor}
-use Rattle.bpf.specs.Loading.{IsLoadable, IsLoadFault}
+use Rattle.verifier.specs.Programs.{IsLoadable, IsLoadFault}
 use Rattle.c_calls.specs.declared.codes.HealEnded.{HealEnded}
 use Rattle.c_calls.specs.Programs.{IsLoadOf}
 

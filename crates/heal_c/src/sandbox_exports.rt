@@ -2,9 +2,8 @@
 ghost use Rattle.std.specs.Prelude.{◌≡◌, ◌⊎◌, List, Err, IsOk, IfOk, IfErr, None};
 ghost use Rattle.refusals.specs.Answers.{HasCause, RanOut};
 ghost use Rattle.instruction_set.specs.declared.insn.Insn.{Insn};
-ghost use Rattle.verifier.specs.Programs.{program_fault_number};
+ghost use Rattle.verifier.specs.Programs.{program_fault_number, IsLoadable, IsLoadFault};
 ghost use Rattle.verifier.specs.declared.program_fault.ProgramFault.{ProgramFault};
-ghost use Rattle.bpf.specs.Loading.{IsLoadable, IsLoadFault};
 ghost use Rattle.c_calls.specs.Answers.{Reads};
 ghost use Rattle.heal_c.specs.Sandboxes.{IsLoadedFor, IsLoadFor, IsLoadWithin, Runs};
 

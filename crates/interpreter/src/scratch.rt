@@ -6,7 +6,7 @@ ghost use Rattle.clash_record.specs.Name.{name_limit};
 ghost use Rattle.clash_record.specs.Record.{clash_bytes, with_word};
 ghost use Rattle.instruction_set.specs.Machine.{record_len};
 
-use clash_record::{ClashRecord, Facts, Name, RECORD_LEN, Registration, set_word, write_record};
+use clash_record::{ClashRecord, Contender, Name, RECORD_LEN, set_word, write_record};
 use one_step::MEMORY_LEN;
 use std::marker::Model;
 
@@ -52,21 +52,12 @@ impl Scratch {
         self.bytes[..RECORD_LEN].copy_from_slice(clash.bytes());
     }
 
-    /// Writes the record of a clash of two registrations of a name at a word, with the facts of each registration's half,
-    /// to the place where runs read it.
-    pub fn write_record(
-        &mut self,
-        name: &Name,
-        first: &Registration,
-        second: &Registration,
-        word: u64,
-        of_first: Facts,
-        of_second: Facts,
-    )
-        ensures { self.new ≡ clash_bytes name.now first.now second.now word of_first of_second }
+    /// Writes the record of a clash of two registrations of a name at a word to the place where runs read it.
+    pub fn write_record(&mut self, name: &Name, first: &Contender, second: &Contender, word: u64)
+        ensures { self.new ≡ clash_bytes name.now first.now.registration second.now.registration word first.now.facts
+            second.now.facts }
     {
-        let record = &mut self.bytes[..RECORD_LEN];
-        write_record(record, name, first, second, word, of_first, of_second);
+        write_record(&mut self.bytes[..RECORD_LEN], name, first, second, word);
     }
 
     /// Sets the word of the record, and keeps its other bytes.

@@ -98,7 +98,7 @@ impl Exchange {
         let (store, program) = stored(alloc, &BY_WORD)?;
         let resolver = ResolverId::Program(program);
         let (of_other, list_of_other) = sent_by_other(alloc, names, resolver, &store)?;
-        let side = numbered_side(alloc, SideId::A, names, 1, resolver, &store)?;
+        let side = numbered_side(alloc, SideId::A, names, resolver, &store)?;
         Ok(Exchange {
             names,
             side,
@@ -220,7 +220,7 @@ fn sent_by_other(
     resolver: ResolverId,
     store: &UploadStore,
 ) -> Result<(Offer, Withdrawals), Fault> {
-    let mut other = numbered_side(alloc, SideId::B, names, 2, resolver, store)?;
+    let mut other = numbered_side(alloc, SideId::B, names, resolver, store)?;
     sent_by(alloc, &mut other)
 }
 

@@ -13,7 +13,7 @@ use Rattle.clash_record.specs.laws.Orders.{names_total}
 use Rattle.partition_table.specs.declared.fault.TableFault.{TableFault}
 use Rattle.partition_table.specs.declared.fault.TableFault.TheVariants.{TooManyNames, OtherCode}
 use Rattle.partition_table.specs.Faults.{fit_fault}
-use Rattle.partition_table.specs.Tables.{Table, is_name, rows_agree, agrees_with, tables_agree, union_len, fit_within, names_without}
+use Rattle.partition_table.specs.Tables.{Table, is_same_name, rows_agree, agrees_with, tables_agree, union_len, fit_within, names_without}
 use Rattle.partition_table.proofs.Agreeing.{same_bool}
 use Rattle.partition_table.proofs.Held.{agree_from, agree_at}
 use Rattle.partition_table.proofs.Maps.{all_values_from, all_values_at}
@@ -30,7 +30,7 @@ abbrev alone : Table → Table → List Name
 alone a b = filter (λ name. not (contains_key b name)) (keys a)
 
 any_common : (a b : Table) (q : Name)
-    → list_any (is_name q) (common a b) ≡ (contains_key b q && contains_key a q)
+    → list_any (is_same_name q) (common a b) ≡ (contains_key b q && contains_key a q)
 any_common a b q =
     any_kept (contains_key b) q (keys a) ∙ ap (λ x. contains_key b q && x) (sym (contains_key-keys a q))
 

@@ -17,7 +17,7 @@ use Rattle.clash_record.specs.Orders.{name_cmp, registration_cmp}
 use Rattle.clash_record.specs.laws.Orders.{registrations_total}
 use Rattle.builtin_resolvers.specs.declared.verdicts.Verdict3.{Verdict3}
 use Rattle.builtin_resolvers.specs.declared.verdicts.Verdict3.TheVariants.{First, Second, Neither}
-use Rattle.partition_table.specs.Tables.{Row, Table, Clash, clash_at, has_first, is_name, merged_at, same_registration}
+use Rattle.partition_table.specs.Tables.{Row, Table, Clash, clash_at, has_first, is_same_name, merged_at, same_registration}
 use Rattle.partition_table.specs.model.Judging.{clash_by_name}
 use Rattle.partition_table.specs.model.Listing.{kept_of, clashes_behind, answers_ahead}
 use Rattle.partition_table.specs.model.Merging.{answers_left}
@@ -29,7 +29,7 @@ use Rattle.partition_table.proofs.Walks.{flipped}
 -- the next clash is of the name
 abbrev is_named : Name → List Clash → Bool
 is_named n [] = false
-is_named n (c ∷ cs) = is_name c.name n
+is_named n (c ∷ cs) = is_same_name c.name n
 
 kept_past : (n : Name) (mine : Registration) (cs : List Clash) (x : Verdict3) → is_named n cs ≡ false
     → kept_of n mine cs x ≡ Some mine

@@ -16,7 +16,7 @@ use Rattle.builtin_resolvers.specs.declared.verdicts.Verdict3.TheVariants.{Neith
 use Rattle.clash_record.specs.Name.{Name}
 use Rattle.partition_table.specs.Faults.{fit_fault}
 use Rattle.partition_table.specs.declared.fault.TableFault.TheVariants.{TooManyNames, OtherCode}
-use Rattle.partition_table.specs.Tables.{Row, Table, most_names, is_name, is_in, same_registration, differ, clash_names, answer_at, merged_at, winner, unless_gone, Gone, kept_at, IsMerge, with_row, tabulated, merge, union_len, tables_agree, fit_within, fit_together, names_without}
+use Rattle.partition_table.specs.Tables.{Row, Table, most_names, is_same_name, is_in, same_registration, differ, clash_names, answer_at, merged_at, winner, unless_gone, Gone, kept_at, IsMerge, with_row, tabulated, merge, union_len, tables_agree, fit_within, fit_together, names_without}
 use Rattle.partition_table.specs.model.Merging.{IsReady, first_answer, answers_behind, answers_left, kept_with, settled, put_all, each_kept}
 use Rattle.partition_table.proofs.Maps.{get-insert_same}
 use Rattle.partition_table.proofs.Walks.{flipped}
@@ -24,13 +24,13 @@ use Rattle.partition_table.proofs.OneClash.{keys_length}
 use Rattle.partition_table.proofs.Uniting.{none_gone}
 use Rattle.partition_table.proofs.Settling.{keys_sorted, all_lacked}
 
-pub same_name : (n m : Name) → is_name n m ≡ true → n ≡ m
+pub same_name : (n m : Name) → is_same_name n m ≡ true → n ≡ m
 same_name n m e = names_exact n m ((Equal-is (name_cmp n m)).0 e)
 
-pub own_name : (n : Name) → is_name n n ≡ true
+pub own_name : (n : Name) → is_same_name n n ≡ true
 own_name n = ap is_eq (tied_itself names_total n)
 
-apart_name : (n m : Name) → name_cmp n m ≡ Less → is_name n m ≡ false
+apart_name : (n m : Name) → name_cmp n m ≡ Less → is_same_name n m ≡ false
 apart_name n m less = ap is_eq less
 
 -- a name that is put is found
@@ -38,7 +38,7 @@ with_row_get : (n : Name) (row : Option Row) (t : Table) → get t n ≡ None �
 with_row_get n None t none = none
 with_row_get n (Some row) t none = get-insert_same names_total t n row
 
-with_row_other : (n : Name) (row : Option Row) (t : Table) (q : Name) → is_name q n ≡ false
+with_row_other : (n : Name) (row : Option Row) (t : Table) (q : Name) → is_same_name q n ≡ false
     → get (with_row n row t) q ≡ get t q
 with_row_other n None t q apart = refl
 with_row_other n (Some row) t q apart = get-insert names_total t n row q ∙ ap (λ b. cond b (Some row) (get t q)) apart
@@ -52,14 +52,14 @@ fresh_still n row t (m ∷ ns) fresh above =
 -- what is found once all is put
 pub put_all_get : (f : Name → Option Row) (ns : List Name) (t : Table) → IsStrictlySortedBy name_cmp ns
     → AllByRecursion (λ m. get t m ≡ None) ns → (q : Name)
-    → get (put_all (each_kept f ns) t) q ≡ (if list_any (is_name q) ns then f q else get t q)
+    → get (put_all (each_kept f ns) t) q ≡ (if list_any (is_same_name q) ns then f q else get t q)
 put_all_get f [] t sorted fresh q = refl
 put_all_get f (n ∷ ns) t sorted fresh q =
     put_all_get f ns (with_row n (f n) t) (sorted_tail name_cmp n ns sorted)
     (fresh_still n (f n) t ns fresh.1 (sorted_head name_cmp n ns sorted)) q
-    ∙ by (is_name q n) refl (list_any (is_name q) ns)
+    ∙ by (is_same_name q n) refl (list_any (is_same_name q) ns)
   where
-    by : (b : Bool) → is_name q n ≡ b → (any : Bool)
+    by : (b : Bool) → is_same_name q n ≡ b → (any : Bool)
         → (if any then f q else get (with_row n (f n) t) q) ≡ (if b || any then f q else get t q)
     by true e true = refl
     by true e false =
@@ -143,7 +143,7 @@ module _ (a b : Table) (gone_a gone_b : Name → Bool) where
 
 -- ---- the two passes
 
-no_row : (table : Table) (q : Name) → list_any (is_name q) (keys table) ≡ false → get table q ≡ None
+no_row : (table : Table) (q : Name) → list_any (is_same_name q) (keys table) ≡ false → get table q ≡ None
 no_row table q none = by (get table q) (contains_key-keys table q ∙ none)
   where
     by : (r : Option Row) → is_some r ≡ false → r ≡ None
@@ -152,16 +152,16 @@ no_row table q none = by (get table q) (contains_key-keys table q ∙ none)
 
 -- a name that the first has is none of the others
 none_of_others : (a : Table) (ns : List Name) (q : Name) → contains_key a q ≡ true
-    → list_any (is_name q) (names_without a ns) ≡ false
+    → list_any (is_same_name q) (names_without a ns) ≡ false
 none_of_others a [] q has = refl
 none_of_others a (n ∷ ns) q has = by (contains_key a n) refl (none_of_others a ns q has)
   where
-    by : (b : Bool) → contains_key a n ≡ b → list_any (is_name q) (names_without a ns) ≡ false
-        → list_any (is_name q) (cond (not b) (n ∷ names_without a ns) (names_without a ns)) ≡ false
+    by : (b : Bool) → contains_key a n ≡ b → list_any (is_same_name q) (names_without a ns) ≡ false
+        → list_any (is_same_name q) (cond (not b) (n ∷ names_without a ns) (names_without a ns)) ≡ false
     by true e ih = ih
-    by false e ih = or_from _ _ (differs (is_name q n) refl) ih
+    by false e ih = or_from _ _ (differs (is_same_name q n) refl) ih
       where
-        differs : (b : Bool) → is_name q n ≡ b → b ≡ false
+        differs : (b : Bool) → is_same_name q n ≡ b → b ≡ false
         differs true t =
             let is = same_name q n t in
             let both : true ≡ false = sym has ∙ ap (contains_key a) is ∙ e in absurd (cc)
@@ -169,21 +169,21 @@ none_of_others a (n ∷ ns) q has = by (contains_key a n) refl (none_of_others a
 
 -- a name that the first lacks is one of the others just where the second has it
 one_of_others : (a : Table) (ns : List Name) (q : Name) → contains_key a q ≡ false
-    → list_any (is_name q) (names_without a ns) ≡ list_any (is_name q) ns
+    → list_any (is_same_name q) (names_without a ns) ≡ list_any (is_same_name q) ns
 one_of_others a [] q lacks = refl
 one_of_others a (n ∷ ns) q lacks = by (contains_key a n) refl (one_of_others a ns q lacks)
   where
-    by : (b : Bool) → contains_key a n ≡ b → list_any (is_name q) (names_without a ns) ≡ list_any (is_name q) ns
-        → list_any (is_name q) (cond (not b) (n ∷ names_without a ns) (names_without a ns))
-        ≡ (is_name q n || list_any (is_name q) ns)
-    by true e ih = ih ∙ differs (is_name q n) refl
+    by : (b : Bool) → contains_key a n ≡ b → list_any (is_same_name q) (names_without a ns) ≡ list_any (is_same_name q) ns
+        → list_any (is_same_name q) (cond (not b) (n ∷ names_without a ns) (names_without a ns))
+        ≡ (is_same_name q n || list_any (is_same_name q) ns)
+    by true e ih = ih ∙ differs (is_same_name q n) refl
       where
-        differs : (b : Bool) → is_name q n ≡ b → list_any (is_name q) ns ≡ (b || list_any (is_name q) ns)
+        differs : (b : Bool) → is_same_name q n ≡ b → list_any (is_same_name q) ns ≡ (b || list_any (is_same_name q) ns)
         differs true t =
             let is = same_name q n t in
             let both : true ≡ false = sym e ∙ ap (contains_key a) (sym is) ∙ lacks in absurd (cc)
         differs false t = refl
-    by false e ih = ap (λ x. is_name q n || x) ih
+    by false e ih = ap (λ x. is_same_name q n || x) ih
 
 module _ (a b : Table) (gone_a gone_b : Name → Bool) (answers : List Verdict3) where
   -- what is kept under a name
@@ -196,12 +196,12 @@ module _ (a b : Table) (gone_a gone_b : Name → Bool) (answers : List Verdict3)
   abbrev pub alone_in_b : Name → Option Row
   alone_in_b name = unless_gone None (get b name) (gone_a name) (gone_b name) (get b name)
 
-  pub first_pass_get : (q : Name) → get first_pass q ≡ (if list_any (is_name q) (keys a) then kept_in q else None)
+  pub first_pass_get : (q : Name) → get first_pass q ≡ (if list_any (is_same_name q) (keys a) then kept_in q else None)
   unfolding clash_names
   first_pass_get q =
       ap (λ es. get (put_all es empty) q) (settled_is a b gone_a gone_b (keys a) answers (keys_sorted a))
       ∙ put_all_get kept_in (keys a) empty (keys_sorted a) (all_lacked (keys a)) q
-      ∙ ap (λ o. if list_any (is_name q) (keys a) then kept_in q else o) (get-empty name_cmp q)
+      ∙ ap (λ o. if list_any (is_same_name q) (keys a) then kept_in q else o) (get-empty name_cmp q)
 
   others_sorted : IsStrictlySortedBy name_cmp (names_without a (keys b))
   others_sorted = IsStrictlySortedBy-filter name_cmp (λ name. not (contains_key a name)) (keys b) (keys_sorted b)
@@ -248,7 +248,7 @@ module _ (a b : Table) (gone_a gone_b : Name → Bool) (answers : List Verdict3)
       none_a None e = refl
       none_a (Some r) e = absurd (cc)
 
-      by_b : (any : Bool) → list_any (is_name q) (keys b) ≡ any → get a q ≡ None
+      by_b : (any : Bool) → list_any (is_same_name q) (keys b) ≡ any → get a q ≡ None
           → (if any then alone_in_b q else None) ≡ kept_in q
       by_b true e lacks = alone (get a q) (get b q) (answer_at (clash_names a b) answers q) lacks
       by_b false e lacks =
@@ -257,19 +257,19 @@ module _ (a b : Table) (gone_a gone_b : Name → Bool) (answers : List Verdict3)
           ∙ none_gone (get a q) (get b q) (gone_a q) (gone_b q))
 
       by : (has : Bool) → contains_key a q ≡ has
-          → (if list_any (is_name q) (names_without a (keys b)) then alone_in_b q else get first_pass q) ≡ kept_in q
+          → (if list_any (is_same_name q) (names_without a (keys b)) then alone_in_b q else get first_pass q) ≡ kept_in q
       by true e =
           ap (λ b. if b then alone_in_b q else get first_pass q) (none_of_others a (keys b) q e)
           ∙ first_pass_get q ∙ ap (λ b. if b then kept_in q else None) (sym (contains_key-keys a q) ∙ e)
       by false e =
           ap (λ b. if b then alone_in_b q else get first_pass q) (one_of_others a (keys b) q e)
-          ∙ ap (λ o. if list_any (is_name q) (keys b) then alone_in_b q else o) (lacked_first q e)
-          ∙ by_b (list_any (is_name q) (keys b)) refl (none_a (get a q) e)
+          ∙ ap (λ o. if list_any (is_same_name q) (keys b) then alone_in_b q else o) (lacked_first q e)
+          ∙ by_b (list_any (is_same_name q) (keys b)) refl (none_a (get a q) e)
 
 -- ---- the definition by names
 
 put_step : (name : Name) (table : Table) (f : Name → Option Row) (q : Name) (r : Option Row) (b : Bool) → f name ≡ r
-    → is_name q name ≡ b → (b ≡ true → f q ≡ f name) → (f q ≡ None → get table q ≡ f q)
+    → is_same_name q name ≡ b → (b ≡ true → f q ≡ f name) → (f q ≡ None → get table q ≡ f q)
     → (b ≡ false → get table q ≡ f q) → get (with_row name r table) q ≡ f q
 put_step name table f q None true is t same left other = left (same refl ∙ is)
 put_step name table f q None false is t same left other = other refl
@@ -279,11 +279,11 @@ put_step name table f q (Some row) false is t same left other =
     get-insert names_total table name row q ∙ ap (λ b. cond b (Some row) (get table q)) t ∙ other refl
 
 get-tabulated : (names : List Name) (f : Name → Option Row) (q : Name)
-    → (list_any (is_name q) names ≡ false → f q ≡ None)
+    → (list_any (is_same_name q) names ≡ false → f q ≡ None)
     → get (tabulated names f) q ≡ f q
 get-tabulated [] f q none = get-empty name_cmp q ∙ sym (none refl)
 get-tabulated (name ∷ names) f q none =
-    put_step name (tabulated names f) f q (f name) (is_name q name) refl refl
+    put_step name (tabulated names f) f q (f name) (is_same_name q name) refl refl
     (λ t. ap f (same_name q name t))
     (λ gone. get-tabulated names f q (λ _. gone))
     (λ t. get-tabulated names f q (λ e. none (or_from _ _ t e)))
@@ -300,7 +300,7 @@ any_append p (n ∷ ns) ms e =
 pub merge_is : (a b : Table) (answers : List Verdict3) (gone : Gone) → IsMerge a b answers gone (merge a b answers gone)
 unfolding merge
 merge_is a b answers gone name = get-tabulated (keys a ++ keys b) (kept_at a b answers gone) name (λ e.
-    let h = any_append (is_name name) (keys a) (keys b) e in
+    let h = any_append (is_same_name name) (keys a) (keys b) e in
     ap (unless_gone (get a name) (get b name) (is_in name gone.of_a) (is_in name gone.of_b))
     (none_at (get a name) (get b name) (no_row a name h.0) (no_row b name h.1))
     ∙ none_gone (get a name) (get b name) (is_in name gone.of_a) (is_in name gone.of_b))

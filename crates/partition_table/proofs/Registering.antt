@@ -15,7 +15,7 @@ use Rattle.clash_record.specs.Name.{Name}
 use Rattle.clash_record.specs.Orders.{name_cmp}
 use Rattle.partition_table.specs.Tables.{Row, Table, agrees_with, row_for}
 use Rattle.refusals.specs.Answers.{IsAnswered, out_of_memory}
-use Rattle.partition_table.specs.Faults.{is_known, register_fault, table_fault_number}
+use Rattle.partition_table.specs.Faults.{is_known, row_fault, table_fault_number}
 use Rattle.partition_table.specs.model.Keeping.{IsHeld, has_room_for}
 use Rattle.partition_table.specs.Views.{table_by}
 use Rattle.partition_table.proofs.Holding.{is_none_by}
@@ -49,35 +49,35 @@ new_name programs rows table made name free =
     is_none_by (get table name) (sym (has_name programs rows table made name) ∙ not_taken _ free)
 
 module _ (limit : ℕ) (table : Table) (name : Name) (r : Registration) (store : Programs) where
-  taken_due : contains_key table name ≡ true → register_fault limit table name r store ≡ Some NameTaken
+  taken_due : contains_key table name ≡ true → row_fault limit table name r store ≡ Some NameTaken
   taken_due a = rw a refl
 
-  pub full_due : contains_key table name ≡ false → limit ≤ len table → register_fault limit table name r store ≡ Some Full
+  pub full_due : contains_key table name ≡ false → limit ≤ len table → row_fault limit table name r store ≡ Some Full
   full_due a full = let b : nat_lt (len table) limit ≡ false = le-ltb (len table) limit full in
       rw (a, b) refl
 
   module _ (a : contains_key table name ≡ false) (room : len table < limit) where
-    pub unknown_due : is_known store r.resolver ≡ false → register_fault limit table name r store ≡ Some UnknownProgram
+    pub unknown_due : is_known store r.resolver ≡ false → row_fault limit table name r store ≡ Some UnknownProgram
     unknown_due k = let b : nat_lt (len table) limit ≡ true = lt-ltb (len table) limit room in rw (a, b, k) refl
 
     pub other_due : is_known store r.resolver ≡ true → agrees_with table (row_for store r) ≡ false
-        → register_fault limit table name r store ≡ Some OtherCode
+        → row_fault limit table name r store ≡ Some OtherCode
     other_due k g = let b : nat_lt (len table) limit ≡ true = lt-ltb (len table) limit room in
         rw (a, b, k, g) refl
 
     none_due : is_known store r.resolver ≡ true → agrees_with table (row_for store r) ≡ true
-        → register_fault limit table name r store ≡ None
+        → row_fault limit table name r store ≡ None
     none_due k g = let b : nat_lt (len table) limit ≡ true = lt-ltb (len table) limit room in
         rw (a, b, k, g) refl
 
   -- the name comes first, and then what else is due
   pub refused_first : (rest fault : TableFault) → fault ≡ (if contains_key table name then NameTaken else rest)
-      → (contains_key table name ≡ false → register_fault limit table name r store ≡ Some rest)
-      → register_fault limit table name r store ≡ Some fault
+      → (contains_key table name ≡ false → row_fault limit table name r store ≡ Some rest)
+      → row_fault limit table name r store ≡ Some fault
   refused_first rest fault is due = by (contains_key table name) refl ∙ ap Some (sym is)
     where
       by : (b : Bool) → contains_key table name ≡ b
-          → register_fault limit table name r store ≡ Some (if b then NameTaken else rest)
+          → row_fault limit table name r store ≡ Some (if b then NameTaken else rest)
       by true a = taken_due a
       by false a = due a
 
@@ -85,11 +85,11 @@ module _ (limit : ℕ) (table : Table) (name : Name) (r : Registration) (store :
   pub answered : len table < limit → is_known store r.resolver ≡ true
       → agrees_with table (row_for store r) ≡ true → {A : Type 0} (result : Result A TableFault)
       → IsAnswered table_fault_number (taken_if (contains_key table name)) result
-      → IsAnswered table_fault_number (register_fault limit table name r store) result
+      → IsAnswered table_fault_number (row_fault limit table name r store) result
   answered room k g result =
       subst (λ due. IsAnswered table_fault_number due result) (sym (by (contains_key table name) refl))
     where
-      by : (b : Bool) → contains_key table name ≡ b → register_fault limit table name r store ≡ taken_if b
+      by : (b : Bool) → contains_key table name ≡ b → row_fault limit table name r store ≡ taken_if b
       by true a = taken_due a
       by false a = none_due a room k g
 

@@ -19,7 +19,7 @@ use Rattle.clash_record.specs.laws.Orders.{names_total, names_exact, registratio
 use Rattle.builtin_resolvers.specs.declared.verdicts.Verdict3.{Verdict3}
 use Rattle.builtin_resolvers.specs.declared.verdicts.Verdict3.TheVariants.{First, Second, Neither}
 use Rattle.clash_record.specs.Name.{Name}
-use Rattle.partition_table.specs.Tables.{Row, Table, IsTable, IsCodeOf, program_of, Clash, clash_of, clash_at, clashes, facts_of, same_registration, differ, clash_names, is_name, is_in, answer_at, winner, merged_at, holds, unless_gone, merge, tables_agree}
+use Rattle.partition_table.specs.Tables.{Row, Table, IsTable, IsCodeOf, program_of, Clash, clash_of, clash_at, clashes, facts_of, same_registration, differ, clash_names, is_same_name, is_in, answer_at, winner, merged_at, holds, unless_gone, merge, tables_agree}
 use Rattle.partition_table.proofs.Merged.{same_name, merge_is, is_the_merge}
 use Rattle.partition_table.proofs.Settling.{keys_sorted}
 use Rattle.partition_table.proofs.Uniting.{two_agree}
@@ -80,29 +80,29 @@ count_of_clashes a b uptime_a uptime_b =
 
 -- ---- names in order with the same members are the same
 
-pub any_kept : (p : Name → Bool) (q : Name) (ns : List Name) → list_any (is_name q) (filter p ns)
-    ≡ (p q && list_any (is_name q) ns)
+pub any_kept : (p : Name → Bool) (q : Name) (ns : List Name) → list_any (is_same_name q) (filter p ns)
+    ≡ (p q && list_any (is_same_name q) ns)
 any_kept p q [] = by (p q)
   where
     by : (b : Bool) → false ≡ (b && false)
     by true = refl
     by false = refl
-any_kept p q (n ∷ ns) = by (p n) refl (is_name q n) refl (any_kept p q ns)
+any_kept p q (n ∷ ns) = by (p n) refl (is_same_name q n) refl (any_kept p q ns)
   where
-    by : (b : Bool) → p n ≡ b → (t : Bool) → is_name q n ≡ t
-        → list_any (is_name q) (filter p ns) ≡ (p q && list_any (is_name q) ns)
-        → list_any (is_name q) (cond b (n ∷ filter p ns) (filter p ns)) ≡ (p q && (t || list_any (is_name q) ns))
+    by : (b : Bool) → p n ≡ b → (t : Bool) → is_same_name q n ≡ t
+        → list_any (is_same_name q) (filter p ns) ≡ (p q && list_any (is_same_name q) ns)
+        → list_any (is_same_name q) (cond b (n ∷ filter p ns) (filter p ns)) ≡ (p q && (t || list_any (is_same_name q) ns))
     by true e true t ih =
         let yes : p q ≡ true = ap p (same_name q n t) ∙ e in
-        ap (λ x. x || list_any (is_name q) (filter p ns)) t ∙ sym (ap (λ x. x && true) yes)
-    by true e false t ih = ap (λ x. x || list_any (is_name q) (filter p ns)) t ∙ ih
+        ap (λ x. x || list_any (is_same_name q) (filter p ns)) t ∙ sym (ap (λ x. x && true) yes)
+    by true e false t ih = ap (λ x. x || list_any (is_same_name q) (filter p ns)) t ∙ ih
     by false e true t ih =
         let no : p q ≡ false = ap p (same_name q n t) ∙ e in
-        ih ∙ ap (λ x. x && list_any (is_name q) ns) no ∙ sym (ap (λ x. x && true) no)
+        ih ∙ ap (λ x. x && list_any (is_same_name q) ns) no ∙ sym (ap (λ x. x && true) no)
     by false e false t ih = ih
 
 pub same_names : (ns ms : List Name) → IsStrictlySortedBy name_cmp ns → IsStrictlySortedBy name_cmp ms
-    → ((q : Name) → list_any (is_name q) ns ≡ list_any (is_name q) ms) → ns ≡ ms
+    → ((q : Name) → list_any (is_same_name q) ns ≡ list_any (is_same_name q) ms) → ns ≡ ms
 same_names ns ms sorted_ns sorted_ms same =
     btree_set_from_contains names_total (record { keys = ns }) (record {
       keys = ms;
@@ -123,7 +123,7 @@ differ_there (Some r) (Some s) = by (differ (Some r) (Some s))
     by true = refl
     by false = refl
 
-pub any_clash : (a b : Table) (q : Name) → list_any (is_name q) (clash_names a b) ≡ differ (get a q) (get b q)
+pub any_clash : (a b : Table) (q : Name) → list_any (is_same_name q) (clash_names a b) ≡ differ (get a q) (get b q)
 unfolding clash_names
 any_clash a b q =
     any_kept (λ name. differ (get a name) (get b name)) q (keys a)

@@ -1,5 +1,5 @@
 -- The refusals of tables: their numbers, and when each is due.
-use Rattle.std.specs.Prelude.{◌≡◌, ℕ, Bool, true, not, nat_lt, nat_le, if◌then◌else◌, Option, Some, None, Result, Ok, Err}
+use Rattle.std.specs.Prelude.{ℕ, Bool, true, not, nat_lt, nat_le, if◌then◌else◌, Option, Some, None, Result, Ok, Err}
 use Rattle.std.specs.FinMap.{len, contains_key}
 use Rattle.clash_record.specs.declared.registrations.ResolverId.{ResolverId}
 use Rattle.clash_record.specs.declared.registrations.ResolverId.TheVariants.{Builtin, Program}
@@ -20,19 +20,14 @@ table_fault_number UnknownProgram = 41
 table_fault_number OtherCode = 42
 table_fault_number OutOfMemory = 90
 
--- a call that allocates nothing succeeds exactly where no refusal is due, and else returns that refusal
-abbrev pub IsRefused : {A : Type 0} → Option TableFault → Result A TableFault → Type 0
-IsRefused due (Ok x) = due ≡ None
-IsRefused due (Err fault) = due ≡ Some fault
-
 -- the store has the program that the resolver names, if it names one
 abbrev pub is_known : Programs → ResolverId → Bool
 is_known store (Builtin b) = true
 is_known store (Program id) = contains_key store id
 
 -- the refusal that registering a name is due, in a table of at most this many names
-abbrev pub register_fault : ℕ → Table → Name → Registration → Programs → Option TableFault
-register_fault limit table name r store =
+abbrev pub row_fault : ℕ → Table → Name → Registration → Programs → Option TableFault
+row_fault limit table name r store =
     if contains_key table name then Some NameTaken
     else (if not (nat_lt (len table) limit) then Some Full
     else (if not (is_known store r.resolver) then Some UnknownProgram

@@ -116,8 +116,8 @@ rows_above name table = filter (λ row. is_lt (name_cmp name row.0)) (rows_of ta
 
 -- ---- clashes
 
-abbrev pub is_name : Name → Name → Bool
-is_name = eq_by_cmp name_cmp
+abbrev pub is_same_name : Name → Name → Bool
+is_same_name = eq_by_cmp name_cmp
 
 abbrev pub same_registration : Registration → Registration → Bool
 same_registration = eq_by_cmp registration_cmp
@@ -142,7 +142,7 @@ same_facts f g = f.size == g.size && f.uptime == g.uptime
 
 abbrev pub same_clash : Clash → Clash → Bool
 same_clash c d =
-    is_name c.name d.name
+    is_same_name c.name d.name
     && (same_registration c.first d.first
     && (same_registration c.second d.second
     && (same_facts c.of_first d.of_first
@@ -220,7 +220,7 @@ clash_names a b = filter (λ name. differ (get a name) (get b name)) (keys a)
 
 -- the answer to the clash of this name, of those given to all in their order
 abbrev pub answer_at : List Name → List Verdict3 → Name → Verdict3
-answer_at (n ∷ names) (x ∷ xs) name = if is_name n name then x else answer_at names xs name
+answer_at (n ∷ names) (x ∷ xs) name = if is_same_name n name then x else answer_at names xs name
 answer_at (n ∷ names) [] name = Neither
 answer_at [] xs name = Neither
 
@@ -247,7 +247,7 @@ abbrev pub unless_gone : Option Row → Option Row → Bool → Bool → Option 
 unless_gone r s gone_r gone_s kept = if (gone_r && holds r kept) || (gone_s && holds s kept) then None else kept
 
 abbrev pub is_in : Name → List Name → Bool
-is_in name names = list_any (is_name name) names
+is_in name names = list_any (is_same_name name) names
 
 -- the names that were withdrawn of each table
 pub record Gone : Type 0 where

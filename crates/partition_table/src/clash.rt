@@ -9,7 +9,7 @@ ghost use Rattle.partition_table.specs.Tables as tables;
 ghost use Rattle.partition_table.specs.model.Coding.{IsCoded};
 
 use crate::both::BothPrograms;
-use clash_record::{ClashRecord, Facts, Name, Registration, ResolverId, record};
+use clash_record::{ClashRecord, Contender, Facts, Name, Registration, ResolverId, record};
 use interpreter::Scratch;
 use std::alloc::AllocError;
 use std::marker::Model;
@@ -23,10 +23,8 @@ use verifier::Verified;
 #[derive(Debug)]
 pub struct Clash {
     name: Name,
-    first: Registration,
-    second: Registration,
-    of_first: Facts,
-    of_second: Facts,
+    first: Contender,
+    second: Contender,
     program: Option<Arc<Verified>>,
 }
 
@@ -37,8 +35,6 @@ impl Drop for Clash {
             name: _,
             first: _,
             second: _,
-            of_first: _,
-            of_second: _,
             program: _,
         } = self;
     }
@@ -56,10 +52,10 @@ impl Model for Clash {
 
     ghost view = { λ c. record {
       name = c.name;
-      first = c.first;
-      second = c.second;
-      of_first = c.of_first;
-      of_second = c.of_second;
+      first = c.first.registration;
+      second = c.second.registration;
+      of_first = c.first.facts;
+      of_second = c.second.facts;
       code = option_map arc_value c.program;
     } };
 }
@@ -69,18 +65,16 @@ impl Clash {
     #[inline]
     pub(crate) fn new(
         name: Name,
-        first: Registration,
-        second: Registration,
-        of_first: Facts,
-        of_second: Facts,
+        first: Contender,
+        second: Contender,
         program: Option<Arc<Verified>>,
     ) -> Clash
         ensures { result ≡ record {
           name = name;
-          first = first;
-          second = second;
-          of_first = of_first;
-          of_second = of_second;
+          first = first.registration;
+          second = second.registration;
+          of_first = first.facts;
+          of_second = second.facts;
           code = option_map arc_value program;
         } }
     {
@@ -88,8 +82,6 @@ impl Clash {
             name,
             first,
             second,
-            of_first,
-            of_second,
             program,
         }
     }
@@ -105,35 +97,35 @@ impl Clash {
     pub fn first(&self) -> &Registration
         ensures { result.now ≡ self.now.first }
     {
-        &self.first
+        &self.first.registration
     }
 
     /// Returns the greater registration.
     pub fn second(&self) -> &Registration
         ensures { result.now ≡ self.now.second }
     {
-        &self.second
+        &self.second.registration
     }
 
     /// Returns the size and uptime of the half that holds the lesser registration.
     pub fn of_first(&self) -> Facts
         ensures { result ≡ self.now.of_first }
     {
-        self.of_first
+        self.first.facts
     }
 
     /// Returns the size and uptime of the half that holds the greater registration.
     pub fn of_second(&self) -> Facts
         ensures { result ≡ self.now.of_second }
     {
-        self.of_second
+        self.second.facts
     }
 
     /// Returns the resolver that judges: that of the lesser registration.
     pub fn resolver(&self) -> ResolverId
         ensures { result ≡ self.now.first.resolver }
     {
-        self.first.resolver
+        self.first.registration.resolver
     }
 
     /// Returns the program that judges, if the resolver is a program.
@@ -150,11 +142,11 @@ impl Clash {
     {
         record(
             &self.name,
-            &self.first,
-            &self.second,
+            self.first(),
+            self.second(),
             word,
-            self.of_first,
-            self.of_second,
+            self.of_first(),
+            self.of_second(),
         )
     }
 
@@ -163,14 +155,7 @@ impl Clash {
         ensures { scratch.new ≡ clash_bytes self.now.name self.now.first self.now.second word self.now.of_first
             self.now.of_second }
     {
-        scratch.write_record(
-            &self.name,
-            &self.first,
-            &self.second,
-            word,
-            self.of_first,
-            self.of_second,
-        );
+        scratch.write_record(&self.name, &self.first, &self.second, word);
     }
 }
 

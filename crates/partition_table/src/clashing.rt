@@ -20,7 +20,7 @@ use crate::limit::NameLimit;
 use crate::order::order;
 use crate::paired::Paired;
 use crate::table::Table;
-use clash_record::{Facts, Name, Registration};
+use clash_record::{Contender, Facts, Name, Registration};
 use std::alloc::{AllocError, Global};
 use std::cmp::Ordering;
 use std::sync::Arc;
@@ -28,20 +28,37 @@ use std::sync::Arc;
 // The maximum number of clashes for which a walk has room at its start.
 const FIRST_ROOM: usize = 4096;
 
+/// The table of a half, and how long the half has been up.
+#[derive(Clone, Copy, Debug)]
+pub struct HalfTable<'a> {
+    pub table: &'a Table,
+    pub uptime: u64,
+}
+
 // One half: its table and its facts.
 #[derive(Clone, Copy)]
-struct Half<'a> {
+struct Party<'a> {
     table: &'a Table,
     facts: Facts,
 }
 
-impl<'a> Half<'a> {
+impl<'a> Party<'a> {
+    // Returns a registration of this half, with its facts.
+    fn with(self, registration: &Registration) -> Contender
+        ensures { result ≡ record { registration = registration.now; facts = self.entry.facts } }
+    {
+        Contender {
+            registration: *registration,
+            facts: self.facts,
+        }
+    }
+
     // Returns the half of this table and uptime.
-    fn new(table: &'a Table, uptime: u64) -> Half<'a>
+    fn new(table: &'a Table, uptime: u64) -> Party<'a>
         ensures table { result.table ≡ table.entry }
         ensures facts { result.facts ≡ facts_of table.entry.now uptime }
     {
-        Half {
+        Party {
             table,
             facts: Facts {
                 size: table.len() as u64,
@@ -51,7 +68,7 @@ impl<'a> Half<'a> {
     }
 }
 
-/// What a comparison of two tables finds.
+/// The result of a comparison of two tables.
 #[derive(Debug, Drop)]
 pub struct Compared {
     /// The clashes, in the order of names.
@@ -92,14 +109,15 @@ pub fn clashes(
 pub fn compare_within(
     alloc: Global,
     limit: NameLimit,
-    a: &Table,
-    uptime_a: u64,
-    b: &Table,
-    uptime_b: u64,
+    half_a: HalfTable<'_>,
+    half_b: HalfTable<'_>,
 ) -> Result<Compared, TableFault>
-    ensures answer { IsAnswered table_fault_number (fit_fault limit.names a.now b.now) result }
-    ensures compared { IfOk result (IsCompared a.now uptime_a b.now uptime_b) }
+    ensures answer { IsAnswered table_fault_number
+        (fit_fault limit.names half_a.entry.table.now half_b.entry.table.now) result }
+    ensures compared { IfOk result (IsCompared half_a.entry.table.now half_a.entry.uptime
+        half_b.entry.table.now half_b.entry.uptime) }
 {
+    let (a, b) = (half_a.table, half_b.table);
     if !a.agrees_with(b) {
         // Which of the two refusals it is depends on the number of names.
         let Err(fault) = fit_within(limit, a, b) else {
@@ -108,7 +126,7 @@ pub fn compare_within(
         return Err(fault);
     }
     let programs = BothPrograms::of_agreeing(alloc, a, b)?;
-    let walked = walk(alloc, a, uptime_a, b, uptime_b)?;
+    let walked = walk(alloc, a, half_a.uptime, b, half_b.uptime)?;
     let names = b.len() + walked.alone;
     if names > limit.names() {
         return Err(TableFault::TooManyNames);
@@ -173,8 +191,8 @@ fn walk(
     ensures alone { IfOk result (λ walked. walked.alone ≡ length (names_without b.now (keys a.now))) }
     ensures kept { IfOk result (λ walked. IsTable a.now × IsTable b.now) }
 {
-    let half_a = Half::new(a, uptime_a);
-    let half_b = Half::new(b, uptime_b);
+    let half_a = Party::new(a, uptime_a);
+    let half_b = Party::new(b, uptime_b);
     let mut found = Found::with_capacity(alloc, a.len().min(b.len()).min(FIRST_ROOM))?;
     let mut alone = 0;
     for (name, mine, other) in Paired::new(half_a.table, half_b.table) {
@@ -214,9 +232,9 @@ impl Found {
         &mut self,
         name: &Name,
         mine: &Registration,
-        half_a: Half<'_>,
+        half_a: Party<'_>,
         other: &Registration,
-        half_b: Half<'_>,
+        half_b: Party<'_>,
     ) -> Result<(), AllocError>
         requires mine { option_map (λ row. row.registration) (get half_a.table.now name.now) ≡ Some mine.now }
         requires other { option_map (λ row. row.registration) (get half_b.table.now name.now) ≡ Some other.now }
@@ -234,7 +252,9 @@ impl Found {
             Ordering::Less => {
                 let program = half_a.table.program_for(mine.resolver);
                 let program = one_more_owner(program)?;
-                let clash = Clash::new(*name, *mine, *other, half_a.facts, half_b.facts, program);
+                let first = half_a.with(mine);
+                let second = half_b.with(other);
+                let clash = Clash::new(*name, first, second, program);
                 self.clashes.push_reserved(clash);
                 self.first_of_a.push_reserved(true);
             }
@@ -242,7 +262,9 @@ impl Found {
             Ordering::Greater => {
                 let program = half_b.table.program_for(other.resolver);
                 let program = one_more_owner(program)?;
-                let clash = Clash::new(*name, *other, *mine, half_b.facts, half_a.facts, program);
+                let first = half_b.with(other);
+                let second = half_a.with(mine);
+                let clash = Clash::new(*name, first, second, program);
                 self.clashes.push_reserved(clash);
                 self.first_of_a.push_reserved(false);
             }

@@ -4,7 +4,7 @@ ghost use Rattle.std.specs.Option.{option_map};
 ghost use Rattle.std.specs.Arc.{arc_value};
 ghost use Rattle.std.specs.Cmp.{partial_equiv_from_equiv};
 ghost use Rattle.std.specs.Cmp.Lexicographic.{pointwise};
-ghost use Rattle.partition_table.specs.Tables.{IsTable, is_name, rows_of, same_code, same_registration, same_table, same_clash};
+ghost use Rattle.partition_table.specs.Tables.{IsTable, is_same_name, rows_of, same_code, same_registration, same_table, same_clash};
 ghost use Rattle.partition_table.specs.laws.Sameness.{tables_equivalent, clashes_equivalent, lists_equivalent};
 ghost use Rattle.partition_table.specs.model.Coding.{IdsDecide, IsDecided};
 ghost use Rattle.partition_table.specs.model.Walking.{is_row};
@@ -116,7 +116,7 @@ fn same_rows(table: &Table, other_table: &Table) -> bool
 }
 
 fn same_name(a: &Name, b: &Name) -> bool
-    ensures { result ≡ is_name a.now b.now }
+    ensures { result ≡ is_same_name a.now b.now }
 {
     a.cmp(b).is_eq()
 }

@@ -15,7 +15,7 @@ use std::marker::Model;
 #[derive(Drop)]
 pub struct Finder<'a> {
     table: &'a Table,
-    // The rows that the walk hasn't passed, and the last name that it looked for.
+    // The rows that the walk hasn't passed, and the last name for which it searched.
     ahead: Ahead<'a>,
     last: Option<Name>,
 }

@@ -2,8 +2,9 @@
 ghost use Rattle.std.specs.Prelude.{◌≡◌, ◌↔◌, ◌<◌, ◌^◌, IsTrue, IsOk};
 ghost use Rattle.std.specs.Option.{option_map};
 ghost use Rattle.std.specs.FinMap as map;
+ghost use Rattle.refusals.specs.Answers.{IsDecidedBy};
 ghost use Rattle.partition_table.specs.Tables.{IsTable, fit_within, max_names, tables_agree, union_len};
-ghost use Rattle.partition_table.specs.Faults.{IsRefused, fit_fault};
+ghost use Rattle.partition_table.specs.Faults.{fit_fault};
 
 use crate::fault::TableFault;
 use crate::limit::NameLimit;
@@ -12,7 +13,7 @@ use crate::table::Table;
 
 /// Checks that two tables have a merge of at most 4,096 names. See `fit_within`.
 pub fn fit(a: &Table, b: &Table) -> Result<(), TableFault>
-    ensures answer { IsRefused (fit_fault max_names a.now b.now) result }
+    ensures answer { IsDecidedBy (fit_fault max_names a.now b.now) result }
     ensures fits { IsOk result ↔ IsTrue (fit_within max_names a.now b.now) }
 {
     fit_within(NameLimit::default(), a, b)
@@ -22,7 +23,7 @@ pub fn fit(a: &Table, b: &Table) -> Result<(), TableFault>
 ///
 /// Refusals, the least first: 37 if they have more names together, 42 if they have two codes under one id.
 pub fn fit_within(limit: NameLimit, a: &Table, b: &Table) -> Result<(), TableFault>
-    ensures answer { IsRefused (fit_fault limit.names a.now b.now) result }
+    ensures answer { IsDecidedBy (fit_fault limit.names a.now b.now) result }
     ensures fits { IsOk result ↔ IsTrue (fit_within limit.names a.now b.now) }
 {
     if count_names(a, b) > limit.names() {

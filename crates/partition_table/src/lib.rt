@@ -26,7 +26,7 @@ mod verdict;
 pub use agreement::Agreement;
 pub use builder::TableBuilder;
 pub use clash::{Clash, ClashList};
-pub use clashing::{Compared, clashes, compare_within};
+pub use clashing::{Compared, HalfTable, clashes, compare_within};
 pub use fault::TableFault;
 pub use finder::Finder;
 pub use fitting::{fit, fit_within};

@@ -1,4 +1,4 @@
-//! How many names a table may have.
+//! The limit of a table's names.
 ghost use Rattle.std.specs.Prelude.{◌≡◌, ◌<◌, ◌≤◌, ◌&&◌, ◌↔◌, IsTrue, IfSome, is_some, nat_lt, nat_le};
 ghost use Rattle.partition_table.specs.Tables.{max_names, most_names};
 

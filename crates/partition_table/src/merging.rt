@@ -15,7 +15,7 @@ ghost use Rattle.partition_table.specs.model.Merging.{IsRowOf, IsReady, holds_as
 ghost use Rattle.partition_table.specs.model.Merging.{settled, put_all, each_kept};
 
 use crate::clash::ClashList;
-use crate::clashing::{Compared, compare_within};
+use crate::clashing::{Compared, HalfTable, compare_within};
 use crate::fault::TableFault;
 use crate::kept_rows::KeptRows;
 use crate::laws::{clashes_theorem, merge_theorem};
@@ -64,7 +64,15 @@ pub fn merge(
     ensures merged { IfOk result (λ table. table ≡ merge a.now b.now answers.now
         record { of_a = gone_a.now; of_b = gone_b.now }) }
 {
-    let compared = compare_within(alloc, NameLimit::default(), a, 0, b, 0)?;
+    let half_a = HalfTable {
+        table: a,
+        uptime: 0,
+    };
+    let half_b = HalfTable {
+        table: b,
+        uptime: 0,
+    };
+    let compared = compare_within(alloc, NameLimit::default(), half_a, half_b)?;
     let merge = merge_compared(alloc, a, b, &compared, answers, gone_a, gone_b)?;
     Ok(merge.into_table(a, b)?)
 }

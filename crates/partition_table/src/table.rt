@@ -13,7 +13,7 @@ ghost use Rattle.partition_table.specs.Views.{table_by};
 ghost use Rattle.partition_table.specs.declared.fault.TableFault.TheVariants.{NameTaken};
 ghost use Rattle.upload_store.specs.Programs.{programs_by};
 ghost use Rattle.refusals.specs.Answers.{IsAnswered};
-ghost use Rattle.partition_table.specs.Faults.{register_fault, table_fault_number, unregister_answer};
+ghost use Rattle.partition_table.specs.Faults.{row_fault, table_fault_number, unregister_answer};
 
 use crate::fault::TableFault;
 use crate::limit::NameLimit;
@@ -128,7 +128,7 @@ impl Table {
         registration: Registration,
         store: &UploadStore,
     ) -> Result<(), TableFault>
-        ensures answer { IsAnswered table_fault_number (register_fault max_names self.old name registration store.now) result }
+        ensures answer { IsAnswered table_fault_number (row_fault max_names self.old name registration store.now) result }
         ensures registered { OnOk result (self.new ≡ map.insert self.old name (row_for store.now registration)) }
         ensures unchanged { OnErr result (self.new ≡ self.old) }
     {
@@ -148,7 +148,7 @@ impl Table {
         registration: Registration,
         store: &UploadStore,
     ) -> Result<(), TableFault>
-        ensures answer { IsAnswered table_fault_number (register_fault limit.names self.old name registration store.now) result }
+        ensures answer { IsAnswered table_fault_number (row_fault limit.names self.old name registration store.now) result }
         ensures registered { OnOk result (self.new ≡ map.insert self.old name (row_for store.now registration)) }
         ensures unchanged { OnErr result (self.new ≡ self.old) }
     {
@@ -166,7 +166,7 @@ impl Table {
         store: &UploadStore,
     ) -> Result<(), TableFault>
         requires { IsTrue is_known → IsTrue (agrees_with self.old (row_for store.now registration)) }
-        ensures answer { IsAnswered table_fault_number (register_fault limit.names self.old name registration store.now) result }
+        ensures answer { IsAnswered table_fault_number (row_fault limit.names self.old name registration store.now) result }
         ensures registered { OnOk result (self.new ≡ map.insert self.old name (row_for store.now registration)) }
         ensures unchanged { OnErr result (self.new ≡ self.old) }
     {

@@ -1,4 +1,4 @@
--- What the verifier knows about decoded code.
+-- The verifier's states before the instructions of decoded code.
 use Rattle.std.proofs.Common.{◌≡◌, ℕ, Bool, true, false, List, [], Option, Some, None, refl}
 use Rattle.std.specs.Prelude.{unwrap_or}
 use Rattle.refusals.specs.declared.NumberedRefusal.{NumberedRefusal}

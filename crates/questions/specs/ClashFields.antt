@@ -20,7 +20,7 @@ pub record IsClashFieldsFault (clash : Result (List ℕ) LineFault) (r : Numbere
   pub is_fault : clash ≡ Err fault
   pub same : r ≡ refusal (script_fault_number fault) None
 
--- there is no record, for this reason
+-- the words give no record, for this reason
 abbrev pub IsNoClash : ClashWords → NumberedRefusal → Type 0
 IsNoClash (Bytes digits) r = IsClashTextFault digits.now r
 IsNoClash (Fields name first second word) r =

@@ -1,4 +1,4 @@
--- What the verifier knows about the code of a question.
+-- The details of a question's code: the verifier's states, or what a program saw and answered.
 use Rattle.std.specs.Prelude.{◌≡◌, ℕ, Bool, true, false, List, [], ◌++◌, codes, Option, Some, None}
 use Rattle.std.specs.Fmt.{decimal}
 use Rattle.refusals.specs.declared.Place.{Place}
@@ -61,7 +61,7 @@ abbrev pub IsSeen : ClashWords → Bool → Answer → List ℕ → Type 0
 IsSeen clash true (Ruled verdict answer steps) text = IsSeenClash clash answer steps text
 IsSeen clash explain said text = text ≡ []
 
--- before each instruction if the question asks for an explanation, else before the one that the answer refuses
+-- before each instruction if the question is to be explained, else before the one that the answer refuses
 abbrev pub IsDetails : Question → Answer → List ℕ → Type 0
 IsDetails (Check code Unsigned explain) said text = IsProgramDetails interval_ops code.now explain (refused_slot said) text
 IsDetails (Check code Both explain) said text = IsProgramDetails both_ops code.now explain (refused_slot said) text

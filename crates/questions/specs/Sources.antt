@@ -5,7 +5,7 @@ use Rattle.instruction_set.specs.declared.insn.Insn.{Insn}
 use Rattle.assembler_text.specs.declared.faults.LineFault.{LineFault}
 use Rattle.assembler_text.specs.Faults.{line_fault_number, line_fault_place}
 use Rattle.assembler_text.specs.Grammar.{IsTextOf}
-use Rattle.assembler_text.specs.Refusals.{IsFirstFault}
+use Rattle.assembler_text.specs.Refusals.{IsFirstTextFault}
 use Rattle.code_file.specs.Files.{max_file_len}
 use Rattle.refusals.specs.declared.NumberedRefusal.{NumberedRefusal}
 use Rattle.questions.specs.declared.failures.InputFault.TheVariants.{NotText, FileTooLong}
@@ -24,7 +24,7 @@ pub data IsNoSourceText (bytes : List ℕ) (r : NumberedRefusal) : Type 0 where
 -- the text has this first fault
 pub record IsFaultyText (text : List ℕ) (r : NumberedRefusal) : Type 0 where
   pub fault : LineFault
-  pub first : IsFirstFault text fault
+  pub first : IsFirstTextFault text fault
   pub same : r ≡ refusal (line_fault_number fault) (line_fault_place fault)
 
 -- the bytes are the text of this code

@@ -96,7 +96,7 @@ fn told(found: Result<String, FileFault>) -> Result<Result<String, Answer>, Allo
     }
 }
 
-/// Reads a reader to its end as a file with code, and returns the code in hex digits, or the answer if there is none.
+/// Reads a reader to its end as a file with code, and returns the code in hex digits, or else the answer with the fault.
 pub fn digits_from<R: Read + Drop>(
     alloc: Global,
     reader: R,
@@ -107,7 +107,7 @@ pub fn digits_from<R: Read + Drop>(
     told(code_file::digits_from(alloc, reader))
 }
 
-/// Returns the code in a file in hex digits, or the answer if there is none.
+/// Returns the code in a file in hex digits, or else the answer with the fault.
 pub(crate) fn digits_in<R: Files + AllocGlobal>(
     rt: &R,
     file: &str,

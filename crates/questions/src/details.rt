@@ -1,4 +1,4 @@
-//! What the verifier knows about the code of a question.
+//! The details of a question's code: the verifier's states, or what a program saw and answered.
 ghost use Rattle.std.specs.Prelude.{◌≡◌, ◌++◌, false, ℕ, List, IfOk, string_bytes};
 ghost use Rattle.verifier.specs.Programs as program;
 ghost use Rattle.questions.specs.Details.{IsCodeDetails, IsDetails, IsProgramDetails, IsSeen, IsSeenClash, refused_slot};
@@ -117,8 +117,8 @@ fn judge_details(
     Ok(front)
 }
 
-/// Returns what the verifier knows about the code of a question: before each instruction if the question asks for an
-/// explanation, else before the one at which the answer refuses the code. For a judged clash it is what the program saw and
+/// Returns what the verifier knows about the code of a question: before each instruction if the question is to be
+/// explained, else before the one at which the answer refuses the code. For a judged clash it is what the program saw and
 /// answered.
 pub fn details(alloc: Global, question: &Question<'_>, said: &Answer) -> Result<String, AllocError>
     ensures { IfOk result (λ text. IsDetails question.now said.now (string_bytes text)) }

@@ -14,7 +14,7 @@ use Rattle.exchange_law.specs.Sides.{answer_in}
 use Rattle.partition_table.specs.Rulings.{Ruling}
 use Rattle.exchange_core.specs.Finished.{Finished, IsFinished, clashes_merged}
 use Rattle.verdict_board.specs.Boards.{Pass, seen, LooksAt}
-use Rattle.registry_lock.specs.Meeting.{judged_of, AgreesWith, AgreesBelow, DiffersAt, IsStrangeAt, Keeps, answers_seen, SamePair}
+use Rattle.registry_lock.specs.Meeting.{judged_of, AgreesWith, AgreesBelow, DiffersAt, IsStrangeAt, StillSees, answers_seen, SamePair}
 
 -- ---- at most as many clashes as names of A
 
@@ -92,10 +92,10 @@ itself : {A : Type 0} (o : Option A) → IfSome o (λ r. o ≡ Some r)
 itself None = tt
 itself (Some r) = refl
 
-pub keeps_all : (pass : Pass) → Keeps pass pass
+pub keeps_all : (pass : Pass) → StillSees pass pass
 keeps_all pass = record { same_board = refl; stays = λ k. itself (seen pass k) }
 
-pub keeps_on : (o p q : Pass) (k : ℕ) → Keeps o p → LooksAt k p q → Keeps o q
+pub keeps_on : (o p q : Pass) (k : ℕ) → StillSees o p → LooksAt k p q → StillSees o q
 keeps_on o p q k kept looks = record {
   same_board = looks.same_board ∙ kept.same_board;
   stays = λ j. dite (ℕ_discrete j k)
@@ -105,7 +105,7 @@ keeps_on o p q k kept looks = record {
       (kept.stays j));
 }
 
-pub keeps_through : (o p q : Pass) → Keeps o p → Keeps p q → Keeps o q
+pub keeps_through : (o p q : Pass) → StillSees o p → StillSees p q → StillSees o q
 keeps_through o p q kept more = record {
   same_board = more.same_board ∙ kept.same_board;
   stays = λ k. chain (seen o k) (seen p k) (seen q k) (kept.stays k) (more.stays k);
@@ -146,11 +146,11 @@ still : (x y : Option Ruling) (judged : Judged) → IfSome x (λ r. y ≡ Some r
 still None y judged kept e = absurd (cc)
 still (Some r) y judged kept e = ap judged_of kept ∙ e
 
-agreed : (o q : Pass) (k : ℕ) (rulings : List Judged) → Keeps o q → AgreesWith o rulings → DiffersAt k q rulings → ⊥
+agreed : (o q : Pass) (k : ℕ) (rulings : List Judged) → StillSees o q → AgreesWith o rulings → DiffersAt k q rulings → ⊥
 agreed o q k rulings kept h d =
     d.2 (still (seen o k) (seen q k) d.0 (kept.stays k) (h k d.0 d.1))
 
-pub not_strange : (o q : Pass) (k : ℕ) (first second : List Judged) → Keeps o q → AgreesWith o first →
+pub not_strange : (o q : Pass) (k : ℕ) (first second : List Judged) → StillSees o q → AgreesWith o first →
     AgreesWith o second → IsStrangeAt k q first second → ⊥
 not_strange o q k first second kept mine yours strange = by strange.differs
   where

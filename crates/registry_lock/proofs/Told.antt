@@ -14,7 +14,7 @@ use Rattle.partition_table.specs.Rulings.{Ruling, ruling_of}
 use Rattle.exchange_core.specs.Shown.{shown, calls, IsDone, IsUntouched}
 use Rattle.partition_table.specs.Tables.{Clash}
 use Rattle.verdict_board.specs.Boards.{Place, Pass, seen, ruling_if, board_ruling, word_seen}
-use Rattle.registry_lock.specs.Meeting.{Keeps}
+use Rattle.registry_lock.specs.Meeting.{StillSees}
 use Rattle.registry_lock.specs.Telling.{all_carried_out, takes_of, HasSeen, IsTold, AreTold}
 
 -- ---- a ruling that a pass has seen is of its clash
@@ -59,12 +59,12 @@ clash_seen pass ruling e = (of_seen pass ruling.k ruling (sym e)).clash
 if_seen : {A : Type 0} (x y : Option A) (r : A) → x ≡ Some r → IfSome x (λ s. y ≡ Some s) → y ≡ Some r
 if_seen {A = A} x y r e kept = subst (λ (o : Option A). IfSome o (λ s. y ≡ Some s)) e kept
 
-sees_still : (before after : Pass) → Keeps before after → (ruling : Ruling) → HasSeen before ruling →
+sees_still : (before after : Pass) → StillSees before after → (ruling : Ruling) → HasSeen before ruling →
     HasSeen after ruling
 sees_still before after kept ruling e =
     if_seen (seen before ruling.k) (seen after ruling.k) ruling e (kept.stays ruling.k)
 
-pub told_still : (before after : Pass) (n : ℕ) (old new : Side) → Keeps before after → IsTold before n old new →
+pub told_still : (before after : Pass) (n : ℕ) (old new : Side) → StillSees before after → IsTold before n old new →
     IsTold after n old new
 told_still before after n old new kept told = record {
   rulings = told.rulings;

@@ -39,7 +39,7 @@ pub record IsStrangeAt (k : ℕ) (pass : Pass) (first second : List Judged) : Ty
   pub differs : DiffersAt k pass first ⊎ DiffersAt k pass second
 
 -- the pass is of the same board, and what it had seen it sees still
-pub record Keeps (before after : Pass) : Type 0 where
+pub record StillSees (before after : Pass) : Type 0 where
   pub same_board : after.place ≡ before.place
   pub stays : (k : ℕ) → IfSome (seen before k) (λ ruling. seen after k ≡ Some ruling)
 

@@ -6,7 +6,7 @@ ghost use Rattle.exchange_core.specs.Finished.{IsFinished};
 ghost use Rattle.verdict_board.specs.Boards.{as_ruling};
 ghost use Rattle.registry_lock.specs.model.Halves.{half_of};
 ghost use Rattle.registry_lock.specs.Meeting.{judged_of, SameHalf, half_a, half_b, SamePair};
-ghost use Rattle.registry_lock.specs.Meeting.{Keeps, AgreesWith, IsStrangeAt};
+ghost use Rattle.registry_lock.specs.Meeting.{StillSees, AgreesWith, IsStrangeAt};
 
 use builtin_resolvers::Verdict3;
 use clash_record::Name;
@@ -79,7 +79,7 @@ pub(crate) fn compare<'p>(
     requires board { pass.old.place ≡ board.now.place }
     requires pair { SamePair first.now second.now }
     ensures finished { IsFinished first.entry.now × IsFinished second.entry.now }
-    ensures keeps { Keeps pass.old pass.new }
+    ensures keeps { StillSees pass.old pass.new }
     ensures agrees { OnOk result (AgreesWith pass.new first.now.rulings × AgreesWith pass.new second.now.rulings) }
     ensures strange { IfErr result (λ k. IsStrangeAt k pass.new first.now.rulings second.now.rulings) }
 {

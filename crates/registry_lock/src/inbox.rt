@@ -4,7 +4,7 @@ ghost use Rattle.partition_table.specs.Judged.{clash_of_verdict};
 ghost use Rattle.exchange_law.specs.Sides.{has_clash, heard_clashes};
 ghost use Rattle.exchange_core.specs.Shown.{shown};
 ghost use Rattle.verdict_board.specs.Boards.{Pass, as_ruling};
-ghost use Rattle.registry_lock.specs.Meeting.{Keeps};
+ghost use Rattle.registry_lock.specs.Meeting.{StillSees};
 ghost use Rattle.registry_lock.specs.Telling.{HasSeen, IsTold};
 
 use crossbeam_queue::SegQueue;
@@ -54,7 +54,7 @@ impl Inbox {
     )
         requires board { pass.old.place ≡ board.now.place }
         requires own { IsTrue is_own → heard_clashes (shown side.old) ≡ Some board.now.place.clashes }
-        ensures keeps { Keeps pass.old pass.new }
+        ensures keeps { StillSees pass.old pass.new }
         ensures taken { IsTold pass.new (length board.now.place.clashes) side.old side.new }
     {
         let is_own = is_its_own(is_own, board, side);
@@ -90,7 +90,7 @@ fn is_its_own(is_known: bool, board: &Board<'_>, side: &Side) -> bool
 fn take_seen<'p>(board: &Board<'p>, pass: &mut Pass<'p>, is_own: bool, side: &mut Side, k: u32)
     requires board { pass.old.place ≡ board.now.place }
     requires own { IsTrue is_own → heard_clashes (shown side.old) ≡ Some board.now.place.clashes }
-    ensures keeps { Keeps pass.old pass.new }
+    ensures keeps { StillSees pass.old pass.new }
     ensures taken { IsTold pass.new 1 side.old side.new }
 {
     if let Some(ruling) = board.read(k, pass) {

@@ -1,7 +1,7 @@
 //! The meeting of two sides that finished the exchange of one board.
 ghost use Rattle.std.specs.Prelude.{◌≡◌, IfOk, IfErr, OnOk};
 ghost use Rattle.exchange_core.specs.Finished.{IsFinished};
-ghost use Rattle.registry_lock.specs.Meeting.{Keeps, AgreesWith, HaveSeed, HaveNumber, SamePair};
+ghost use Rattle.registry_lock.specs.Meeting.{StillSees, AgreesWith, HaveSeed, HaveNumber, SamePair};
 ghost use Rattle.registry_lock.specs.Meeting.{IsHealed, IsFault, IsOfRuling};
 
 use crate::comparing::{compare, same_pair};
@@ -24,7 +24,7 @@ pub fn meet<'p>(
 ) -> Result<Healed, MeetFault>
     requires board { pass.old.place ≡ board.now.place }
     // The pass still sees what it had seen.
-    ensures keeps { Keeps pass.old pass.new }
+    ensures keeps { StillSees pass.old pass.new }
     // Both have one table: the merge of the one pair under the rulings that the pass has then seen, each the board's.
     ensures healed { IfOk result (λ healed. IsHealed board.now.place pass.new first second healed) }
     // Each refusal has its cause.
@@ -47,7 +47,7 @@ fn agree<'p>(
     second: &Finished,
 ) -> Result<(), MeetFault>
     requires board { pass.old.place ≡ board.now.place }
-    ensures keeps { Keeps pass.old pass.new }
+    ensures keeps { StillSees pass.old pass.new }
     ensures board { OnOk result (pass.new.place ≡ board.now.place) }
     ensures seed { OnOk result (HaveSeed board.now.place first.now second.now) }
     ensures number { OnOk result (HaveNumber board.now.place first.now second.now) }

@@ -4,7 +4,7 @@ ghost use Rattle.exchange_law.specs.Sides.{heard_clashes};
 ghost use Rattle.exchange_core.specs.Shown.{shown};
 ghost use Rattle.verdict_board.specs.Draws.{rounds};
 ghost use Rattle.judge_pool.specs.Work.{round_posts};
-ghost use Rattle.registry_lock.specs.Meeting.{Keeps};
+ghost use Rattle.registry_lock.specs.Meeting.{StillSees};
 ghost use Rattle.registry_lock.specs.Telling.{IsTold, AreTold};
 
 use crate::inbox::Inbox;
@@ -85,7 +85,7 @@ pub fn tell_round_by<'p, G: Gate + Sync, R: Threads + Wait + Sync>(
     requires round { round < rounds }
     requires own { IsTrue is_own → heard_clashes (shown first.old) ≡ Some board.now.place.clashes }
     // The pass still sees what it had seen.
-    ensures keeps { Keeps pass.old pass.new }
+    ensures keeps { StillSees pass.old pass.new }
     // Each side differs only by takes of rulings that the pass has then seen, at most one for each clash.
     ensures first { IsTold pass.new (length board.entry.now.place.clashes) first.old first.new }
     ensures second { IsTold pass.new (length board.entry.now.place.clashes) second.old second.new }

@@ -1,4 +1,4 @@
--- What the law says of each history of replicas.
+-- The law for each history of replicas.
 use Rattle.std.proofs.Common.{◌≡◌, ℕ, if◌then◌else◌, List, [], ◌∷◌, ◌++◌, Option, Some, None, is_none, slice_get, refl, sym, ap, ◌∙◌, subst}
 use Rattle.partition_table.specs.Tables.{Table}
 use Rattle.clash_record.specs.declared.side_id.SideId.{SideId}

@@ -1,5 +1,5 @@
 -- The numbers of a replica's refusals.
-use Rattle.std.specs.Prelude.{◌≡◌, ℕ, Option, Some, None, Result, Ok, Err}
+use Rattle.std.specs.Prelude.{ℕ}
 use Rattle.partition_table.specs.Faults.{table_fault_number}
 use Rattle.upload_store.specs.Faults.{upload_fault_number}
 use Rattle.replica.specs.declared.fault.ReplicaFault.{ReplicaFault}
@@ -17,8 +17,3 @@ replica_fault_number OwnView = 98
 replica_fault_number Exhausted = 99
 replica_fault_number Moved = 49
 replica_fault_number OutOfMemory = 90
-
--- a call that needs no memory succeeds exactly where no refusal is due, and else returns that refusal
-abbrev pub SucceedsUnless : {A : Type 0} → Option ReplicaFault → Result A ReplicaFault → Type 0
-SucceedsUnless due (Ok value) = due ≡ None
-SucceedsUnless due (Err fault) = due ≡ Some fault

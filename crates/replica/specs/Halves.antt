@@ -3,7 +3,7 @@ use Rattle.std.specs.Prelude.{ℕ, Option, Some, None, if◌then◌else◌, is_n
 use Rattle.std.specs.Option.{option_map}
 use Rattle.std.specs.FinMap.{empty, insert, remove, contains_key, len}
 use Rattle.partition_table.specs.Tables.{Table, max_names, row_for}
-use Rattle.partition_table.specs.Faults.{register_fault}
+use Rattle.partition_table.specs.Faults.{row_fault}
 use Rattle.partition_table.specs.declared.fault.TableFault.TheVariants.{Full, NoSuchName}
 use Rattle.upload_store.specs.Programs.{Programs}
 use Rattle.upload_store.specs.Uploads.{keep_fault}
@@ -28,7 +28,7 @@ first_half = record { store = empty; table = empty; limit = max_names; latest = 
 -- the refusal that an edit of a half is due. A registration names a program of the half's own store
 abbrev pub edit_fault : HalfState → Edit → Option ReplicaFault
 edit_fault half (Register name registration) =
-    option_map of.Table (register_fault half.limit half.table name registration half.store)
+    option_map of.Table (row_fault half.limit half.table name registration half.store)
 edit_fault half (Unregister name) = if contains_key half.table name then None else Some (of.Table NoSuchName)
 edit_fault half (Upload upload) = option_map of.Store (keep_fault half.store upload)
 edit_fault half (Limit limit) = if nat_le (len half.table) limit.names then None else Some (of.Table Full)

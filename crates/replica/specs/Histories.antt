@@ -1,4 +1,4 @@
--- What holds after every history of replicas.
+-- The facts that hold after every history of replicas.
 use Rattle.std.specs.Prelude.{◌≡◌, ℕ, suc, List, [], ◌∷◌, ◌++◌, if◌then◌else◌, Option, Some, None, IsTrue, is_some, slice_get}
 use Rattle.std.specs.Option.{option_map}
 use Rattle.partition_table.specs.Tables.{Table}

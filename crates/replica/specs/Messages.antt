@@ -1,4 +1,4 @@
--- What contracts see of an entry.
+-- The parts of an entry that contracts see.
 use Rattle.replica_law.specs.Groups as law
 use Rattle.replica.specs.declared.messages.Entry.{Entry}
 use Rattle.replica.specs.Halves.{Edit}

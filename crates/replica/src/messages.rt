@@ -1,4 +1,4 @@
-//! What replicas send each other and write to disks.
+//! The messages that replicas send each other and write to disks.
 ghost use Rattle.std.specs.Prelude.{◌≡◌, IfOk};
 ghost use Rattle.std.specs.Arc.{arc_value};
 

@@ -1,12 +1,12 @@
 //! Replicas and their calls.
 ghost use Rattle.std.specs.Prelude.{◌≡◌, ◌<◌, ◌≤◌, ◌+◌, if◌then◌else◌, nat_le, Some, None, IfOk, OnOk, OnErr, length};
 ghost use Rattle.std.specs.FinMap.{len};
-ghost use Rattle.refusals.specs.Answers.{IsAnswered};
+ghost use Rattle.refusals.specs.Answers.{IsAnswered, IsDecidedBy};
 ghost use Rattle.exchange_core.specs.Shown.{shown, calls, limit_of};
 ghost use Rattle.partition_table.specs.declared.fault.TableFault.TheVariants.{Full};
 ghost use Rattle.replica.specs.declared.fault.ReplicaFault.TheVariants as of;
 ghost use Rattle.replica.specs.declared.replica.Applied.TheVariants.{Already, Now};
-ghost use Rattle.replica.specs.Faults.{replica_fault_number, SucceedsUnless};
+ghost use Rattle.replica.specs.Faults.{replica_fault_number};
 ghost use Rattle.replica.specs.Replicas as spec;
 ghost use Rattle.replica.specs.Replicas.{new_replica, moved, own_view, entry_made, snapshot_of, lead_fault, change_fault, make_fault, follow_fault, apply_fault, is_repeated, left_by, Lead, Change, Make, Follow, Apply};
 ghost use Rattle.replica_law.specs.Groups.{next};
@@ -24,7 +24,7 @@ use std::alloc::{AllocError, Global};
 use std::marker::Model;
 use std::sync::Arc;
 
-/// What an entry that a replica accepts does.
+/// The effect of an entry that a replica accepts.
 #[derive(Clone, Copy, Debug, PartialEq, Eq)]
 pub enum Applied {
     /// It is the next of the view: its edit is carried out.
@@ -130,7 +130,7 @@ impl Replica {
     ///
     /// Returns 99 if no view number is left. Allocates nothing.
     pub fn lead(&mut self) -> Result<View, ReplicaFault>
-        ensures answer { SucceedsUnless (lead_fault self.old) result }
+        ensures answer { IsDecidedBy (lead_fault self.old) result }
         ensures view { IfOk result (λ view. view ≡ own_view self.new) }
         ensures done { OnOk result (self.new ≡ left_by self.old Lead) }
         ensures unchanged { OnErr result (self.new ≡ self.old) }

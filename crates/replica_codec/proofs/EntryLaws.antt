@@ -12,7 +12,8 @@ use Rattle.partition_table.specs.Tables.{most_names}
 use Rattle.replica_law.specs.declared.position.Position.{Position}
 use Rattle.exchange_codec.specs.declared.fault.Fault.{Fault}
 use Rattle.exchange_codec.specs.declared.fault.FieldFault.TheVariants as wrongs
-use Rattle.exchange_codec.specs.Reading.{◌>>=◌, number_at, bytes_at, count_at, ended}
+use Rattle.refusals.specs.Answers.{◌>>=◌}
+use Rattle.exchange_codec.specs.Reading.{number_at, bytes_at, count_at, ended}
 use Rattle.exchange_codec.specs.Names.{name_bytes, name_at}
 use Rattle.exchange_codec.specs.Rows.{max_code, ResolverText, ByBuiltin, Named, Code, RowText, row_bytes, row_at, IsRow}
 use Rattle.exchange_codec.specs.laws.Fields.{IsBytes, IsBytes-rest, bind_ok, guard_met, ok_is, Takes, Takes-then, wide32, wide64, number_takes, number_again, count_again, ended_ok}

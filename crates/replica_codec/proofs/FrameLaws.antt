@@ -5,7 +5,8 @@ use Rattle.std.specs.Int.{w64, to_le_bytes}
 use Rattle.std.proofs.lemmas.Bool.{eqb-true}
 use Rattle.std.proofs.lemmas.List.{take_at, drop_at, length-append, length-drop, append-nil}
 use Rattle.exchange_codec.specs.declared.fault.Fault.{Fault}
-use Rattle.exchange_codec.specs.Reading.{◌>>=◌, number_at, bytes_at, header_at, ended}
+use Rattle.refusals.specs.Answers.{◌>>=◌}
+use Rattle.exchange_codec.specs.Reading.{number_at, bytes_at, header_at, ended}
 use Rattle.exchange_codec.specs.laws.Fields.{IsBytes, IsBytes-rest, bind_ok, ok_is, Takes, Takes-then, wide64, number_takes, number_again, header_takes, header_again, eqb_same, ended_ok}
 use Rattle.exchange_codec.specs.laws.Rows.{bytes_take, bytes_again}
 use Rattle.replica_codec.specs.declared.fault.ReplicaMessageFault.{ReplicaMessageFault}

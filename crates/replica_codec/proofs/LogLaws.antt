@@ -4,11 +4,11 @@ use Rattle.std.specs.Prelude.{◌⊎◌}
 use Rattle.std.specs.Int.{w64, to_le_bytes}
 use Rattle.std.proofs.lemmas.Bool.{lt-ltb}
 use Rattle.std.proofs.lemmas.List.{length-append}
-use Rattle.refusals.specs.Answers.{ReturnsOrRunsOut}
+use Rattle.refusals.specs.Answers.{◌>>=◌, ReturnsOrRunsOut}
 use Rattle.exchange_codec.specs.declared.fault.Fault.{Fault}
 use Rattle.exchange_codec.specs.declared.fault.FieldFault.TheVariants as wrongs
 use Rattle.exchange_codec.specs.declared.fault.MessageFault.TheVariants as message
-use Rattle.exchange_codec.specs.Reading.{◌>>=◌, number_at, bytes_at, header_at}
+use Rattle.exchange_codec.specs.Reading.{number_at, bytes_at, header_at}
 use Rattle.exchange_codec.specs.laws.Fields.{wide64, number_again, header_again}
 use Rattle.exchange_codec.specs.laws.Rows.{bytes_again}
 use Rattle.replica_codec.specs.declared.fault.ReplicaMessageFault.{ReplicaMessageFault}

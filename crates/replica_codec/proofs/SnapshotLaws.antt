@@ -4,7 +4,8 @@ use Rattle.std.specs.Prelude.{IfSome}
 use Rattle.std.specs.Int.{w32, w64, to_le_bytes}
 use Rattle.std.specs.List.{flat_map, AllByRecursion}
 use Rattle.upload_store.specs.Programs.{max_programs}
-use Rattle.exchange_codec.specs.Reading.{◌>>=◌, number_at, bytes_at, count_at, many_at}
+use Rattle.refusals.specs.Answers.{◌>>=◌}
+use Rattle.exchange_codec.specs.Reading.{number_at, bytes_at, count_at, many_at}
 use Rattle.exchange_codec.specs.Rows.{max_code}
 use Rattle.exchange_codec.specs.laws.Fields.{IsBytes, IsBytes-rest, bind_ok, ok_is, Takes, Takes-then, wide64, number_takes, number_again, count_takes, count_again}
 use Rattle.exchange_codec.specs.laws.Many.{many_take, many_again}

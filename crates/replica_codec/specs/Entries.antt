@@ -16,7 +16,8 @@ use Rattle.exchange_codec.specs.declared.fault.Fault.{Fault}
 use Rattle.exchange_codec.specs.declared.fault.FieldFault.TheVariants as wrongs
 use Rattle.exchange_codec.specs.declared.fault.ItemFault.TheVariants as item
 use Rattle.exchange_codec.specs.declared.fault.MessageFault.TheVariants as message
-use Rattle.exchange_codec.specs.Reading.{◌>>=◌, wrong, number_at, bytes_at, count_at, ended}
+use Rattle.refusals.specs.Answers.{◌>>=◌}
+use Rattle.exchange_codec.specs.Reading.{wrong, number_at, bytes_at, count_at, ended}
 use Rattle.exchange_codec.specs.Names.{name_bytes, name_at}
 pub use Rattle.exchange_codec.specs.Rows.{sized_code}
 use Rattle.exchange_codec.specs.Rows.{max_code, ResolverText, ByBuiltin, Named, Code, RowText, row_bytes, row_at, IsRow}

@@ -2,10 +2,10 @@
 use Rattle.std.specs.Prelude.{◌≡◌, ℕ, ◌-◌, ◌==◌, if◌then◌else◌, ◌⊎◌, List, ◌++◌, length, take, replicate, Result, Ok, Err}
 use Rattle.std.specs.Int.{w64, to_le_bytes}
 use Rattle.std.specs.Hash.DefaultHasher as sip
-use Rattle.refusals.specs.Answers.{out_of_memory}
+use Rattle.refusals.specs.Answers.{◌>>=◌, out_of_memory}
 use Rattle.exchange_codec.specs.declared.fault.Fault.{Fault}
 use Rattle.exchange_codec.specs.Placing.{placed}
-use Rattle.exchange_codec.specs.Reading.{◌>>=◌, number_at, bytes_at, header_at, ended}
+use Rattle.exchange_codec.specs.Reading.{number_at, bytes_at, header_at, ended}
 use Rattle.replica_codec.specs.declared.fault.ReplicaMessageFault.{ReplicaMessageFault}
 use Rattle.replica_codec.specs.declared.fault.ReplicaMessageFault.TheVariants.{Message, Checksum}
 use Rattle.replica_codec.specs.Faults.{replica_message_fault_number}

@@ -4,7 +4,8 @@ use Rattle.std.specs.Int.{w64, to_le_bytes}
 use Rattle.exchange_codec.specs.declared.fault.Fault.{Fault}
 use Rattle.exchange_codec.specs.declared.fault.FieldFault.TheVariants as wrongs
 use Rattle.exchange_codec.specs.declared.fault.MessageFault.TheVariants as message
-use Rattle.exchange_codec.specs.Reading.{◌>>=◌, wrong, number_at, header_fault}
+use Rattle.refusals.specs.Answers.{◌>>=◌}
+use Rattle.exchange_codec.specs.Reading.{wrong, number_at, header_fault}
 use Rattle.replica_codec.specs.declared.fault.ReplicaMessageFault.{ReplicaMessageFault}
 use Rattle.replica_codec.specs.declared.fault.ReplicaMessageFault.TheVariants.{Message}
 use Rattle.replica_codec.specs.declared.log.LogFront.{LogFront}

@@ -19,7 +19,8 @@ use Rattle.exchange_codec.specs.declared.fault.ItemFault.{ItemFault}
 use Rattle.exchange_codec.specs.declared.fault.ItemFault.TheVariants as item
 use Rattle.exchange_codec.specs.declared.fault.MessageFault.{MessageFault}
 use Rattle.exchange_codec.specs.declared.fault.MessageFault.TheVariants as message
-use Rattle.exchange_codec.specs.Reading.{◌>>=◌, wrong, number_at, bytes_at, count_at, many_at}
+use Rattle.refusals.specs.Answers.{◌>>=◌}
+use Rattle.exchange_codec.specs.Reading.{wrong, number_at, bytes_at, count_at, many_at}
 use Rattle.exchange_codec.specs.Rows.{max_code}
 use Rattle.exchange_codec.specs.Tables.{table_bytes, table_text, IsTableText, IsTableFault}
 use Rattle.replica.specs.Halves.{HalfState}

@@ -1,4 +1,4 @@
--- Two rules by which a replica knows that it stands at the end of its latest view.
+-- Two rules by which a replica knows that it is at the end of its latest view.
 use Rattle.std.proofs.Common.{◌≡◌, ℕ, suc, Bool, true, false, if◌then◌else◌, ◌&&◌, List, [], ◌∷◌, Option, Some, None, is_none, slice_get, refl, sym, ap, subst}
 use Rattle.replica_law.specs.Groups.{Machine, Life, View, Member, Entry, Group, same_life, next, tip, new_primary, put_for, with_replica, for_some, unless_some, GroupEvent, Starts, Leads, Changes, Edits, Shows, Follows, Applies, next_group, group_after}
 use Rattle.replica_law.specs.Rules.{IsCareful, AreCareful, ViewTells, leads_on, has_led_since, LeadTells}
@@ -8,7 +8,7 @@ use Rattle.replica_law.proofs.Invariant.{Sound}
 use Rattle.replica_law.proofs.Kept.{sound}
 use Rattle.replica_law.proofs.Exact.{keeps_for, keeps_unless, keeps_if, none_after}
 
--- each replica for which the rule speaks stands at the end of its latest view
+-- each replica for which the rule holds is at the end of its latest view
 abbrev pub AtEnd : {S : Type 0} → (Life → Member S → Bool) → (Life → Option (Member S)) → Type 0
 AtEnd {S} rule replicas = (life : Life) (r : Member S) → replicas life ≡ Some r → rule life r ≡ true → r.at ≡ tip life r
 

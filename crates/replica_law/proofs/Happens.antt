@@ -1,4 +1,4 @@
--- What may happen does.
+-- Each event that may happen happens.
 use Rattle.std.proofs.Common.{if◌then◌else◌, List, Option, slice_get, sym, ap, ◌∙◌}
 use Rattle.replica_law.specs.Groups.{Machine, Member, Entry, Snapshot, Group, next, is_at_tip, with_replica, for_some, GroupEvent, with_entry, applies, group_after}
 use Rattle.replica_law.specs.Histories.{EditsHappen, FollowsHappen, AppliesHappen}

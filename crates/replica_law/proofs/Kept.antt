@@ -33,7 +33,7 @@ moved {S} known replicas life r new h was reached latest made = record { one = h
             (subst (λ n. IsReached p n new.made) (sym latest) (subst (λ n. IsReached p r.latest n) (sym made) old))
         by_put (stays apart is) = h.below other x is p s has own
 
--- a replica that reaches a position of its own that is new
+-- a replica that reaches a new position of its own view
 pub grown : {S : Type 0} (known : List (Snapshot S)) (replicas : Life → Option (Member S)) (life : Life)
     (new : Member S) → Stands known replicas → IsNew known new.at → new.at.view.primary ≡ life →
     IsReached new.at new.latest new.made →
@@ -189,7 +189,7 @@ module _ {S E : Type 0} (m : Machine S E) (w : Group S E) (h : Sound m w) where
       sound_moved life r (record r { state = after; at = next r.at }) was
       (subst (λ x. Has h.known (state_at (next r.at) x)) same here.2) refl refl))
 
-  -- a primary stands at the end of its view, so the next position is new
+  -- a primary is at the end of its view, so the next position is new
   unfoldable pub sound_edited : (life : Life) (r : Member S) (edit : E) (after : S) → w.replicas life ≡ Some r →
       r.at ≡ tip life r → m.step r.state edit ≡ Some after → Sound m (with_entry w life r edit after)
   sound_edited life r edit after was ends goes = record {

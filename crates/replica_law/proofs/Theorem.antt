@@ -1,4 +1,4 @@
--- What the invariant says of replicas, entries and snapshots.
+-- The consequences of the invariant for replicas, entries and snapshots.
 use Rattle.std.proofs.Common.{◌≡◌, List, subst}
 use Rattle.replica_law.specs.Groups.{Machine, GroupEvent, group_after}
 use Rattle.replica_law.specs.Histories.{HasOneState, HasOneEdit, HoldsSnapshots, HasOneSnapshot, TakesEntries}

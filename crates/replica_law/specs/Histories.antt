@@ -1,4 +1,4 @@
--- What holds after every history of the replicas of a machine.
+-- The facts that hold after every history of the replicas of a machine.
 use Rattle.std.specs.Prelude.{◌≡◌, ℕ, zero, suc, true, false, List, ◌∷◌, ◌++◌, Some, slice_get}
 use Rattle.replica_law.specs.Groups.{Machine, Life, View, Position, Member, Entry, Snapshot, next, tip, is_at_tip, with_replica, GroupEvent, Edits, Follows, Applies, with_entry, group_after}
 

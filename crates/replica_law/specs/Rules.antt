@@ -49,7 +49,7 @@ abbrev pub group_under : {S E : Type 0} → (Life → Member S → Bool) → Mac
 group_under may m [] = empty_group
 group_under may m (event ∷ earlier) = next_group_under may m (group_under may m earlier) event
 
--- Where such a rule covers each latest view, a replica may as well make an entry wherever it stands in a view that the
+-- Where such a rule covers each latest view, a replica may as well make an entry wherever it is in a view that the
 -- rule covers: nothing differs, so all laws hold there too
 abbrev pub ViewServes : {S E : Type 0} → Machine S E → List (GroupEvent S E) → Type 0
 ViewServes {S} {E} m history = (refused : Life → ℕ → View → Bool) →

@@ -1,4 +1,4 @@
-//! Where a replica stands.
+//! The position of a replica.
 
 /// One life of a node. A node that restarts takes an incarnation that it never had.
 #[derive(Clone, Copy, Debug, PartialEq, Eq)]

@@ -131,7 +131,7 @@ fn read_once<R: Read>(reader: &mut R, into: &mut [u8]) -> io::Result<usize>
     Err(io::Error::from(ErrorKind::Interrupted))
 }
 
-// Reads into the buffer if it is empty. Returns whether a byte is there; there is none at the end.
+// Reads into the buffer if it is empty. Returns whether it has a byte: not at the end.
 fn has_byte<R: Read>(buffer: &mut ReadBuffer, reader: &mut R) -> io::Result<bool>
     ensures some { IfOk result (λ found. IsTrue found
         → Consumes (left buffer.old (R.remaining reader.old)) (left buffer.new (R.remaining reader.new)) []

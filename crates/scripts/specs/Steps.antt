@@ -178,7 +178,7 @@ pub record HasHealed (old new : ScriptMachine) : Type 0 where
   pub programs : new.programs ≡ old.programs
   pub latest : new.latest ≡ old.latest + 1
 
--- the exchange failed, with a fault that has its cause in the halves as they were, or with 39, 40 or 90
+-- the exchange failed, with a fault that has its cause in the halves before it, or with 39, 40 or 90
 pub record HealRefused (plan : Plan) (old : ScriptMachine) (reply : Reply) (new : ScriptMachine) : Type 0 where
   pub fault : HealFault
   pub said : reply ≡ Refused (record { number = heal_fault_number fault; place = None })

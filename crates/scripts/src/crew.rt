@@ -1,8 +1,8 @@
-//! What carries out the lines of a script.
+//! The crew that carries out the lines of a script: its runtime, workers, gate and narrator.
 use judge_pool::Workers;
 use std::fmt;
 
-/// What carries out the lines of a script.
+/// The crew that carries out the lines of a script.
 #[derive(Drop)]
 pub struct Crew<'a, T, G, N> {
     /// The runtime, which reads files and starts threads.

@@ -25,7 +25,7 @@ use std::rt::Files;
 use std::sync::Wait;
 use std::thread::Threads;
 
-// A line as it was read: its bytes, and whether it is too long for them.
+// A line of the input: its bytes, and whether it is too long for them.
 #[derive(Clone, Copy)]
 pub(crate) struct ReadLine<'a> {
     pub line: &'a LineBuffer,
@@ -128,7 +128,7 @@ fn obey<T: Files + Threads + Wait + Sync + AllocGlobal, G: Gate + Sync, N: Narra
     }
 }
 
-// Stores a program and writes the answer. Tells the narrator of refused code.
+// Stores a program and writes the answer. Passes refused code to the narrator.
 fn upload<T: Files + Threads + Wait + Sync + AllocGlobal, G: Gate + Sync, N: Narrator, W: Write>(
     crew: &Crew<'_, T, G, N>,
     machine: &mut Machine,
@@ -170,7 +170,7 @@ fn heal<T: Files + Threads + Wait + Sync + AllocGlobal, G: Gate + Sync, N: Narra
     }
 }
 
-// Says a reply, and tells the narrator of a refusal. Answers its status.
+// Writes a reply, and passes a refusal to the narrator. Returns its status.
 fn say<N: Narrator, W: Write>(
     narrator: &N,
     writer: &mut W,

@@ -394,7 +394,7 @@ impl Between {
     }
 }
 
-/// What a walk came to.
+/// The result of a walk.
 #[derive(Clone, Copy)]
 struct Outcome {
     /// The first step after which something is wrong, and what is wrong.

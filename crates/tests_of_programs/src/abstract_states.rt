@@ -10,8 +10,8 @@ use instruction_set::Register;
 use std::alloc::Global;
 use std::test::Fail;
 
-// Returns whether the bytes beside eight marked ones are written; then, of what is marked in another stack too, whether
-// it is written, and whether the bytes beside it are.
+// Returns whether the bytes next to eight marked ones are written; then, of what is marked in another stack too,
+// whether it is written, and whether the bytes next to it are.
 fn marked_in_words() -> ([bool; 2], bool, [bool; 2]) {
     let mut stack = StackState::empty();
     stack.mark(60, 8);

@@ -11,7 +11,7 @@ fn ending_in(alloc: Global, zeros: u16, last: u8) -> Result<Vec<u8>, Fail> {
     Ok(context)
 }
 
-// Returns the end of a run on a context in a memory of its own; `None` if the program is for another length.
+// Returns the end of a run on a context in a new memory; `None` if the program is for another length.
 fn ended(
     alloc: Global,
     code: &[u8],

@@ -10,7 +10,7 @@ use std::fmt::Write;
 use std::test::Fail;
 use verifier::{Refusal, Rule, VerifyFault, verify_peak};
 
-// Where tests in a row jump to.
+// The targets of tests in a row.
 #[derive(Clone, Copy, Debug, PartialEq, Eq)]
 enum Targets {
     // Each to another slot, a later test to a later slot.

@@ -43,7 +43,7 @@ fn runs_on_copy(program: &Verified, record: &ClashRecord) -> (Ended, Ended, bool
     (copied, again, is_there)
 }
 
-// Returns a run on the record in a memory of its own, and the same as above.
+// Returns a run on the record in a new memory, and the same as above.
 fn runs_on_record(
     alloc: Global,
     record: &ClashRecord,

@@ -9,7 +9,7 @@ pub(crate) fn assert_same<R: Abort, T: Copy + Debug + PartialEq>(rt: &R, found: 
     assert_eq!(rt; found, wanted);
 }
 
-/// Fails the test unless the answer is the wanted value. Prints why there is none.
+/// Fails the test unless the answer is the wanted value. Prints why it isn't.
 pub(crate) fn assert_gives<R: Abort + Eprint, T: Copy + Debug + PartialEq>(
     rt: &R,
     answer: Result<T, Fail>,

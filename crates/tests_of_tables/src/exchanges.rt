@@ -104,7 +104,7 @@ fn withdrawn_names(rt: HostRuntime) {
     assert_gives(&rt, on_both, None);
 }
 
-// Returns where an exchange is otherwise that side A abandons after so many of its steps.
+// Returns where an exchange is otherwise that side A abandons after this number of its steps.
 fn other_after(alloc: Global, steps: usize) -> Result<Option<Other>, Fail> {
     let is_kept = steps == 0;
     let rulings = if is_kept { rows::NEXT_RULINGS } else { &[] };
@@ -175,7 +175,8 @@ fn repeated_messages_change_nothing(rt: HostRuntime) {
     assert_gives(&rt, first_other(rt.alloc(), &["db"], &parts), None);
 }
 
-// Returns where an exchange is otherwise that one side abandons after so many steps of both, and then the other side.
+// Returns where an exchange is otherwise that one side abandons after this number of steps of both, and then the
+// other side.
 fn other_abandoned_after(
     alloc: Global,
     steps: usize,

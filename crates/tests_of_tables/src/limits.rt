@@ -137,7 +137,7 @@ fn each_side_refuses_by_its_own_limit(rt: HostRuntime) {
     assert_gives(&rt, refused_by_limits(rt.alloc()), (Some(37), None));
 }
 
-// Returns the count of names of a side with this limit that registers so many.
+// Returns the count of names of a side with this limit that registers `count` names.
 fn count_registered(alloc: Global, names: usize, count: u16) -> Result<usize, Fail> {
     let mut side = Side::with_limit(alloc, SideId::A, limit(names)?);
     register_numbered(&mut side, count, 1, EXIT, &UploadStore::new(alloc))?;

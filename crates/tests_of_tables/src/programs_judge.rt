@@ -89,7 +89,7 @@ fn notified(alloc: Global) -> Result<ClashList, Fail> {
 // The answer to a clash, and its first three notices.
 type Told = (Verdict3, [Option<Notice>; 3]);
 
-// Returns the answer to this clash at this word, and what is told.
+// Returns the answer to this clash at this word, and the notices.
 fn told_of(clash: &Clash, word: u64) -> Told {
     let answer = Verdict::judged(clash, word).answer();
     let (first, second) = (clash.first().owner, clash.second().owner);

@@ -18,7 +18,7 @@ use Rattle.instruction_set.specs.declared.insn.Insn.{Insn}
 use Rattle.instruction_set.specs.declared.insn.Insn.TheVariants.{Alu, Neg, MovSx, End, LoadWide, Load, LoadSx, Store, StoreImm, Jump, JumpLong, JumpIf, Exit}
 use Rattle.abstract_value.specs.Domain.{Ops, Laws, BelowPair}
 use Rattle.abstract_value.specs.laws.Widening.{Widens, lift_pair}
-use Rattle.abstract_value.specs.States.{View, ViewBelow, make_span, reg_below, entry, with_register}
+use Rattle.abstract_value.specs.States.{View, ViewBelow, make_span, reg_below, first_view, with_register}
 use Rattle.abstract_value.specs.laws.OrderOfStates.{state_order}
 use Rattle.abstract_value.specs.declared.states.Span.{Span}
 use Rattle.abstract_value.specs.declared.states.RegState.{RegState}
@@ -26,7 +26,7 @@ use Rattle.abstract_value.specs.declared.states.RegState.TheVariants.{Scalar, Re
 use Rattle.verifier.specs.declared.rule.Rule.{Rule}
 use Rattle.verifier.specs.declared.rule.Rule.TheVariants.{Backward, Outside, IntoWide, FallsOff, NoEdge, Unreadable as UnreadableRule, WritesR10, PointerOperation, PointerRange, PointerCompared, PointerStored, OutsideRecord, WritesRecord, OutsideStack, UnwrittenStack, ScalarAddress, PointerResult}
 use Rattle.verifier.specs.Structure.{leads_to}
-use Rattle.verifier.specs.Rules.{is_readable, is_pointer, is_scalar, reads, operand, steps_of, moved_by, moved_span, is_move, pointers_fit, sum_in_range, operation_in_range, Access, access_of, inside_record, spares_record, inside_stack, finds_written, of_access, meets_operation, meets_range, meets_comparison, meets_stored, meets_result, meets_for, PassesFor, to_record, to_stack, sum_of, of_scalar, of_scalars, result_of, after_store, cut_one, cut_both, refined_imm, refined_pair, on_edge, fall, jump}
+use Rattle.verifier.specs.Rules.{is_readable, is_pointer, is_scalar, reads, operand_state, steps_of, moved_by, moved_span, is_move, pointers_fit, sum_in_range, operation_in_range, Access, access_of, inside_record, spares_record, inside_stack, finds_written, of_access, meets_operation, meets_range, meets_comparison, meets_stored, meets_result, meets_for, PassesFor, to_record, to_stack, sum_of, of_scalar, of_scalars, result_of, after_store, cut_one, cut_both, refined_imm, refined_pair, on_edge, fall, jump}
 use Rattle.verifier.specs.Assignments.{Assignment, Carries, EdgeCarries, FulfilsBeforeFor, IsTypableFor}
 use Rattle.verifier.proofs.RuleOrder.{FlowBelow}
 use Rattle.instruction_set.specs.laws.Places.{insn_all}
@@ -132,7 +132,7 @@ kind_same f false true = refl
 kind_same f false false = refl
 
 entry_same : {D E : Type 0} (f : D → E) (r : ℕ)
-    → lift_register f ((entry {D = D}).registers r) ≡ (entry {D = E}).registers r
+    → lift_register f ((first_view {D = D}).registers r) ≡ (first_view {D = E}).registers r
 entry_same f r = kind_same f (r == 1) (r == 10)
 
 module _ {D E : Type 0} {o : Ops D} {p : Ops E} (laws : Laws p) (wide : Widens o p) where
@@ -145,7 +145,7 @@ module _ {D E : Type 0} {o : Ops D} {p : Ops E} (laws : Laws p) (wide : Widens o
   moved_same op a b = ap (moved_by op a) (steps_same b)
 
   operand_same : (s : View D) (src : Source)
-      → operand p (lift_view wide.lift s) src ≡ lift_register wide.lift (operand o s src)
+      → operand_state p (lift_view wide.lift s) src ≡ lift_register wide.lift (operand_state o s src)
   operand_same s (Imm n) = ap Scalar (wide.single (cast_unsigned w64 n))
   operand_same s (Reg r) = refl
 
@@ -167,7 +167,7 @@ module _ {D E : Type 0} {o : Ops D} {p : Ops E} (laws : Laws p) (wide : Widens o
   operation_same : (i : Insn) (s : View D) → meets_operation p i (lift_view wide.lift s) ≡ meets_operation o i s
   operation_same (Alu w op dst src) s =
       ap (pointers_fit w op (lift_register wide.lift (s.registers dst.number))) (operand_same s src) ∙ fit_same
-      wide.lift w op (s.registers dst.number) (operand o s src)
+      wide.lift w op (s.registers dst.number) (operand_state o s src)
   operation_same (Neg w dst) s = ap (λ x. not x) (pointer_same wide.lift (s.registers dst.number))
   operation_same (MovSx w bits dst src) s = ap (λ x. not x) (pointer_same wide.lift (s.registers src.number))
   operation_same (End kind bits dst) s = ap (λ x. not x) (pointer_same wide.lift (s.registers dst.number))
@@ -176,13 +176,13 @@ module _ {D E : Type 0} {o : Ops D} {p : Ops E} (laws : Laws p) (wide : Widens o
   ranges_same : (i : Insn) (s : View D) → meets_range p i (lift_view wide.lift s) ≡ meets_range o i s
   ranges_same (Alu w op dst src) s =
       ap (operation_in_range p w op (lift_register wide.lift (s.registers dst.number))) (operand_same s src) ∙
-      range_same w op (s.registers dst.number) (operand o s src)
+      range_same w op (s.registers dst.number) (operand_state o s src)
   ranges_same i s = refl
 
   comparison_same : (i : Insn) (s : View D) → meets_comparison p i (lift_view wide.lift s) ≡ meets_comparison o i s
   comparison_same (JumpIf w test dst src distance) s =
       ap₂ (λ x y. not (x || y)) (pointer_same wide.lift (s.registers dst.number))
-      (ap is_pointer (operand_same s src) ∙ pointer_same wide.lift (operand o s src))
+      (ap is_pointer (operand_same s src) ∙ pointer_same wide.lift (operand_state o s src))
   comparison_same i s = refl
 
   stored_same : (i : Insn) (s : View D) → meets_stored i (lift_view wide.lift s) ≡ meets_stored i s
@@ -372,11 +372,11 @@ module _ {D E : Type 0} {o : Ops D} {p : Ops E} (laws : Laws p) (wide : Widens o
   fall_wider : (i : Insn) (s : View D) → IsListed i
       → FlowBelow p (fall p i (lift_view wide.lift s)) (lift_flow wide.lift (fall o i s))
   fall_wider (Alu w op dst src) s l =
-      here s dst.number (result_of o w op (s.registers dst.number) (operand o s src))
-      (result_of p w op (lift_register wide.lift (s.registers dst.number)) (operand p (lift_view wide.lift s) src))
+      here s dst.number (result_of o w op (s.registers dst.number) (operand_state o s src))
+      (result_of p w op (lift_register wide.lift (s.registers dst.number)) (operand_state p (lift_view wide.lift s) src))
       (subst (λ b. IsTrue (reg_below p (result_of p w op (lift_register wide.lift (s.registers dst.number)) b)
-      (lift_register wide.lift (result_of o w op (s.registers dst.number) (operand o s src)))))
-      (sym (operand_same s src)) (result_wider w op (s.registers dst.number) (operand o s src)))
+      (lift_register wide.lift (result_of o w op (s.registers dst.number) (operand_state o s src)))))
+      (sym (operand_same s src)) (result_wider w op (s.registers dst.number) (operand_state o s src)))
   fall_wider (Neg w dst) s l =
       here s dst.number _ _ (scalar_wider (o.neg w) (p.neg w) (s.registers dst.number) (wide.neg w))
   fall_wider (MovSx w bits dst src) s l =
@@ -439,9 +439,9 @@ module _ {D E : Type 0} {o : Ops D} {p : Ops E} (laws : Laws p) (wide : Widens o
   unfolding lifted
   fulfils_wider len code end states c f = record {
     start =
-        carries_wider states 0 entry entry f.start (record {
-          registers = λ r. subst (λ a. IsTrue (reg_below p (entry.registers r) a)) (sym (entry_same wide.lift r))
-              (same (entry.registers r));
+        carries_wider states 0 first_view first_view f.start (record {
+          registers = λ r. subst (λ a. IsTrue (reg_below p (first_view.registers r) a)) (sym (entry_same wide.lift r))
+              (same (first_view.registers r));
           written = λ k h. h;
         });
     inside = λ slot t e. let w = was (states slot) t e in f.inside slot w.0 w.1;

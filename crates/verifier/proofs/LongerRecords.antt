@@ -13,7 +13,7 @@ use Rattle.instruction_set.specs.declared.insn.AluOp.TheVariants.{Mov}
 use Rattle.instruction_set.specs.declared.insn.Insn.{Insn}
 use Rattle.instruction_set.specs.declared.insn.Insn.TheVariants.{Alu, Neg, MovSx, End, LoadWide, Load, LoadSx, Store, StoreImm, Jump, JumpLong, JumpIf, Exit}
 use Rattle.instruction_set.specs.Slots.{IsCode}
-use Rattle.instruction_set.specs.Machine.{Memory, Placement, IsPlacementFor, State, ◌>>=◌, insn_at, entry_for, read_bytes, written, bytes_of, address_of, word_in, operand, target, go_to, store_at, set_register, stack_len, after, step, steps, EndsWithFor, IsRecordOf}
+use Rattle.instruction_set.specs.Machine.{Memory, Placement, IsPlacementFor, State, ◌>>?◌, insn_at, entry_for, read_bytes, written, bytes_of, address_of, word_in, operand, target, go_to, store_at, set_register, stack_len, after, step, steps, EndsWithFor, IsRecordOf}
 use Rattle.abstract_value.specs.Domain.{Ops, Laws}
 use Rattle.abstract_value.specs.States.{View}
 use Rattle.abstract_value.specs.declared.states.RegState.{RegState}
@@ -77,12 +77,12 @@ abbrev GoesToo : Option State → Option State → Type 0
 GoesToo x x' = (t : State) → x ≡ Some t → (m : Memory) × (x' ≡ Some (with_memory t m)) × Within t.memory m
 
 too_bind : {A : Type 0} (x : Option A) (f f' : A → Option State) → ((a : A) → GoesToo (f a) (f' a))
-    → GoesToo (x >>= f) (x >>= f')
+    → GoesToo (x >>? f) (x >>? f')
 too_bind None f f' h t e = absurd (cc)
 too_bind (Some a) f f' h t e = h a t e
 
 too_read : (x x' : Option ℕ) (f f' : ℕ → Option State) → ((w : ℕ) → x ≡ Some w → x' ≡ Some w)
-    → ((w : ℕ) → GoesToo (f w) (f' w)) → GoesToo (x >>= f) (x' >>= f')
+    → ((w : ℕ) → GoesToo (f w) (f' w)) → GoesToo (x >>? f) (x' >>? f')
 too_read None x' f f' same h t e = absurd (cc)
 too_read (Some w) x' f f' same h t e =
     let g = h w t e in
@@ -93,12 +93,12 @@ read_more : (m m' : Memory) (at n word : ℕ) → Within m m' → ((rest : ℕ) 
 read_more m m' at n word h more e = by_byte (m at) refl e
   where
     by_rest : (byte : ℕ) → m' at ≡ Some byte → (x : Option ℕ) → read_bytes m (at + 1) n ≡ x
-        → (x >>= λ rest. Some (byte + 256 * rest)) ≡ Some word → read_bytes m' at (suc n) ≡ Some word
+        → (x >>? λ rest. Some (byte + 256 * rest)) ≡ Some word → read_bytes m' at (suc n) ≡ Some word
     by_rest byte there None is f = absurd (cc)
     by_rest byte there (Some rest) is f = let there' : read_bytes m' (at + 1) n ≡ Some rest = more rest is in
         rw (there, there') f
 
-    by_byte : (x : Option ℕ) → m at ≡ x → (x >>= λ byte. read_bytes m (at + 1) n >>= λ rest. Some (byte + 256 * rest))
+    by_byte : (x : Option ℕ) → m at ≡ x → (x >>? λ byte. read_bytes m (at + 1) n >>? λ rest. Some (byte + 256 * rest))
         ≡ Some word → read_bytes m' at (suc n) ≡ Some word
     by_byte None is f = absurd (cc)
     by_byte (Some byte) is f = by_rest byte (h at byte is) (read_bytes m (at + 1) n) refl f
@@ -157,39 +157,39 @@ too_go s m slot h t e = let f : record { slot = slot; registers = s.registers; m
 
 -- what a register holds goes on, and so does an operand
 too_of : (s : State) (m : Memory) (x : Option ℕ) (dst : Register) (f : ℕ → ℕ) → Within s.memory m
-    → GoesToo (x >>= λ a. set_register s dst (f a) 1) (x >>= λ a. set_register (with_memory s m) dst (f a) 1)
+    → GoesToo (x >>? λ a. set_register s dst (f a) 1) (x >>? λ a. set_register (with_memory s m) dst (f a) 1)
 too_of s m x dst f h = too_bind x (λ a. set_register s dst (f a) 1) (λ a. set_register (with_memory s m) dst (f a) 1)
     (λ a. too_set s m dst (f a) 1 h)
 
 too_of_both : (s : State) (m : Memory) (x y : Option ℕ) (dst : Register) (f : ℕ → ℕ → ℕ) → Within s.memory m
-    → GoesToo (x >>= λ a. y >>= λ b. set_register s dst (f a b) 1)
-    (x >>= λ a. y >>= λ b. set_register (with_memory s m) dst (f a b) 1)
+    → GoesToo (x >>? λ a. y >>? λ b. set_register s dst (f a b) 1)
+    (x >>? λ a. y >>? λ b. set_register (with_memory s m) dst (f a b) 1)
 too_of_both s m x y dst f h =
-    too_bind x (λ a. y >>= λ b. set_register s dst (f a b) 1)
-    (λ a. y >>= λ b. set_register (with_memory s m) dst (f a b) 1) (λ a. too_of s m y dst (f a) h)
+    too_bind x (λ a. y >>? λ b. set_register s dst (f a b) 1)
+    (λ a. y >>? λ b. set_register (with_memory s m) dst (f a b) 1) (λ a. too_of s m y dst (f a) h)
 
 too_load : (s : State) (m : Memory) (x : Option ℕ) (offset : ℤ) (n : ℕ) (dst : Register) (f : ℕ → ℕ) → Within s.memory m
-    → GoesToo (x >>= λ at. read_bytes s.memory (address_of at offset) n >>= λ w. set_register s dst (f w) 1)
-    (x >>= λ at. read_bytes m (address_of at offset) n >>= λ w. set_register (with_memory s m) dst (f w) 1)
+    → GoesToo (x >>? λ at. read_bytes s.memory (address_of at offset) n >>? λ w. set_register s dst (f w) 1)
+    (x >>? λ at. read_bytes m (address_of at offset) n >>? λ w. set_register (with_memory s m) dst (f w) 1)
 too_load s m x offset n dst f h =
-    too_bind x (λ at. read_bytes s.memory (address_of at offset) n >>= λ w. set_register s dst (f w) 1)
-    (λ at. read_bytes m (address_of at offset) n >>= λ w. set_register (with_memory s m) dst (f w) 1)
+    too_bind x (λ at. read_bytes s.memory (address_of at offset) n >>? λ w. set_register s dst (f w) 1)
+    (λ at. read_bytes m (address_of at offset) n >>? λ w. set_register (with_memory s m) dst (f w) 1)
     (λ at. too_read (read_bytes s.memory (address_of at offset) n) (read_bytes m (address_of at offset) n)
     (λ w. set_register s dst (f w) 1) (λ w. set_register (with_memory s m) dst (f w) 1)
     (λ w. read_within s.memory m (address_of at offset) n w h) (λ w. too_set s m dst (f w) 1 h))
 
 too_put : (stack_at : ℕ) (s : State) (m : Memory) (x : Option ℕ) (offset : ℤ) (n word : ℕ) → Within s.memory m
-    → GoesToo (x >>= λ at. store_at stack_at s (address_of at offset) n word)
-    (x >>= λ at. store_at stack_at (with_memory s m) (address_of at offset) n word)
+    → GoesToo (x >>? λ at. store_at stack_at s (address_of at offset) n word)
+    (x >>? λ at. store_at stack_at (with_memory s m) (address_of at offset) n word)
 too_put stack_at s m x offset n word h =
     too_bind x (λ at. store_at stack_at s (address_of at offset) n word)
     (λ at. store_at stack_at (with_memory s m) (address_of at offset) n word)
     (λ at. too_store stack_at s m (address_of at offset) n word h)
 
 too_test : (s : State) (m : Memory) (x y : Option ℕ) (to : ℕ → ℕ → ℕ) → Within s.memory m
-    → GoesToo (x >>= λ a. y >>= λ b. go_to s (to a b)) (x >>= λ a. y >>= λ b. go_to (with_memory s m) (to a b))
+    → GoesToo (x >>? λ a. y >>? λ b. go_to s (to a b)) (x >>? λ a. y >>? λ b. go_to (with_memory s m) (to a b))
 too_test s m x y to h =
-    too_bind x (λ a. y >>= λ b. go_to s (to a b)) (λ a. y >>= λ b. go_to (with_memory s m) (to a b))
+    too_bind x (λ a. y >>? λ b. go_to s (to a b)) (λ a. y >>? λ b. go_to (with_memory s m) (to a b))
     (λ a. too_bind y (λ b. go_to s (to a b)) (λ b. go_to (with_memory s m) (to a b)) (λ b. too_go s m (to a b) h))
 
 too_after : (stack_at : ℕ) (i : Insn) (s : State) (m : Memory) → Within s.memory m
@@ -206,8 +206,8 @@ too_after stack_at (Load size dst base offset) s m h = too_load s m (word_in s b
 too_after stack_at (LoadSx size dst base offset) s m h = too_load s m (word_in s base) offset (bytes_of size) dst
     (mov_sx_of W64 (8 * bytes_of size)) h
 too_after stack_at (Store size base offset src) s m h =
-    too_bind (word_in s base) (λ at. word_in s src >>= λ word. store_at stack_at s (address_of at offset)
-    (bytes_of size) word) (λ at. word_in s src >>= λ word. store_at stack_at (with_memory s m)
+    too_bind (word_in s base) (λ at. word_in s src >>? λ word. store_at stack_at s (address_of at offset)
+    (bytes_of size) word) (λ at. word_in s src >>? λ word. store_at stack_at (with_memory s m)
     (address_of at offset) (bytes_of size) word)
     (λ at. too_bind (word_in s src) (λ word. store_at stack_at s (address_of at offset) (bytes_of size) word)
     (λ word. store_at stack_at (with_memory s m) (address_of at offset) (bytes_of size) word)
@@ -229,7 +229,7 @@ too_step stack_at code s m h = too_bind (insn_at code s.slot) (λ i. after stack
 too_more : (n stack_at : ℕ) (code : List Insn) (s : State) (m : Memory) → Within s.memory m
     → ((u : State) (k : Memory) → Within u.memory k → GoesToo (steps n stack_at code u)
     (steps n stack_at code (with_memory u k)))
-    → (x : Option State) → step stack_at code s ≡ x → GoesToo (x >>= steps n stack_at code)
+    → (x : Option State) → step stack_at code s ≡ x → GoesToo (x >>? steps n stack_at code)
     (steps (suc n) stack_at code (with_memory s m))
 too_more n stack_at code s m h more None is t e = absurd (cc)
 too_more n stack_at code s m h more (Some u) is t e =

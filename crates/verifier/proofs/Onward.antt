@@ -3,7 +3,7 @@ use Rattle.std.proofs.Common.{◌≡◌, ℕ, ◌+◌, ◌-◌, ◌/◌, ◌%◌
 use Rattle.std.specs.Prelude.{IsTrue, nat_le, nat_lt, not}
 use Rattle.std.specs.Int.{w64, cast_unsigned}
 use Rattle.std.proofs.lemmas.Bool.Decides.{nat_tests}
-use Rattle.instruction_set.specs.Machine.{Memory, Placement, IsPlacementFor, State, ◌>>=◌, read_bytes, written, bytes_of, address_of, store_at, stack_len, word_in, operand as word_of, set_register, after}
+use Rattle.instruction_set.specs.Machine.{Memory, Placement, IsPlacementFor, State, ◌>>?◌, read_bytes, written, bytes_of, address_of, store_at, stack_len, word_in, operand as word_of, set_register, after}
 use Rattle.instruction_set.specs.Operations.{alu_of}
 use Rattle.instruction_set.specs.declared.insn.Width.{Width}
 use Rattle.instruction_set.specs.declared.insn.Size.{Size}
@@ -21,8 +21,8 @@ use Rattle.verifier.proofs.Moves.{is_mov}
 -- ---- what the raw machine does, where its words are known
 
 pub bind : {A B : Type 0} (x : Option A) (a : A) (f : A → Option B) (r : Option B) → x ≡ Some a → f a ≡ r
-    → (x >>= f) ≡ r
-bind x a f r e h = ap (λ y. y >>= f) e ∙ h
+    → (x >>? f) ≡ r
+bind x a f r e h = ap (λ y. y >>? f) e ∙ h
 
 pub free : (r : ℕ) → IsTrue (not (r == 10)) → (r == 10) ≡ false
 free r h = not_false (r == 10) h
@@ -47,7 +47,7 @@ Goes bytes i t t' = (p : Placement) → IsPlacementFor (length bytes) p → (u :
     → (u' : State) × (after p.stack_at i u ≡ Some u') × Matches p bytes t' u'
 
 after_alu : (stack_at : ℕ) (w : Width) (op : AluOp) (dst : Register) (src : Source) (u : State) → is_mov op ≡ false
-    → after stack_at (Alu w op dst src) u ≡ (word_in u dst >>= λ a. word_of u src >>= λ b. set_register u dst
+    → after stack_at (Alu w op dst src) u ≡ (word_in u dst >>? λ a. word_of u src >>? λ b. set_register u dst
     (alu_of w op a b) 1)
 after_alu stack_at w Add dst src u n = refl
 after_alu stack_at w Sub dst src u n = refl
@@ -76,7 +76,7 @@ goes_alu bytes w op dst src t x y z n f dx sy word p placed u m =
     let s = set_on p bytes t u m dst f z (alu_of w op (raw p x) (raw p y)) (sym (word p)) 1 in (
       s.0,
       after_alu p.stack_at w op dst src u n ∙ bind (word_in u dst) (raw p x)
-          (λ v. word_of u src >>= λ k. set_register u dst (alu_of w op v k) 1) (Some s.0) a
+          (λ v. word_of u src >>? λ k. set_register u dst (alu_of w op v k) 1) (Some s.0) a
           (bind (word_of u src) (raw p y) (λ k. set_register u dst (alu_of w op (raw p x) k) 1) (Some s.0) b s.1),
       s.2,
     )
@@ -93,7 +93,7 @@ goes_mov bytes w dst src t y z f sy word p placed u m =
 
 -- an operation on one number: from is the register that it reads
 pub goes_unary : (bytes : List ℕ) (i : Insn) (dst from : Register) (t : Tagged) (v : ℕ) (f : ℕ → ℕ)
-    → ((stack_at : ℕ) (u : State) → after stack_at i u ≡ (word_in u from >>= λ a. set_register u dst (f a) 1))
+    → ((stack_at : ℕ) (u : State) → after stack_at i u ≡ (word_in u from >>? λ a. set_register u dst (f a) 1))
     → (dst.number == 10) ≡ false → t.registers from.number ≡ Some (num v)
     → Goes bytes i t (with_tag t dst.number (num (f v)) 1)
 goes_unary bytes i dst from t v f is free_dst fx p placed u m =
@@ -108,8 +108,8 @@ goes_wide bytes dst value t f p placed u m = set_on p bytes t u m dst f (num val
 -- a load of a word that is there at each placement
 pub goes_load : (bytes : List ℕ) (i : Insn) (dst base : Register) (size : Size) (offset : ℤ) (t : Tagged) (x : Tag)
     (word : ℕ) (f : ℕ → ℕ)
-    → ((stack_at : ℕ) (u : State) → after stack_at i u ≡ (word_in u base >>= λ at. read_bytes u.memory
-    (address_of at offset) (bytes_of size) >>= λ v. set_register u dst (f v) 1))
+    → ((stack_at : ℕ) (u : State) → after stack_at i u ≡ (word_in u base >>? λ at. read_bytes u.memory
+    (address_of at offset) (bytes_of size) >>? λ v. set_register u dst (f v) 1))
     → (dst.number == 10) ≡ false → t.registers base.number ≡ Some x
     → ((p : Placement) → IsPlacementFor (length bytes) p → read_bytes (memory_at p bytes t.stack)
     (address_of (raw p x) offset) (bytes_of size) ≡ Some word)
@@ -123,7 +123,7 @@ goes_load bytes i dst base size offset t x word f is free_dst bx there p placed 
     let s = set_on p bytes t u m dst free_dst (num (f word)) (f word) refl 1 in (
       s.0,
       is p.stack_at u ∙ bind (word_in u base) (raw p x) (λ at'. read_bytes u.memory (address_of at' offset)
-          (bytes_of size) >>= λ v. set_register u dst (f v) 1) (Some s.0) a
+          (bytes_of size) >>? λ v. set_register u dst (f v) 1) (Some s.0) a
           (bind (read_bytes u.memory at (bytes_of size)) word (λ v. set_register u dst (f v) 1) (Some s.0) r s.1),
       s.2,
     )

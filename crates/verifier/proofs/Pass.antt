@@ -8,7 +8,7 @@ use Rattle.instruction_set.specs.Machine.{slots_of, insn_at, slot_count}
 use Rattle.instruction_set.specs.declared.insn.Insn.{Insn}
 use Rattle.instruction_set.specs.declared.insn.Insn.TheVariants.{Jump, JumpLong, Exit}
 use Rattle.abstract_value.specs.Domain.{Ops, Laws}
-use Rattle.abstract_value.specs.States.{View, ViewBelow, view_join, entry}
+use Rattle.abstract_value.specs.States.{View, ViewBelow, view_join, first_view}
 use Rattle.abstract_value.specs.laws.OrderOfStates.{view_same, view_through, view_left, view_right, view_least}
 use Rattle.verifier.specs.declared.rule.Rule.{Rule}
 use Rattle.verifier.specs.declared.rule.Rule.TheVariants.{Outside, IntoWide, FallsOff}
@@ -255,7 +255,7 @@ module _ {D : Type 0} {o : Ops D} (laws : Laws o) (len : ℕ) where
       let f = m.fulfils in
       record {
         fulfils = record {
-          start = keeps 0 entry f.start;
+          start = keeps 0 first_view f.start;
           inside = edge_inside falling (leads_to n i) (jump o i s) code jumps_to
               (flow_inside states next (fall o i s) code falls_to f.inside);
           passes = λ k j t h a b. each_more (insn_at code) states (λ k' j' t'. PassesFor len o j' t') n i s at is p
@@ -346,14 +346,14 @@ module _ {D : Type 0} {o : Ops D} (laws : Laws o) (len : ℕ) where
       refused code slot rule r t.0 (fulfils_upto code (slot + 1) (slot_count code) t.0 (omega arith) t.1)
 
   -- the assignment with which the pass begins
-  pub begun : (code : List Insn) → IsCode code → IsLeastFor len o code 0 (flow o nothing 0 (Some entry))
+  pub begun : (code : List Insn) → IsCode code → IsLeastFor len o code 0 (flow o nothing 0 (Some first_view))
   begun code is_code = record {
     fulfils = record {
-      start = flow_carries nothing 0 (Some entry);
-      inside = flow_inside nothing 0 (Some entry) code (λ u e. insn_first code is_code.some) (λ k s e. absurd (cc));
+      start = flow_carries nothing 0 (Some first_view);
+      inside = flow_inside nothing 0 (Some first_view) code (λ u e. insn_first code is_code.some) (λ k s e. absurd (cc));
       passes = λ k i s l. absurd (omega arith);
       falls = λ k i s l. absurd (omega arith);
       jumps = λ k i s l. absurd (omega arith);
     };
-    least = λ others f. flow_least nothing others 0 (Some entry) (λ k s e. absurd (cc)) f.start;
+    least = λ others f. flow_least nothing others 0 (Some first_view) (λ k s e. absurd (cc)) f.start;
   }

@@ -26,7 +26,7 @@ use Rattle.abstract_value.specs.declared.states.Span.{Span}
 use Rattle.abstract_value.specs.declared.states.RegState.{RegState}
 use Rattle.abstract_value.specs.declared.states.RegState.TheVariants.{Scalar}
 use Rattle.verifier.specs.declared.rule.Rule.TheVariants.{Backward, Outside, IntoWide, FallsOff, NoEdge, Unreadable as UnreadableRule, WritesR10, PointerOperation, PointerRange, PointerCompared, PointerStored, OutsideRecord, WritesRecord, OutsideStack, UnwrittenStack, ScalarAddress, PointerResult}
-use Rattle.verifier.specs.Rules.{is_readable, is_pointer, is_scalar, reads, source_reads, operand, reach_of, whole, stack_index, is_written_at, Access, inside_record, spares_record, inside_stack, finds_written, of_access, meets_for, PassesFor, operation_in_range, result_of, marks, after_store, cut_one, cut_both, refined_imm, refined_pair, on_edge, fall, jump}
+use Rattle.verifier.specs.Rules.{is_readable, is_pointer, is_scalar, reads, source_reads, operand_state, reach_of, whole, stack_index, is_written_at, Access, inside_record, spares_record, inside_stack, finds_written, of_access, meets_for, PassesFor, operation_in_range, result_of, marks, after_store, cut_one, cut_both, refined_imm, refined_pair, on_edge, fall, jump}
 use Rattle.verifier.proofs.Accesses.{whole_of}
 use Rattle.verifier.proofs.Moves.{truth, is_mov}
 use Rattle.verifier.proofs.Steps.{reads_alu, source_readable}
@@ -172,7 +172,8 @@ module _ {D : Type 0} {o : Ops D} (laws : Laws o) (len : ℕ) (s t : View D) (be
   readable_at : (r : ℕ) → IsTrue (is_readable (t.registers r)) → Readable o (s.registers r) (t.registers r)
   readable_at r h = is_below o (s.registers r) (t.registers r) (below.registers r) h
 
-  operand_at : (src : Source) → IsTrue (is_readable (operand o t src)) → Readable o (operand o s src) (operand o t src)
+  operand_at : (src : Source) → IsTrue (is_readable (operand_state o t src))
+      → Readable o (operand_state o s src) (operand_state o t src)
   operand_at (Imm n) h = numbers (o.single (cast_unsigned w64 n)) (o.single (cast_unsigned w64 n))
       (laws.below_same (o.single (cast_unsigned w64 n)))
   operand_at (Reg r) h = readable_at r.number h
@@ -183,7 +184,7 @@ module _ {D : Type 0} {o : Ops D} (laws : Laws o) (len : ℕ) (s t : View D) (be
 
   -- the operands of an operation are readable
   alu_source : (w : Width) (op : AluOp) (dst : Register) (src : Source) → PassesFor len o (Alu w op dst src) t
-      → Readable o (operand o s src) (operand o t src)
+      → Readable o (operand_state o s src) (operand_state o t src)
   alu_source w op dst src p =
       elim (truth (is_mov op)) [
         | inl n ↦ operand_at src (source_readable o t src (subst
@@ -218,7 +219,7 @@ module _ {D : Type 0} {o : Ops D} (laws : Laws o) (len : ℕ) (s t : View D) (be
 
   operation_down : (i : Insn) → PassesFor len o i t → IsTrue (meets_for len o i s PointerOperation)
   operation_down (Alu w op dst src) p =
-      let e = same_fit w op (s.registers dst.number) (t.registers dst.number) (operand o s src) (operand o t src)
+      let e = same_fit w op (s.registers dst.number) (t.registers dst.number) (operand_state o s src) (operand_state o t src)
       (λ n. same_pointer (alu_target w op dst src n p)) (same_pointer (alu_source w op dst src p)) in
       subst IsTrue (sym e) (p PointerOperation)
   operation_down (Neg w dst) p = same_not (is_pointer (s.registers dst.number)) (is_pointer (t.registers dst.number))
@@ -234,7 +235,7 @@ module _ {D : Type 0} {o : Ops D} (laws : Laws o) (len : ℕ) (s t : View D) (be
   ranges_down : (i : Insn) → PassesFor len o i t → IsTrue (meets_for len o i s PointerRange)
   ranges_down (Alu w op dst src) p =
       elim (truth (is_mov op)) [
-        | inl n ↦ mov_range o w op (s.registers dst.number) (operand o s src) n
+        | inl n ↦ mov_range o w op (s.registers dst.number) (operand_state o s src) n
         | inr n ↦ range_down laws w op (alu_target w op dst src n p) (alu_source w op dst src p) (p PointerRange)
       ]
   ranges_down i p = refl
@@ -243,8 +244,8 @@ module _ {D : Type 0} {o : Ops D} (laws : Laws o) (len : ℕ) (s t : View D) (be
   comparison_down (JumpIf w test dst src distance) p =
       let a = first_at dst.number (source_reads src) (p UnreadableRule) in
       let b = operand_at src (source_readable o t src (rest_at dst.number (source_reads src) (p UnreadableRule))) in
-      same_not (is_pointer (s.registers dst.number) || is_pointer (operand o s src))
-      (is_pointer (t.registers dst.number) || is_pointer (operand o t src))
+      same_not (is_pointer (s.registers dst.number) || is_pointer (operand_state o s src))
+      (is_pointer (t.registers dst.number) || is_pointer (operand_state o t src))
       (ap₂ (λ x y. x || y) (same_pointer a) (same_pointer b)) (p PointerCompared)
   comparison_down i p = refl
 
@@ -408,12 +409,12 @@ module _ {D : Type 0} {o : Ops D} (laws : Laws o) (len : ℕ) (s t : View D) (be
       (refined_pair_up w test taken dst.number r.number a b)
 
   alu_up : (w : Width) (op : AluOp) (dst : Register) (src : Source) → PassesFor len o (Alu w op dst src) t
-      → IsTrue (reg_below o (result_of o w op (s.registers dst.number) (operand o s src))
-      (result_of o w op (t.registers dst.number) (operand o t src)))
+      → IsTrue (reg_below o (result_of o w op (s.registers dst.number) (operand_state o s src))
+      (result_of o w op (t.registers dst.number) (operand_state o t src)))
   alu_up w Mov dst src p = mov_up laws w (s.registers dst.number) (t.registers dst.number)
       (alu_source laws len s t below w Mov dst src p) (operand_below src)
     where
-      operand_below : (src : Source) → IsTrue (reg_below o (operand o s src) (operand o t src))
+      operand_below : (src : Source) → IsTrue (reg_below o (operand_state o s src) (operand_state o t src))
       operand_below (Imm n) = laws.below_same (o.single (cast_unsigned w64 n))
       operand_below (Reg r) = below.registers r.number
   alu_up w op dst src p = result_up laws w op refl (alu_target laws len s t below w op dst src refl p)
@@ -422,8 +423,8 @@ module _ {D : Type 0} {o : Ops D} (laws : Laws o) (len : ℕ) (s t : View D) (be
   -- what falls through keeps the order
   pub fall_up : (i : Insn) → IsListed i → PassesFor len o i t → FlowBelow o (fall o i s) (fall o i t)
   fall_up (Alu w op dst src) l p = put_below o s t dst.number
-      (result_of o w op (s.registers dst.number) (operand o s src))
-      (result_of o w op (t.registers dst.number) (operand o t src)) below (alu_up w op dst src p)
+      (result_of o w op (s.registers dst.number) (operand_state o s src))
+      (result_of o w op (t.registers dst.number) (operand_state o t src)) below (alu_up w op dst src p)
   fall_up (Neg w dst) l p = put_below o s t dst.number _ _ below
       (scalar_up laws (o.neg w) (o.neg w) (laws.neg_monotone w)
       (first_at laws len s t below dst.number [] (p UnreadableRule)))

@@ -8,7 +8,7 @@ use Rattle.instruction_set.specs.Machine.{Placement, IsPlacementFor, State, slot
 use Rattle.instruction_set.specs.declared.insn.Insn.{Insn}
 use Rattle.instruction_set.specs.declared.insn.Insn.TheVariants.{Exit}
 use Rattle.abstract_value.specs.Domain.{Ops, Laws}
-use Rattle.abstract_value.specs.States.{View, ViewBelow, make_span, reg_below, entry as entry_view}
+use Rattle.abstract_value.specs.States.{View, ViewBelow, make_span, reg_below, first_view}
 use Rattle.abstract_value.specs.laws.OrderOfStates.{span_within}
 use Rattle.abstract_value.specs.declared.states.RegState.{RegState}
 use Rattle.abstract_value.specs.declared.states.RegState.TheVariants.{Scalar, Record, Stack, Unreadable}
@@ -190,7 +190,7 @@ begins = record {
   stack = λ k. None;
 }
 
-begins_covered : {D : Type 0} (o : Ops D) → Covered o entry_view begins
+begins_covered : {D : Type 0} (o : Ops D) → Covered o first_view begins
 begins_covered {D = D} o = record {
   registers = λ r. elim (r == 1) as (λ b. Covers o (cond b (Record (make_span (pos 0) (pos 0)))
       (cond (r == 10) (Stack (make_span (pos 0) (pos 0))) Unreadable))
@@ -246,7 +246,7 @@ ends_on : {D : Type 0} {o : Ops D} (laws : Laws o) (code : List Insn) → IsCode
 unfolding Reaches
 ends_on {o = o} laws code is_code structured states bytes each f =
     let first = f.start in
-    let c = covered_up laws entry_view first.0 begins first.2 (begins_covered o) in
+    let c = covered_up laws first_view first.0 begins first.2 (begins_covered o) in
     let all = left_all code in
     let r = runs laws code is_code structured states bytes each f (length code) 0 first.0 begins (omega arith) refl
     first.1 c in (

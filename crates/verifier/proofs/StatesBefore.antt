@@ -1,4 +1,4 @@
--- The state that a pass holds for a slot, and where there is none.
+-- The state that a pass holds for a slot, if it holds one.
 use Rattle.std.proofs.Common.{◌≡◌, ◌∙◌, ℕ, ◌+◌, ◌<◌, ◌≤◌, arith, sym, subst, List, Option, Some, None, refl, false}
 use Rattle.std.specs.Prelude.{IsSome, MatchOption, is_some}
 use Rattle.instruction_set.specs.Machine.{insn_at, slot_count}

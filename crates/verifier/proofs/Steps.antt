@@ -5,7 +5,7 @@ use Rattle.std.specs.List.{list_all}
 use Rattle.std.specs.Int.{w16, w32, w64, cast_unsigned}
 use Rattle.std.proofs.lemmas.Int.{ints}
 use Rattle.instruction_set.specs.Slots.{IsListed, SourceFits}
-use Rattle.instruction_set.specs.Machine.{Placement, State, ◌>>=◌, slots_of, read_bytes, bytes_of, address_of, store_at, word_in, operand as word_of, set_register, target, go_to, after}
+use Rattle.instruction_set.specs.Machine.{Placement, State, ◌>>?◌, slots_of, read_bytes, bytes_of, address_of, store_at, word_in, operand as word_of, set_register, target, go_to, after}
 use Rattle.instruction_set.specs.Operations.{alu_of, neg_of, mov_sx_of, end_of, low, cut_test, is_taken}
 use Rattle.instruction_set.specs.declared.insn.Width.{Width}
 use Rattle.instruction_set.specs.declared.insn.Width.TheVariants.{W32, W64}
@@ -24,7 +24,7 @@ use Rattle.abstract_value.specs.declared.states.RegState.{RegState}
 use Rattle.abstract_value.specs.declared.states.RegState.TheVariants.{Scalar, Record, Stack, Unreadable}
 use Rattle.verifier.specs.declared.rule.Rule.TheVariants.{Unreadable as UnreadableRule, WritesR10, PointerOperation, PointerRange, PointerCompared, PointerStored, OutsideRecord, WritesRecord, OutsideStack, UnwrittenStack, ScalarAddress, PointerResult}
 use Rattle.verifier.specs.Structure.{distance_of, forward_target, leads_to}
-use Rattle.verifier.specs.Rules.{is_readable, is_pointer, reads, source_reads, operand, PassesFor, of_scalar, of_scalars, result_of, cut_one, cut_both, refined_imm, refined_pair, on_edge, fall, jump}
+use Rattle.verifier.specs.Rules.{is_readable, is_pointer, reads, source_reads, operand_state, PassesFor, of_scalar, of_scalars, result_of, cut_one, cut_both, refined_imm, refined_pair, on_edge, fall, jump}
 use Rattle.verifier.proofs.Tags.{Tag, num, ptr, raw, raw_option, Tagged, Matches, tells, word_at, with_tag, Covers, Covered, covers_put, covers_cut, NumberAt}
 use Rattle.verifier.proofs.Accesses.{both}
 use Rattle.verifier.proofs.Moves.{truth, is_mov, word_fits, binary}
@@ -59,7 +59,7 @@ reads_alu w Mov dst src n = absurd (cc)
 reads_alu w Arsh dst src n = refl
 
 pub source_readable : {D : Type 0} (o : Ops D) (s : View D) (src : Source)
-    → IsTrue (list_all (λ r. is_readable (s.registers r)) (source_reads src)) → IsTrue (is_readable (operand o s src))
+    → IsTrue (list_all (λ r. is_readable (s.registers r)) (source_reads src)) → IsTrue (is_readable (operand_state o s src))
 source_readable o s (Imm n) h = refl
 source_readable o s (Reg r) h = (both (is_readable (s.registers r.number)) true h).0
 
@@ -129,7 +129,7 @@ low_fits W64 n = omega arith
 
 module _ {D : Type 0} {o : Ops D} (laws : Laws o) (bytes : List ℕ) (each : All (λ byte. byte < 256) bytes) where
   covers_source : (s : View D) (t : Tagged) → Covered o s t → (src : Source) → SourceFits src
-      → Covers o (operand o s src) (source_tag t src)
+      → Covers o (operand_state o s src) (source_tag t src)
   covers_source s t c (Imm n) f = laws.single_holds (cast_unsigned w64 n) (word_64 n f)
   covers_source s t c (Reg r) f = c.registers r.number
 
@@ -146,7 +146,7 @@ module _ {D : Type 0} {o : Ops D} (laws : Laws o) (bytes : List ℕ) (each : All
       (source_reads src)) all in
       let b_readable = source_readable o s src q.1 in
       let a = s.registers dst.number in
-      let b = operand o s src in
+      let b = operand_state o s src in
       let ca = c.registers dst.number in
       let cb = covers_source s t c src f in
       let x = tag_of o a (t.registers dst.number) q.0 ca in
@@ -170,7 +170,7 @@ module _ {D : Type 0} {o : Ops D} (laws : Laws o) (bytes : List ℕ) (each : All
       → PassesFor (length bytes) o (Alu w Mov dst src) s → Onward o bytes (Alu w Mov dst src) s t
   mov_on W64 dst src s t f c p =
       let b_readable = source_readable o s src (p UnreadableRule) in
-      let b = operand o s src in
+      let b = operand_state o s src in
       let cb = covers_source s t c src f in
       let y = tag_of o b (source_tag t src) b_readable cb in
       let cy = subst (λ k. Covers o b k) y.1 cb in
@@ -179,7 +179,7 @@ module _ {D : Type 0} {o : Ops D} (laws : Laws o) (bytes : List ℕ) (each : All
       (goes_mov bytes W64 dst src t y.0 y.0 (free dst.number (p WritesR10)) y.1 (copied b y.0 b_readable cy))
   mov_on W32 dst src s t f c p =
       let b_readable = source_readable o s src (p UnreadableRule) in
-      let b = operand o s src in
+      let b = operand_state o s src in
       let v = number_at o b (source_tag t src) b_readable (p PointerOperation) (covers_source s t c src f) in
       let z = num (alu_of W32 Mov v.word v.word) in
       let covers : Covers o (result_of o W32 Mov (s.registers dst.number) b) (Some z) =
@@ -192,7 +192,7 @@ module _ {D : Type 0} {o : Ops D} (laws : Laws o) (bytes : List ℕ) (each : All
   unary_on : (i : Insn) (dst from : Register) (s : View D) (t : Tagged) (g : D → D) (f : ℕ → ℕ)
       → fall o i s ≡ Some (with_register s dst.number (of_scalar g (s.registers from.number))) → slots_of i ≡ 1
       → ((a : D) (v : ℕ) → o.holds a v → o.holds (g a) (f v))
-      → ((stack_at : ℕ) (u : State) → after stack_at i u ≡ (word_in u from >>= λ a. set_register u dst (f a) 1))
+      → ((stack_at : ℕ) (u : State) → after stack_at i u ≡ (word_in u from >>? λ a. set_register u dst (f a) 1))
       → IsTrue (not (dst.number == 10)) → IsTrue (is_readable (s.registers from.number))
       → IsTrue (not (is_pointer (s.registers from.number))) → Covered o s t → Onward o bytes i s t
   unary_on i dst from s t g f falls one holds is not_r10 readable number c =
@@ -210,8 +210,8 @@ module _ {D : Type 0} {o : Ops D} (laws : Laws o) (bytes : List ℕ) (each : All
   load_on : (i : Insn) (dst base : Register) (size : Size) (offset : ℤ) (s : View D) (t : Tagged) (a : D) (f : ℕ → ℕ)
       → fall o i s ≡ Some (with_register s dst.number (Scalar a)) → slots_of i ≡ 1
       → ((v : ℕ) → v < 2 ^ (8 * bytes_of size) → o.holds a (f v))
-      → ((stack_at : ℕ) (u : State) → after stack_at i u ≡ (word_in u base >>= λ at. read_bytes u.memory
-      (address_of at offset) (bytes_of size) >>= λ v. set_register u dst (f v) 1))
+      → ((stack_at : ℕ) (u : State) → after stack_at i u ≡ (word_in u base >>? λ at. read_bytes u.memory
+      (address_of at offset) (bytes_of size) >>? λ v. set_register u dst (f v) 1))
       → IsTrue (not (dst.number == 10)) → Covered o s t → ReadAt bytes t.stack (t.registers base.number) offset
       (bytes_of size) → Onward o bytes i s t
   load_on i dst base size offset s t a f falls one holds is not_r10 c r =
@@ -257,7 +257,7 @@ module _ {D : Type 0} {o : Ops D} (laws : Laws o) (bytes : List ℕ) (each : All
   -- the state that an edge carries covers what takes it
   refined_on : (w : Width) (test : Test) (taken : Bool) (s : View D) (t : Tagged) (d : ℕ) (src : Source)
       → SourceFits src → Covered o s t → (a : NumberAt o (s.registers d) (t.registers d))
-      → (b : NumberAt o (operand o s src) (source_tag t src))
+      → (b : NumberAt o (operand_state o s src) (source_tag t src))
       → is_taken w test a.word b.word ≡ taken → (s' : View D) × (on_edge o w test taken s d src ≡ Some s')
       × Covered o s' t
   refined_on w test taken s t d (Imm n) f c a b e =
@@ -297,14 +297,14 @@ module _ {D : Type 0} {o : Ops D} (laws : Laws o) (bytes : List ℕ) (each : All
   jump_if_on w test dst src distance s t f c p fits to leads =
       let q = both (is_readable (s.registers dst.number)) (list_all (λ r. is_readable (s.registers r))
       (source_reads src)) (p UnreadableRule) in
-      let n = neither (is_pointer (s.registers dst.number)) (is_pointer (operand o s src)) (p PointerCompared) in
+      let n = neither (is_pointer (s.registers dst.number)) (is_pointer (operand_state o s src)) (p PointerCompared) in
       let a = number_at o (s.registers dst.number) (t.registers dst.number) q.0 n.0 (c.registers dst.number) in
-      let b = number_at o (operand o s src) (source_tag t src) (source_readable o s src q.1) n.1
+      let b = number_at o (operand_state o s src) (source_tag t src) (source_readable o s src q.1) n.1
       (covers_source s t c src f) in
       let turn : (taken : Bool) → is_taken w test a.word b.word ≡ taken → (q : Placement) (u : State)
       → Matches q bytes t u → after q.stack_at (JumpIf w test dst src distance) u
       ≡ go_to u (cond taken (target u.slot distance) (u.slot + 1)) = λ taken e q u m.
-      bind (word_in u dst) a.word (λ x. word_of u src >>= λ y. go_to u
+      bind (word_in u dst) a.word (λ x. word_of u src >>? λ y. go_to u
       (cond (is_taken w test x y) (target u.slot distance) (u.slot + 1))) _ (word_at q bytes t u m dst
       ∙ ap (raw_option q) a.is_tag)
       (bind (word_of u src) b.word (λ y. go_to u (cond (is_taken w test a.word y) (target u.slot distance) (u.slot
@@ -372,7 +372,7 @@ module _ {D : Type 0} {o : Ops D} (laws : Laws o) (bytes : List ℕ) (each : All
       let g = store_on z bytes placed t u m (address_of (raw z r.tag) offset) r.index (bytes_of size) v.word
       (r.address z placed) r.room in (
         g.0,
-        bind (word_in u base) (raw z r.tag) (λ at. word_in u src >>= λ word. store_at z.stack_at u
+        bind (word_in u base) (raw z r.tag) (λ at. word_in u src >>? λ word. store_at z.stack_at u
             (address_of at offset) (bytes_of size) word) (Some g.0) (word_at z bytes t u m base
             ∙ ap (raw_option z) r.is_tag)
             (bind (word_in u src) v.word (λ word. store_at z.stack_at u (address_of (raw z r.tag) offset)

@@ -10,7 +10,7 @@ use Rattle.instruction_set.specs.declared.insn.Insn.TheVariants.{Jump, JumpLong,
 use Rattle.instruction_set.specs.laws.Places.{some_slots, none_within, end_within}
 use Rattle.abstract_value.specs.Counts.{count_below}
 use Rattle.abstract_value.specs.Domain.{Ops, Laws}
-use Rattle.abstract_value.specs.States.{View, entry, put}
+use Rattle.abstract_value.specs.States.{View, first_view, put}
 use Rattle.abstract_value.specs.Pending.{held, room, size, peak_of, nothing, count_held, with_joined}
 use Rattle.abstract_value.specs.declared.pending.Pending.{Pending}
 use Rattle.abstract_value.specs.laws.Counting.{same_tells, count_more, count_one_more, count_none, count_some}
@@ -261,30 +261,30 @@ put_back f i v w =
     fun_ext (λ k. elim (k == i) as (λ b. cond b w (cond b v (f k)) ≡ cond b w (f k)) [ true ↦ refl | false ↦ refl ])
 
 -- at first one slot has a state
-pub one_at_first : {D : Type 0} (o : Ops D) (n : ℕ) → 0 < n → count_held (flow o nothing 0 (Some (entry {D = D}))) n ≡ 1
+pub one_at_first : {D : Type 0} (o : Ops D) (n : ℕ) → 0 < n → count_held (flow o nothing 0 (Some (first_view {D = D}))) n ≡ 1
 one_at_first o n h =
-    let p = λ (slot : ℕ). is_some (flow o nothing 0 (Some entry) slot) in
+    let p = λ (slot : ℕ). is_some (flow o nothing 0 (Some first_view) slot) in
     let c = count_one_more p (λ slot. false) n 0
     (λ slot e. elim (tells slot 0) [ inl p ↦ inl p.1 | inr p ↦ inr (rw p.0 at e) ]) in
     let z = count_none (λ slot. false) n (λ k. refl) in
-    let c0 : count_held (flow o nothing 0 (Some entry)) n ≤ count_below (λ slot. false) n + 1 = c.0 in
-    let d : 1 ≤ count_held (flow o nothing 0 (Some entry)) n = count_some p n 0 h refl in
+    let c0 : count_held (flow o nothing 0 (Some first_view)) n ≤ count_below (λ slot. false) n + 1 = c.0 in
+    let d : 1 ≤ count_held (flow o nothing 0 (Some first_view)) n = count_some p n 0 h refl in
     omega arith
 
 module _ {D : Type 0} {o : Ops D} (laws : Laws o) (len : ℕ) where
   -- at first the entry state waits for slot 0
   pub waits_first : (code : List Insn) (peak : ℕ) → IsCode code
-      → peak ≡ count_held (flow o nothing 0 (Some entry)) (slot_count code)
-      → IsPending len o code 0 (flow o nothing 0 (Some entry)) peak
+      → peak ≡ count_held (flow o nothing 0 (Some first_view)) (slot_count code)
+      → IsPending len o code 0 (flow o nothing 0 (Some first_view)) peak
   waits_first code peak is_code counted =
-      let first = flow o nothing 0 (Some entry) in
+      let first = flow o nothing 0 (Some first_view) in
       let sent = sent_first o code first first
       (λ slot. elim (tells slot 0) [ inl p ↦ rw p.0 refl | inr p ↦ rw p.0 refl ]) in
       record {
         whole = first;
         least = begun laws len code is_code;
         same = λ slot l. refl;
-        due = due_flow o code 0 nothing 0 (Some entry) (λ slot s e. absurd (cc)) (λ u e. (omega arith, inl refl));
+        due = due_flow o code 0 nothing 0 (Some first_view) (λ slot s e. absurd (cc)) (λ u e. (omega arith, inl refl));
         sent = sent;
         peaked = peak_first o code first first peak sent counted;
       }

@@ -3,7 +3,7 @@ use Rattle.std.specs.Prelude.{◌≡◌, ℕ, ◌+◌, ◌<◌, Option, Some, Is
 use Rattle.instruction_set.specs.Machine.{slots_of, insn_at, slot_count, record_len}
 use Rattle.instruction_set.specs.declared.insn.Insn.{Insn}
 use Rattle.abstract_value.specs.Domain.{Ops}
-use Rattle.abstract_value.specs.States.{View, ViewBelow, entry}
+use Rattle.abstract_value.specs.States.{View, ViewBelow, first_view}
 use Rattle.verifier.specs.declared.rule.Rule.{Rule}
 use Rattle.verifier.specs.Structure.{leads_to, IsStructured}
 use Rattle.verifier.specs.Rules.{PassesFor, FailsFirstFor, fall, jump}
@@ -24,7 +24,7 @@ EdgeCarries o states _ _ = Unit {0}
 -- the instructions before a slot fulfil the rules, for records of len bytes
 pub record FulfilsBeforeFor {D : Type 0} (len : ℕ) (o : Ops D) (code : List Insn) (end : ℕ)
     (states : Assignment D) : Type 0 where
-  pub start : Carries o states 0 entry
+  pub start : Carries o states 0 first_view
   pub inside : (slot : ℕ) (s : View D) → states slot ≡ Some s → IsSome (insn_at code slot)
   pub passes : (slot : ℕ) (i : Insn) (s : View D) → slot < end → insn_at code slot ≡ Some i → states slot ≡ Some s
       → PassesFor len o i s

@@ -14,7 +14,7 @@ pub record IsStateBeforeFor {D : Type 0} (len : ℕ) (o : Ops D) (code : List In
   pub least : IsLeastFor len o code slot states
   pub is_state : states slot ≡ Some s
 
--- each such assignment has no state there, or there is none
+-- each such assignment has no state there, or no such assignment exists
 abbrev pub HasNoStateFor : {D : Type 0} → ℕ → Ops D → List Insn → ℕ → Type 0
 HasNoStateFor {D} len o code slot = IsStructured code → (states : Assignment D) → IsLeastFor len o code slot states
     → states slot ≡ None

@@ -75,9 +75,9 @@ writes (LoadSx size dst base offset) = Some dst.number
 writes _ = None
 
 -- the second operand, a number of the instruction extended by its sign
-abbrev pub operand : {D : Type 0} → Ops D → View D → Source → RegState D
-operand o s (Imm n) = Scalar (o.single (cast_unsigned w64 n))
-operand o s (Reg r) = s.registers r.number
+abbrev pub operand_state : {D : Type 0} → Ops D → View D → Source → RegState D
+operand_state o s (Imm n) = Scalar (o.single (cast_unsigned w64 n))
+operand_state o s (Reg r) = s.registers r.number
 
 -- ---- moving an address
 
@@ -184,7 +184,7 @@ pointers_fit w Mov a b = not (is_pointer b)
 pointers_fit w op a b = not (is_pointer a || is_pointer b)
 
 abbrev pub meets_operation : {D : Type 0} → Ops D → Insn → View D → Bool
-meets_operation o (Alu width op dst src) s = pointers_fit width op (s.registers dst.number) (operand o s src)
+meets_operation o (Alu width op dst src) s = pointers_fit width op (s.registers dst.number) (operand_state o s src)
 meets_operation o (Neg width dst) s = not (is_pointer (s.registers dst.number))
 meets_operation o (MovSx width bits dst src) s = not (is_pointer (s.registers src.number))
 meets_operation o (End kind bits dst) s = not (is_pointer (s.registers dst.number))
@@ -208,12 +208,12 @@ operation_in_range o W64 Sub a b = sum_in_range o Sub a b
 operation_in_range o w op a b = true
 
 abbrev pub meets_range : {D : Type 0} → Ops D → Insn → View D → Bool
-meets_range o (Alu width op dst src) s = operation_in_range o width op (s.registers dst.number) (operand o s src)
+meets_range o (Alu width op dst src) s = operation_in_range o width op (s.registers dst.number) (operand_state o s src)
 meets_range o _ s = true
 
 abbrev pub meets_comparison : {D : Type 0} → Ops D → Insn → View D → Bool
 meets_comparison o (JumpIf width test dst src distance) s = not (is_pointer (s.registers dst.number)
-    || is_pointer (operand o s src))
+    || is_pointer (operand_state o s src))
 meets_comparison o _ s = true
 
 abbrev pub meets_stored : {D : Type 0} → Insn → View D → Bool
@@ -359,7 +359,7 @@ on_edge o w test taken s d (Reg r) = if d == r.number then Some s
 -- the state that goes on to the next instruction
 abbrev pub fall : {D : Type 0} → Ops D → Insn → View D → Option (View D)
 fall o (Alu width op dst src) s = Some (with_register s dst.number
-    (result_of o width op (s.registers dst.number) (operand o s src)))
+    (result_of o width op (s.registers dst.number) (operand_state o s src)))
 fall o (Neg width dst) s = Some (with_register s dst.number (of_scalar (o.neg width) (s.registers dst.number)))
 fall o (MovSx width bits dst src) s = Some (with_register s dst.number
     (of_scalar (o.mov_sx width bits) (s.registers src.number)))

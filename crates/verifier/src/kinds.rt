@@ -1,7 +1,7 @@
 //! Kinds of registers: numbers, addresses and unreadable ones.
 ghost use Rattle.std.specs.Prelude.{◌≡◌};
 ghost use Rattle.abstract_value.specs.States.{view};
-ghost use Rattle.verifier.specs.Rules.{is_readable, is_pointer, is_scalar, operand, writes};
+ghost use Rattle.verifier.specs.Rules.{is_readable, is_pointer, is_scalar, operand_state, writes};
 ghost use Rattle.verifier.specs.model.Values.{number_of};
 
 use abstract_value::{Domain, RegState, State};
@@ -30,7 +30,7 @@ pub(crate) fn is_scalar<D>(state: &RegState<D>) -> bool
 
 /// Returns the second operand: a register, or the sign-extended immediate.
 pub(crate) fn operand<D: Domain>(state: &State<D>, source: Source) -> RegState<D>
-    ensures { result ≡ operand D.ops (view state.now) source }
+    ensures { result ≡ operand_state D.ops (view state.now) source }
 {
     match source {
         Source::Imm(number) => RegState::Scalar(D::single((number as i64).cast_unsigned())),

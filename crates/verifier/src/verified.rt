@@ -29,11 +29,11 @@ impl Drop for VerifiedFor {
 }
 
 impl Model for VerifiedFor {
-    ghost use Rattle.verifier.specs.Stores.{CodeFor, IsRunnableFor, code_for};
+    ghost use Rattle.verifier.specs.Stores.{CodeFor, IsRunnableFor, code_with_len};
 
     ghost Value = { CodeFor };
 
-    ghost view = { λ v. code_for v.code v.context_len };
+    ghost view = { λ v. code_with_len v.code v.context_len };
 
     ghost invariant = { λ v. IsRunnableFor v.context_len v.code v.stores };
 }
@@ -43,13 +43,13 @@ impl VerifiedFor {
     ghost use Rattle.std.specs.List.{list_any};
     ghost use Rattle.instruction_set.specs.Machine.{IsSafeFor};
     ghost use Rattle.verifier.specs.Structure.{IsStructured};
-    ghost use Rattle.verifier.specs.Stores.{code_for, is_store};
+    ghost use Rattle.verifier.specs.Stores.{code_with_len, is_store};
 
     /// Marks code that is structured, and safe for contexts of this length, as verified.
     pub(crate) fn new(code: Code, context_len: u16) -> VerifiedFor
         requires safe { IsSafeFor context_len code }
         requires structured { IsStructured code }
-        ensures { result ≡ code_for code context_len }
+        ensures { result ≡ code_with_len code context_len }
     {
         let stores = has_store(code.insns());
         VerifiedFor {

@@ -6,7 +6,7 @@ ghost use Rattle.instruction_set.specs.Machine.{insn_at, slot_count, slots_of};
 ghost use Rattle.instruction_set.specs.Slots.{IsSelected};
 ghost use Rattle.abstract_value.specs.States.{View, view};
 ghost use Rattle.abstract_value.specs.Pending.{boxed_view, held, room, size, peak_of, nothing};
-ghost use Rattle.verifier.specs.Stores.{code_for};
+ghost use Rattle.verifier.specs.Stores.{code_with_len};
 ghost use Rattle.verifier.specs.Structure.{IsStructured, leads_to};
 ghost use Rattle.verifier.specs.Rules.{of_access, inside_stack, fall, jump};
 ghost use Rattle.verifier.specs.Assignments.{FailsLeastFor, IsTypable, IsTypableFor};
@@ -227,7 +227,7 @@ pub fn verify_peak_for<D: Domain>(
     context_len: u16,
 ) -> (Result<VerifiedFor, VerifyFault>, u32)
     // The result is the code passed in, for contexts of this length. Its type states that it is safe.
-    ensures accepted { IfOk result.0 (λ verified. verified ≡ code_for code context_len) }
+    ensures accepted { IfOk result.0 (λ verified. verified ≡ code_with_len code context_len) }
     ensures structured { IfOk result.0 (λ _. IsStructured code) }
     ensures typable { IfOk result.0 (λ _. IsTypableFor context_len D.ops code) }
     // A refusal names the slot and the rule, and no assignment fulfils the rules up to there.
@@ -268,7 +268,7 @@ pub fn verify_for<D: Domain>(
     context_len: u16,
 ) -> Result<VerifiedFor, VerifyFault>
     // The result is the code passed in, for contexts of this length. Its type states that it is safe.
-    ensures accepted { IfOk result (λ verified. verified ≡ code_for code context_len) }
+    ensures accepted { IfOk result (λ verified. verified ≡ code_with_len code context_len) }
     ensures structured { IfOk result (λ _. IsStructured code) }
     ensures typable { IfOk result (λ _. IsTypableFor context_len D.ops code) }
     // A refusal names the slot and the rule, and no assignment fulfils the rules up to there.

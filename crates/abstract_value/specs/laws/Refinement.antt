@@ -7,7 +7,7 @@ use Rattle.instruction_set.specs.declared.insn.Width.{Width}
 use Rattle.instruction_set.specs.declared.insn.Test.{Test}
 use Rattle.instruction_set.specs.declared.insn.Test.TheVariants.{Jeq, Jgt, Jge, Jset, Jne, Jsgt, Jsge, Jlt, Jle, Jslt, Jsle}
 use Rattle.abstract_value.specs.Domain.{Keeps, BelowPair}
-use Rattle.abstract_value.specs.Ranges.{interval_ops, make, nonempty, both, where_equal, without, where_different, where_greater, where_at_least, where_less, where_at_most, refine_row, interval_refine}
+use Rattle.abstract_value.specs.Ranges.{interval_ops, make, nonempty, both, where_equal, without_end, where_different, where_greater, where_at_least, where_less, where_at_most, refine_row, interval_refine}
 use Rattle.abstract_value.specs.laws.MadeRanges.{less_tells, Holds, IsBelow, within, below, held, below_made}
 use Rattle.abstract_value.specs.laws.Alu.{low_of_fits}
 use Rattle.abstract_value.specs.declared.intervals.Interval.{Interval}
@@ -170,7 +170,7 @@ cut_low_keeps lo n v h e = grind (arith, nat_tests)
 cut_high_keeps : (hi n v : ℕ) → v ≤ hi → v ≢ n → v ≤ cut_high hi n
 cut_high_keeps hi n v h e = grind (arith, nat_tests)
 
-without_holds : (a b : Interval) (v u : ℕ) → Holds a v → Holds b u → v ≢ u → HoldsIn (without a b) v
+without_holds : (a b : Interval) (v u : ℕ) → Holds a v → Holds b u → v ≢ u → HoldsIn (without_end a b) v
 without_holds a b v u h k e =
     let f : a.hi < 2 ^ 64 = a.fits in
     let m = cut_high_most a.hi b.lo in
@@ -183,7 +183,7 @@ without_holds a b v u h k e =
       | inr p ↦ rw p.0 h
     ]
 
-without_cuts : (a b c : Interval) → c.lo ≤ a.lo → a.hi ≤ c.hi → BelowIn (without a b) (Some c)
+without_cuts : (a b c : Interval) → c.lo ≤ a.lo → a.hi ≤ c.hi → BelowIn (without_end a b) (Some c)
 without_cuts a b c h k =
     let x = cut_low_least a.lo b.lo in
     let y = cut_high_most a.hi b.lo in
@@ -192,7 +192,7 @@ without_cuts a b c h k =
       | inr p ↦ rw p.0 (below a c h k)
     ]
 
-without_grows : (a b c d : Interval) → IsBelow a c → IsBelow b d → BelowIn (without a b) (without c d)
+without_grows : (a b c d : Interval) → IsBelow a c → IsBelow b d → BelowIn (without_end a b) (without_end c d)
 without_grows a b c d h k =
     let i = within a c h in
     let j = within b d k in
@@ -211,15 +211,15 @@ different_laws : (takes : ℕ → ℕ → Type 0) → ((v u : ℕ) → takes v u
 different_laws takes t = record {
   keeps = λ a b v u h k e.
       let n = t v u e in
-      both_keep (without a b) (without b a) v u (without_holds a b v u h k n)
+      both_keep (without_end a b) (without_end b a) v u (without_holds a b v u h k n)
       (without_holds b a u v k h (λ z. n (sym z)));
   grows = λ a b c d h k.
-      both_below (without a b) (without b a) (without c d) (without d c) (without_grows a b c d h k)
+      both_below (without_end a b) (without_end b a) (without_end c d) (without_end d c) (without_grows a b c d h k)
       (without_grows b a d c k h);
   cuts = λ a b c d h k.
       let i = within a c h in
       let j = within b d k in
-      both_below (without a b) (without b a) (Some c) (Some d) (without_cuts a b c i.0 i.1)
+      both_below (without_end a b) (without_end b a) (Some c) (Some d) (without_cuts a b c i.0 i.1)
       (without_cuts b a d j.0 j.1);
 }
 

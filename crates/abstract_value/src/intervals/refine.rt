@@ -50,7 +50,7 @@ fn equal(a: &Interval, b: &Interval) -> Option<(Interval, Interval)>
 
 // Drops an end that is the other range's only word.
 fn without(a: &Interval, b: &Interval) -> Option<Interval>
-    ensures { result ≡ ranges.without a.now b.now }
+    ensures { result ≡ ranges.without_end a.now b.now }
 {
     if b.lo != b.hi {
         return Some(*a);

@@ -3,7 +3,7 @@ ghost use Rattle.std.specs.Prelude.{◌≡◌, ℕ, ◌<◌, ◌≤◌, ◌+◌,
 ghost use Rattle.abstract_value.specs.Offsets.{least_offset, greatest_offset};
 ghost use Rattle.abstract_value.specs.StackBytes.{is_written, all_written, with_marks};
 ghost use Rattle.abstract_value.specs.StateOrder.{StateOrder};
-ghost use Rattle.abstract_value.specs.States.{make_span, span_join, reg_join, View, view, entry, view_join, with_register, with_written};
+ghost use Rattle.abstract_value.specs.States.{make_span, span_join, reg_join, View, view, first_view, view_join, with_register, with_written};
 
 use super::{RegState, Span, State};
 use crate::{Domain, StackState};
@@ -45,7 +45,7 @@ impl<D: Domain> RegState<D> {
 impl<D: Domain> State<D> {
     /// Creates the state at entry: R1 is the record's address, R10 the address just past the stack.
     pub fn entry() -> State<D>
-        ensures { view result ≡ entry }
+        ensures { view result ≡ first_view }
     {
         let mut registers = [RegState::Unreadable; 11];
         registers[1] = RegState::Record(Span::new(0, 0));

@@ -13,7 +13,7 @@ use Rattle.assembler_text.specs.Text.{Operand, OfRegister, OfImm, OfValue, OfAdd
 use Rattle.assembler_text.specs.Refusals.{OperandKind, ARegister, ASource, AnImm, AValue, AnAddress, AStep, ALongStep}
 use Rattle.assembler_text.specs.model.Words.{front, rest, word, after}
 use Rattle.assembler_text.specs.model.Mnemonics.{mnemonic_at}
-use Rattle.assembler_text.specs.model.Results.{◌>>=◌}
+use Rattle.refusals.specs.Answers.{◌>>=◌}
 use Rattle.assembler_text.specs.model.Reading.{imm_at, value_at, step_at}
 use Rattle.assembler_text.specs.model.Operands.{register_at, source_at, address_at, comma, end_at}
 

@@ -10,7 +10,7 @@ use Rattle.assembler_text.specs.declared.faults.Fault.TheVariants as fault
 use Rattle.assembler_text.specs.declared.lexer.Class.TheVariants as class
 use Rattle.assembler_text.specs.declared.operand.TheConstants.{REGISTERS}
 use Rattle.assembler_text.specs.model.Words.{front, rest, lookup}
-use Rattle.assembler_text.specs.model.Results.{◌>>=◌}
+use Rattle.refusals.specs.Answers.{◌>>=◌}
 use Rattle.assembler_text.specs.model.Reading.{asked, strip, imm_at, step_at}
 
 abbrev pub register : (n : ℕ) → n ≤ 10 → Register

@@ -2,7 +2,7 @@
 use Rattle.std.specs.Prelude.{◌≡◌, ℕ, ◌+◌, ◌*◌, Bool, false, ◌==◌, nat_lt, nat_le, if◌then◌else◌, List, [], ◌∷◌, Option, Some, None, Result, Ok, Err, ℤ, pos, neg_ℤ, option_and_then}
 use Rattle.std.specs.Char.{digit_value}
 use Rattle.std.specs.Int.{w32, cast_signed}
-use Rattle.assembler_text.specs.model.Results.{◌>>=◌}
+use Rattle.refusals.specs.Answers.{◌>>=◌}
 use Rattle.assembler_text.specs.declared.faults.Fault.{Fault}
 use Rattle.assembler_text.specs.declared.faults.Fault.TheVariants as fault
 

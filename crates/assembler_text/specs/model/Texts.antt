@@ -3,7 +3,7 @@ use Rattle.std.specs.Prelude.{◌≡◌, ℕ, ◌+◌, nat_le, if◌then◌else�
 use Rattle.instruction_set.specs.Machine.{slots_of}
 use Rattle.instruction_set.specs.Slots.{max_slots}
 use Rattle.instruction_set.specs.declared.insn.Insn.{Insn}
-use Rattle.assembler_text.specs.model.Results.{◌>>=◌}
+use Rattle.refusals.specs.Answers.{◌>>=◌}
 use Rattle.assembler_text.specs.declared.faults.Fault.{Fault}
 use Rattle.assembler_text.specs.declared.faults.LineFault.{LineFault}
 use Rattle.assembler_text.specs.declared.faults.LineFault.TheVariants.{Line, TooLong, Empty}

@@ -4,15 +4,15 @@ use Rattle.std.specs.Str.{bytes_eq}
 use Rattle.std.specs.List.{prefix_len}
 use Rattle.assembler_text.specs.declared.lexer.Class.{Class}
 use Rattle.assembler_text.specs.declared.lexer.Class.TheVariants.{Blank, Operand}
-use Rattle.assembler_text.specs.Words.{is_in}
+use Rattle.assembler_text.specs.Words.{is_of_class}
 
 -- the text up to the first character that isn't of the class
 abbrev pub front : Class → List ℕ → List ℕ
-front class text = take (prefix_len (is_in class) text) text
+front class text = take (prefix_len (is_of_class class) text) text
 
 -- the text from there on
 abbrev pub rest : Class → List ℕ → List ℕ
-rest class text = drop (prefix_len (is_in class) text) text
+rest class text = drop (prefix_len (is_of_class class) text) text
 
 -- the operand at the front of a text, without the blanks around it, and the text after it
 abbrev pub word : List ℕ → List ℕ

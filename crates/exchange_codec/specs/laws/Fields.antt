@@ -10,7 +10,8 @@ use lib.Dec.{T}
 use Rattle.std.proofs.lemmas.Nat.{le_bytes_4, le_bytes_8, from_le_bytes-to_le_bytes_4, from_le_bytes-to_le_bytes_8}
 use Rattle.exchange_codec.specs.declared.fault.FieldFault.TheVariants.{Cut, Trailing, Count}
 use Rattle.exchange_codec.specs.declared.fault.Fault.{Fault}
-use Rattle.exchange_codec.specs.Reading.{◌>>=◌, wrong, number_at, header_at, header_fault, count_at, ended}
+use Rattle.refusals.specs.Answers.{◌>>=◌}
+use Rattle.exchange_codec.specs.Reading.{wrong, number_at, header_at, header_fault, count_at, ended}
 
 abbrev pub IsBytes : List ℕ → Type 0
 IsBytes bytes = (i : ℕ) → get_or bytes i 0 < 256

@@ -6,7 +6,8 @@ use Rattle.std.proofs.lemmas.List.{take_at, drop_at, take-append-drop, length-ap
 use Rattle.clash_record.specs.declared.registrations.Owner.{Owner}
 use Rattle.clash_record.specs.declared.registrations.Builtin.TheVariants.{Exit, Notify, NotifyAll}
 use Rattle.exchange_codec.specs.declared.fault.FieldFault.TheVariants as wrongs
-use Rattle.exchange_codec.specs.Reading.{◌>>=◌, number_at, bytes_at, count_at}
+use Rattle.refusals.specs.Answers.{◌>>=◌}
+use Rattle.exchange_codec.specs.Reading.{number_at, bytes_at, count_at}
 use Rattle.exchange_codec.specs.Names.{name_bytes, name_at}
 use Rattle.exchange_codec.specs.Rows.{max_code, ResolverText, ByBuiltin, Named, Code, RowText, sized_code, resolver_bytes, owner_bytes, row_bytes, IsResolver, IsRow, resolver_at, owner_at, row_at}
 use Rattle.exchange_codec.specs.laws.Fields.{IsBytes, IsBytes-drop, IsBytes-rest, bind_ok, guard_ok, ok_is, Takes, Takes-then, wide32, wide64, number_takes, number_again, count_takes, count_again}

@@ -1,4 +1,4 @@
--- What a side's state keeps of the comparison of the two tables of its open exchange.
+-- The comparison of the two tables of an open exchange that a side's state keeps.
 use Rattle.std.specs.Prelude.{◌≡◌, ℕ, Bool, List, Option, length, map}
 use Rattle.std.specs.Option.{option_map, option_and_then}
 use Rattle.std.specs.Arc.{arc_value}

@@ -1,4 +1,4 @@
--- What a finished exchange keeps of its clashes.
+-- The marks of clashes that a finished exchange keeps.
 use Rattle.std.specs.Prelude.{◌≡◌, map}
 use Rattle.partition_table.specs.Tables.{has_first}
 use Rattle.exchange_core.specs.declared.finished.Finished.TheInside.{Inside}

@@ -15,7 +15,7 @@ use Rattle.builtin_resolvers.specs.declared.verdicts.Verdict3.{Verdict3}
 use Rattle.partition_table.specs.laws.Sameness.{registration_decides}
 use Rattle.exchange_law.specs.Sides.{without}
 use Rattle.clash_record.specs.Name.{Name}
-use Rattle.partition_table.specs.Tables.{Row, Table, Clash, facts_of, same_registration, clash_of, clash_at, clashes, differ, clash_names, merged_at, answer_at, Gone, holds, unless_gone, tabulated, with_row, merge, IsMerge, is_name, is_in}
+use Rattle.partition_table.specs.Tables.{Row, Table, Clash, facts_of, same_registration, clash_of, clash_at, clashes, differ, clash_names, merged_at, answer_at, Gone, holds, unless_gone, tabulated, with_row, merge, IsMerge, is_same_name, is_in}
 
 pub from_is_eq : (o : Ordering) → is_eq o ≡ true → o ≡ Equal
 from_is_eq Less e = cc
@@ -131,7 +131,7 @@ get_without [] table q = refl
 get_without (name ∷ names) table q =
     get_without names (remove table name) q
     ∙ ap (cond (is_in q names) None) (get-remove names_total table name q)
-    ∙ by_tests (is_name q name) (is_in q names)
+    ∙ by_tests (is_same_name q name) (is_in q names)
   where
     by_tests : (here later : Bool) →
         cond later None (cond here None (get table q)) ≡ cond (here || later) None (get table q)

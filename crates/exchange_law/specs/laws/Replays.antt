@@ -9,7 +9,7 @@ use Rattle.std.specs.FinMap.{contains_key}
 use Rattle.clash_record.specs.declared.side_id.SideId.{SideId}
 use Rattle.clash_record.specs.Name.{Name}
 use Rattle.clash_record.specs.laws.Orders.{names_total}
-use Rattle.partition_table.specs.Tables.{Table, Clash, IsOneOfFour, is_name, is_in}
+use Rattle.partition_table.specs.Tables.{Table, Clash, IsOneOfFour, is_same_name, is_in}
 use Rattle.exchange_law.specs.Sides.{answer_in, Offer, Withdrawals, Judged, Heard, Exchange, Side, fit_for, clashes_heard, clashes_of, hear_first, hear_in, hear, is_lawful, take_heard, take_in, take, withdraw_in, withdraw, close_in, close_list, hear_list_in, hear_list, finish}
 use Rattle.exchange_law.specs.Calls.{IsJournal}
 use Rattle.exchange_law.specs.Lists.{AreNamesOf}
@@ -34,7 +34,7 @@ pub record HeardHolds (side : Side) (exchange : Exchange) (heard : Heard) : Type
 pub record OpenHolds (side : Side) (exchange : Exchange) : Type 0 where
   pub latest : side.latest ≡ Some exchange.number
   pub there : list_all (contains_key side.table) exchange.withdrawn ≡ true
-  pub distinct : IsDistinct is_name exchange.withdrawn
+  pub distinct : IsDistinct is_same_name exchange.withdrawn
   pub heard : (heard : Heard) → exchange.heard ≡ Some heard → HeardHolds side exchange heard
 
 pub record Holds (id : SideId) (side : Side) : Type 0 where
@@ -49,25 +49,25 @@ one_more_there p (n ∷ names) name all e =
     let h = and_parts _ _ all in
     ap (λ (x : Bool × Bool). x.0 && x.1) (λ i. (h.0 i, one_more_there p names name h.1 e i))
 
-pub is_name_equivalence : IsEquivalence is_name
+pub is_name_equivalence : IsEquivalence is_same_name
 is_name_equivalence = eq_by_cmp_equiv names_total
 
 -- a name that comes after names other than it
-apart_after : (name n : Name) (names : List Name) → AllByRecursion (λ y. is_name n y ≡ false) names →
-    is_name name n ≡ false → AllByRecursion (λ y. is_name n y ≡ false) (names ++ name ∷ [])
+apart_after : (name n : Name) (names : List Name) → AllByRecursion (λ y. is_same_name n y ≡ false) names →
+    is_same_name name n ≡ false → AllByRecursion (λ y. is_same_name n y ≡ false) (names ++ name ∷ [])
 apart_after name n [] h e = (is_name_equivalence.symm n name ∙ e, tt)
 apart_after name n (m ∷ names) h e = (h.0, apart_after name n names h.1 e)
 
-pub none_apart : IsDistinct is_name []
+pub none_apart : IsDistinct is_same_name []
 unfolding IsDistinct
 none_apart = tt
 
-one_more_apart : (names : List Name) (name : Name) → IsDistinct is_name names → is_in name names ≡ false →
-    IsDistinct is_name (names ++ name ∷ [])
+one_more_apart : (names : List Name) (name : Name) → IsDistinct is_same_name names → is_in name names ≡ false →
+    IsDistinct is_same_name (names ++ name ∷ [])
 unfolding IsDistinct
 one_more_apart [] name h e = (tt, tt)
 one_more_apart (n ∷ names) name h e =
-    let parts = or_parts (is_name name n) (is_in name names) e in
+    let parts = or_parts (is_same_name name n) (is_in name names) e in
     (apart_after name n names h.0 parts.0, one_more_apart names name h.1 parts.1)
 
 module _ {id : SideId} {side : Side} (h : Holds id side) where
@@ -103,7 +103,7 @@ module _ {id : SideId} {side : Side} (h : Holds id side) where
   -- the exchange changes in what is not heard
   still_heard : (exchange : Exchange) → OpenHolds side exchange → (withdrawn : List Name) (closed : Bool)
       (theirs : Option (List Name)) → list_all (contains_key side.table) withdrawn ≡ true →
-      IsDistinct is_name withdrawn →
+      IsDistinct is_same_name withdrawn →
       OpenHolds side (record exchange { withdrawn = withdrawn; closed = closed; their_list = theirs })
   still_heard exchange o withdrawn closed theirs there distinct = record {
     latest = o.latest;

@@ -15,7 +15,7 @@ use Rattle.clash_record.specs.declared.registrations.Registration.{Registration}
 use Rattle.clash_record.specs.declared.records.Facts.{Facts}
 use Rattle.clash_record.specs.laws.Orders.{names_total, names_exact, registrations_total, registrations_exact}
 use Rattle.clash_record.specs.Name.{Name}
-use Rattle.partition_table.specs.Tables.{Row, Table, Clash, is_name, same_registration, same_code, same_row, same_entry, same_table, same_facts, same_clash}
+use Rattle.partition_table.specs.Tables.{Row, Table, Clash, is_same_name, same_registration, same_code, same_row, same_entry, same_table, same_facts, same_clash}
 
 -- a test that tells when two are equal is an equivalence
 pub equivalent_by : {A : Type 0} {E : A → A → Bool} → ((x y : A) → Decides (E x y) (x ≡ y)) → IsEquivalence E
@@ -33,7 +33,7 @@ by_order : {A : Type 0} {R : A → A → Ordering} → IsTotalOrder R → IsAnti
 by_order {R = R} total exact x y =
     (λ t. exact x y ((Equal-is (R x y)).0 t), λ e. ap (λ u. is_eq (R x u)) (sym e) ∙ ap is_eq (tied_itself total x))
 
-pub name_decides : (n m : Name) → Decides (is_name n m) (n ≡ m)
+pub name_decides : (n m : Name) → Decides (is_same_name n m) (n ≡ m)
 name_decides = by_order names_total names_exact
 
 pub registration_decides : (r s : Registration) → Decides (same_registration r s) (r ≡ s)

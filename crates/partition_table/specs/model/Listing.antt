@@ -1,4 +1,4 @@
--- How a merge goes through the clashes of two tables with the names of the first.
+-- The walk of a merge over the clashes of two tables and the names of the first.
 use Rattle.std.specs.Prelude.{if◌then◌else◌, Option, Some, None, List, [], ◌∷◌}
 use Rattle.std.specs.Borrow.{Bor}
 use Rattle.std.specs.Slice.Iter.{iter_rest}
@@ -6,7 +6,7 @@ use Rattle.clash_record.specs.declared.registrations.Registration.{Registration}
 use Rattle.clash_record.specs.Name.{Name}
 use Rattle.builtin_resolvers.specs.declared.verdicts.Verdict3.{Verdict3}
 use Rattle.builtin_resolvers.specs.declared.verdicts.Verdict3.TheVariants.{First, Second, Neither}
-use Rattle.partition_table.specs.Tables.{Clash, is_name}
+use Rattle.partition_table.specs.Tables.{Clash, is_same_name}
 use Rattle.partition_table.specs.declared.upcoming.Upcoming.{Upcoming}
 use Rattle.partition_table.specs.model.Merging.{answers_behind}
 
@@ -28,14 +28,14 @@ chosen clash Neither = None
 -- what is kept under a name with this registration, where these clashes are ahead
 abbrev pub kept_of : Name → Registration → List Clash → Verdict3 → Option Registration
 kept_of name mine [] x = Some mine
-kept_of name mine (c ∷ cs) x = if is_name c.name name then chosen c x else Some mine
+kept_of name mine (c ∷ cs) x = if is_same_name c.name name then chosen c x else Some mine
 
 -- the clashes after a name
 abbrev pub clashes_behind : Name → List Clash → List Clash
 clashes_behind name [] = []
-clashes_behind name (c ∷ cs) = if is_name c.name name then cs else c ∷ cs
+clashes_behind name (c ∷ cs) = if is_same_name c.name name then cs else c ∷ cs
 
 -- the answers after a name
 abbrev pub answers_ahead : Name → List Clash → List Verdict3 → List Verdict3
 answers_ahead name [] xs = xs
-answers_ahead name (c ∷ cs) xs = if is_name c.name name then answers_behind xs else xs
+answers_ahead name (c ∷ cs) xs = if is_same_name c.name name then answers_behind xs else xs

@@ -10,7 +10,7 @@ use Rattle.std.specs.Map.Iter.{deref_pair}
 use Rattle.clash_record.specs.declared.registrations.Registration.{Registration}
 use Rattle.clash_record.specs.Orders.{name_cmp}
 use Rattle.clash_record.specs.Name.{Name}
-use Rattle.partition_table.specs.Tables.{Table, is_name, same_registration}
+use Rattle.partition_table.specs.Tables.{Table, is_same_name, same_registration}
 use Rattle.partition_table.specs.declared.paired.Ahead.{Ahead}
 use Rattle.partition_table.specs.declared.paired.Paired.{Paired}
 
@@ -64,7 +64,7 @@ IsPaired a b item =
 
 -- a name and its registration are those of another row
 abbrev pub is_row : Name × Registration → Name × Registration → Bool
-is_row e f = is_name e.0 f.0 && same_registration e.1 f.1
+is_row e f = is_same_name e.0 f.0 && same_registration e.1 f.1
 
 -- the name comes after the last one, if there is one
 abbrev pub IsPast : Option Name → Name → Type 0

@@ -13,7 +13,7 @@ use Rattle.verifier.specs.declared.refusal.Refusal.{Refusal}
 use Rattle.verifier.specs.declared.refusal.VerifyFault.{VerifyFault}
 use Rattle.verifier.specs.declared.refusal.VerifyFault.TheVariants.{Refused, OutOfMemory}
 use Rattle.abstract_value.specs.Domain.{Ops}
-use Rattle.verifier.specs.Programs.{program_fault_number}
+use Rattle.verifier.specs.Programs.{program_fault_number, IsLoadFaultOver, IsRejectedOver}
 use Rattle.verifier.specs.declared.program_fault.ProgramFault.{ProgramFault}
 use Rattle.verifier.specs.declared.program_fault.ProgramFault.TheVariants.{Codec, Verify}
 
@@ -22,20 +22,7 @@ pub converted : {A F : Type 0} (r : Result A F) (x : F) → IsErr r × IsErrAnd 
 converted (Err y) x h = ap Err h.1
 converted (Ok a) x h = let e = h.0 in absurd (cc)
 
--- the bytes spell code that fails this rule at this slot
-abbrev pub IsRejected : {D : Type 0} → ℕ → Ops D → List ℕ → Refusal → Type 0
-IsRejected len o bytes r =
-    (code : List Insn) × Spells bytes code × IsRefusedAtFor len o code r.slot r.rule
-
--- what a fault of the bytes states of them
-pub record AreFaults {D : Type 0} (len : ℕ) (o : Ops D) (bytes : List ℕ) (IsFault : ProgramFault → Type 0)
-    : Type 0 where
-  pub codec : (f : CodecFault) → IsFault (Codec f) → IsFirstFault bytes f
-  pub refused : (r : Refusal) → IsFault (Verify (Refused r)) → IsRejected len o bytes r
-  pub memory : IsFault (Verify OutOfMemory) → ⊥
-
-module _ {D : Type 0} {len : ℕ} {o : Ops D} {bytes : List ℕ} {IsFault : ProgramFault → Type 0}
-    (faults : AreFaults len o bytes IsFault) where
+module _ {D : Type 0} (len : ℕ) (o : Ops D) (bytes : List ℕ) where
   -- ---- bytes that aren't decoded, by this fault
 
   module _ (e : CodecFault) where
@@ -49,18 +36,16 @@ module _ {D : Type 0} {len : ℕ} {o : Ops D} {bytes : List ℕ} {IsFault : Prog
     pub codec_told : {A : Type 0} → ((code : List Insn) → Spells bytes code
         → ReturnsOrRunsOut {A = List Insn} fault_number (Err e) (Ok code))
         → ((f : CodecFault) → IsFirstFault bytes f → ReturnsOrRunsOut {A = List Insn} fault_number (Err e) (Err f))
-        → (fault : ProgramFault) → IsFault fault
+        → (fault : ProgramFault) → IsLoadFaultOver o len bytes fault
         → ReturnsOrRunsOut {A = A} program_fault_number (Err (Codec e)) (Err fault)
-    codec_told {A} read told (Codec f) h = by (told f (faults.codec f h))
+    codec_told {A} read told (Codec f) h = by (told f h)
       where
         by : ReturnsOrRunsOut {A = List Insn} fault_number (Err e) (Err f)
             → ReturnsOrRunsOut {A = A} program_fault_number (Err (Codec e)) (Err (Codec f))
         by (inl same) = let one : e ≡ f = cc in inl (ap (λ x. Err (Codec x)) one)
         by (inr out) = inr out
-    codec_told read told (Verify (Refused r)) h =
-        let c = faults.refused r h in
-        codec_taken c.0 (read c.0 c.1)
-    codec_told read told (Verify OutOfMemory) h = absurd (faults.memory h)
+    codec_told read told (Verify (Refused r)) h = codec_taken h.code (read h.code h.spelled)
+    codec_told read told (Verify OutOfMemory) h = absurd h
 
   -- ---- bytes that spell this code
 
@@ -81,23 +66,22 @@ module _ {D : Type 0} {len : ℕ} {o : Ops D} {bytes : List ℕ} {IsFault : Prog
         absurd (judged r (subst IsStructured same structured) (subst (IsTypableFor len o) same typable) h)
 
     -- the refusal that a fault states is one of this code
-    is_refused : (r : Refusal) → IsFault (Verify (Refused r)) → IsRefusedAtFor len o code r.slot r.rule
+    is_refused : (r : Refusal) → IsRejectedOver o len bytes r → IsRefusedAtFor len o code r.slot r.rule
     is_refused r h =
-        let c = faults.refused r h in
-        subst (λ d. IsRefusedAtFor len o d r.slot r.rule) (one_code bytes c.0 code c.1 spelled) c.2
+        subst (λ d. IsRefusedAtFor len o d r.slot r.rule) (one_code bytes h.code code h.spelled spelled) h.refused
 
     pub refused_told : {A : Type 0} (v : VerifyFault) → HasCause verify_fault_number (IsRefusedFor len o code) v
-        → (fault : ProgramFault) → IsFault fault
+        → (fault : ProgramFault) → IsLoadFaultOver o len bytes fault
         → ReturnsOrRunsOut {A = A} program_fault_number (Err (Verify v)) (Err fault)
     refused_told v (inr out) fault k = inr out
     refused_told OutOfMemory (inl h) fault k = absurd h
-    refused_told (Refused r) (inl h) (Codec f) k = absurd (either bytes code f spelled (faults.codec f k))
-    refused_told (Refused r) (inl h) (Verify OutOfMemory) k = absurd (faults.memory k)
+    refused_told (Refused r) (inl h) (Codec f) k = absurd (either bytes code f spelled k)
+    refused_told (Refused r) (inl h) (Verify OutOfMemory) k = absurd k
     refused_told (Refused r) (inl h) (Verify (Refused s)) k =
         inl (ap (λ x. Err (Verify (Refused x))) (one_refusal r s h (is_refused s k)))
 
     pub accepted_told : {A : Type 0} → IsStructured code → IsTypableFor len o code → (result : A) (fault : ProgramFault)
-        → IsFault fault → ReturnsOrRunsOut program_fault_number (Ok result) (Err fault)
-    accepted_told s t result (Codec f) k = absurd (either bytes code f spelled (faults.codec f k))
-    accepted_told s t result (Verify OutOfMemory) k = absurd (faults.memory k)
+        → IsLoadFaultOver o len bytes fault → ReturnsOrRunsOut program_fault_number (Ok result) (Err fault)
+    accepted_told s t result (Codec f) k = absurd (either bytes code f spelled k)
+    accepted_told s t result (Verify OutOfMemory) k = absurd k
     accepted_told s t result (Verify (Refused r)) k = absurd (judged r s t (is_refused r k))

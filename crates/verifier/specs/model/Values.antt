@@ -7,7 +7,7 @@ use Rattle.abstract_value.specs.Domain.{Ops}
 use Rattle.abstract_value.specs.States.{View, with_register}
 use Rattle.abstract_value.specs.declared.states.RegState.{RegState}
 use Rattle.abstract_value.specs.declared.states.RegState.TheVariants.{Scalar, Unreadable}
-use Rattle.verifier.specs.Rules.{operand, result_of, of_scalar}
+use Rattle.verifier.specs.Rules.{operand_state, result_of, of_scalar}
 
 -- the number of a register, if there is one
 abbrev pub number_of : Option Register → Option ℕ
@@ -16,7 +16,7 @@ number_of (Some r) = Some r.number
 
 -- the destination's contents after an instruction that writes a register
 abbrev pub value_of : {D : Type 0} → Ops D → Insn → View D → RegState D
-value_of o (Alu width op dst src) s = result_of o width op (s.registers dst.number) (operand o s src)
+value_of o (Alu width op dst src) s = result_of o width op (s.registers dst.number) (operand_state o s src)
 value_of o (Neg width dst) s = of_scalar (o.neg width) (s.registers dst.number)
 value_of o (MovSx width bits dst src) s = of_scalar (o.mov_sx width bits) (s.registers src.number)
 value_of o (End kind bits dst) s = of_scalar (o.end kind bits) (s.registers dst.number)

@@ -1,7 +1,7 @@
 use Rattle.std.proofs.Common.{◌≡◌, ◌≢◌, ◌≤◌, ◌+◌, max, ap, sym, subst, refl, ◌∙◌, Some, arith}
 use Rattle.instruction_set.specs.Machine.{slot_count}
 use Rattle.instruction_set.specs.laws.Places.{insn_within}
-use Rattle.abstract_value.specs.States.{view, entry}
+use Rattle.abstract_value.specs.States.{view, first_view}
 use Rattle.abstract_value.specs.Pending.{held, room, size, count_held, peak_of, nothing}
 use Rattle.verifier.specs.Width.{widest}
 use Rattle.verifier.specs.model.Flow.{flow}
@@ -15,7 +15,7 @@ pub loop-insn-init : goal.loop-insn-init
 loop-insn-init g c =
     let o = g.D.Domain.ops in
     let code = c.args.code.now in
-    let first = flow o nothing 0 (Some entry) in
+    let first = flow o nothing 0 (Some first_view) in
     let e : held c.put.new.self ≡ first =
     c.put.ensures.states ∙ ap (λ x. flow o x 0 (Some (view c.in_ok-new.field-0.value))) c.requires.none
     ∙ ap (λ s. flow o nothing 0 (Some s)) (ap view c.in_ok-new.ensures.ok ∙ c.entry.ensures) in

@@ -1,7 +1,7 @@
 use Rattle.std.proofs.Common.{◌≡◌, ℕ, zero, suc, ◌∙◌, ◌==◌, ◌<◌, cond, ap₂, arith, refl, false, List, [], ◌∷◌, get_or}
 use Rattle.std.proofs.lemmas.Bool.Decides.{nat_tests}
 use Rattle.std.specs.Prelude.{pos}
-use Rattle.abstract_value.specs.States.{entry, make_span}
+use Rattle.abstract_value.specs.States.{first_view, make_span}
 use Rattle.abstract_value.specs.declared.states.RegState.{RegState}
 use Rattle.abstract_value.specs.declared.states.Span.{Span}
 use Rattle.abstract_value.specs.declared.states.RegState.TheVariants.{Record, Stack, Unreadable}
@@ -39,7 +39,7 @@ at_start (suc (suc (suc (suc (suc (suc (suc (suc (suc (suc (suc r))))))))))) a b
 
 pub returns : goal.returns
 returns g c =
-    view_ext _ entry
+    view_ext _ first_view
     (λ r. ap₂ (λ (a b : Span). get_or (starting a b) r Unreadable) c.new.ensures c.new-2.ensures
     ∙ at_start r (make_span (pos 0) (pos 0)) (make_span (pos 0) (pos 0)))
     c.empty.ensures

@@ -1,9 +1,8 @@
-use Rattle.std.proofs.Common.{true, false, Option, Some, List, [], ◌∷◌, ◌++◌, map, ap, sym, ◌∙◌}
+use Rattle.std.proofs.Common.{◌≡◌, true, false, Some, List, [], ◌∷◌, ◌++◌, map, ap, sym, ◌∙◌}
 use Rattle.std.specs.Option.{option_map}
 use Rattle.std.specs.Arc.{arc_value}
 use Rattle.std.specs.FinMap.{get}
 use Rattle.std.specs.List.{filter_map}
-use Rattle.instruction_set.specs.declared.insn.Insn.{Insn}
 use Rattle.clash_record.specs.Name.{Name}
 use Rattle.clash_record.specs.Orders.{registration_cmp}
 use Rattle.partition_table.specs.Tables.{Clash, has_first}
@@ -20,14 +19,14 @@ returns-in_ok-program-in-Less c =
     (get a.table.now c.args.name.now) (get b.table.now c.args.name.now)
     (option_map (λ p. arc_value p.now) c.program_for-program.result) c.requires.mine c.requires.other
     (sym c.in-Less.ensures) (c.program_for-program.ensures.each c.args.name.now) in
-    let made = c.new-clash.ensures ∙ ap (λ (code : Option (List Insn)). record {
+    let made : ◌≡◌ {A = Clash} _ _ = c.new-clash.ensures ∙ (λ i. record {
       name = c.args.name.now;
-      first = c.args.mine.now;
-      second = c.args.other.now;
-      of_first = a.facts;
-      of_second = b.facts;
-      code = code;
-    }) c.in_ok-program-in-Less.ensures in
+      first = (c.with-first.ensures i).registration;
+      second = (c.with-second.ensures i).registration;
+      of_first = (c.with-first.ensures i).facts;
+      of_second = (c.with-second.ensures i).facts;
+      code = c.in_ok-program-in-Less.ensures i;
+    }) in
     let found = λ (names : List Name). one_more_found c.args.self.now.clashes.items c.push_reserved.new.self.items
     (filter_map (clash_by_name a.facts a.table.now b.facts b.table.now) names) _ c.new-clash.result
     (at ∙ ap Some (sym made)) (c.push_reserved.ensures.items
@@ -46,14 +45,14 @@ returns-in_ok-program-in-Greater c =
     (get a.table.now c.args.name.now) (get b.table.now c.args.name.now)
     (option_map (λ p. arc_value p.now) c.program_for-program-in-Greater.result) c.requires.mine c.requires.other
     (sym c.in-Greater.ensures) (c.program_for-program-in-Greater.ensures.each c.args.name.now) in
-    let made = c.new-clash-in-Greater.ensures ∙ ap (λ (code : Option (List Insn)). record {
+    let made : ◌≡◌ {A = Clash} _ _ = c.new-clash-in-Greater.ensures ∙ (λ i. record {
       name = c.args.name.now;
-      first = c.args.other.now;
-      second = c.args.mine.now;
-      of_first = b.facts;
-      of_second = a.facts;
-      code = code;
-    }) c.in_ok-program-in-Greater.ensures in
+      first = (c.with-first-in-Greater.ensures i).registration;
+      second = (c.with-second-in-Greater.ensures i).registration;
+      of_first = (c.with-first-in-Greater.ensures i).facts;
+      of_second = (c.with-second-in-Greater.ensures i).facts;
+      code = c.in_ok-program-in-Greater.ensures i;
+    }) in
     let found = λ (names : List Name). one_more_found c.args.self.now.clashes.items c.push_reserved-in-Greater.new.self.items
     (filter_map (clash_by_name a.facts a.table.now b.facts b.table.now) names) _ c.new-clash-in-Greater.result
     (at ∙ ap Some (sym made)) (c.push_reserved-in-Greater.ensures.items

@@ -1,5 +1,5 @@
 use Rattle.std.proofs.Common.{◌≡◌, ◌≤◌, length}
-use Rattle.registry_lock.specs.Meeting.{Keeps}
+use Rattle.registry_lock.specs.Meeting.{StillSees}
 use Rattle.registry_lock.specs.Telling.{IsTold}
 use Rattle.registry_lock.proofs.inbox.Inbox.empty_into.Given as goal
 
@@ -7,7 +7,7 @@ use Rattle.registry_lock.proofs.inbox.Inbox.empty_into.Given as goal
 abbrev pub invariant-loop-turn : goal.invariant-loop-turn
 invariant-loop-turn g l = record {
   place : l.pass.place ≡ l.board.place;
-  kept : Keeps l.fn.pass l.pass;
+  kept : StillSees l.fn.pass l.pass;
   told : IsTold l.pass l._turn l.fn.side l.side;
   few : l._turn ≤ l._turn-end;
   end : l._turn-end ≡ length l.board.place.clashes;
