@@ -8,7 +8,7 @@ import registry
 from machine import U64, Refused, refuse
 
 MAX_LINE = 20_000
-# What follows each first word.
+# The words that follow each first word.
 LINES = {b"upload": rb"(\S+) (\S+)", b"register": rb"([ab]) (\S+) (\S+) (\S+) (\S+) (\S+) (\S+)",
          b"unregister": rb"([ab]) (\S+)", b"whereis": rb"([ab]) (\S+)", b"show": rb"([ab])",
          b"heal": rb"(\S+)(?: (?!gone )(\S+) (\S+))?((?: gone [ab] \S+)*)"}

@@ -12,7 +12,7 @@ ADDRESS = re.compile(rf"\[r(10|[0-9])([+-]{DECIMAL})\]")
 # For each kind of number what may precede its decimal digits, its limits, and the greatest number in hex digits, if any.
 NUMBERS = {"imm": ("-?", -1 << 31, (1 << 31) - 1, 0xffffffff), "value": ("", 0, U64, U64),
            "near": ("[+-]", -1 << 15, (1 << 15) - 1, None), "far": ("[+-]", -1 << 31, (1 << 31) - 1, None)}
-# How each kind of operand is written.
+# The text of each kind of operand.
 WRITTEN = {"dst": "r{0.dst}", "src": "r{0.src}", "imm": "{0.imm}", "value": "{0.imm}", "near": "{0.off:+d}",
            "far": "{0.imm:+d}", "from": "[r{0.src}{0.off:+d}]", "to": "[r{0.dst}{0.off:+d}]"}
 

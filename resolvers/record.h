@@ -12,7 +12,7 @@ struct registration {
 /* Of the half that holds a registration. */
 struct facts {
     uint64_t size;       /* how many names its table has */
-    uint64_t uptime;     /* how long it has been up, as a number that it was told */
+    uint64_t uptime;     /* how long it has been up, as a number that its owner sets */
 };
 
 struct record {

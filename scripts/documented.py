@@ -64,7 +64,7 @@ def environment(home):
         words["RUSTUP_HOME"] = rustup
     if shutil.which("rt", path=words["PATH"]):
         sys.exit(f"documented.py: the toolchain is in {words['PATH']}")
-    # A daemon of its own, so that no other node of this machine has the names of the documents.
+    # A separate daemon, so that no other node of this machine has the names of the documents.
     with socket.socket() as free:
         free.bind(("127.0.0.1", 0))
         words["ERL_EPMD_PORT"] = str(free.getsockname()[1])

@@ -19,7 +19,7 @@ out=${1-$root/out/release}
 heal=$root/crates/heal_main/out/heal_main
 built=$root/bindings/c/out
 
-# Ends with a reason why there is no release.
+# Ends with the reason why no release is made.
 refuse() {
     echo "release.sh: $1" >&2
     exit 1

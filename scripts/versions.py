@@ -61,7 +61,7 @@ def main():
         elif stated != {write(parts)}:
             print(f"versions.py: {path} states {', '.join(sorted(stated)) or 'no version'}, and VERSION {version}", file=sys.stderr)
             wrong = 1
-    # What changed is written by hand.
+    # People write what changed.
     if not re.search(rf"^## {re.escape(version)}\b", read("CHANGELOG.md"), re.M):
         print(f"versions.py: CHANGELOG.md has no section {version}", file=sys.stderr)
         wrong = 1

@@ -605,7 +605,7 @@ static void check_first_half(void)
     discard(list, 2);
 }
 
-/* Reserved fields are zero in results, whatever they held before. */
+/* Reserved fields are zero in results, and what they held before doesn't matter. */
 #define ZEROES(name, call)                   \
     do {                                     \
         memset(&(name), 0xff, sizeof(name)); \

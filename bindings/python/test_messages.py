@@ -228,7 +228,7 @@ class Faults(unittest.TestCase):
         for kind, place, value, fault in FAULTS:
             with self.subTest(kind=kind.again.__name__, place=place, value=value):
                 found = kind.fault(replaced(kind.message, place, value))
-                # The reason of a refused program has tests of its own.
+                # Other tests check the reason of a refused program.
                 self.assertEqual(found and dataclasses.replace(found, code=None), fault)
 
 

@@ -153,7 +153,7 @@ look(Registry, Names, End, Rounds) ->
     [Registry:whereis_name(Name) || Name <- Names],
     case erlang:monotonic_time(millisecond) >= End of true -> Rounds + 1; false -> look(Registry, Names, End, Rounds + 1) end.
 
-%% Registers this many names, each of a process of its own.
+%% Registers this many names, each of another process.
 fill(Registry, Prefix, Count) ->
     Names = names(Prefix, Count),
     named(Registry, Names, spawned(Count)),

@@ -330,7 +330,7 @@ static bool get_registration(ErlNifEnv *env, term map, heal_registration *to)
         && (!enif_get_map_value(env, map, atom_resolver, &value) || get_resolver(env, value, to));
 }
 
-/* What a registration has besides its serial and its stamp, as a term and as it was read or will be written. Rows that follow each other
+/* The rest of a registration after its serial and its stamp: a term, and the bytes that were read or will be written. Rows that follow each other
    often have it alike. */
 typedef struct {
     bool is_known;

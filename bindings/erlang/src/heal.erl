@@ -64,7 +64,7 @@
     first_half := a | b,
     notices := [notice()]
 }.
-%% `keeps' is the verdict, or `neither' if the winner was withdrawn; then there are no notices. `first_half' registered `first'.
+%% `keeps' is the verdict, or `neither' if the winner was withdrawn; then nobody is notified. `first_half' registered `first'.
 -type ruling() :: {name(), First :: owner(), Second :: owner(), FirstHalf :: a | b, Verdict :: first | second | neither,
                    OfFirst :: exit | notify | notify_all | program}.
 %% A clash in short.

@@ -69,7 +69,7 @@ adopted(Node, Number, Answer, Part = #part{adopting = Adopting, arriving = Arriv
 hurried(View = {{Primary, _}, _}, {View, _}, Part) -> heal_peers:hurry(Primary, Part);
 hurried(_View, _At, Part) -> Part.
 
-%% A node is gone. Whether it has registered its processes isn't known.
+%% Handles that a node is gone: nobody knows whether it has registered its processes.
 -spec lost(node(), #part{}) -> #part{}.
 lost(Node, Part = #part{adopting = Adopting}) ->
     Lost = maps:filter(fun(_, {At, _}) -> At =:= Node end, Adopting),

@@ -5,7 +5,7 @@
 %% else follows from what the others announced last, so a message that is lost or late delays a node and never misleads it:
 %%
 %% - A primary drops the names of nodes that don't follow it (heal_view).
-%% - A node whose primary is gone follows the smallest node of its part, or starts a view of its own (heal_view).
+%% - A node whose primary is gone follows the smallest node of its part, or starts its own view (heal_view).
 %% - Two connected primaries exchange, and one starts a view with the outcome (heal_meeting).
 %% - The home of a registration knows whether it was acknowledged. It has a missing one restored and an extra one dropped, and
 %%   leaves a part that has given its name to another process, so that an exchange decides (heal_home).

@@ -104,7 +104,7 @@ announce(Part = #part{links = Links}) ->
 announce_to(Node, Part) ->
     announce_to(Node, false, Part).
 
-%% Has a node announce itself. What a primary keeps for this node goes before.
+%% Has a node announce itself. A primary sends first what it keeps for this node.
 -spec hurry(node(), #part{}) -> #part{}.
 hurry(Node, Part) ->
     announce_to(Node, true, Part).

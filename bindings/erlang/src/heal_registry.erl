@@ -1,8 +1,8 @@
 %% @doc A registry of names for a cluster, for `{via, heal_registry, Name}'. It heals when nodes meet after a split.
 %%
 %% The nodes that are connected form one part: a table of names, which each node has. One of them, the primary, orders all edits
-%% and sends them to the others. {@link whereis_name/1} reads the table of its own node and never waits. When the network splits,
-%% each side goes on as a part of its own. When two parts meet, their primaries exchange, every clash of two processes under one
+%% and sends them to the others. {@link whereis_name/1} reads the table of the caller's node and never waits. When the network splits,
+%% each side goes on as a separate part. When two parts meet, their primaries exchange, every clash of two processes under one
 %% name is decided by its resolver, and all nodes of both follow the outcome. Edits wait meanwhile.
 %%
 %% Any term is a name. An atom, a string or a binary of 1 to 32 bytes from 16#21 to 16#7e is the name that its bytes spell: `db',
@@ -154,7 +154,7 @@ whereis_name(Name) when is_binary(Name) ->
 whereis_name(Name) ->
     found(heal_table:find(heal_names:name(Name), Name)).
 
-%% Most names are printable: what the table has under the bytes is it, and only what it lacks has to be looked at.
+%% Most names are printable: what the table has under the bytes is the name, and only what it lacks has to be checked.
 spelled(Bytes, Name) ->
     case heal_table:find(Bytes, Name) of
         none -> found(heal_table:find(heal_names:name(Name), Name));

@@ -241,7 +241,7 @@ found(_Name, _Term, Pid) ->
 is_running() ->
     ets:whereis(?ROWS) =/= undefined.
 
-%% Returns all names, as they were registered.
+%% Returns all names, each as the term that was registered.
 -spec names() -> [term()].
 names() ->
     ets:select(?ROWS, terms('$2', [{is_pid, '$2'}])).

@@ -1,6 +1,6 @@
 %% @private The processes that a registry watches, with the names that it answers for.
 %%
-%% One monitor watches a process as long as it lives, also after its last name is gone: so no name needs one of its own.
+%% One monitor watches a process as long as it lives, also after its last name is gone: so no name needs a separate one.
 -module(heal_watching).
 
 -export([new/0, watch/3, unwatch/3, ended/2]).

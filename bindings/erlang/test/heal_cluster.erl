@@ -275,7 +275,7 @@ table_here() ->
 joined(One, Other) ->
     eventually(fun() -> is_gathered(all([One, Other])) end).
 
-%% Waits until each side is a part of its own.
+%% Waits until each side is a separate part.
 apart(One, Other) ->
     [eventually(fun() -> is_gathered(side(It)) end) || It <- [One, Other]],
     eventually(fun() -> [link_of(It) || It <- [One, Other]] =:= [apart, apart] end).

@@ -119,7 +119,7 @@ any_term(Nodes = [A, B, C]) ->
     [?assertEqual([Pid || {_, Pid} <- Pids], [call(It, whereis_name, [Term]) || Term <- Terms]) || It <- Nodes],
     [?assertEqual(maps:from_keys(Terms, name), maps:from_keys(call(It, names, []), name)) || It <- Nodes],
     [?assertMatch({error, {30, _}}, call(B, register, [Term, pid_on(B), #{}])) || Term <- Terms],
-    %% The text of a digest is a name of its own.
+    %% The text of a digest is a name too.
     Digest = heal_names:name({db, 1}),
     ?assertEqual(undefined, call(A, whereis_name, [Digest])),
     ?assertEqual({error, {same_digest, {db, 1}}}, call(A, register, [Digest, pid_on(A), #{}])),

@@ -185,7 +185,7 @@ edit_here(Pid, Count) ->
      end || N <- lists:seq(1, Count)],
     ok.
 
-%% How many processes of its own node the registry monitors.
+%% Returns how many processes of its node the registry monitors.
 monitors() ->
     {monitors, Monitors} = process_info(whereis(heal_registry), monitors),
     length([Pid || {process, Pid} <- Monitors, is_pid(Pid)]).

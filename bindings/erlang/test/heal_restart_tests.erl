@@ -109,7 +109,7 @@ successors(A, B) ->
          ?assertEqual(New, alive(It, New))
      end || {N, It} <- [{1, A}, {2, B}, {3, A}, {4, B}]].
 
-%% A registry that starts with other nodes keeps the names of its own node.
+%% A registry that starts with other nodes keeps the names of its node.
 other_nodes() ->
     Nodes = [A, B] = [heal_cluster:start(Letter) || Letter <- [a, b]],
     [heal_cluster:start_registry(It, Nodes, #{}) || It <- Nodes],
@@ -280,7 +280,7 @@ nodes_restart(Nodes) ->
     ?assertEqual([], Kept -- Table),
     [heal_cluster:stop(It) || It <- Now].
 
-%% Registers and unregisters names of its own prefix until it is stopped. Keeps those of which it knows that they are registered.
+%% Registers and unregisters names with its prefix until it is stopped. Keeps those of which it knows that they are registered.
 work(Prefix, Names) ->
     receive
         {stop, From} -> From ! {names, self(), Names}

@@ -3,7 +3,7 @@
 
 -export([main/1]).
 
-%% How long a test without a time of its own may take. EUnit's 5 seconds are too few on a busy machine.
+%% The seconds that a test without another limit may take. EUnit's 5 seconds are too few on a busy machine.
 -define(SECONDS, 120).
 
 main(Modules) ->

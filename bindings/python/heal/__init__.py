@@ -63,7 +63,7 @@ Buffer = Union[bytes, bytearray, memoryview, "array[Any]"]
 RECORD_LEN = 160
 ID_LEN = 32
 MAX_NAMES = 4096
-# What a walk over rows or names returns after the last one.
+# The refusal after the last row or name of a walk.
 _NO_ROW = 92
 
 
@@ -166,7 +166,7 @@ class Clash:
     second: Registration
     word: int
     verdict: Verdict
-    #: Who keeps the name: the verdict, or NEITHER if the winner was withdrawn. Then there are no notices, and the half of the
+    #: Who keeps the name: the verdict, or NEITHER if the winner was withdrawn. Then nobody is notified, and the half of the
     #: other owner registers it again.
     keeps: Verdict
     #: The half that registered `first`.
