@@ -341,15 +341,21 @@ merged_registration_test() ->
     ?assertEqual(position(a, Healed), position(c, Healed)),
     ?assertMatch([{rows, [{?NAME, _}], []}, {reply, 7, ok}], [Action || Action <- done(a), lists:member(element(1, Action), [rows, reply])]).
 
-%% A name that the other side offers without a process takes nothing from this node, also if nobody keeps it.
+%% A name that the other side offers without a process takes nothing from this node, whether that side wins or nobody does.
 offered_without_a_process_test() ->
     Row = row(a, 1, a, 0),
     Open = #open{node = b, number = 1, side = a, from = none, handle = none, own = #{?NAME => Row}, others = [], begun = 1, deadline = 9},
-    Losses = [{?NAME, heal_row:owner(Row), first, neither, notify_all, none}],
-    Losers = fun(Others) -> heal_losers:judged({Losses, []}, [], Open#open{others = Others}, #half{names = #{}}, heal_sim_world) end,
-    Lost = fun(Others) -> maps:keys(heal_losers:lost(Losers(Others), #{?NAME => Row})) end,
-    ?assertEqual([?NAME], Lost([{erlang:phash2(b, 1000), {b, 1}, [{?NAME, 1, {pid, b, 1}}]}])),
-    ?assertEqual([], Lost([])).
+    Lost = fun(Verdict, Values, Others, Merged) ->
+        Losses = [{?NAME, heal_row:owner(Row), first, Verdict, notify, Values}],
+        Losers = heal_losers:judged({Losses, []}, [], Open#open{others = Others}, #half{names = Merged}, heal_sim_world),
+        maps:keys(heal_losers:lost(Losers, #{?NAME => Row}))
+    end,
+    Offered = [{erlang:phash2(b, 1000), {b, 1}, [{?NAME, 1, {pid, b, 1}}]}],
+    ?assertEqual([?NAME], Lost(neither, none, Offered, #{})),
+    ?assertEqual([], Lost(neither, none, [], #{})),
+    %% The merge keeps this node's row where it has no process for the other one.
+    ?assertEqual([?NAME], Lost(second, values, Offered, #{?NAME => row(b, 1, b, 0)})),
+    ?assertEqual([], Lost(second, values, [], #{?NAME => Row})).
 
 %% A primary declines the query of a part that it isn't fully connected with. Once it is, the parts heal without another tick. An earlier
 %% version sends no invitation.
