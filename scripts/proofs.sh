@@ -1,13 +1,14 @@
 #!/bin/sh
-# proofs.sh: runs `rt ci` on a copy of the crates without their wrong bodies, and takes what it built.
+# proofs.sh [--anew]: runs `rt ci` on a copy of the crates without their wrong bodies, and takes what it built.
 #
+# With --anew it proves all crates, also those that this machine has proved before.
 # `rt ci` tries each wrong body alone, which takes about as long as all proofs. must_fail.py tries those of a crate together.
 set -e
 cd "$(dirname "$0")/.."
 copy=$(mktemp -d)
 trap 'rm -rf "$copy"' EXIT
 tar -cf - --exclude='crates/*/out' --exclude='crates/*/must-fail' crates crates.txt HANDLES | tar -xf - -C "$copy"
-(cd "$copy" && rt ci)
+(cd "$copy" && rt ci "$@")
 for built in "$copy"/crates/*/out/*; do
     own=crates/${built#"$copy"/crates/}
     # A library with a stamp is one of `rt lib` or `rt check`, which `rt ci` leaves in place too.

@@ -1,4 +1,4 @@
-//! Calls that take no memory.
+//! Calls that take no memory, though an argument holds an allocator. Others can't allocate.
 
 use crate::callers::{Caller, SEATS};
 use crate::exchange::{Exchange, NUMBER, SEED, WHOLE};
@@ -6,17 +6,13 @@ use crate::fault::Fault;
 use crate::rows::clashing;
 use crate::sweeping::{Starved, Subject};
 use crate::tables::is_same_list;
-use abstract_value::{Both, Domain, Interval};
-use builtin_resolvers::{Notice, Verdict3, decide, notices};
-use clash_record::{
-    Builtin, Facts, Name, RECORD_LEN, Registration, ResolverId, SideId, name, record, record_of,
-};
+use builtin_resolvers::Verdict3;
+use clash_record::{Name, RECORD_LEN, Registration, ResolverId, SideId, record_of};
 use exchange_core::Side;
-use fixtures::{BY_WORD, exit_registration, numbered_name, numbered_table, registration, stored};
-use instruction_set::{AluOp, EndKind, Size, Test, Width, alu, end, movsx, neg, test};
+use fixtures::{BY_WORD, numbered_name, numbered_table, registration, stored};
 use interpreter::{Ended, run};
 use judge_pool::judge;
-use partition_table::{ClashList, Table, Verdict, word};
+use partition_table::{ClashList, Table, Verdict};
 use questions::judge_one;
 use upload_store::UploadStore;
 use verdict_board::{Draw, open};
@@ -34,9 +30,7 @@ pub(crate) fn sweep_without_memory(rt: &HostRuntime) -> Result<(), Fault> {
 // Makes all the calls, some of them on this list of one clash, and returns the first fault.
 fn make_calls(rt: &HostRuntime, list: &ClashList) -> Result<(), Fault> {
     let mut calls = Starved::new(rt);
-    records(&mut calls)
-        .and(runs(&mut calls))
-        .and(answers(&mut calls))
+    runs(&mut calls)
         .and(verdicts(&mut calls, list))
         .and(stores(&mut calls))
         .and(tables(&mut calls))
@@ -45,17 +39,7 @@ fn make_calls(rt: &HostRuntime, list: &ClashList) -> Result<(), Fault> {
         .and(gathers(&mut calls, list))
         .and(reads(&mut calls, list))
         .and(meetings(&mut calls, list))?;
-    operations(&mut calls);
-    sets_of_words::<Interval>(&mut calls);
-    operations_on_sets::<Interval>(&mut calls);
-    sets_of_words::<Both>(&mut calls);
-    operations_on_sets::<Both>(&mut calls);
     calls.end()
-}
-
-// The facts of a half with one name, up for as long as is given.
-fn up_for(uptime: u64) -> Facts {
-    Facts { size: 1, uptime }
 }
 
 // The record of the name `db` of owners 1.1 and 2.1, at the word.
@@ -79,27 +63,6 @@ fn record_bytes() -> [u8; RECORD_LEN] {
     bytes
 }
 
-fn records(calls: &mut Starved<'_>) -> Result<(), Fault> {
-    let db = name(b"db")?;
-    calls.refuse("name");
-    calls.gave(name(b"db").map(|name| name.as_str() == "db"), Ok(true));
-    calls.refuse("name of no name");
-    calls.gave(name(b"d b").is_err(), true);
-    calls.refuse("record");
-    let clash = record(
-        &db,
-        &exit_registration(1, 1),
-        &exit_registration(2, 1),
-        WORD,
-        up_for(3),
-        up_for(4),
-    );
-    calls.gave(*clash.bytes(), record_bytes());
-    calls.refuse("record_of");
-    calls.gave(*record_of(record_bytes()).bytes(), record_bytes());
-    Ok(())
-}
-
 fn runs(calls: &mut Starved<'_>) -> Result<(), Fault> {
     let program = read_program(calls.alloc(), &BY_WORD)?;
     let record = record_of(record_bytes());
@@ -114,17 +77,6 @@ fn runs(calls: &mut Starved<'_>) -> Result<(), Fault> {
     Ok(())
 }
 
-fn answers(calls: &mut Starved<'_>) -> Result<(), Fault> {
-    calls.refuse("decide");
-    calls.gave(decide(Builtin::Exit, WORD), Verdict3::Second);
-    let (first, second) = (exit_registration(1, 1).owner, exit_registration(2, 1).owner);
-    let db = name(b"db")?;
-    calls.refuse("notices");
-    let told = notices(Builtin::Exit, &db, first, second, Verdict3::First);
-    calls.gave(told.as_slice() == [Notice::Exit(second)].as_slice(), true);
-    Ok(())
-}
-
 fn verdicts(calls: &mut Starved<'_>, list: &ClashList) -> Result<(), Fault> {
     if list.len() == 0 {
         return Err(Fault::Unprepared);
@@ -136,8 +88,6 @@ fn verdicts(calls: &mut Starved<'_>, list: &ClashList) -> Result<(), Fault> {
     calls.gave(judge(list, 0, WORD).answer(), Verdict3::Second);
     calls.refuse("the parts of a list of clashes");
     calls.gave(is_same_list(list, list), true);
-    calls.refuse("word");
-    calls.gave(word(5, 2, 3, 1), 12);
     Ok(())
 }
 
@@ -251,52 +201,4 @@ fn meetings(calls: &mut Starved<'_>, list: &ClashList) -> Result<(), Fault> {
     calls.refuse("meet");
     calls.gave(caller.meet(first, second), Some(1));
     Ok(())
-}
-
-fn operations(calls: &mut Starved<'_>) {
-    calls.refuse("alu");
-    calls.gave(alu(Width::W64, AluOp::Div, 7, 0), 0);
-    calls.refuse("neg");
-    calls.gave(neg(Width::W32, 1), 0xffff_ffff);
-    calls.refuse("movsx");
-    calls.gave(movsx(Width::W64, 8, 0x80), 0xffff_ffff_ffff_ff80);
-    calls.refuse("end");
-    calls.gave(end(EndKind::Big, 16, 0x1234), 0x3412);
-    calls.refuse("test");
-    calls.gave(test(Width::W64, Test::Jslt, u64::MAX, 0), true);
-}
-
-fn sets_of_words<D: Domain>(calls: &mut Starved<'_>) {
-    let one = D::single(1);
-    let three = D::single(3);
-    let up_to_three = one.join(&three);
-    calls.refuse("Domain::full");
-    calls.gave(D::full().bounds(), (0, u64::MAX));
-    calls.refuse("Domain::single");
-    calls.gave(D::single(3).bounds(), (3, 3));
-    calls.refuse("Domain::bounds");
-    calls.gave(up_to_three.bounds(), (1, 3));
-    calls.refuse("Domain::below");
-    calls.gave(one.below(&up_to_three), true);
-    calls.refuse("Domain::join");
-    calls.gave(one.join(&three).bounds(), (1, 3));
-    calls.refuse("Domain::refine");
-    let above = D::refine(Width::W64, Test::Jgt, true, &up_to_three, &one);
-    calls.gave(above.map(|(above, _)| above.bounds()), Some((2, 3)));
-}
-
-fn operations_on_sets<D: Domain>(calls: &mut Starved<'_>) {
-    let one = D::single(1);
-    calls.refuse("Domain::alu");
-    let sum = D::alu(Width::W64, AluOp::Add, &one, &one);
-    calls.gave(sum.bounds(), (2, 2));
-    calls.refuse("Domain::neg");
-    let negated = D::neg(Width::W32, &one);
-    calls.gave(negated.bounds(), (0xffff_ffff, 0xffff_ffff));
-    calls.refuse("Domain::movsx");
-    calls.gave(D::movsx(Width::W64, 8, &one).bounds(), (1, 1));
-    calls.refuse("Domain::end");
-    calls.gave(D::end(EndKind::Little, 16, &one).bounds(), (1, 1));
-    calls.refuse("Domain::loaded");
-    calls.gave(D::loaded(Size::Byte, false).bounds(), (0, 255));
 }
