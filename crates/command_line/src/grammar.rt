@@ -141,14 +141,15 @@ fn names_arg<'a>(alloc: Global) -> Arg<'a>
 fn run_command<'a>(alloc: Global) -> Result<Command<'a>, AllocError>
     ensures { IfOk result (λ c. IsApp c run_app) }
 {
-    let about = "Runs a script about two halves of a cluster: their names, and how a split heals";
     let script = one_command(
         alloc,
-        "run",
-        about,
-        "FILE",
-        "The file of the script, or - for standard input",
-        RUN_EXAMPLE,
+        OneArgument {
+            name: "run",
+            about: "Runs a script about two halves of a cluster: their names, and how a split heals",
+            id: "FILE",
+            help: "The file of the script, or - for standard input",
+            example: RUN_EXAMPLE,
+        },
     );
     let help = "Narrates each healing on standard error";
     let with_workers = with_arg(script, workers_arg(alloc));
@@ -160,14 +161,15 @@ fn run_command<'a>(alloc: Global) -> Result<Command<'a>, AllocError>
 fn check_command<'a>(alloc: Global) -> Result<Command<'a>, AllocError>
     ensures { IfOk result (λ c. IsApp c check_app) }
 {
-    let about = "Checks whether the verifier accepts a program";
     let code = one_command(
         alloc,
-        "check",
-        about,
-        "CODE",
-        "The program: hex digits, or @FILE",
-        CHECK_EXAMPLE,
+        OneArgument {
+            name: "check",
+            about: "Checks whether the verifier accepts a program",
+            id: "CODE",
+            help: "The program: hex digits, or @FILE",
+            example: CHECK_EXAMPLE,
+        },
     );
     let help = "Prints the verifier's state before each instruction on standard error";
     let with_profile = with_arg(code, profile_arg(alloc));
@@ -178,14 +180,15 @@ fn check_command<'a>(alloc: Global) -> Result<Command<'a>, AllocError>
 fn record_command<'a>(alloc: Global) -> Result<Command<'a>, AllocError>
     ensures { IfOk result (λ c. IsApp c record_app) }
 {
-    let about = "Judges a clash by a program: the first, the second or neither keeps the name";
     let code = one_command(
         alloc,
-        "judge",
-        about,
-        "CODE",
-        "The program: hex digits, or @FILE",
-        JUDGE_EXAMPLE,
+        OneArgument {
+            name: "judge",
+            about: "Judges a clash by a program: the first, the second or neither keeps the name",
+            id: "CODE",
+            help: "The program: hex digits, or @FILE",
+            example: JUDGE_EXAMPLE,
+        },
     );
     let record = given_arg(alloc, "RECORDHEX", "The record of the clash, in hex digits");
     let word = valued_arg(alloc, "word", "W", "The word of the clash [default: 0]");
@@ -217,14 +220,15 @@ fn judge_command<'a>(alloc: Global) -> Result<Command<'a>, AllocError>
 fn asm_command<'a>(alloc: Global) -> Result<Command<'a>, AllocError>
     ensures { IfOk result (λ c. IsApp c asm_app) }
 {
-    let file = "The file of the text, or - for standard input";
     one_command(
         alloc,
-        "asm",
-        "Assembles a text, and prints its code in hex digits",
-        "FILE",
-        file,
-        ASM_EXAMPLE,
+        OneArgument {
+            name: "asm",
+            about: "Assembles a text, and prints its code in hex digits",
+            id: "FILE",
+            help: "The file of the text, or - for standard input",
+            example: ASM_EXAMPLE,
+        },
     )
 }
 
@@ -232,32 +236,36 @@ fn asm_command<'a>(alloc: Global) -> Result<Command<'a>, AllocError>
 fn dis_command<'a>(alloc: Global) -> Result<Command<'a>, AllocError>
     ensures { IfOk result (λ c. IsApp c dis_app) }
 {
-    let about = "Disassembles code, and prints its text";
     one_command(
         alloc,
-        "dis",
-        about,
-        "CODE",
-        "The code: hex digits, or @FILE",
-        DIS_EXAMPLE,
+        OneArgument {
+            name: "dis",
+            about: "Disassembles code, and prints its text",
+            id: "CODE",
+            help: "The code: hex digits, or @FILE",
+            example: DIS_EXAMPLE,
+        },
     )
 }
 
-// Returns a subcommand with one argument.
-fn one_command<'a>(
-    alloc: Global,
+// A subcommand with one argument: their names, and what help prints of them.
+#[derive(Clone, Copy)]
+struct OneArgument<'a> {
     name: &'a str,
     about: &'a str,
     id: &'a str,
     help: &'a str,
     example: &'a str,
-) -> Result<Command<'a>, AllocError>
-    ensures { IfOk result (λ c. IsApp c (one_app name.entry.now id.entry.now)) }
+}
+
+// Returns a subcommand with one argument.
+fn one_command<'a>(alloc: Global, one: OneArgument<'a>) -> Result<Command<'a>, AllocError>
+    ensures { IfOk result (λ c. IsApp c (one_app one.entry.name.now one.entry.id.now)) }
 {
-    Command::new(alloc, name)
-        .about(about)
-        .after_help(example)
-        .arg(needed_arg(alloc, id, help))
+    Command::new(alloc, one.name)
+        .about(one.about)
+        .after_help(one.example)
+        .arg(needed_arg(alloc, one.id, one.help))
 }
 
 // Adds an argument that isn't global. It takes a result, so that a chain of calls has no early return.

@@ -88,7 +88,9 @@ fn obey<T: Files + Threads + Wait + Sync + AllocGlobal, G: Gate + Sync, N: Narra
         (W.contents writer.old) (W.contents writer.new) result }
 {
     match command {
-        Command::Upload { label, code } => upload(crew, machine, writer, number, label, code),
+        Command::Upload { label, code } => {
+            upload(crew, machine, writer, number, Uploading { label, code })
+        }
         Command::Register {
             side,
             name,
@@ -128,21 +130,27 @@ fn obey<T: Files + Threads + Wait + Sync + AllocGlobal, G: Gate + Sync, N: Narra
     }
 }
 
+// A program that is uploaded: its label, and the word that has its code or names its file.
+#[derive(Clone, Copy)]
+struct Uploading<'a> {
+    label: &'a [u8],
+    code: &'a [u8],
+}
+
 // Stores a program and writes the answer. Passes refused code to the narrator.
 fn upload<T: Files + Threads + Wait + Sync + AllocGlobal, G: Gate + Sync, N: Narrator, W: Write>(
     crew: &Crew<'_, T, G, N>,
     machine: &mut Machine,
     writer: &mut W,
     number: u64,
-    label: &[u8],
-    code: &[u8],
+    program: Uploading<'_>,
 ) -> Result<u8, DeviceFault>
-    ensures { ServesAsked (machine_of machine.old) (machine_of machine.new) (Upload label.now code.now) number
+    ensures { ServesAsked (machine_of machine.old) (machine_of machine.new) (Upload program.entry.label.now program.entry.code.now) number
         (W.contents writer.old) (W.contents writer.new) result }
 {
-    let reply = machine.upload_word(crew.rt, label, code);
+    let reply = machine.upload_word(crew.rt, program.label, program.code);
     let said = say(crew.narrator, writer, number, &reply);
-    tell_code(crew.narrator, code, &reply);
+    tell_code(crew.narrator, program.code, &reply);
     said
 }
 
