@@ -4,6 +4,10 @@
 # With --anew it proves all crates, also those that this machine has proved before.
 # `rt ci` tries each wrong body alone, which takes about as long as all proofs. must_fail.py tries those of a crate together.
 set -e
+case "$*" in
+    '' | --anew) ;;
+    *) echo "usage: proofs.sh [--anew]" >&2; exit 2 ;;
+esac
 cd "$(dirname "$0")/.."
 copy=$(mktemp -d)
 trap 'rm -rf "$copy"' EXIT
