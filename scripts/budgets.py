@@ -17,6 +17,7 @@ import tempfile
 TOP = os.path.dirname(os.path.dirname(os.path.abspath(__file__)))
 sys.path.insert(0, os.path.join(TOP, "bindings", "c"))
 import cost  # noqa: E402
+from options import option  # noqa: E402
 
 C = os.path.join(TOP, "bindings", "c")
 HEAL = os.path.join(TOP, "crates", "heal_main", "out", "heal_main")
@@ -85,8 +86,9 @@ def budgets():
 
 
 def main():
+    given = option("budgets.py [--write]", "--write")
     found = counts()
-    if sys.argv[1:] == ["--write"]:
+    if given == "--write":
         with open(BUDGETS, "w", encoding="utf-8") as file:
             file.writelines(f"{name} {count}\n" for name, count in found.items())
         return

@@ -16,6 +16,8 @@ import os
 import re
 import sys
 
+from options import option
+
 TOP = os.path.join(os.path.dirname(os.path.abspath(__file__)), "..")
 PAGE = os.path.join(TOP, "docs", "PROOFS.md")
 # The definitions that the page shows, by name, with their modules.
@@ -291,17 +293,19 @@ def with_part(page, name, part):
 
 
 def main():
-    load()
-    if sys.argv[1:2] == ["--list"]:
+    if sys.argv[1:2] == ["--list"] and len(sys.argv) == 3:
+        load()
         return list_promise(sys.argv[2])
+    given = option("definitions.py [--write | --check | --list NAME]", "--write", "--check")
+    load()
     made = table()
-    if not sys.argv[1:]:
+    if given is None:
         return print(made)
     old = open(PAGE, encoding="utf-8").read()
     new = with_part(old, "definitions", made)
     for name, module in SHOWN.items():
         new = with_part(new, name, "\n".join(["```", *MODULES[module].definitions[name], "```"]))
-    if sys.argv[1] == "--check":
+    if given == "--check":
         if shared := shared_words():
             sys.exit(f"definitions.py: two crates define one word: {sorted(shared)}")
         sys.exit(0 if old == new else "definitions.py: parts of docs/PROOFS.md are stale; run scripts/definitions.py --write")

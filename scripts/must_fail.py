@@ -212,6 +212,10 @@ def main():
     wanted = sys.argv[1:]
     crates = list(dict.fromkeys(it.partition("/")[0] for it in wanted)) or list(lines)
     tasks = [(it, edits_of(it, [name for name in wanted if name.startswith(f"{it}/")])) for it in crates]
+    known = {*lines, *(edit.name for _, edits in tasks for edit in edits)}
+    if strays := [it for it in wanted if it not in known]:
+        print(f"must_fail.py: no such crate or wrong body: {' '.join(strays)}", file=sys.stderr)
+        return 2
     # Crates with much to check go first.
     tasks.sort(key=lambda task: -len(with_below(uses, task[0])) * len(task[1]))
     jobs = int(os.environ.get("RT_JOBS") or os.cpu_count())

@@ -8,6 +8,8 @@ import os
 import re
 import sys
 
+from options import option
+
 TOP = os.path.join(os.path.dirname(os.path.abspath(__file__)), "..")
 PAGE = os.path.join(TOP, "docs", "REFUSALS.md")
 SOURCE = os.path.join(TOP, "crates", "refusals", "src", "table.rt")
@@ -36,6 +38,7 @@ def with_words(line, words):
 
 
 def main():
+    given = option("refusals.py [--write | --check]", "--write", "--check")
     listed = refusals()
     lines = open(PAGE, encoding="utf-8").read().split("\n")
     rows = [row.group(1) for row in map(ROW.match, lines) if row]
@@ -44,9 +47,9 @@ def main():
         sys.exit("refusals.py: docs/REFUSALS.md and refusals::REFUSALS list other numbers, or in another order: "
                  + " ".join(strays))
     new = [with_words(line, dict(listed)) for line in lines]
-    if not sys.argv[1:]:
+    if given is None:
         return print("\n".join(line for line in new if line.startswith("|")))
-    if sys.argv[1] == "--check":
+    if given == "--check":
         sys.exit(0 if new == lines else "refusals.py: words in docs/REFUSALS.md are stale; run scripts/refusals.py --write")
     open(PAGE, "w", encoding="utf-8").write("\n".join(new))
 

@@ -11,6 +11,8 @@ import os
 import re
 import sys
 
+from options import option
+
 TOP = os.path.dirname(os.path.dirname(os.path.abspath(__file__)))
 PAGE = os.path.join(TOP, "docs", "EMBEDDING.md")
 BEGIN, END = "<!-- refusals of a side: begin -->\n", "<!-- refusals of a side: end -->"
@@ -87,15 +89,16 @@ def table(listed):
 
 
 def main():
+    given = option("side_refusals.py [--write | --check]", "--write", "--check")
     listed = calls()
     if faults := list(header_faults(listed)):
         sys.exit("\n".join("side_refusals.py: " + fault for fault in faults))
     made = table(listed)
-    if not sys.argv[1:]:
+    if given is None:
         return print(made, end="")
     before, rest = read("docs/EMBEDDING.md").split(BEGIN)
     old, after = rest.split(END)
-    if sys.argv[1] == "--check":
+    if given == "--check":
         sys.exit(0 if old == made else "side_refusals.py: a table of docs/EMBEDDING.md is stale; run scripts/side_refusals.py --write")
     with open(PAGE, "w", encoding="utf-8") as page:
         page.write(before + BEGIN + made + END + after)
