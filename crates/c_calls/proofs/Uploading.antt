@@ -7,7 +7,7 @@ use Rattle.upload_store.specs.declared.fault.UploadFault.{UploadFault}
 use Rattle.upload_store.specs.Faults.{upload_fault_number, upload_fault_place}
 use Rattle.upload_store.specs.Programs.{Programs, id_of}
 use Rattle.upload_store.specs.Uploads.{Fits, IsKept, IsUploadFault}
-use Rattle.c_calls.specs.Answers.{IsOutOfMemory, returned_number, returned_slot, refusal_slot}
+use Rattle.c_calls.specs.Answers.{IsNumbered, IsOutOfMemory, returned_number, returned_slot, refusal_slot}
 use Rattle.c_calls.specs.Halves.{SideAndStore}
 use Rattle.exchange_core.specs.declared.side.Side.{Side}
 use Rattle.c_calls.specs.laws.Loads.{no_slot}
@@ -33,7 +33,7 @@ module _ (f : UploadFault) where
   returned due (Err g) e (inr out) = let equal : g ≡ f = cc in inr (upload_ran_out f (subst (λ (h : UploadFault). upload_fault_number h ≡ out_of_memory) equal out))
 
   upload_numbered : (fault : UploadFault) (r : Result ProgramId UploadFault) → r ≡ Err fault → (r ≡ Err f) ⊎ IsOutOfMemory m at
-      → side.IsNumbered fault m at ⊎ IsOutOfMemory m at
+      → IsNumbered (upload_fault_number fault) (upload_fault_place fault) m at ⊎ IsOutOfMemory m at
   upload_numbered fault r e (inl same) = let equal : fault ≡ f = cc in inl (ap upload_fault_number (sym equal), ap (λ (h : UploadFault). refusal_slot (upload_fault_number h) (upload_fault_place h)) (sym equal))
   upload_numbered fault r e (inr out) = inr out
 
@@ -58,7 +58,7 @@ upload_refused bytes old after id r f e unchanged refused taken told =
     }
   where
     refusal_of : HasCause upload_fault_number (IsUploadFault old.store bytes) f
-        → ((fault : UploadFault) × IsUploadFault old.store bytes fault × side.IsNumbered fault (m f) (at f)) ⊎ IsOutOfMemory (m f) (at f)
+        → ((fault : UploadFault) × IsUploadFault old.store bytes fault × IsNumbered (upload_fault_number fault) (upload_fault_place fault) (m f) (at f)) ⊎ IsOutOfMemory (m f) (at f)
     refusal_of (inl is) = inl (f, is, (refl, refl))
     refusal_of (inr out) = inr (upload_ran_out f out)
 

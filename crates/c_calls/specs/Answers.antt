@@ -24,6 +24,10 @@ abbrev pub returned_slot : {A F : Type 0} → (F → ℕ) → (F → Option Plac
 returned_slot number place (Ok x) = 0
 returned_slot number place (Err fault) = refusal_slot (number fault) (place fault)
 
+-- the number and the slot are those of a fault with this number and this place
+abbrev pub IsNumbered : ℕ → Option Place → ℕ → ℕ → Type 0
+IsNumbered number place n slot = (n ≡ number) × (slot ≡ refusal_slot number place)
+
 -- a call ran out of memory, which has no slot
 abbrev pub IsOutOfMemory : ℕ → ℕ → Type 0
 IsOutOfMemory n slot = (n ≡ out_of_memory) × (slot ≡ 0)

@@ -7,7 +7,7 @@ use Rattle.verifier.specs.Programs.{IsAccepted, IsProgramFault, program_fault_nu
 use Rattle.verifier.specs.declared.program_fault.ProgramFault.{ProgramFault}
 use Rattle.upload_store.specs.Programs.{Upload}
 use Rattle.c_calls.specs.declared.codes.HealEnded.{HealEnded}
-use Rattle.c_calls.specs.Answers.{refusal_slot, IsOutOfMemory}
+use Rattle.c_calls.specs.Answers.{IsNumbered, IsOutOfMemory}
 
 -- the bytes spell accepted code, which is kept with their id
 pub record IsLoadedResolver (bytes : List ℕ) (program : Upload) : Type 0 where
@@ -22,14 +22,11 @@ pub record Loads {V : Type 0} (IsLoaded : V → Type 0) (new : Option V) (n slot
   pub no_refusal : n ≡ 0
   pub no_slot : slot ≡ 0
 
--- the number and the slot are those of the fault
-abbrev pub IsNumbered : ProgramFault → ℕ → ℕ → Type 0
-IsNumbered fault n slot =
-    (n ≡ program_fault_number fault) × (slot ≡ refusal_slot (program_fault_number fault) (program_fault_place fault))
-
 -- the refusal is a fault of the bytes, or the call ran out of memory
 abbrev pub IsRefusal : (ProgramFault → Type 0) → ℕ → ℕ → Type 0
-IsRefusal IsFault n slot = ((fault : ProgramFault) × IsFault fault × IsNumbered fault n slot) ⊎ IsOutOfMemory n slot
+IsRefusal IsFault n slot =
+    ((fault : ProgramFault) × IsFault fault × IsNumbered (program_fault_number fault) (program_fault_place fault) n slot)
+    ⊎ IsOutOfMemory n slot
 
 -- what loading bytes returns and leaves, where bytes have this code or this fault
 pub record IsLoadOf {V : Type 0} (HasCode : List Insn → Type 0) (IsFault : ProgramFault → Type 0) (IsLoaded : V → Type 0)
@@ -38,7 +35,8 @@ pub record IsLoadOf {V : Type 0} (HasCode : List Insn → Type 0) (IsFault : Pro
   -- accepted code is loaded, unless memory runs out
   pub taken : (code : List Insn) → HasCode code → Loads IsLoaded new n slot ⊎ (IsOutOfMemory n slot × (new ≡ old))
   -- a fault of the bytes is returned, unless memory runs out
-  pub reported : (fault : ProgramFault) → IsFault fault → (IsNumbered fault n slot ⊎ IsOutOfMemory n slot) × (new ≡ old)
+  pub reported : (fault : ProgramFault) → IsFault fault →
+      (IsNumbered (program_fault_number fault) (program_fault_place fault) n slot ⊎ IsOutOfMemory n slot) × (new ≡ old)
 
 -- what loading bytes as a resolver returns and leaves
 abbrev pub IsLoad : List ℕ → Option Upload → Option Upload → ℕ → ℕ → Type 0

@@ -20,7 +20,7 @@ use Rattle.exchange_law.specs.Sides.{new_side, rested, shown_table, withdrawn_by
 use Rattle.c_calls.specs.Halves.{SideAndStore}
 use Rattle.c_calls.specs.declared.codes.HealRegistration.{HealRegistration}
 use Rattle.c_calls.specs.declared.codes.HealRow.{HealRow}
-use Rattle.c_calls.specs.Answers.{allowed, unless, and_then, refusal_slot, IsOutOfMemory, GivesDueOrRunsOut, GivesDue}
+use Rattle.c_calls.specs.Answers.{allowed, unless, and_then, IsNumbered, IsOutOfMemory, GivesDueOrRunsOut, GivesDue}
 use Rattle.c_calls.specs.Codes.{given_name, given_entry, registration_code}
 use Rattle.c_calls.specs.Rows.{row_in, row_in_after}
 
@@ -147,19 +147,16 @@ id_in (Err fault) id = id
 abbrev pub AllStays : SideAndStore → SideAndStore → List ℕ → List ℕ → Type 0
 AllStays old new id id' = (new ≡ old) × (id' ≡ id)
 
--- the number and the slot are those of the fault
-abbrev pub IsNumbered : UploadFault → ℕ → ℕ → Type 0
-IsNumbered fault n slot =
-    (n ≡ upload_fault_number fault) × (slot ≡ refusal_slot (upload_fault_number fault) (upload_fault_place fault))
-
 -- what an upload returns and leaves
 pub record IsUpload (bytes : List ℕ) (old new : SideAndStore) (id id' : List ℕ) (n slot : ℕ) : Type 0 where
   pub answer : KeepsProgram bytes old new id' n slot
-      ⊎ ((((fault : UploadFault) × IsUploadFault old.store bytes fault × IsNumbered fault n slot)
+      ⊎ ((((fault : UploadFault) × IsUploadFault old.store bytes fault
+      × IsNumbered (upload_fault_number fault) (upload_fault_place fault) n slot)
       ⊎ IsOutOfMemory n slot) × AllStays old new id id')
   -- accepted code that has a place is kept, unless memory runs out
   pub taken : Fits old.store bytes →
       KeepsProgram bytes old new id' n slot ⊎ (IsOutOfMemory n slot × AllStays old new id id')
   -- a cause of a refusal is returned, unless memory runs out
   pub reported : (fault : UploadFault) → IsUploadFault old.store bytes fault →
-      (IsNumbered fault n slot ⊎ IsOutOfMemory n slot) × AllStays old new id id'
+      (IsNumbered (upload_fault_number fault) (upload_fault_place fault) n slot ⊎ IsOutOfMemory n slot)
+      × AllStays old new id id'

@@ -2,10 +2,10 @@
 use Rattle.std.specs.Prelude.{ℕ, ◌==◌, if◌then◌else◌, List, [], ◌∷◌, length, take, drop, map, codes, Option, Some, None, Result, Ok, Err}
 use Rattle.std.specs.Str.{bytes_eq}
 use Rattle.clash_record.specs.Record.{clash_bytes}
+use Rattle.clash_record.specs.Registrations.{registration_on}
 use Rattle.clash_record.specs.declared.registrations.Builtin.TheVariants.{Exit}
-use Rattle.clash_record.specs.declared.registrations.Registration.{Registration}
 use Rattle.clash_record.specs.declared.registrations.ResolverId.TheVariants.{Builtin}
-use Rattle.script_text.specs.declared.command.Terms.{Terms}
+use Rattle.clash_record.specs.declared.registrations.Terms.{Terms}
 use Rattle.script_text.specs.declared.fault.LineFault.{LineFault}
 use Rattle.script_text.specs.declared.fault.LineFault.TheVariants.{Word}
 use Rattle.script_text.specs.Asking.{if_right, long_of, name_of, terms_of}
@@ -66,22 +66,12 @@ abbrev pub with_parts : HalfWords → List (List ℕ) → Result HalfWords LineF
 with_parts words [] = Ok words
 with_parts words (part ∷ parts) = if_right (with_part words part) (λ words. with_parts words parts)
 
--- a registration on these terms. A record has no resolver
-abbrev pub registration_on : Terms → Registration
-registration_on terms = record {
-  owner = terms.owner;
-  stamp = terms.stamp;
-  weight = terms.weight;
-  extra = terms.extra;
-  resolver = Builtin Exit;
-}
-
--- the words, read as a script reads them
+-- the words, read as a script reads them. A record has no resolver
 abbrev pub half_by : HalfWords → Result Contender LineFault
 half_by words =
     if_right (terms_of words.owner words.stamp words.weight words.extra) (λ terms. if_right (long_of words.size)
     (λ size. if_right (long_of words.uptime) (λ uptime.
-    Ok (record { registration = registration_on terms; facts = record { size = size; uptime = uptime } }))))
+    Ok (record { registration = registration_on terms (Builtin Exit); facts = record { size = size; uptime = uptime } }))))
 
 -- an owner, and then parts
 abbrev pub half_of_words : List (List ℕ) → Result Contender LineFault

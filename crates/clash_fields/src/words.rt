@@ -4,7 +4,7 @@ ghost use Rattle.clash_fields.specs.Fields as fields;
 ghost use Rattle.clash_fields.specs.Fields.{bare, half_by};
 ghost use Rattle.clash_fields.specs.model.Views.{right_words, words_by};
 
-use clash_record::{Builtin, Contender, Facts, Registration, ResolverId};
+use clash_record::{Builtin, Contender, Facts, ResolverId};
 use script_text::{LineFault, long, terms};
 
 // The words of a registration, and of the size and the uptime of the half that holds it.
@@ -57,14 +57,7 @@ impl<'a> HalfWords<'a> {
         ensures { result ≡ half_by (words_by self.now) }
     {
         let terms = terms(self.owner, self.stamp, self.weight, self.extra)?;
-        let extra = terms.extra;
-        let registration = Registration {
-            owner: terms.owner,
-            stamp: terms.stamp,
-            weight: terms.weight,
-            extra,
-            resolver: ResolverId::Builtin(Builtin::Exit),
-        };
+        let registration = terms.with_resolver(ResolverId::Builtin(Builtin::Exit));
         let size = long(self.size)?;
         let uptime = long(self.uptime)?;
         let facts = Facts { size, uptime };

@@ -1,6 +1,7 @@
 //! Registrations of names.
 ghost use Rattle.std.specs.Prelude.{◌≡◌, ◌↔◌, IsTrue, Some};
 ghost use Rattle.std.specs.declared.cmp.Ordering.TheVariants.{Less};
+ghost use Rattle.clash_record.specs.Registrations.{registration_on, registration_terms};
 ghost use Rattle.clash_record.specs.Texts.{builtin_of, builtin_text, owner_text};
 
 use std::fmt;
@@ -87,6 +88,40 @@ pub enum ResolverId {
     Program(ProgramId),
 }
 
+/// A registration without its resolver.
+#[derive(Clone, Copy, Debug, PartialEq, Eq)]
+pub struct Terms {
+    /// The owner of the name.
+    pub owner: Owner,
+    /// When the name was registered, in the registrar's unit of time.
+    pub stamp: u64,
+    /// Its weight against another registration; only programs read it.
+    pub weight: u64,
+    /// Further bytes; only programs read them.
+    pub extra: [u8; 16],
+}
+
+impl Terms {
+    /// Returns the registration on these terms with this resolver.
+    pub fn with_resolver(self, resolver: ResolverId) -> Registration
+        ensures { result ≡ registration_on self resolver }
+    {
+        let Terms {
+            owner,
+            stamp,
+            weight,
+            extra,
+        } = self;
+        Registration {
+            owner,
+            stamp,
+            weight,
+            extra,
+            resolver,
+        }
+    }
+}
+
 /// A name's entry in a table.
 #[derive(Clone, Copy, Debug, PartialEq, Eq, PartialOrd, Ord)]
 pub struct Registration {
@@ -104,6 +139,18 @@ pub struct Registration {
 
 impl Registration {
     ghost use Rattle.clash_record.specs.Orders.{registration_cmp};
+
+    /// Returns its terms: all but its resolver.
+    pub fn terms(&self) -> Terms
+        ensures { result ≡ registration_terms self.now }
+    {
+        Terms {
+            owner: self.owner,
+            stamp: self.stamp,
+            weight: self.weight,
+            extra: self.extra,
+        }
+    }
 
     /// Checks whether it precedes the other in the order of registrations, and so is first in their clash.
     pub fn precedes(&self, other: &Registration) -> bool

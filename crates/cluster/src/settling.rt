@@ -24,7 +24,7 @@ use crate::plan::Plan;
 use exchange_core::{Finished, Judged};
 use judge_pool::{Gate, Workers};
 use partition_table::ClashList;
-use registry_lock::{meet, tell_round_by};
+use registry_lock::{Judging, meet, tell_round_by};
 use std::alloc::{AllocError, Global};
 use std::sync::Wait;
 use std::thread::Threads;
@@ -221,15 +221,15 @@ impl Halves {
         ensures b { IsTold pass.new (length board.entry.now.place.clashes) self.old.b self.new.b }
         ensures seats { All (λ s. s.draws ≡ board.entry.now.draws) result.items }
     {
-        let Crew {
-            rt,
-            alloc,
-            gate,
-            ..
-        } = *crew;
-        let Turn { round, is_own } = turn;
-        let (a, b) = (&mut self.a, &mut self.b);
-        tell_round_by(rt, alloc, board, pass, seats, round, gate, is_own, a, b).seats
+        let judging = Judging {
+            rt: crew.rt,
+            alloc: crew.alloc,
+            board,
+            gate: crew.gate,
+            round: turn.round,
+            is_own: turn.is_own,
+        };
+        tell_round_by(judging, pass, seats, &mut self.a, &mut self.b).seats
     }
 }
 

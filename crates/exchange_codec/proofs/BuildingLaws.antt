@@ -214,14 +214,7 @@ agrees_new table programs row id code of none =
 same_text : (row : lent.RowText) (resolver : ResolverId) (code : Option (List Insn)) (ids : List ProgramId)
     → resolver_text ids resolver code ≡ resolver_view row.resolver
     → row_text ids row.name (row_with row resolver code) ≡ row_view row
-same_text row resolver code ids e = ap (λ r. record {
-  name = row.name;
-  owner = row.owner;
-  stamp = row.stamp;
-  weight = row.weight;
-  extra = row.extra;
-  resolver = r;
-}) e
+same_text row resolver code ids e = ap (λ r. record { name = row.name; terms = row.terms; resolver = r }) e
 
 module _ (old new : Table) (programs : Programs) (row : lent.RowText) (of : AreProgramsOf old programs)
     (above : IsAbove (entries old) row.name) where

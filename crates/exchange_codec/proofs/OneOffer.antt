@@ -9,6 +9,7 @@ use Rattle.instruction_set.specs.declared.insn.Insn.{Insn}
 use Rattle.insn_codec.specs.Encoding.{insn_bytes}
 use Rattle.clash_record.specs.Name.{Name}
 use Rattle.clash_record.specs.Orders.{id_cmp}
+use Rattle.clash_record.specs.Registrations.{registration_on, registration_terms}
 use Rattle.clash_record.specs.declared.registrations.ProgramId.{ProgramId}
 use Rattle.clash_record.specs.declared.registrations.Registration.{Registration}
 use Rattle.clash_record.specs.declared.registrations.ResolverId.{ResolverId}
@@ -190,8 +191,8 @@ module _ (known : Readings) where
       let resolver = same_resolver before (resolver_of e) (resolver_of f) e.1.code f.1.code p q share
       (ap (λ (t : RowText). t.resolver) same) in
       let registration : e.1.registration ≡ f.1.registration =
-      ap (λ (t : RowText). record { owner = t.owner; stamp = t.stamp; weight = t.weight; extra = t.extra; resolver = e.1.registration.resolver }) same
-      ∙ ap (λ (r : ResolverId). record { owner = f.1.registration.owner; stamp = f.1.registration.stamp; weight = f.1.registration.weight; extra = f.1.registration.extra; resolver = r }) resolver.0 in
+      ap (λ (t : RowText). registration_on t.terms e.1.registration.resolver) same
+      ∙ ap (λ (r : ResolverId). registration_on (registration_terms f.1.registration) r) resolver.0 in
       ap (λ (t : RowText). (t.name, e.1)) same
       ∙ ap (λ (r : Registration). (f.0, record { registration = r; code = e.1.code })) registration
       ∙ ap (λ (c : Option (List Insn)). (f.0, record { registration = f.1.registration; code = c })) resolver.1

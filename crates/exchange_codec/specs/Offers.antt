@@ -28,9 +28,7 @@ head_bytes h =
     side_byte h.side ∷ (to_le_bytes w64 h.number ++ (to_le_bytes w64 h.seed ++ to_le_bytes w64 h.uptime))
 
 abbrev pub offer_bytes : OfferText → List ℕ
-offer_bytes o =
-    to_le_bytes w64 offers_header
-    ++ (head_bytes o.head ++ table_bytes o.rows)
+offer_bytes o = to_le_bytes w64 offers_header ++ (head_bytes o.head ++ table_bytes o.rows)
 
 abbrev pub head_of : Offer → OfferHead
 head_of o = record { side = o.side; number = o.number; seed = o.seed; uptime = o.uptime }

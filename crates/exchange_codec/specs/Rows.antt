@@ -6,13 +6,14 @@ use Rattle.instruction_set.specs.declared.insn.Insn.{Insn}
 use Rattle.insn_codec.specs.Encoding.{insn_bytes}
 use Rattle.std.specs.BTreeSet.{BTreeSet, contains}
 use Rattle.clash_record.specs.Orders.{builtin_place, id_cmp}
+use Rattle.clash_record.specs.Registrations.{registration_terms}
 use Rattle.clash_record.specs.declared.registrations.Owner.{Owner}
 use Rattle.clash_record.specs.declared.registrations.Builtin.{Builtin}
 use Rattle.clash_record.specs.declared.registrations.Builtin.TheVariants.{Exit, Notify, NotifyAll}
 use Rattle.clash_record.specs.declared.registrations.ProgramId.{ProgramId}
-use Rattle.clash_record.specs.declared.registrations.Registration.{Registration}
 use Rattle.clash_record.specs.declared.registrations.ResolverId.{ResolverId}
 use Rattle.clash_record.specs.declared.registrations.ResolverId.TheVariants as by
+use Rattle.clash_record.specs.declared.registrations.Terms.{Terms}
 use Rattle.clash_record.specs.Name.{Name, is_name}
 use Rattle.partition_table.specs.Tables.{Row, same_id}
 use Rattle.exchange_codec.specs.declared.fault.Fault.{Fault}
@@ -34,10 +35,7 @@ pub data ResolverText : Type 0 where
 
 pub record RowText : Type 0 where
   pub name : Name
-  pub owner : Owner
-  pub stamp : ℕ
-  pub weight : ℕ
-  pub extra : List ℕ
+  pub terms : Terms
   pub resolver : ResolverText
 
 -- the code of a program
@@ -53,15 +51,11 @@ abbrev pub owner_bytes : Owner → List ℕ
 owner_bytes o = to_le_bytes w32 o.node ++ to_le_bytes w32 o.serial
 
 -- all of a registration but its resolver
-abbrev pub fields_bytes : Registration → List ℕ
-fields_bytes r =
-    owner_bytes r.owner ++ (to_le_bytes w64 r.stamp ++ (to_le_bytes w64 r.weight ++ r.extra))
+abbrev pub fields_bytes : Terms → List ℕ
+fields_bytes t = owner_bytes t.owner ++ (to_le_bytes w64 t.stamp ++ (to_le_bytes w64 t.weight ++ t.extra))
 
 abbrev pub row_bytes : RowText → List ℕ
-row_bytes r =
-    name_bytes r.name
-    ++ (owner_bytes r.owner
-    ++ (to_le_bytes w64 r.stamp ++ (to_le_bytes w64 r.weight ++ (r.extra ++ resolver_bytes r.resolver))))
+row_bytes r = name_bytes r.name ++ (fields_bytes r.terms ++ resolver_bytes r.resolver)
 
 -- what has a spelling
 abbrev pub IsResolver : ResolverText → Type 0
@@ -70,20 +64,16 @@ IsResolver (Named id) = length id.0 ≡ 32
 IsResolver (Code bytes) = length bytes ≤ max_code
 
 -- the fields of a registration but its resolver
-pub record HasFields (r : Registration) : Type 0 where
-  pub node : r.owner.node < 2 ^ 32
-  pub serial : r.owner.serial < 2 ^ 32
-  pub stamp : r.stamp < 2 ^ 64
-  pub weight : r.weight < 2 ^ 64
-  pub extra : length r.extra ≡ 16
+pub record HasFields (t : Terms) : Type 0 where
+  pub node : t.owner.node < 2 ^ 32
+  pub serial : t.owner.serial < 2 ^ 32
+  pub stamp : t.stamp < 2 ^ 64
+  pub weight : t.weight < 2 ^ 64
+  pub extra : length t.extra ≡ 16
 
 pub record IsRow (r : RowText) : Type 0 where
   pub named : IsTrue (is_name r.name)
-  pub node : r.owner.node < 2 ^ 32
-  pub serial : r.owner.serial < 2 ^ 32
-  pub stamp : r.stamp < 2 ^ 64
-  pub weight : r.weight < 2 ^ 64
-  pub extra : length r.extra ≡ 16
+  pub fields : HasFields r.terms
   pub resolver : IsResolver r.resolver
 
 -- ---- the rows of a table as texts
@@ -104,10 +94,7 @@ resolver_text before (by.Program id) code = if has_id id before then Named id el
 abbrev pub row_text : List ProgramId → Name → Row → RowText
 row_text before name row = record {
   name = name;
-  owner = row.registration.owner;
-  stamp = row.registration.stamp;
-  weight = row.registration.weight;
-  extra = row.registration.extra;
+  terms = registration_terms row.registration;
   resolver = resolver_text before row.registration.resolver row.code;
 }
 
@@ -151,22 +138,17 @@ owner_at bytes = do
   serial ← number_at w32 node.1
   Ok (record { node = node.0; serial = serial.0 }, serial.1)
 
-unfoldable pub row_at : List ℕ → Result (RowText × List ℕ) Fault
-row_at bytes = do
-  name ← name_at bytes
-  owner ← owner_at name.1
+unfoldable pub terms_at : List ℕ → Result (Terms × List ℕ) Fault
+terms_at bytes = do
+  owner ← owner_at bytes
   stamp ← number_at w64 owner.1
   weight ← number_at w64 stamp.1
   extra ← bytes_at 16 weight.1
-  resolver ← resolver_at extra.1
-  Ok (
-    record {
-      name = name.0;
-      owner = owner.0;
-      stamp = stamp.0;
-      weight = weight.0;
-      extra = extra.0;
-      resolver = resolver.0;
-    },
-    resolver.1,
-  )
+  Ok (record { owner = owner.0; stamp = stamp.0; weight = weight.0; extra = extra.0 }, extra.1)
+
+unfoldable pub row_at : List ℕ → Result (RowText × List ℕ) Fault
+row_at bytes = do
+  name ← name_at bytes
+  terms ← terms_at name.1
+  resolver ← resolver_at terms.1
+  Ok (record { name = name.0; terms = terms.0; resolver = resolver.0 }, resolver.1)

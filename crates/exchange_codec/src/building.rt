@@ -1,7 +1,8 @@
 //! The table of rows that are read, and the offer of a side with that table.
-ghost use Rattle.std.specs.Prelude.{◌≡◌, ◌≤◌, ◌<◌, not, List, Ok, IfOk, IfErr, OnOk, IsTrue};
+ghost use Rattle.std.specs.Prelude.{◌≡◌, ◌≤◌, ◌<◌, not, List, [], Ok, IfOk, IfErr, OnOk, IsTrue};
 ghost use Rattle.std.specs.Option.{option_map};
 ghost use Rattle.std.specs.Arc.{arc_value};
+ghost use Rattle.std.specs.FinMap as map;
 ghost use Rattle.std.specs.FinMap.{entries, insert, len};
 ghost use Rattle.refusals.specs.Answers.{HasCause};
 ghost use Rattle.instruction_set.specs.Machine.{IsSafe};
@@ -19,12 +20,12 @@ ghost use Rattle.exchange_codec.specs.Tables.{is_name_above};
 use crate::fault::{ItemFault, MessageFault, ReadError, ran_out};
 use crate::offers::OfferHead;
 use crate::rows::{ResolverText, RowText, row_at, rows_within, skip_rows};
-use clash_record::{Name, ProgramId, Registration, ResolverId};
+use clash_record::{Name, ProgramId, ResolverId};
 use exchange_core::{Offer, Side};
 use partition_table::{NameLimit, Table, TableBuilder};
 use refusals::{Numbered, OUT_OF_MEMORY};
 use sha2::{Digest, Sha256};
-use std::alloc::Global;
+use std::alloc::{AllocError, Global};
 use std::collections::BTreeMap;
 use std::sync::Arc;
 use verifier::{ProgramFault, Verified, read_program};
@@ -35,8 +36,13 @@ pub(crate) struct Known {
     program: Arc<Verified>,
 }
 
-// The programs of earlier rows: a table may name more programs than a store holds.
-type Programs = BTreeMap<ProgramId, Known>;
+// Builds the table of rows that are read.
+#[derive(Drop)]
+struct RowsBuilder {
+    table: TableBuilder,
+    // The programs that its rows name: a table may name more of them than a store holds.
+    programs: BTreeMap<ProgramId, Known>,
+}
 
 /// Returns the offer with this head and table: a side with the table begins the number. Returns the fault if there is no table.
 pub(crate) fn begun(
@@ -80,8 +86,7 @@ pub(crate) fn table_at(
         × (many_at texts.row_at count bytes.entry.now ≡ Ok (rows, x.1.now)) × IsBuiltOf rows x.0) }
     ensures failed { IfErr result (λ error. Fails error (many_at texts.row_at count bytes.entry.now)) }
 {
-    let mut programs = BTreeMap::new(alloc);
-    let Ok(mut builder) = TableBuilder::with_capacity(alloc, rows_within(count, bytes)) else {
+    let Ok(mut builder) = RowsBuilder::with_capacity(alloc, rows_within(count, bytes)) else {
         return Err(ReadError::Memory);
     };
     let mut last = None;
@@ -91,9 +96,9 @@ pub(crate) fn table_at(
             Ok(found) => found,
             Err(error) => return Err(error),
         };
-        builder.known();
+        builder.table.known();
         let at = k as usize;
-        if let Err(fault) = add_after(alloc, &mut builder, &mut programs, &last, &row, at) {
+        if let Err(fault) = builder.add_after(alloc, &last, &row, at) {
             // A field of a later row may be invalid: its fault comes first.
             match skip_rows(count - k - 1, after) {
                 Ok(rest) => return Ok((Err(fault), rest)),
@@ -103,47 +108,128 @@ pub(crate) fn table_at(
         last = Some(row.name);
         rest = after;
     }
-    Ok((finished(alloc, builder), rest))
+    Ok((builder.finish(alloc), rest))
 }
 
-// Returns the table of the rows.
-fn finished(alloc: Global, builder: TableBuilder) -> Result<Table, MessageFault>
-    ensures built { IfOk result (λ table. (table ≡ builder) × IsTable table) }
-    ensures refused { IfErr result (λ fault. fault ≡ OutOfMemory) }
-{
-    match builder.finish(alloc) {
-        Ok(table) => {
-            // For the proof: what the type of the table guarantees.
-            table.len();
-            Ok(table)
+impl RowsBuilder {
+    // Returns a builder without rows that has room for this many.
+    fn with_capacity(alloc: Global, rows: usize) -> Result<RowsBuilder, AllocError>
+        ensures rows { IfOk result (λ builder. builder.table ≡ map.empty) }
+        ensures programs { IfOk result (λ builder. builder.programs.entries ≡ []) }
+    {
+        Ok(RowsBuilder {
+            table: TableBuilder::with_capacity(alloc, rows)?,
+            programs: BTreeMap::new(alloc),
+        })
+    }
+
+    // Adds the row at this index. Its name has to be above that of the last row.
+    fn add_after(
+        &mut self,
+        alloc: Global,
+        last: &Option<Name>,
+        row: &RowText<'_>,
+        at: usize,
+    ) -> Result<(), MessageFault>
+        requires programs { AreProgramsOf self.old.table self.old.programs }
+        requires last { IsLast self.old.table last.now }
+        requires room { len self.old.table < most_names }
+        ensures added { OnOk result (HasRow self.old.table (row_view row.now) self.new.table self.new.programs) }
+        ensures refused { IfErr result
+            (HasCause message_fault_number (IsLeastRowFault (entries self.old.table) (row_view row.now) at)) }
+    {
+        if is_misplaced(last, &row.name) {
+            return Err(MessageFault::Item {
+                fault: ItemFault::NameOrder,
+                at,
+            });
         }
-        Err(_) => Err(MessageFault::OutOfMemory),
+        self.add_row(alloc, row, at)
     }
-}
 
-// Adds the row at this index. Its name has to be above that of the last row.
-fn add_after(
-    alloc: Global,
-    builder: &mut TableBuilder,
-    programs: &mut Programs,
-    last: &Option<Name>,
-    row: &RowText<'_>,
-    at: usize,
-) -> Result<(), MessageFault>
-    requires programs { AreProgramsOf builder.old programs.old }
-    requires last { IsLast builder.old last.now }
-    requires room { len builder.old < most_names }
-    ensures added { OnOk result (HasRow builder.old (row_view row.now) builder.new programs.new) }
-    ensures refused { IfErr result
-        (HasCause message_fault_number (IsLeastRowFault (entries builder.old) (row_view row.now) at)) }
-{
-    if is_misplaced(last, &row.name) {
-        return Err(MessageFault::Item {
-            fault: ItemFault::NameOrder,
-            at,
-        });
+    // Adds the row at this index.
+    fn add_row(&mut self, alloc: Global, row: &RowText<'_>, at: usize) -> Result<(), MessageFault>
+        requires programs { AreProgramsOf self.old.table self.old.programs }
+        requires above { IsTrue (is_name_above (entries self.old.table) row.now.name) }
+        requires room { len self.old.table < most_names }
+        ensures added { OnOk result (HasRow self.old.table (row_view row.now) self.new.table self.new.programs) }
+        ensures refused { IfErr result
+            (HasCause message_fault_number (IsLeastRowFault (entries self.old.table) (row_view row.now) at)) }
+    {
+        match row.resolver {
+            ResolverText::Builtin(builtin) => {
+                add_by(&mut self.table, row, ResolverId::Builtin(builtin), None)
+            }
+            ResolverText::Named(id) => match self.programs.get(&id) {
+                Some(known) => add_by(
+                    &mut self.table,
+                    row,
+                    ResolverId::Program(id),
+                    Some(&known.program),
+                ),
+                None => Err(MessageFault::Item {
+                    fault: ItemFault::NoProgram,
+                    at,
+                }),
+            },
+            ResolverText::Code(bytes) => self.add_code(alloc, row, bytes, at),
+        }
     }
-    add_row(alloc, builder, programs, row, at)
+
+    // Adds a row with code, and keeps the code.
+    fn add_code(
+        &mut self,
+        alloc: Global,
+        row: &RowText<'_>,
+        bytes: &[u8],
+        at: usize,
+    ) -> Result<(), MessageFault>
+        requires programs { AreProgramsOf self.old.table self.old.programs }
+        requires above { IsTrue (is_name_above (entries self.old.table) row.now.name) }
+        requires room { len self.old.table < most_names }
+        requires code { resolver_view row.now.resolver ≡ Code bytes.now }
+        ensures added { OnOk result (HasRow self.old.table (row_view row.now) self.new.table self.new.programs) }
+        ensures refused { IfErr result
+            (HasCause message_fault_number (IsLeastRowFault (entries self.old.table) (row_view row.now) at)) }
+    {
+        let id = ProgramId(Sha256::digest(bytes));
+        if self.programs.contains_key(&id) {
+            return Err(MessageFault::Item {
+                fault: ItemFault::ProgramAgain,
+                at,
+            });
+        }
+        let program = program_at(alloc, bytes, at)?;
+        let Ok(program) = Arc::new(alloc, program) else {
+            return Err(MessageFault::OutOfMemory);
+        };
+        add_by(
+            &mut self.table,
+            row,
+            ResolverId::Program(id),
+            Some(&program),
+        )?;
+        match self.programs.insert(id, Known { program }) {
+            Ok(_) => Ok(()),
+            Err(_) => Err(MessageFault::OutOfMemory),
+        }
+    }
+
+    // Returns the table of the rows.
+    fn finish(self, alloc: Global) -> Result<Table, MessageFault>
+        ensures built { IfOk result (λ table. (table ≡ self.table) × IsTable table) }
+        ensures refused { IfErr result (λ fault. fault ≡ OutOfMemory) }
+    {
+        let RowsBuilder { table, programs: _ } = self;
+        match table.finish(alloc) {
+            Ok(table) => {
+                // For the proof: what the type of the table guarantees.
+                table.len();
+                Ok(table)
+            }
+            Err(_) => Err(MessageFault::OutOfMemory),
+        }
+    }
 }
 
 // Checks whether the name isn't above the last one.
@@ -153,71 +239,6 @@ fn is_misplaced(last: &Option<Name>, name: &Name) -> bool
     match last {
         Some(last) => !last.cmp(name).is_lt(),
         None => false,
-    }
-}
-
-// Adds the row at this index.
-fn add_row(
-    alloc: Global,
-    builder: &mut TableBuilder,
-    programs: &mut Programs,
-    row: &RowText<'_>,
-    at: usize,
-) -> Result<(), MessageFault>
-    requires programs { AreProgramsOf builder.old programs.old }
-    requires above { IsTrue (is_name_above (entries builder.old) row.now.name) }
-    requires room { len builder.old < most_names }
-    ensures added { OnOk result (HasRow builder.old (row_view row.now) builder.new programs.new) }
-    ensures refused { IfErr result
-        (HasCause message_fault_number (IsLeastRowFault (entries builder.old) (row_view row.now) at)) }
-{
-    match row.resolver {
-        ResolverText::Builtin(builtin) => {
-            add_by(builder, row, ResolverId::Builtin(builtin), None)
-        }
-        ResolverText::Named(id) => match programs.get(&id) {
-            Some(known) => add_by(builder, row, ResolverId::Program(id), Some(&known.program)),
-            None => Err(MessageFault::Item {
-                fault: ItemFault::NoProgram,
-                at,
-            }),
-        },
-        ResolverText::Code(bytes) => add_code(alloc, builder, programs, row, bytes, at),
-    }
-}
-
-// Adds a row with code, and keeps the code.
-fn add_code(
-    alloc: Global,
-    builder: &mut TableBuilder,
-    programs: &mut Programs,
-    row: &RowText<'_>,
-    bytes: &[u8],
-    at: usize,
-) -> Result<(), MessageFault>
-    requires programs { AreProgramsOf builder.old programs.old }
-    requires above { IsTrue (is_name_above (entries builder.old) row.now.name) }
-    requires room { len builder.old < most_names }
-    requires code { resolver_view row.now.resolver ≡ Code bytes.now }
-    ensures added { OnOk result (HasRow builder.old (row_view row.now) builder.new programs.new) }
-    ensures refused { IfErr result
-        (HasCause message_fault_number (IsLeastRowFault (entries builder.old) (row_view row.now) at)) }
-{
-    let id = ProgramId(Sha256::digest(bytes));
-    if programs.contains_key(&id) {
-        return Err(MessageFault::Item {
-            fault: ItemFault::ProgramAgain,
-            at,
-        });
-    }
-    let program = program_at(alloc, bytes, at)?;
-    let Ok(program) = Arc::new(alloc, program) else {
-        return Err(MessageFault::OutOfMemory);
-    };
-    add_by(builder, row, ResolverId::Program(id), Some(&program))?;
-    match programs.insert(id, Known { program }) {
-        Ok(_) => Ok(()),
-        Err(_) => Err(MessageFault::OutOfMemory),
     }
 }
 
@@ -259,13 +280,7 @@ fn add_by(
         (row_with row.now resolver (option_map (λ p. arc_value p.now) program.entry))) }
     ensures refused { IfErr result (λ fault. fault ≡ OutOfMemory) }
 {
-    let registration = Registration {
-        owner: row.owner,
-        stamp: row.stamp,
-        weight: row.weight,
-        extra: row.extra,
-        resolver,
-    };
+    let registration = row.terms.with_resolver(resolver);
     match builder.push(&row.name, &registration, program) {
         Ok(()) => Ok(()),
         Err(_) => Err(MessageFault::OutOfMemory),

@@ -10,13 +10,13 @@ ghost use Rattle.clash_record.specs.Orders.{builtin_place};
 ghost use Rattle.clash_record.specs.declared.registrations.ProgramId.{ProgramId};
 ghost use Rattle.exchange_codec.specs.Reading.{Fails, Gives, many_at, bytes_at};
 ghost use Rattle.exchange_codec.specs.Rows as texts;
-ghost use Rattle.exchange_codec.specs.Rows.{owner_at, resolver_at, row_at, row_bytes, owner_bytes, row_text, ids_after, fields_bytes, resolver_bytes, resolver_text, Code, code_bytes, sized_code, max_code, IsRow, IsResolver, HasFields, AreIds};
+ghost use Rattle.exchange_codec.specs.Rows.{owner_at, terms_at, resolver_at, row_at, row_bytes, owner_bytes, row_text, ids_after, fields_bytes, resolver_bytes, resolver_text, Code, code_bytes, sized_code, max_code, IsRow, IsResolver, HasFields, AreIds};
 ghost use Rattle.exchange_codec.specs.RowsText.{row_view, resolver_view};
 
 use crate::fault::{FieldFault, ReadError};
 use crate::fields::{bytes_at, count_at, push_u32, u32_at, u64_at};
 use crate::names::{name_at, push_name};
-use clash_record::{Builtin, Name, Owner, ProgramId, Registration, ResolverId};
+use clash_record::{Builtin, Name, Owner, ProgramId, Registration, ResolverId, Terms};
 use insn_codec::encode;
 use std::alloc::{AllocError, Global};
 use std::collections::BTreeSet;
@@ -43,10 +43,7 @@ pub enum ResolverText<'a> {
 #[derive(Clone, Copy, Debug)]
 pub struct RowText<'a> {
     pub name: Name,
-    pub owner: Owner,
-    pub stamp: u64,
-    pub weight: u64,
-    pub extra: [u8; 16],
+    pub terms: Terms,
     pub resolver: ResolverText<'a>,
 }
 
@@ -80,19 +77,33 @@ pub fn row_at(bytes: &[u8]) -> Result<(RowText<'_>, &[u8]), ReadError>
         Ok(found) => found,
         Err(error) => return Err(error),
     };
-    let (owner, rest) = owner_of(rest)?;
-    let (stamp, rest) = u64_at(rest)?;
-    let (weight, rest) = u64_at(rest)?;
-    let (extra, rest) = extra_of(rest)?;
+    let (terms, rest) = terms_of(rest)?;
     let (resolver, rest) = resolver_of(rest)?;
     Ok((
         RowText {
             name,
+            terms,
+            resolver,
+        },
+        rest,
+    ))
+}
+
+// All of a registration but its resolver, at the front.
+#[tactic(auto, unfolding(crate::specs::Rows::terms_at))]
+fn terms_of(bytes: &[u8]) -> Result<(Terms, &[u8]), ReadError>
+    ensures { Gives (λ x. (x.0, x.1.now)) result (terms_at bytes.now) }
+{
+    let (owner, rest) = owner_of(bytes)?;
+    let (stamp, rest) = u64_at(rest)?;
+    let (weight, rest) = u64_at(rest)?;
+    let (extra, rest) = extra_of(rest)?;
+    Ok((
+        Terms {
             owner,
             stamp,
             weight,
             extra,
-            resolver,
         },
         rest,
     ))
@@ -153,7 +164,6 @@ fn resolver_of(bytes: &[u8]) -> Result<(ResolverText<'_>, &[u8]), ReadError>
 
 /// Writes a row at the end. The programs with these ids stand before; the row's is added to them.
 pub(crate) fn push_row(
-    alloc: Global,
     out: &mut Vec<u8>,
     before: &mut BTreeSet<ProgramId>,
     name: &Name,
@@ -169,22 +179,21 @@ pub(crate) fn push_row(
         (record { registration = registration.now; code = option_map (λ p. arc_value p.now) program.entry }))) }
 {
     push_name(out, name)?;
-    push_fields(out, *registration)?;
-    push_resolver(alloc, out, before, registration.resolver, program)
+    push_fields(out, registration.terms())?;
+    push_resolver(out, before, registration.resolver, program)
 }
 
 /// Writes all of a registration but its resolver at the end.
-pub fn push_fields(out: &mut Vec<u8>, registration: Registration) -> Result<(), AllocError>
-    ensures written { OnOk result (out.new.items ≡ out.old.items ++ fields_bytes registration) }
-    ensures fits { OnOk result (HasFields registration) }
+pub fn push_fields(out: &mut Vec<u8>, terms: Terms) -> Result<(), AllocError>
+    ensures written { OnOk result (out.new.items ≡ out.old.items ++ fields_bytes terms) }
+    ensures fits { OnOk result (HasFields terms) }
 {
-    let Registration {
+    let Terms {
         owner,
         stamp,
         weight,
         extra,
-        resolver: _,
-    } = registration;
+    } = terms;
     out.extend_from_slice(&number_bytes(owner, stamp, weight))?;
     out.extend_from_slice(&extra)?;
     Ok(())
@@ -204,7 +213,6 @@ fn number_bytes(owner: Owner, stamp: u64, weight: u64) -> [u8; 24]
 
 // Writes a resolver at the end.
 fn push_resolver(
-    alloc: Global,
     out: &mut Vec<u8>,
     before: &mut BTreeSet<ProgramId>,
     resolver: ResolverId,
@@ -223,7 +231,7 @@ fn push_resolver(
             out.push(place_of(builtin))?;
             Ok(())
         }
-        ResolverId::Program(id) => push_program(alloc, out, before, id, program),
+        ResolverId::Program(id) => push_program(out, before, id, program),
     }
 }
 
@@ -240,7 +248,6 @@ pub fn place_of(builtin: Builtin) -> u8
 
 // Writes a program: its id where it stands before, and else its code.
 fn push_program(
-    alloc: Global,
     out: &mut Vec<u8>,
     before: &mut BTreeSet<ProgramId>,
     id: ProgramId,
@@ -259,22 +266,18 @@ fn push_program(
         return out.extend_from_slice(&id.0);
     }
     before.insert(id)?;
-    push_first(alloc, out, program)
+    push_first(out, program)
 }
 
 // Writes a program where none with its id stands before.
-fn push_first(
-    alloc: Global,
-    out: &mut Vec<u8>,
-    program: Option<&Arc<Verified>>,
-) -> Result<(), AllocError>
+fn push_first(out: &mut Vec<u8>, program: Option<&Arc<Verified>>) -> Result<(), AllocError>
     ensures written { OnOk result (out.new.items
         ≡ out.old.items ++ resolver_bytes (Code (code_bytes (option_map (λ p. arc_value p.now) program.entry)))) }
     ensures fits { OnOk result (IsResolver (Code (code_bytes (option_map (λ p. arc_value p.now) program.entry)))) }
 {
     out.push(4)?;
     match program {
-        Some(program) => push_code(alloc, out, program),
+        Some(program) => push_code(*out.allocator(), out, program),
         None => push_u32(out, 0),
     }
 }

@@ -47,7 +47,7 @@ fn push_rows(alloc: Global, out: &mut Vec<u8>, table: &Table) -> Result<(), Allo
     let mut rows = table.rows();
     while let Some((name, registration)) = rows.next() {
         let program = table.program_for(registration.resolver);
-        push_row(alloc, out, &mut before, name, registration, program)?;
+        push_row(out, &mut before, name, registration, program)?;
     }
     Ok(())
 }

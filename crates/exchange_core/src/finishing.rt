@@ -14,7 +14,7 @@ use crate::pairing::merge_own;
 use crate::state::State;
 use builtin_resolvers::Verdict3;
 use clash_record::SideId;
-use partition_table::{Compared, Judged, MergedTable, Table};
+use partition_table::{AnsweredClashes, Compared, Judged, MergedTable, ParentTable, Table};
 use std::alloc::{AllocError, Global};
 use std::mem;
 use std::sync::Arc;
@@ -111,16 +111,19 @@ fn merge_exchange(
     };
     let rulings = held_rulings(alloc, heard.rulings())?;
     let answers = answers_of(alloc, &rulings)?;
-    let table = merge_own(
-        alloc,
-        id,
-        own,
-        heard.table(),
+    let answered = AnsweredClashes {
         compared,
-        &answers,
-        exchange.withdrawn().names(),
-        theirs,
-    )?;
+        answers: &answers,
+    };
+    let own = ParentTable {
+        table: own,
+        gone: exchange.withdrawn().names(),
+    };
+    let other = ParentTable {
+        table: heard.table(),
+        gone: theirs,
+    };
+    let table = merge_own(alloc, id, own, other, answered)?;
     Ok(Merged { rulings, table })
 }
 

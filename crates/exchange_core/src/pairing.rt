@@ -7,11 +7,10 @@ ghost use Rattle.exchange_core.specs.Refusals.{union_for};
 ghost use Rattle.exchange_law.specs.Sides.{fit_for, merge_for};
 ghost use Rattle.exchange_core.specs.model.Pairing.{fit_fault_for, merged_for, IsComparedFor};
 
-use builtin_resolvers::Verdict3;
-use clash_record::{Name, SideId};
+use clash_record::SideId;
 use partition_table::{
-    Compared, HalfTable, MergedTable, NameLimit, Table, TableFault, compare_within, fit_theorem,
-    fit_within, merge_compared,
+    AnsweredClashes, Compared, HalfTable, MergedTable, NameLimit, ParentTable, Table, TableFault,
+    compare_within, fit_theorem, fit_within, merge_compared,
 };
 use std::alloc::{AllocError, Global};
 
@@ -47,21 +46,19 @@ pub(crate) fn compare(
 pub(crate) fn merge_own(
     alloc: Global,
     id: SideId,
-    own: &Table,
-    other: &Table,
-    compared: &Compared,
-    answers: &[Verdict3],
-    own_gone: &[Name],
-    other_gone: &[Name],
+    own: ParentTable<'_>,
+    other: ParentTable<'_>,
+    answered: AnsweredClashes<'_>,
 ) -> Result<MergedTable, AllocError>
-    requires fit { IsTrue (fit_for id own.now other.now) }
+    requires fit { IsTrue (fit_for id own.table.now other.table.now) }
     requires compared { (own_uptime : ℕ) × (other_uptime : ℕ)
-        × IsComparedFor id own.now own_uptime other.now other_uptime compared.now }
-    ensures { IfOk result (λ merged. merged_for id own.now other.now merged
-        ≡ merge_for id own.now other.now answers.now own_gone.now other_gone.now) }
+        × IsComparedFor id own.table.now own_uptime other.table.now other_uptime answered.compared.now }
+    ensures { IfOk result (λ merged. merged_for id own.entry.table.now other.entry.table.now merged
+        ≡ merge_for id own.entry.table.now other.entry.table.now answered.entry.answers.now
+        own.entry.gone.now other.entry.gone.now) }
 {
     match id {
-        SideId::A => merge_compared(alloc, own, other, compared, answers, own_gone, other_gone),
-        SideId::B => merge_compared(alloc, other, own, compared, answers, other_gone, own_gone),
+        SideId::A => merge_compared(alloc, own, other, answered),
+        SideId::B => merge_compared(alloc, other, own, answered),
     }
 }

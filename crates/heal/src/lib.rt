@@ -11,7 +11,7 @@
 //! | judge clashes | `clashes`, `Clash`, `ClashList`, `word`, `Verdict`, `Ruling` | `partition_table` |
 //! | build and merge tables | `Table`, `TableBuilder`, `NameLimit`, `Agreement`, `Rows`, `RowsAfter`, `fit`, `fit_within`, `merge`, `TableFault` | `partition_table` |
 //! | keep uploaded programs | `UploadStore`, `Uploaded`, `UploadFault` | `upload_store` |
-//! | name and register | `name`, `Name`, `Owner`, `Registration`, `ResolverId`, `SideId`, `Withdrawal` | `clash_record` |
+//! | name and register | `name`, `Name`, `Owner`, `Registration`, `Terms`, `ResolverId`, `SideId`, `Withdrawal` | `clash_record` |
 //! | notify owners | `notices`, `Notice`, `Notices`, `Verdict3`, `decide` | `builtin_resolvers` |
 //! | report refusals | `Numbered`, `NumberedRefusal`, `Place`, `refusal_of`, `words_of`, `REFUSALS` | `refusals` |
 //! | read, write and run programs | the module `programs` | `program` and those below it |
@@ -31,8 +31,8 @@ pub mod replicas;
 
 pub use builtin_resolvers::{Notice, Notices, Verdict3, decide, notices};
 pub use clash_record::{
-    BadName, Builtin, NAME_LEN, Name, Owner, ProgramId, Registration, ResolverId, SideId, Uptimes,
-    Withdrawal, name,
+    BadName, Builtin, NAME_LEN, Name, Owner, ProgramId, Registration, ResolverId, SideId, Terms,
+    Uptimes, Withdrawal, name,
 };
 pub use cluster::{Cluster, HealFault, Healing, Plan};
 pub use exchange_codec::{
@@ -45,9 +45,9 @@ pub use exchange_core::{
 };
 pub use judge_pool::{Gate, MAX_WORKERS, OpenGate, Workers};
 pub use partition_table::{
-    Agreement, Clash, ClashList, Compared, HalfTable, MAX_NAMES, MergedTable, NameLimit, Rows,
-    RowsAfter, Ruling, Table, TableBuilder, TableFault, Verdict, clashes, compare_within, fit,
-    fit_within, merge, merge_compared, word,
+    Agreement, AnsweredClashes, Clash, ClashList, Compared, HalfTable, MAX_NAMES, MergedTable,
+    NameLimit, ParentTable, Rows, RowsAfter, Ruling, Table, TableBuilder, TableFault, Verdict,
+    clashes, compare_within, fit, fit_within, merge, merge_compared, word,
 };
 pub use refusals::{
     Numbered, NumberedRefusal, OUT_OF_MEMORY, Place, REFUSALS, refusal_of, words_of,

@@ -22,7 +22,15 @@ pub extern "C" fn heal_record(
     ensures { GivesDue (spec.record_for name.now first.now second.now word of_first.now of_second.now)
         (λ bytes. «record».new ≡ bytes) («record».new ≡ «record».old) result }
 {
-    match record_for(name, first, second, word, of_first, of_second) {
+    let first = GivenContender {
+        registration: first,
+        facts: of_first,
+    };
+    let second = GivenContender {
+        registration: second,
+        facts: of_second,
+    };
+    match record_for(name, first, second, word) {
         Ok(made) => {
             *record = *made.bytes();
             0
@@ -31,26 +39,32 @@ pub extern "C" fn heal_record(
     }
 }
 
+// A registration, and the facts of the half that holds it, as C passes them.
+#[derive(Clone, Copy)]
+struct GivenContender<'a> {
+    registration: &'a HealRegistration,
+    facts: &'a HealFacts,
+}
+
 // Builds the record, or returns 44 or 76.
 fn record_for(
     bytes: &[u8],
-    first: &HealRegistration,
-    second: &HealRegistration,
+    first: GivenContender<'_>,
+    second: GivenContender<'_>,
     word: u64,
-    of_first: &HealFacts,
-    of_second: &HealFacts,
 ) -> Result<ClashRecord, u32>
-    ensures { result ≡ spec.record_for bytes.now first.now second.now word of_first.now of_second.now }
+    ensures { result ≡ spec.record_for bytes.now first.entry.registration.now second.entry.registration.now word
+        first.entry.facts.now second.entry.facts.now }
 {
     let name = name_of(bytes)?;
-    let first = registration_of(first)?;
-    let second = registration_of(second)?;
+    let of_first = registration_of(first.registration)?;
+    let of_second = registration_of(second.registration)?;
     Ok(record(
         &name,
-        &first,
-        &second,
+        &of_first,
+        &of_second,
         word,
-        facts_of(of_first),
-        facts_of(of_second),
+        facts_of(first.facts),
+        facts_of(second.facts),
     ))
 }

@@ -34,6 +34,6 @@ pub use judged::Judged;
 pub use judging::{round_of, word};
 pub use laws::{clashes_theorem, fit_theorem, merge_theorem};
 pub use limit::{MAX_NAMES, NameLimit};
-pub use merging::{MergedTable, merge, merge_compared};
+pub use merging::{AnsweredClashes, MergedTable, ParentTable, merge, merge_compared};
 pub use table::{Rows, RowsAfter, Table};
 pub use verdict::{Ruling, Verdict};

@@ -31,6 +31,20 @@ use std::collections::BTreeSet;
 use std::sync::Arc;
 use verifier::Verified;
 
+/// A table to merge, and the names that its side withdrew, in any order and with repetitions.
+#[derive(Clone, Copy, Debug)]
+pub struct ParentTable<'a> {
+    pub table: &'a Table,
+    pub gone: &'a [Name],
+}
+
+/// Two tables compared, with one answer for each clash, in the order of names.
+#[derive(Clone, Copy, Debug)]
+pub struct AnsweredClashes<'a> {
+    pub compared: &'a Compared,
+    pub answers: &'a [Verdict3],
+}
+
 /// The merge of two tables.
 #[derive(Debug, Drop)]
 pub enum MergedTable {
@@ -73,7 +87,19 @@ pub fn merge(
         uptime: 0,
     };
     let compared = compare_within(alloc, NameLimit::default(), half_a, half_b)?;
-    let merge = merge_compared(alloc, a, b, &compared, answers, gone_a, gone_b)?;
+    let parent_a = ParentTable {
+        table: a,
+        gone: gone_a,
+    };
+    let parent_b = ParentTable {
+        table: b,
+        gone: gone_b,
+    };
+    let answered = AnsweredClashes {
+        compared: &compared,
+        answers,
+    };
+    let merge = merge_compared(alloc, parent_a, parent_b, answered)?;
     Ok(merge.into_table(a, b)?)
 }
 
@@ -83,24 +109,24 @@ pub fn merge(
 /// and the clashes once, and both tables once more if B has a name alone. Returns an error only when out of memory.
 pub fn merge_compared(
     alloc: Global,
-    a: &Table,
-    b: &Table,
-    compared: &Compared,
-    answers: &[Verdict3],
-    gone_a: &[Name],
-    gone_b: &[Name],
+    a: ParentTable<'_>,
+    b: ParentTable<'_>,
+    answered: AnsweredClashes<'_>,
 ) -> Result<MergedTable, AllocError>
-    requires fit { IsTrue (fit_together a.now b.now) }
-    requires compared { (uptime_a : ℕ) × (uptime_b : ℕ) × IsCompared a.now uptime_a b.now uptime_b compared.now }
-    ensures { IfOk result (λ found. merged_by a.now b.now found ≡ merge a.now b.now answers.now
-        record { of_a = gone_a.now; of_b = gone_b.now }) }
+    requires fit { IsTrue (fit_together a.table.now b.table.now) }
+    requires compared { (uptime_a : ℕ) × (uptime_b : ℕ)
+        × IsCompared a.table.now uptime_a b.table.now uptime_b answered.compared.now }
+    ensures { IfOk result (λ found. merged_by a.entry.table.now b.entry.table.now found
+        ≡ merge a.entry.table.now b.entry.table.now answered.entry.answers.now
+        record { of_a = a.entry.gone.now; of_b = b.entry.gone.now }) }
 {
     // For the proof: the merge is defined name by name, in either order.
-    a.rows();
-    b.rows();
+    a.table.rows();
+    b.table.rows();
     clashes_theorem();
     merge_theorem();
-    if compared.clashes.is_empty() && gone_a.is_empty() && gone_b.is_empty() {
+    let AnsweredClashes { compared, answers } = answered;
+    if compared.clashes.is_empty() && a.gone.is_empty() && b.gone.is_empty() {
         if compared.alone_b == 0 {
             return Ok(MergedTable::A);
         }
@@ -109,12 +135,12 @@ pub fn merge_compared(
         }
     }
     let parents = Parents {
-        a,
-        b,
-        gone_a: set_of(alloc, gone_a)?,
-        gone_b: set_of(alloc, gone_b)?,
+        a: a.table,
+        b: b.table,
+        gone_a: set_of(alloc, a.gone)?,
+        gone_b: set_of(alloc, b.gone)?,
     };
-    let mut merged = KeptRows::with_capacity(alloc, a.len().max(b.len()))?;
+    let mut merged = KeptRows::with_capacity(alloc, a.table.len().max(b.table.len()))?;
     parents.put_names_of_a(&mut merged, &compared.clashes, answers)?;
     parents.put_names_of_b_alone(&mut merged, compared.alone_b)?;
     let table = merged.finish(alloc)?;
@@ -134,7 +160,7 @@ impl MergedTable {
     }
 }
 
-// What is merged: two tables, and the names that were withdrawn of each.
+// The two tables to merge, and the set of the names that each side withdrew.
 #[derive(Drop)]
 struct Parents<'a> {
     a: &'a Table,

@@ -1,5 +1,6 @@
 //! The place of a fault.
-ghost use Rattle.std.specs.Prelude.{Some};
+ghost use Rattle.std.specs.Prelude.{◌≡◌, ◌++◌, Some, codes};
+ghost use Rattle.std.specs.Fmt.{decimal};
 ghost use Rattle.refusals.specs.Texts.{place_text};
 
 use std::fmt;
@@ -17,15 +18,25 @@ pub enum Place {
     Item(usize),
 }
 
+impl Place {
+    /// Returns the word of its kind, `slot`, `line`, `byte` or `item`, and its number.
+    pub fn parts(self) -> (&'static str, u64)
+        ensures { place_text self ≡ result.0.now ++ (codes " " ++ decimal result.1) }
+    {
+        match self {
+            Place::Slot(slot) => ("slot", u64::from(slot)),
+            Place::Line(line) => ("line", line as u64),
+            Place::Byte(byte) => ("byte", byte as u64),
+            Place::Item(item) => ("item", item as u64),
+        }
+    }
+}
+
 impl fmt::Display for Place {
     ghost output = { λ place. Some (place_text place) };
 
     fn fmt<W: fmt::Write>(&self, f: &mut fmt::Formatter<W>) -> fmt::Result {
-        match self {
-            Place::Slot(slot) => write!(f, "slot {slot}"),
-            Place::Line(line) => write!(f, "line {line}"),
-            Place::Byte(byte) => write!(f, "byte {byte}"),
-            Place::Item(item) => write!(f, "item {item}"),
-        }
+        let (kind, number) = self.parts();
+        write!(f, "{kind} {number}")
     }
 }

@@ -15,4 +15,4 @@ pub use healed::Healed;
 pub use laws::seen_theorem;
 pub use meeting::meet;
 pub use partition::Partition;
-pub use telling::{tell_round, tell_round_by};
+pub use telling::{Judging, tell_round, tell_round_by};

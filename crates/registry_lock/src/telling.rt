@@ -15,6 +15,23 @@ use std::sync::Wait;
 use std::thread::Threads;
 use verdict_board::{Board, Pass, Seat};
 
+/// How a round is judged, for two sides that take its rulings.
+#[derive(Debug, Drop)]
+pub struct Judging<'r, 'p, R, G> {
+    /// The runtime that starts the workers' threads.
+    pub rt: &'r R,
+    /// The allocator of the rulings until the sides take them.
+    pub alloc: Global,
+    /// The board.
+    pub board: &'r Board<'p>,
+    /// The gate that each post passes.
+    pub gate: &'r G,
+    /// The number of the round, from 0 to 3.
+    pub round: u32,
+    /// Whether the board's clashes are known to be those of the first side.
+    pub is_own: bool,
+}
+
 /// Runs a round as `heal_round` does, and then lets two sides take its rulings. Drops rulings that a side refuses or
 /// that can't be queued, and all of them if no pass can be allocated.
 ///
@@ -44,18 +61,17 @@ pub fn tell_round<'p, G: Gate + Sync, R: Threads + Wait + Sync>(
 {
     let (mut first, mut second) = (first, second);
     let done = match board.pass() {
-        Ok(mut pass) => tell_round_by(
-            rt,
-            alloc,
-            board,
-            &mut pass,
-            seats,
-            round,
-            gate,
-            false,
-            &mut first,
-            &mut second,
-        ),
+        Ok(mut pass) => {
+            let judging = Judging {
+                rt,
+                alloc,
+                board,
+                gate,
+                round,
+                is_own: false,
+            };
+            tell_round_by(judging, &mut pass, seats, &mut first, &mut second)
+        }
         Err(_) => {
             let closed = Inbox::closed();
             heal_round(rt, alloc, board, seats, round, gate, &closed, &closed)
@@ -65,31 +81,26 @@ pub fn tell_round<'p, G: Gate + Sync, R: Threads + Wait + Sync>(
 }
 
 /// Like `tell_round`, for sides that are lent, which take what this pass reads. Compares the board's clashes with those of each side,
-/// but not with the first side's if `is_own`: requires then that they are the first side's.
+/// but not with the first side's if `judging.is_own`: requires then that they are the first side's.
 ///
-/// Requires a pass and seats of this board, and a round from 0 to 3.
+/// Requires a pass and seats of the board, and a round from 0 to 3.
 pub fn tell_round_by<'p, G: Gate + Sync, R: Threads + Wait + Sync>(
-    rt: &R,
-    alloc: Global,
-    board: &Board<'p>,
+    judging: Judging<'_, 'p, R, G>,
     pass: &mut Pass<'p>,
     seats: Vec<Seat>,
-    round: u32,
-    gate: &G,
-    is_own: bool,
     first: &mut Side,
     second: &mut Side,
 ) -> RoundDone
-    requires pass { pass.old.place ≡ board.now.place }
-    requires seats { All (λ s. s.draws ≡ board.now.draws) seats.items }
-    requires round { round < rounds }
-    requires own { IsTrue is_own → heard_clashes (shown first.old) ≡ Some board.now.place.clashes }
+    requires pass { pass.old.place ≡ judging.board.now.place }
+    requires seats { All (λ s. s.draws ≡ judging.board.now.draws) seats.items }
+    requires round { judging.round < rounds }
+    requires own { IsTrue judging.is_own → heard_clashes (shown first.old) ≡ Some judging.board.now.place.clashes }
     // The pass still sees what it had seen.
     ensures keeps { StillSees pass.old pass.new }
     // Each side differs only by takes of rulings that the pass has then seen, at most one for each clash.
-    ensures first { IsTold pass.new (length board.entry.now.place.clashes) first.old first.new }
-    ensures second { IsTold pass.new (length board.entry.now.place.clashes) second.old second.new }
-    ensures seats { All (λ s. s.draws ≡ board.entry.now.draws) result.seats.items }
+    ensures first { IsTold pass.new (length judging.entry.board.now.place.clashes) first.old first.new }
+    ensures second { IsTold pass.new (length judging.entry.board.now.place.clashes) second.old second.new }
+    ensures seats { All (λ s. s.draws ≡ judging.entry.board.now.draws) result.seats.items }
     // At least as many seats are returned as workers were started.
     ensures back { result.started ≤ vec_len result.seats }
     // Given a seat, at least one worker was started.
@@ -97,6 +108,14 @@ pub fn tell_round_by<'p, G: Gate + Sync, R: Threads + Wait + Sync>(
     // Without workers no post is counted.
     ensures none { result.started ≡ 0 → round_posts result ≡ 0 }
 {
+    let Judging {
+        rt,
+        alloc,
+        board,
+        gate,
+        round,
+        is_own,
+    } = judging;
     let left = Inbox::new(alloc);
     let right = Inbox::new(alloc);
     let done = heal_round(rt, alloc, board, seats, round, gate, &left, &right);

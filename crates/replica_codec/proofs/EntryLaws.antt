@@ -8,6 +8,7 @@ use Rattle.clash_record.specs.declared.registrations.Registration.{Registration}
 use Rattle.clash_record.specs.declared.registrations.ResolverId.{ResolverId}
 use Rattle.clash_record.specs.declared.registrations.ResolverId.TheVariants.{Builtin, Program}
 use Rattle.clash_record.specs.Name.{Name}
+use Rattle.clash_record.specs.Registrations.{registration_on}
 use Rattle.partition_table.specs.Tables.{most_names}
 use Rattle.replica_law.specs.declared.position.Position.{Position}
 use Rattle.exchange_codec.specs.declared.fault.Fault.{Fault}
@@ -22,7 +23,7 @@ use Rattle.exchange_codec.specs.laws.Rows.{sized_takes, bytes_again, behind, row
 use Rattle.replica.specs.declared.messages.Entry.{Entry}
 use Rattle.replica_codec.specs.declared.fault.ReplicaMessageFault.{ReplicaMessageFault}
 use Rattle.replica_codec.specs.Frames.{entry_header, frame_bytes, no_head, in_message, body_of}
-use Rattle.replica_codec.specs.Entries.{sized_code, EditText, EntryText, edit_text, entry_text, IsKeptEdit, SpellsEntry, Registers, Unregisters, Uploads, Limits, Begins, position_bytes, plain, plain_row, registration_by, registers, edit_bytes, entry_bytes, IsPosition, IsEditText, IsEntryText, position_at, register_at, limit_at, edit_at, entry_at, entry_in, entry_due, entry_from}
+use Rattle.replica_codec.specs.Entries.{sized_code, EditText, EntryText, edit_text, entry_text, IsKeptEdit, SpellsEntry, Registers, Unregisters, Uploads, Limits, Begins, position_bytes, plain, plain_row, registers, edit_bytes, entry_bytes, IsPosition, IsEditText, IsEntryText, position_at, register_at, limit_at, edit_at, entry_at, entry_in, entry_due, entry_from}
 use Rattle.replica_codec.proofs.FrameLaws.{in_ok, body_spelled, body_read, body_fits, body_written, behind_head}
 
 -- ---- positions
@@ -75,23 +76,23 @@ Read bytes y = Takes bytes (edit_bytes y.0) y.1 × IsEditText y.0
 
 -- a row without code is that of its registration
 by_resolver : (row : RowText) (resolver : ResolverId) → row.resolver ≡ plain resolver
-    → row ≡ plain_row row.name (registration_by row resolver)
+    → row ≡ plain_row row.name (registration_on row.terms resolver)
 by_resolver row resolver is =
-    ap (λ (r : ResolverText). record { name = row.name; owner = row.owner; stamp = row.stamp; weight = row.weight; extra = row.extra; resolver = r }) is
+    ap (λ (r : ResolverText). record { name = row.name; terms = row.terms; resolver = r }) is
 
 abbrev gives : EditText × List ℕ → Result (EditText × List ℕ) Fault
 gives x = Ok x
 
 registered_as : (bytes rest : List ℕ) (row : RowText) (resolver : ResolverId) (x : EditText × List ℕ)
-    → row.resolver ≡ plain resolver → gives (Registers row.name (registration_by row resolver), rest) ≡ gives x
+    → row.resolver ≡ plain resolver → gives (Registers row.name (registration_on row.terms resolver), rest) ≡ gives x
     → Takes bytes (row_bytes row) rest → IsRow row → Read (0 ∷ bytes) x
 registered_as bytes rest row resolver x is e t fits =
     let same = by_resolver row resolver is in
-    let made : EditText × List ℕ = (Registers row.name (registration_by row resolver), rest) in
-    let text : Takes bytes (row_bytes (plain_row row.name (registration_by row resolver))) rest =
+    let made : EditText × List ℕ = (Registers row.name (registration_on row.terms resolver), rest) in
+    let text : Takes bytes (row_bytes (plain_row row.name (registration_on row.terms resolver))) rest =
     subst (λ (r : RowText). Takes bytes (row_bytes r) rest) same t in
     subst (Read (0 ∷ bytes)) {x = made} (ok_is made x e)
-    (behind 0 bytes (row_bytes (plain_row row.name (registration_by row resolver))) rest text, subst IsRow same fits)
+    (behind 0 bytes (row_bytes (plain_row row.name (registration_on row.terms resolver))) rest text, subst IsRow same fits)
 
 registered : (bytes rest : List ℕ) (row : RowText) (by : ResolverText) (x : EditText × List ℕ) → row.resolver ≡ by
     → registers bytes (row, rest) by ≡ Ok x → Takes bytes (row_bytes row) rest → IsRow row → Read (0 ∷ bytes) x
@@ -107,7 +108,7 @@ register_takes bytes x fits e =
     registered bytes a.0.1 a.0.0 a.0.0.resolver x refl a.2 t.0 t.1
 
 registers_plain : (bytes rest : List ℕ) (row : RowText) (resolver : ResolverId)
-    → registers bytes (row, rest) (plain resolver) ≡ Ok (Registers row.name (registration_by row resolver), rest)
+    → registers bytes (row, rest) (plain resolver) ≡ Ok (Registers row.name (registration_on row.terms resolver), rest)
 registers_plain bytes rest row (Builtin b) = refl
 registers_plain bytes rest row (Program id) = refl
 

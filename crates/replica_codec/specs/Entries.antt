@@ -6,6 +6,7 @@ use Rattle.insn_codec.specs.Encoding.{insn_bytes}
 use Rattle.verifier.specs.declared.program_fault.ProgramFault.{ProgramFault}
 use Rattle.verifier.specs.Programs.{IsProgramFault}
 use Rattle.clash_record.specs.Name.{Name, is_name}
+use Rattle.clash_record.specs.Registrations.{registration_on, registration_terms}
 use Rattle.clash_record.specs.declared.registrations.Registration.{Registration}
 use Rattle.clash_record.specs.declared.registrations.ResolverId.{ResolverId}
 use Rattle.clash_record.specs.declared.registrations.ResolverId.TheVariants.{Builtin, Program}
@@ -65,14 +66,7 @@ plain (Program id) = Named id
 
 -- a registration as a row of an offer, without code
 abbrev pub plain_row : Name → Registration → RowText
-plain_row name r = record {
-  name = name;
-  owner = r.owner;
-  stamp = r.stamp;
-  weight = r.weight;
-  extra = r.extra;
-  resolver = plain r.resolver;
-}
+plain_row name r = record { name = name; terms = registration_terms r; resolver = plain r.resolver }
 
 abbrev pub edit_bytes : EditText → List ℕ
 edit_bytes (Registers name registration) = 0 ∷ row_bytes (plain_row name registration)
@@ -134,19 +128,10 @@ position_at bytes = do
     op.1,
   )
 
-abbrev pub registration_by : RowText → ResolverId → Registration
-registration_by row resolver = record {
-  owner = row.owner;
-  stamp = row.stamp;
-  weight = row.weight;
-  extra = row.extra;
-  resolver = resolver;
-}
-
 -- the edit of a row that is in these bytes; a row with code is invalid
 abbrev pub registers : List ℕ → RowText × List ℕ → ResolverText → Result (EditText × List ℕ) Fault
-registers bytes row (ByBuiltin b) = Ok (Registers row.0.name (registration_by row.0 (Builtin b)), row.1)
-registers bytes row (Named id) = Ok (Registers row.0.name (registration_by row.0 (Program id)), row.1)
+registers bytes row (ByBuiltin b) = Ok (Registers row.0.name (registration_on row.0.terms (Builtin b)), row.1)
+registers bytes row (Named id) = Ok (Registers row.0.name (registration_on row.0.terms (Program id)), row.1)
 registers bytes row (Code code) = wrong wrongs.Resolver bytes
 
 unfoldable pub register_at : List ℕ → Result (EditText × List ℕ) Fault

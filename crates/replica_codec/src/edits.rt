@@ -58,7 +58,7 @@ fn push_register(
 {
     out.push(0)?;
     push_name(out, name)?;
-    push_fields(out, registration)?;
+    push_fields(out, registration.terms())?;
     push_resolver(out, registration.resolver)
 }
 

@@ -126,17 +126,10 @@ fn register_at(bytes: &[u8]) -> Result<(EditText<'_>, &[u8]), ReadError>
         Ok(found) => found,
         Err(error) => return Err(error),
     };
-    let resolver = match row.resolver {
-        ResolverText::Builtin(builtin) => ResolverId::Builtin(builtin),
-        ResolverText::Named(id) => ResolverId::Program(id),
+    let registration = match row.resolver {
+        ResolverText::Builtin(builtin) => row.terms.with_resolver(ResolverId::Builtin(builtin)),
+        ResolverText::Named(id) => row.terms.with_resolver(ResolverId::Program(id)),
         ResolverText::Code(_) => return Err(ReadError::at(FieldFault::Resolver, bytes)),
-    };
-    let registration = Registration {
-        owner: row.owner,
-        stamp: row.stamp,
-        weight: row.weight,
-        extra: row.extra,
-        resolver,
     };
     Ok((EditText::Registers(row.name, registration), rest))
 }

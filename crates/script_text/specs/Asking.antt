@@ -10,7 +10,7 @@ use Rattle.clash_record.specs.declared.registrations.Owner.{Owner}
 use Rattle.clash_record.specs.Name.{Name}
 use Rattle.clash_record.specs.declared.side_id.SideId.{SideId}
 use Rattle.clash_record.specs.declared.side_id.SideId.TheVariants.{A, B}
-use Rattle.script_text.specs.declared.command.Terms.{Terms}
+use Rattle.clash_record.specs.declared.registrations.Terms.{Terms}
 use Rattle.clash_record.specs.declared.halves.Uptimes.{Uptimes}
 use Rattle.clash_record.specs.declared.halves.Withdrawal.{Withdrawal}
 use Rattle.script_text.specs.declared.fault.LineFault.{LineFault}

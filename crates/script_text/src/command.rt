@@ -1,19 +1,6 @@
 //! The commands of scripts.
 
-use clash_record::{Name, Owner, SideId, Uptimes, Withdrawal};
-
-/// The fields of a registration other than its resolver.
-#[derive(Clone, Copy, Debug, PartialEq, Eq)]
-pub struct Terms {
-    /// The owner of the name.
-    pub owner: Owner,
-    /// The time of registration.
-    pub stamp: u64,
-    /// The weight of the registration.
-    pub weight: u64,
-    /// Further bytes; only programs read them.
-    pub extra: [u8; 16],
-}
+use clash_record::{Name, SideId, Terms, Uptimes, Withdrawal};
 
 /// The command of a line. Labels, code and resolvers are words as they are written.
 #[derive(Debug, Drop)]

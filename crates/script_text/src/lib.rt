@@ -9,7 +9,7 @@ mod parsing;
 mod printing;
 mod words;
 
-pub use command::{Command, Terms};
+pub use command::Command;
 pub use fault::LineFault;
 pub use input::{Found, LINE_LIMIT, LineBuffer, ReadBuffer, ReadFailed, Stop, next_line};
 pub use numbers::long;

@@ -7,11 +7,11 @@ ghost use Rattle.script_text.specs.Words.{words_of};
 ghost use Rattle.script_text.specs.Commands.{IsRight, right_command, right_option};
 ghost use Rattle.script_text.specs.model.Triples.{after_first, right_triple, given_uptimes, right_triples, right_withdrawals, shown_triple};
 
-use crate::command::{Command, Terms};
+use crate::command::Command;
 use crate::fault::LineFault;
 use crate::numbers::{long, owner};
 use crate::words::{REGISTER_WORDS, fill_words, is_printable, split_word, words_in};
-use clash_record::{Name, SideId, Uptimes, Withdrawal, name};
+use clash_record::{Name, SideId, Terms, Uptimes, Withdrawal, name};
 use hex::decode_to_slice;
 use std::alloc::{AllocError, Global};
 

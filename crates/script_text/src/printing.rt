@@ -199,13 +199,9 @@ fn print_place<W: Write>(
 ) -> Result<(), DeviceFault>
     ensures { SendsOn sent (W.contents writer.old) (W.contents writer.new) (place_text place) result }
 {
-    let (kind, number): (&[u8], u64) = match place {
-        Place::Slot(slot) => (b"slot ", u64::from(slot)),
-        Place::Line(line) => (b"line ", line as u64),
-        Place::Byte(byte) => (b"byte ", byte as u64),
-        Place::Item(item) => (b"item ", item as u64),
-    };
-    let sent = send_after(sent, writer, kind);
+    let (kind, number) = place.parts();
+    let mut sent = send_after(sent, writer, kind.as_bytes());
+    sent = send_after(sent, writer, b" ");
     print_number(sent, writer, number)
 }
 

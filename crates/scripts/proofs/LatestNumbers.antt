@@ -9,7 +9,7 @@ use Rattle.exchange_core.specs.declared.fault.SideFault.{SideFault}
 use Rattle.exchange_law.specs.Calls.{Call}
 use Rattle.exchange_law.specs.Sides.{Side}
 use Rattle.clash_record.specs.declared.registrations.ResolverId.{ResolverId}
-use Rattle.script_text.specs.declared.command.Terms.{Terms}
+use Rattle.clash_record.specs.declared.registrations.Terms.{Terms}
 use Rattle.script_text.specs.declared.fault.LineFault.{LineFault}
 use Rattle.script_text.specs.Asking.{Asked, Upload, Register, Unregister, Whereis, Show, Heal, asked_of}
 use Rattle.script_text.specs.Lines.{Line, Short, Long}

@@ -10,6 +10,7 @@ use Rattle.code_file.specs.Files.{IsFileCode, IsFileFault, file_named, file_faul
 use Rattle.code_file.specs.declared.fault.FileFault.{FileFault}
 use Rattle.code_file.specs.declared.fault.FileFault.TheVariants.{Unreadable}
 use Rattle.clash_record.specs.Name.{is_name}
+use Rattle.clash_record.specs.Registrations.{registration_on}
 use Rattle.clash_record.specs.declared.registrations.ProgramId.{ProgramId}
 use Rattle.clash_record.specs.declared.registrations.Registration.{Registration}
 use Rattle.clash_record.specs.declared.registrations.ResolverId.{ResolverId}
@@ -24,7 +25,7 @@ use Rattle.exchange_core.specs.Faults.{side_fault_number}
 use Rattle.exchange_law.specs.Calls.{Call, Register, Unregister, carried_out}
 use Rattle.exchange_law.specs.Sides.{Side, shown_table}
 use Rattle.exchange_core.specs.Refusals.{register_fault, unregister_fault}
-use Rattle.script_text.specs.declared.command.Terms.{Terms}
+use Rattle.clash_record.specs.declared.registrations.Terms.{Terms}
 use Rattle.clash_record.specs.declared.halves.Uptimes.{Uptimes}
 use Rattle.clash_record.specs.declared.halves.Withdrawal.{Withdrawal}
 use Rattle.script_text.specs.declared.fault.LineFault.{LineFault}
@@ -124,15 +125,6 @@ Edits old id call (Some fault) after done reply new = Refuses (side_fault_number
 Edits old id call None (Some side) done reply new = (reply ≡ done) × (new ≡ machine_after old id call side)
 Edits old id call None None done reply new = ⊥
 
-abbrev pub registration_with : Terms → ResolverId → Registration
-registration_with terms resolver = record {
-  owner = terms.owner;
-  stamp = terms.stamp;
-  weight = terms.weight;
-  extra = terms.extra;
-  resolver = resolver;
-}
-
 abbrev pub RegistersOnSide : ScriptMachine → SideId → Name → Registration → Reply → ScriptMachine → Type 0
 RegistersOnSide old id name registration reply new =
     let standing = at old.cluster id in
@@ -144,7 +136,7 @@ RegistersOnSide old id name registration reply new =
 -- the word for the resolver is checked before the call
 abbrev pub RegisterStep : ScriptMachine → SideId → Name → Terms → Option ResolverId → Reply → ScriptMachine → Type 0
 RegisterStep old id name terms (Some resolver) reply new =
-    RegistersOnSide old id name (registration_with terms resolver) reply new
+    RegistersOnSide old id name (registration_on terms resolver) reply new
 RegisterStep old id name terms None reply new = Refuses 41 None old reply new
 
 abbrev pub UnregisterStep : ScriptMachine → SideId → Name → Reply → ScriptMachine → Type 0

@@ -2,15 +2,13 @@
 ghost use Rattle.std.specs.Prelude.{◌≡◌};
 ghost use Rattle.scripts.specs.Machines as machines;
 ghost use Rattle.scripts.specs.Machines.{machine_of};
-ghost use Rattle.scripts.specs.Steps as steps;
 ghost use Rattle.scripts.specs.Steps.{UnlessMemory, RegisterStep, UnregisterStep};
 
 use crate::fault::WordFault;
 use crate::labels::resolver_of;
 use crate::machine::Machine;
 use crate::reply::Reply;
-use clash_record::{Name, Registration, ResolverId, SideId};
-use script_text::Terms;
+use clash_record::{Name, SideId, Terms};
 
 impl Machine {
     /// Registers a name on a side. The resolver is a built-in resolver's word or a label.
@@ -25,7 +23,7 @@ impl Machine {
         let Some(resolver) = resolver_of(&self.labels, resolver) else {
             return Reply::refused(&WordFault::NoResolver);
         };
-        let registration = registration_of(terms, resolver);
+        let registration = terms.with_resolver(resolver);
         let answer = self
             .agreements
             .register(&mut self.cluster, side, name, registration, &self.store);
@@ -49,19 +47,5 @@ impl Machine {
             Ok(_) => Reply::Unregistered,
             Err(refusal) => Reply::refused(&refusal),
         }
-    }
-}
-
-// Returns the registration on these terms.
-fn registration_of(terms: Terms, resolver: ResolverId) -> Registration
-    ensures { result ≡ steps.registration_with terms resolver }
-{
-    let extra = terms.extra;
-    Registration {
-        owner: terms.owner,
-        stamp: terms.stamp,
-        weight: terms.weight,
-        extra,
-        resolver,
     }
 }

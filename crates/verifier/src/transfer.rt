@@ -91,30 +91,46 @@ fn tested_number(width: Width, number: i32) -> u64
     }
 }
 
-// Refines the registers that a test reads on this branch. Returns false if the branch is impossible.
-fn on_edge<D: Domain>(
+// The condition of a conditional jump: `dst test src` at a width.
+#[derive(Clone, Copy)]
+struct Condition {
     width: Width,
     test: Test,
-    taken: bool,
-    state: &mut State<D>,
-    register: Register,
-    source: Source,
-) -> bool
-    ensures { if_live result (view state.new) ≡ on_edge D.ops width test taken (view state.old) register.number source }
+    dst: Register,
+    src: Source,
+}
+
+impl Condition {
+    fn new(width: Width, test: Test, dst: Register, src: Source) -> Condition
+        ensures { result ≡ record { width = width; test = test; dst = dst; src = src } }
+    {
+        Condition {
+            width,
+            test,
+            dst,
+            src,
+        }
+    }
+}
+
+// Refines the registers that a condition reads on this branch. Returns false if the branch is impossible.
+fn on_edge<D: Domain>(condition: Condition, taken: bool, state: &mut State<D>) -> bool
+    ensures { if_live result (view state.new)
+        ≡ on_edge D.ops condition.width condition.test taken (view state.old) condition.dst.number condition.src }
 {
-    let other = match source {
-        Source::Imm(number) => RegState::Scalar(D::single(tested_number(width, number))),
-        Source::Reg(other) if other.number == register.number => return true,
+    let other = match condition.src {
+        Source::Imm(number) => RegState::Scalar(D::single(tested_number(condition.width, number))),
+        Source::Reg(other) if other.number == condition.dst.number => return true,
         Source::Reg(other) => state.register(other),
     };
-    let (RegState::Scalar(a), RegState::Scalar(b)) = (state.register(register), other) else {
+    let (RegState::Scalar(a), RegState::Scalar(b)) = (state.register(condition.dst), other) else {
         return false;
     };
-    let Some((a, b)) = D::refine(width, test, taken, &a, &b) else {
+    let Some((a, b)) = D::refine(condition.width, condition.test, taken, &a, &b) else {
         return false;
     };
-    state.set_register(register, RegState::Scalar(a));
-    if let Source::Reg(other) = source {
+    state.set_register(condition.dst, RegState::Scalar(a));
+    if let Source::Reg(other) = condition.src {
         state.set_register(other, RegState::Scalar(b));
     }
     true
@@ -176,7 +192,7 @@ pub(crate) fn fall<D: Domain>(insn: Insn, state: &mut State<D>) -> bool
             dst,
             src,
             ..
-        } => on_edge(width, test, false, state, dst, src),
+        } => on_edge(Condition::new(width, test, dst, src), false, state),
         Insn::Store {
             size,
             base,
@@ -211,7 +227,7 @@ pub(crate) fn jump<D: Domain>(insn: Insn, state: &mut State<D>) -> bool
             dst,
             src,
             ..
-        } => on_edge(width, test, true, state, dst, src),
+        } => on_edge(Condition::new(width, test, dst, src), true, state),
         _ => false,
     }
 }

@@ -118,29 +118,37 @@ fn carry_over<D: Domain>(
     }
 }
 
+// An instruction and its slot.
+#[derive(Clone, Copy)]
+struct PlacedInsn {
+    slot: usize,
+    insn: Insn,
+}
+
 // Sends the state that was taken of a slot to the next instruction and along the jump.
 fn send_on<D: Domain>(
     alloc: Global,
     pending: &mut Pending<D>,
-    at: usize,
-    insn: Insn,
+    here: PlacedInsn,
     state: Box<State<D>>,
 ) -> Result<(), AllocError>
-    requires short { at < MAX_SLOTS }
-    requires selected { IsSelected insn }
-    requires inside { IsTrue (of_access insn (view state.value) inside_stack) }
-    requires next { (s : View D) → fall D.ops insn (view state.value) ≡ Some s
-        → at + slots_of insn < room pending.old }
-    requires target { (to : ℕ) → leads_to at insn ≡ Some to → to < room pending.old }
+    requires short { here.slot < MAX_SLOTS }
+    requires selected { IsSelected here.insn }
+    requires inside { IsTrue (of_access here.insn (view state.value) inside_stack) }
+    requires next { (s : View D) → fall D.ops here.insn (view state.value) ≡ Some s
+        → here.slot + slots_of here.insn < room pending.old }
+    requires target { (to : ℕ) → leads_to here.slot here.insn ≡ Some to → to < room pending.old }
     requires taken { size pending.old < peak_of pending.old }
-    ensures states { OnOk result (held pending.new ≡ sent_on D.ops (held pending.old) at insn (view state.value)) }
+    ensures states { OnOk result (held pending.new
+        ≡ sent_on D.ops (held pending.old) here.slot here.insn (view state.value)) }
     ensures room { room pending.new ≡ room pending.old }
     ensures peak { OnOk result (peak_of pending.new ≡ max (peak_of pending.old) (size pending.new)) }
     ensures kept { OnErr result (peak_of pending.new ≡ peak_of pending.old) }
 {
-    let to = leads_to(at, &insn);
-    let jumping = jumping(insn, &state);
-    carry(pending, at + insn.slots(), falling(insn, state));
+    let to = leads_to(here.slot, &here.insn);
+    let jumping = jumping(here.insn, &state);
+    let next = here.slot + here.insn.slots();
+    carry(pending, next, falling(here.insn, state));
     carry_over(alloc, pending, to, jumping)
 }
 
@@ -149,33 +157,32 @@ fn visit<D: Domain>(
     alloc: Global,
     code: &Code,
     context_len: u16,
-    at: usize,
-    insn: Insn,
+    here: PlacedInsn,
     pending: &mut Pending<D>,
 ) -> Result<Option<Rule>, AllocError>
-    requires place { at < slot_count code.now }
-    requires is_at { insn_at code.now at ≡ Some insn }
+    requires place { here.slot < slot_count code.now }
+    requires is_at { insn_at code.now here.slot ≡ Some here.insn }
     requires structured { IsStructured code.now }
     requires room { room pending.old ≡ slot_count code.now }
-    requires least { IsPending context_len D.ops code.now at (held pending.old) (peak_of pending.old) }
+    requires least { IsPending context_len D.ops code.now here.slot (held pending.old) (peak_of pending.old) }
     ensures least { IfOk result (λ failed. MatchOption failed
-        (IsPending context_len D.ops code.now (at + slots_of insn) (held pending.new) (peak_of pending.new))
-        (λ rule. FailsLeastFor context_len D.ops code.now at rule)) }
+        (IsPending context_len D.ops code.now (here.slot + slots_of here.insn) (held pending.new) (peak_of pending.new))
+        (λ rule. FailsLeastFor context_len D.ops code.now here.slot rule)) }
     ensures stops { IfOk result (λ failed. IfSome failed
-        (λ _. IsPeakFor context_len D.ops code.now at (peak_of pending.new))) }
+        (λ _. IsPeakFor context_len D.ops code.now here.slot (peak_of pending.new))) }
     ensures room { room pending.new ≡ room pending.old }
     ensures kept { peak_of pending.old ≤ peak_of pending.new }
     ensures peak { peak_of pending.new ≤ max (peak_of pending.old) (1 + widest code.now) }
 {
     // For the proof: its instructions are listed.
     code.known();
-    let Some(state) = pending.take(at) else {
+    let Some(state) = pending.take(here.slot) else {
         return Ok(None);
     };
-    match check(insn, &state, context_len) {
+    match check(here.insn, &state, context_len) {
         Some(rule) => Ok(Some(rule)),
         None => {
-            send_on(alloc, pending, at, insn, state)?;
+            send_on(alloc, pending, here, state)?;
             Ok(None)
         }
     }
@@ -209,7 +216,8 @@ pub(crate) fn pass<D: Domain>(
         if at >= end {
             return Ok(None);
         }
-        if let Some(rule) = visit(alloc, code, context_len, at, insn, pending)? {
+        let here = PlacedInsn { slot: at, insn };
+        if let Some(rule) = visit(alloc, code, context_len, here, pending)? {
             return Ok(Some(Refusal {
                 slot: at as u32,
                 rule,

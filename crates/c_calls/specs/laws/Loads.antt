@@ -7,7 +7,7 @@ use Rattle.instruction_set.specs.declared.insn.Insn.{Insn}
 use Rattle.verifier.specs.Programs.{IsAccepted, IsProgramFault, program_fault_number, program_fault_place}
 use Rattle.verifier.specs.declared.program_fault.ProgramFault.{ProgramFault}
 use Rattle.upload_store.specs.Programs.{Upload}
-use Rattle.c_calls.specs.Answers.{refusal_slot, IsOutOfMemory}
+use Rattle.c_calls.specs.Answers.{refusal_slot, IsNumbered, IsOutOfMemory}
 use Rattle.c_calls.specs.Programs as load
 
 -- running out of memory has no slot
@@ -31,7 +31,7 @@ module _ (IsFault : ProgramFault → Type 0) (f : ProgramFault) where
   refusal (inr e) = inr (program_ran_out f e)
 
   numbered : {A : Type 0} (fault : ProgramFault) → (r : Result A ProgramFault) → r ≡ Err f
-      → (r ≡ Err fault) ⊎ RanOut program_fault_number r → load.IsNumbered fault n slot ⊎ IsOutOfMemory n slot
+      → (r ≡ Err fault) ⊎ RanOut program_fault_number r → IsNumbered (program_fault_number fault) (program_fault_place fault) n slot ⊎ IsOutOfMemory n slot
   numbered fault (Ok x) e told = absurd (cc)
   numbered fault (Err g) e (inl same) = let equal : f ≡ fault = cc in inl (ap program_fault_number equal, ap (λ (h : ProgramFault). refusal_slot (program_fault_number h) (program_fault_place h)) equal)
   numbered fault (Err g) e (inr out) = let equal : g ≡ f = cc in inr (program_ran_out f (subst (λ (h : ProgramFault). program_fault_number h ≡ out_of_memory) equal out))

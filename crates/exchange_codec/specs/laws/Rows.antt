@@ -4,12 +4,13 @@ use Rattle.std.specs.Int.{w32, w64, to_le_bytes}
 use Rattle.std.proofs.lemmas.Bool.{ltb-false, le-ltb}
 use Rattle.std.proofs.lemmas.List.{take_at, drop_at, take-append-drop, length-append, length-take}
 use Rattle.clash_record.specs.declared.registrations.Owner.{Owner}
+use Rattle.clash_record.specs.declared.registrations.Terms.{Terms}
 use Rattle.clash_record.specs.declared.registrations.Builtin.TheVariants.{Exit, Notify, NotifyAll}
 use Rattle.exchange_codec.specs.declared.fault.FieldFault.TheVariants as wrongs
 use Rattle.refusals.specs.Answers.{◌>>=◌}
 use Rattle.exchange_codec.specs.Reading.{number_at, bytes_at, count_at}
 use Rattle.exchange_codec.specs.Names.{name_bytes, name_at}
-use Rattle.exchange_codec.specs.Rows.{max_code, ResolverText, ByBuiltin, Named, Code, RowText, sized_code, resolver_bytes, owner_bytes, row_bytes, IsResolver, IsRow, resolver_at, owner_at, row_at}
+use Rattle.exchange_codec.specs.Rows.{max_code, ResolverText, ByBuiltin, Named, Code, RowText, sized_code, resolver_bytes, owner_bytes, fields_bytes, row_bytes, IsResolver, HasFields, IsRow, resolver_at, owner_at, terms_at, row_at}
 use Rattle.exchange_codec.specs.laws.Fields.{IsBytes, IsBytes-drop, IsBytes-rest, bind_ok, guard_ok, ok_is, Takes, Takes-then, wide32, wide64, number_takes, number_again, count_takes, count_again}
 use Rattle.exchange_codec.specs.laws.Names.{name_takes, name_again}
 
@@ -62,6 +63,45 @@ owner_again o rest node serial =
       number_again w32 (2 ^ 32) wide32 o.serial rest serial,
     ) refl
 
+-- ---- all of a registration but its resolver
+
+terms_takes : (bytes : List ℕ) (x : Terms × List ℕ) → IsBytes bytes → terms_at bytes ≡ Ok x
+    → Takes bytes (fields_bytes x.0) x.1 × HasFields x.0
+unfolding terms_at
+terms_takes bytes x fits e =
+    let o = bind_ok (owner_at bytes) (λ owner. number_at w64 owner.1 >>= λ stamp. number_at w64 stamp.1 >>= λ weight. bytes_at 16 weight.1 >>= λ extra. Ok (record { owner = owner.0; stamp = stamp.0; weight = weight.0; extra = extra.0 }, extra.1)) x e in
+    let s = bind_ok (number_at w64 o.0.1) (λ stamp. number_at w64 stamp.1 >>= λ weight. bytes_at 16 weight.1 >>= λ extra. Ok (record { owner = o.0.0; stamp = stamp.0; weight = weight.0; extra = extra.0 }, extra.1)) x o.2 in
+    let w = bind_ok (number_at w64 s.0.1) (λ weight. bytes_at 16 weight.1 >>= λ extra. Ok (record { owner = o.0.0; stamp = s.0.0; weight = weight.0; extra = extra.0 }, extra.1)) x s.2 in
+    let b = bind_ok (bytes_at 16 w.0.1) (λ extra. Ok (record { owner = o.0.0; stamp = s.0.0; weight = w.0.0; extra = extra.0 }, extra.1)) x w.2 in
+    let to = owner_takes bytes o.0 fits o.1 in
+    let ts = number_takes w64 (2 ^ 64) wide64 o.0.1 s.0.0 s.0.1 to.0.rest_fits s.1 in
+    let tw = number_takes w64 (2 ^ 64) wide64 s.0.1 w.0.0 w.0.1 ts.0.rest_fits w.1 in
+    let tb = bytes_take 16 w.0.1 b.0 tw.0.rest_fits b.1 in
+    let e2 = Takes-then s.0.1 (to_le_bytes w64 w.0.0) w.0.1 b.0.0 b.0.1 tw.0 tb.0 in
+    let e1 = Takes-then o.0.1 (to_le_bytes w64 s.0.0) s.0.1 (to_le_bytes w64 w.0.0 ++ b.0.0) b.0.1 ts.0 e2 in
+    let e0 = Takes-then bytes (owner_bytes o.0.0) o.0.1 (to_le_bytes w64 s.0.0 ++ (to_le_bytes w64 w.0.0 ++ b.0.0)) b.0.1 to.0 e1 in
+    let made : Terms × List ℕ = (record { owner = o.0.0; stamp = s.0.0; weight = w.0.0; extra = b.0.0 }, b.0.1) in
+    subst (λ (y : Terms × List ℕ). Takes bytes (fields_bytes y.0) y.1 × HasFields y.0) {x = made} (ok_is made x b.2)
+    (e0, record { node = to.1; serial = to.2; stamp = ts.1; weight = tw.1; extra = tb.1 })
+
+terms_again : (t : Terms) (rest : List ℕ) → HasFields t → terms_at (fields_bytes t ++ rest) ≡ Ok (t, rest)
+unfolding terms_at
+terms_again t rest fits =
+    let e2 = to_le_bytes w64 t.weight ++ t.extra in
+    let e1 = to_le_bytes w64 t.stamp ++ e2 in
+    let regrouped : fields_bytes t ++ rest
+    ≡ owner_bytes t.owner ++ (to_le_bytes w64 t.stamp ++ (to_le_bytes w64 t.weight ++ (t.extra ++ rest))) =
+    append_assoc (owner_bytes t.owner) e1 rest
+    ∙ ap (λ (x : List ℕ). owner_bytes t.owner ++ x) (append_assoc (to_le_bytes w64 t.stamp) e2 rest
+    ∙ ap (λ (x : List ℕ). to_le_bytes w64 t.stamp ++ x) (append_assoc (to_le_bytes w64 t.weight) t.extra rest)) in
+    ap terms_at regrouped
+    ∙ rw (
+      owner_again t.owner (to_le_bytes w64 t.stamp ++ (to_le_bytes w64 t.weight ++ (t.extra ++ rest))) fits.node fits.serial,
+      number_again w64 (2 ^ 64) wide64 t.stamp (to_le_bytes w64 t.weight ++ (t.extra ++ rest)) fits.stamp,
+      number_again w64 (2 ^ 64) wide64 t.weight (t.extra ++ rest) fits.weight,
+      bytes_again 16 t.extra rest fits.extra,
+    ) refl
+
 -- ---- resolvers
 
 -- one byte in front
@@ -108,55 +148,33 @@ pub row_takes : (bytes : List ℕ) (x : RowText × List ℕ) → IsBytes bytes �
     → Takes bytes (row_bytes x.0) x.1 × IsRow x.0
 unfolding row_at
 row_takes bytes x fits e =
-    let n = bind_ok (name_at bytes) (λ name. owner_at name.1 >>= λ owner. number_at w64 owner.1 >>= λ stamp. number_at w64 stamp.1 >>= λ weight. bytes_at 16 weight.1 >>= λ extra. resolver_at extra.1 >>= λ resolver. Ok (record { name = name.0; owner = owner.0; stamp = stamp.0; weight = weight.0; extra = extra.0; resolver = resolver.0 }, resolver.1)) x e in
-    let o = bind_ok (owner_at n.0.1) (λ owner. number_at w64 owner.1 >>= λ stamp. number_at w64 stamp.1 >>= λ weight. bytes_at 16 weight.1 >>= λ extra. resolver_at extra.1 >>= λ resolver. Ok (record { name = n.0.0; owner = owner.0; stamp = stamp.0; weight = weight.0; extra = extra.0; resolver = resolver.0 }, resolver.1)) x n.2 in
-    let s = bind_ok (number_at w64 o.0.1) (λ stamp. number_at w64 stamp.1 >>= λ weight. bytes_at 16 weight.1 >>= λ extra. resolver_at extra.1 >>= λ resolver. Ok (record { name = n.0.0; owner = o.0.0; stamp = stamp.0; weight = weight.0; extra = extra.0; resolver = resolver.0 }, resolver.1)) x o.2 in
-    let w = bind_ok (number_at w64 s.0.1) (λ weight. bytes_at 16 weight.1 >>= λ extra. resolver_at extra.1 >>= λ resolver. Ok (record { name = n.0.0; owner = o.0.0; stamp = s.0.0; weight = weight.0; extra = extra.0; resolver = resolver.0 }, resolver.1)) x s.2 in
-    let b = bind_ok (bytes_at 16 w.0.1) (λ extra. resolver_at extra.1 >>= λ resolver. Ok (record { name = n.0.0; owner = o.0.0; stamp = s.0.0; weight = w.0.0; extra = extra.0; resolver = resolver.0 }, resolver.1)) x w.2 in
-    let r = bind_ok (resolver_at b.0.1) (λ resolver. Ok (record { name = n.0.0; owner = o.0.0; stamp = s.0.0; weight = w.0.0; extra = b.0.0; resolver = resolver.0 }, resolver.1)) x b.2 in
+    let n = bind_ok (name_at bytes) (λ name. terms_at name.1 >>= λ terms. resolver_at terms.1 >>= λ resolver. Ok (record { name = name.0; terms = terms.0; resolver = resolver.0 }, resolver.1)) x e in
+    let f = bind_ok (terms_at n.0.1) (λ terms. resolver_at terms.1 >>= λ resolver. Ok (record { name = n.0.0; terms = terms.0; resolver = resolver.0 }, resolver.1)) x n.2 in
+    let r = bind_ok (resolver_at f.0.1) (λ resolver. Ok (record { name = n.0.0; terms = f.0.0; resolver = resolver.0 }, resolver.1)) x f.2 in
     let tn = name_takes bytes n.0 fits n.1 in
-    let to = owner_takes n.0.1 o.0 tn.0.rest_fits o.1 in
-    let ts = number_takes w64 (2 ^ 64) wide64 o.0.1 s.0.0 s.0.1 to.0.rest_fits s.1 in
-    let tw = number_takes w64 (2 ^ 64) wide64 s.0.1 w.0.0 w.0.1 ts.0.rest_fits w.1 in
-    let tb = bytes_take 16 w.0.1 b.0 tw.0.rest_fits b.1 in
-    let tr = resolver_takes b.0.1 r.0 tb.0.rest_fits r.1 in
-    let e4 = Takes-then w.0.1 b.0.0 b.0.1 (resolver_bytes r.0.0) r.0.1 tb.0 tr.0 in
-    let e3 = Takes-then s.0.1 (to_le_bytes w64 w.0.0) w.0.1 (b.0.0 ++ resolver_bytes r.0.0) r.0.1 tw.0 e4 in
-    let e2 = Takes-then o.0.1 (to_le_bytes w64 s.0.0) s.0.1 (to_le_bytes w64 w.0.0 ++ (b.0.0 ++ resolver_bytes r.0.0)) r.0.1 ts.0 e3 in
-    let e1 = Takes-then n.0.1 (owner_bytes o.0.0) o.0.1 (to_le_bytes w64 s.0.0 ++ (to_le_bytes w64 w.0.0 ++ (b.0.0 ++ resolver_bytes r.0.0))) r.0.1 to.0 e2 in
-    let e0 = Takes-then bytes (name_bytes n.0.0) n.0.1 (owner_bytes o.0.0 ++ (to_le_bytes w64 s.0.0 ++ (to_le_bytes w64 w.0.0 ++ (b.0.0 ++ resolver_bytes r.0.0)))) r.0.1 tn.0 e1 in
-    let made : RowText × List ℕ = (record { name = n.0.0; owner = o.0.0; stamp = s.0.0; weight = w.0.0; extra = b.0.0; resolver = r.0.0 }, r.0.1) in
-    subst (λ (y : RowText × List ℕ). Takes bytes (row_bytes y.0) y.1 × IsRow y.0) (ok_is made x r.2)
-    (e0, record { named = tn.1; node = to.1; serial = to.2; stamp = ts.1; weight = tw.1; extra = tb.1; resolver = tr.1 })
+    let tf = terms_takes n.0.1 f.0 tn.0.rest_fits f.1 in
+    let tr = resolver_takes f.0.1 r.0 tf.0.rest_fits r.1 in
+    let e1 = Takes-then n.0.1 (fields_bytes f.0.0) f.0.1 (resolver_bytes r.0.0) r.0.1 tf.0 tr.0 in
+    let e0 = Takes-then bytes (name_bytes n.0.0) n.0.1 (fields_bytes f.0.0 ++ resolver_bytes r.0.0) r.0.1 tn.0 e1 in
+    let made : RowText × List ℕ = (record { name = n.0.0; terms = f.0.0; resolver = r.0.0 }, r.0.1) in
+    subst (λ (y : RowText × List ℕ). Takes bytes (row_bytes y.0) y.1 × IsRow y.0) {x = made} (ok_is made x r.2)
+    (e0, record { named = tn.1; fields = tf.1; resolver = tr.1 })
 
 pub row_again : (r : RowText) (rest : List ℕ) → IsRow r → row_at (row_bytes r ++ rest) ≡ Ok (r, rest)
 unfolding row_at
 row_again r rest fits =
-    let e5 = resolver_bytes r.resolver in
-    let e4 = r.extra ++ e5 in
-    let e3 = to_le_bytes w64 r.weight ++ e4 in
-    let e2 = to_le_bytes w64 r.stamp ++ e3 in
-    let e1 = owner_bytes r.owner ++ e2 in
-    let regrouped : row_bytes r ++ rest
-    ≡ name_bytes r.name ++ (owner_bytes r.owner ++ (to_le_bytes w64 r.stamp ++ (to_le_bytes w64 r.weight ++ (r.extra ++ (resolver_bytes r.resolver ++ rest))))) =
-    append_assoc (name_bytes r.name) e1 rest
-    ∙ ap (λ (x : List ℕ). name_bytes r.name ++ x) (append_assoc (owner_bytes r.owner) e2 rest
-    ∙ ap (λ (x : List ℕ). owner_bytes r.owner ++ x) (append_assoc (to_le_bytes w64 r.stamp) e3 rest
-    ∙ ap (λ (x : List ℕ). to_le_bytes w64 r.stamp ++ x) (append_assoc (to_le_bytes w64 r.weight) e4 rest
-    ∙ ap (λ (x : List ℕ). to_le_bytes w64 r.weight ++ x) (append_assoc r.extra e5 rest)))) in
+    let regrouped : row_bytes r ++ rest ≡ name_bytes r.name ++ (fields_bytes r.terms ++ (resolver_bytes r.resolver ++ rest)) =
+    append_assoc (name_bytes r.name) (fields_bytes r.terms ++ resolver_bytes r.resolver) rest
+    ∙ ap (λ (x : List ℕ). name_bytes r.name ++ x) (append_assoc (fields_bytes r.terms) (resolver_bytes r.resolver) rest) in
     ap row_at regrouped
     ∙ rw (
-      name_again r.name (owner_bytes r.owner ++ (to_le_bytes w64 r.stamp ++ (to_le_bytes w64 r.weight ++ (r.extra ++ (resolver_bytes r.resolver ++ rest))))) fits.named,
-      owner_again r.owner (to_le_bytes w64 r.stamp ++ (to_le_bytes w64 r.weight ++ (r.extra ++ (resolver_bytes r.resolver ++ rest)))) fits.node fits.serial,
-      number_again w64 (2 ^ 64) wide64 r.stamp (to_le_bytes w64 r.weight ++ (r.extra ++ (resolver_bytes r.resolver ++ rest))) fits.stamp,
-      number_again w64 (2 ^ 64) wide64 r.weight (r.extra ++ (resolver_bytes r.resolver ++ rest)) fits.weight,
-      bytes_again 16 r.extra (resolver_bytes r.resolver ++ rest) fits.extra,
+      name_again r.name (fields_bytes r.terms ++ (resolver_bytes r.resolver ++ rest)) fits.named,
+      terms_again r.terms (resolver_bytes r.resolver ++ rest) fits.fields,
       resolver_again r.resolver rest fits.resolver,
     ) refl
 
 -- ---- rows that are written
 
-pub row_joined : (out named fielded name owner stamp weight extra resolver : List ℕ) → named ≡ out ++ name
-    → fielded ≡ named ++ (owner ++ (stamp ++ (weight ++ extra)))
-    → fielded ++ resolver ≡ out ++ (name ++ (owner ++ (stamp ++ (weight ++ (extra ++ resolver)))))
-row_joined out named fielded name owner stamp weight extra resolver p q = rw (q, p) (simp append_assoc)
+pub row_joined : (out named fielded name fields resolver : List ℕ) → named ≡ out ++ name → fielded ≡ named ++ fields
+    → fielded ++ resolver ≡ out ++ (name ++ (fields ++ resolver))
+row_joined out named fielded name fields resolver p q = rw (q, p) (simp append_assoc)

@@ -10,6 +10,7 @@ use Rattle.verifier.specs.declared.program_fault.ProgramFault.{ProgramFault}
 use Rattle.verifier.specs.Programs.{IsProgramFault, program_fault_number}
 use Rattle.clash_record.specs.Name.{Name}
 use Rattle.clash_record.specs.Orders.{id_cmp}
+use Rattle.clash_record.specs.Registrations.{registration_on}
 use Rattle.clash_record.specs.declared.registrations.ProgramId.{ProgramId}
 use Rattle.clash_record.specs.declared.registrations.ResolverId.{ResolverId}
 use Rattle.clash_record.specs.declared.registrations.ResolverId.TheVariants.{Builtin, Program}
@@ -47,16 +48,7 @@ pub record AreProgramsOf (table : Table) (programs : Programs) : Type 0 where
 
 -- the row of the text with this resolver, whose program has this code
 abbrev pub row_with : declared.RowText → ResolverId → Option (List Insn) → Row
-row_with row resolver code = record {
-  registration = record {
-    owner = row.owner;
-    stamp = row.stamp;
-    weight = row.weight;
-    extra = row.extra;
-    resolver = resolver;
-  };
-  code = code;
-}
+row_with row resolver code = record { registration = registration_on row.terms resolver; code = code }
 
 -- the table has one more row, which is that of the text
 pub record HasRow (old : Table) (text : RowText) (new : Table) (programs : Programs) : Type 0 where

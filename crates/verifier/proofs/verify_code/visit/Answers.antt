@@ -17,35 +17,37 @@ pub returns-in_default-clause-least : goal.returns-in_default-clause-least
 returns-in_default-clause-least g c =
     let o = g.D.Domain.ops in
     let code = c.args.code.now in
-    let next = c.args.at + slots_of c.args.insn in
-    let w = waits_skipped g.met.D.Domain.laws c.args.context_len code c.args.at c.args.insn (held c.args.pending.now)
+    let at = c.args.here.slot in
+    let i = c.args.here.insn in
+    let next = at + slots_of i in
+    let w = waits_skipped g.met.D.Domain.laws c.args.context_len code at i (held c.args.pending.now)
     (peak_of c.args.pending.now) c.requires.least c.requires.is_at
     (sym c.take.ensures.state ∙ ap boxed_view c.in_default.is) in
     subst (λ states. IsPending c.args.context_len o code next states (peak_of c.take.new.self))
     (sym c.take.ensures.states)
-    (subst (IsPending c.args.context_len o code next (put (held c.args.pending.now) c.args.at None))
+    (subst (IsPending c.args.context_len o code next (put (held c.args.pending.now) at None))
     (sym c.take.ensures.peak) w)
 
 pub returns-in-Some-check-clause-least : goal.returns-in-Some-check-clause-least
 returns-in-Some-check-clause-least g c =
-    waits_refused g.met.D.Domain.laws c.args.context_len c.args.code.now c.args.at c.args.insn (held c.args.pending.now)
-    (view c.in-Some.state.value) (peak_of c.args.pending.now) c.in-Some-check.rule c.requires.structured
-    c.requires.least c.requires.is_at (sym c.take.ensures.state ∙ ap boxed_view c.in-Some.is)
-    (subst (λ s. FailsFirstFor c.args.context_len g.D.Domain.ops c.args.insn (view s) c.in-Some-check.rule)
+    waits_refused g.met.D.Domain.laws c.args.context_len c.args.code.now c.args.here.slot c.args.here.insn
+    (held c.args.pending.now) (view c.in-Some.state.value) (peak_of c.args.pending.now) c.in-Some-check.rule
+    c.requires.structured c.requires.least c.requires.is_at (sym c.take.ensures.state ∙ ap boxed_view c.in-Some.is)
+    (subst (λ s. FailsFirstFor c.args.context_len g.D.Domain.ops c.args.here.insn (view s) c.in-Some-check.rule)
     c.deref.ensures c.in-Some-check.ensures)
 
 pub returns-in-Some-check-clause-stops : goal.returns-in-Some-check-clause-stops
 returns-in-Some-check-clause-stops g c =
-    subst (IsPeakFor c.args.context_len g.D.Domain.ops c.args.code.now c.args.at) (sym c.take.ensures.peak)
-    (waits_peak g.met.D.Domain.laws c.args.context_len c.args.code.now c.args.at (held c.args.pending.now)
+    subst (IsPeakFor c.args.context_len g.D.Domain.ops c.args.code.now c.args.here.slot) (sym c.take.ensures.peak)
+    (waits_peak g.met.D.Domain.laws c.args.context_len c.args.code.now c.args.here.slot (held c.args.pending.now)
     (peak_of c.args.pending.now)
     c.requires.least)
 
 pub send_on-requires : goal.send_on-requires
 send_on-requires g c =
     let code = c.args.code.now in
-    let at = c.args.at in
-    let i = c.args.insn in
+    let at = c.args.here.slot in
+    let i = c.args.here.insn in
     let states = held c.args.pending.now in
     let s = view c.in-Some.state.value in
     let within : at < slot_count code = c.requires.place in
@@ -87,8 +89,8 @@ pub returns-in_ok-send_on-in-None-clause-least : goal.returns-in_ok-send_on-in-N
 returns-in_ok-send_on-in-None-clause-least g c =
     let o = g.D.Domain.ops in
     let code = c.args.code.now in
-    let at = c.args.at in
-    let i = c.args.insn in
+    let at = c.args.here.slot in
+    let i = c.args.here.insn in
     let s = view c.in-Some.state.value in
     let old = peak_of c.args.pending.now in
     let taken = put (held c.args.pending.now) at None in
@@ -106,8 +108,8 @@ pub returns-in_ok-send_on-in-None-clause-peak : goal.returns-in_ok-send_on-in-No
 returns-in_ok-send_on-in-None-clause-peak g c =
     let o = g.D.Domain.ops in
     let code = c.args.code.now in
-    let at = c.args.at in
-    let i = c.args.insn in
+    let at = c.args.here.slot in
+    let i = c.args.here.insn in
     let s = view c.in-Some.state.value in
     let last = c.in_ok-send_on-in-None.ensures.states ∙ ap (λ states. sent_on o states at i s) c.take.ensures.states in
     let few = sent_few g.met.D.Domain.laws c.args.context_len code at i (held c.args.pending.now) s
