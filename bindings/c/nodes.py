@@ -20,6 +20,10 @@ import threading
 import time
 
 
+# The nodes allow 4,096. A fast machine makes more edits until a node is killed.
+MOST_NAMES = 1000
+
+
 class Ended(Exception):
     """A node has ended."""
 
@@ -101,7 +105,7 @@ class Half:
 
     def edit(self, primary, backups, number):
         """Makes a random edit on all three nodes."""
-        if self.names and self.chance.random() < 0.3:
+        if len(self.names) >= MOST_NAMES or self.names and self.chance.random() < 0.3:
             name, request = self.chance.choice(sorted(self.names)), b"U"
         else:
             name, request = f"name{number}", b"R"
