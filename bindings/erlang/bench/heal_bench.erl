@@ -58,6 +58,10 @@ with_nodes(Count, Run) ->
         [heal_cluster:stop(It) || It <- Nodes]
     end.
 
+%% Calls this module on a node, for as long as it takes: `global' may register a hundred names a second on four nodes.
+long_call({Peer, _}, Function, Args) ->
+    peer:call(Peer, ?MODULE, Function, Args, infinity).
+
 %% ---- Calls of a gen_server ----
 
 %% The rates of calls on the node of a gen_server and from another one.
@@ -186,7 +190,7 @@ memory(Nodes, Count, Registry) ->
         Names = names("m", Count),
         Pids = heal_cluster:call(At, ?MODULE, spawned, [Count]),
         Before = [heal_cluster:call(It, ?MODULE, memory, []) || It <- [At, Other]],
-        heal_cluster:call(At, ?MODULE, named, [Registry, Names, Pids]),
+        long_call(At, named, [Registry, Names, Pids]),
         filled(Registry, lists:last(Names), All),
         After = [heal_cluster:call(It, ?MODULE, memory, []) || It <- [At, Other]],
         [(Now - Then) / Count || {Now, Then} <- lists:zip(After, Before)]
@@ -214,7 +218,7 @@ healing(Count, Clashes, Registry) ->
         gathered(Registry, Nodes),
         heal_cluster:split_into([Left, Right]),
         [gathered(Registry, Half) || Half <- [Left, Right]],
-        [heal_cluster:call(hd(Half), ?MODULE, fill, [Registry, "n", Clashes]) || Half <- [Left, Right]],
+        [long_call(hd(Half), fill, [Registry, "n", Clashes]) || Half <- [Left, Right]],
         [filled(Registry, lists:last(names("n", Clashes)), Half) || Half <- [Left, Right]],
         Client = heal_cluster:call(hd(Left), ?MODULE, longest, [Registry]),
         {Time, _} = timer:tc(fun() -> heal_cluster:mesh(Nodes), gathered(Registry, Nodes), settled(Registry, Nodes, Clashes) end),
