@@ -8,6 +8,6 @@ mod notice;
 mod telling;
 mod verdicts;
 
-pub use notice::{Notice, Notices};
+pub use notice::{NOTICE_TEXT_LEN, Notice, Notices};
 pub use telling::notices;
 pub use verdicts::{Verdict3, decide};

@@ -1,7 +1,10 @@
 //! Notices, and the at most two of them that a verdict brings.
-ghost use Rattle.std.specs.Prelude.{◌≡◌, ◌≤◌, ◌↔◌, [], ◌∷◌, length, IsTrue, Some};
+ghost use Rattle.std.specs.Prelude.{◌≡◌, ◌≤◌, ◌↔◌, [], ◌∷◌, ◌++◌, length, codes, IsTrue, Some};
+ghost use Rattle.clash_record.specs.Texts.{owner_text};
+ghost use Rattle.builtin_resolvers.specs.Texts.{notice_text};
 
-use clash_record::{Name, Owner};
+use arrayvec::ArrayString;
+use clash_record::{NAME_LEN, Name, OWNER_TEXT_LEN, Owner};
 use std::fmt;
 use std::marker::Model;
 
@@ -16,19 +19,50 @@ pub enum Notice {
     ConflictWith(Name, Owner, Owner),
 }
 
-impl fmt::Display for Notice {
-    ghost use Rattle.builtin_resolvers.specs.Texts.{notice_text};
+/// The most bytes of a notice's text: that of two owners, a name and the words between.
+pub const NOTICE_TEXT_LEN: usize = 2 * OWNER_TEXT_LEN + NAME_LEN + 20;
 
+impl Notice {
+    /// Returns its text, as `exit 1.10`, `conflict web to 1.10` or `conflict web to 1.10 other 2.11`.
+    pub fn text(&self) -> ArrayString<NOTICE_TEXT_LEN>
+        ensures { result.bytes ≡ notice_text self.now }
+    {
+        match self {
+            Notice::Exit(owner) => {
+                let mut text = ArrayString::new();
+                text.push_str("exit ");
+                text.push_str(owner.text().as_str());
+                text
+            }
+            Notice::Conflict(name, owner) => conflict_text(name, *owner),
+            Notice::ConflictWith(name, owner, other) => {
+                let mut text = conflict_text(name, *owner);
+                text.push_str(" other ");
+                text.push_str(other.text().as_str());
+                text
+            }
+        }
+    }
+}
+
+// Returns the text that a conflict begins with.
+fn conflict_text(name: &Name, owner: Owner) -> ArrayString<NOTICE_TEXT_LEN>
+    ensures text { result.bytes ≡ codes "conflict " ++ name.now ++ codes " to " ++ owner_text owner }
+    ensures short { length result.bytes ≤ 66 }
+{
+    let mut text = ArrayString::new();
+    text.push_str("conflict ");
+    text.push_str(name.as_str());
+    text.push_str(" to ");
+    text.push_str(owner.text().as_str());
+    text
+}
+
+impl fmt::Display for Notice {
     ghost output = { λ notice. Some (notice_text notice) };
 
     fn fmt<W: fmt::Write>(&self, f: &mut fmt::Formatter<W>) -> fmt::Result {
-        match self {
-            Notice::Exit(owner) => write!(f, "exit {owner}"),
-            Notice::Conflict(name, owner) => write!(f, "conflict {name} to {owner}"),
-            Notice::ConflictWith(name, owner, other) => {
-                write!(f, "conflict {name} to {owner} other {other}")
-            }
-        }
+        f.write_str(self.text().as_str())
     }
 }
 

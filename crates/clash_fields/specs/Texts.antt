@@ -4,6 +4,8 @@ use Rattle.std.specs.Fmt.{decimal}
 use Rattle.byteorder.specs.Endian.{little_number}
 use Rattle.hex.specs.Hex.{encode_lower}
 use Rattle.clash_record.specs.Name.{is_name}
+use Rattle.clash_record.specs.Texts.{owner_text}
+use Rattle.clash_record.specs.declared.registrations.Owner.{Owner}
 
 -- the number in this many bytes at an offset, the lowest byte first
 abbrev pub record_number : ℕ → ℕ → List ℕ → ℕ
@@ -17,12 +19,15 @@ record_name bytes = take (min (record_number 0 4 bytes) 32) (drop 8 bytes)
 unfoldable pub name_text : List ℕ → List ℕ
 name_text bytes = if is_name (record_name bytes) then record_name bytes else encode_lower (take 32 (drop 8 bytes))
 
+-- the owner at this place
+abbrev pub record_owner : ℕ → List ℕ → Owner
+record_owner place bytes = record { node = record_number place 4 bytes; serial = record_number (place + 4) 4 bytes }
+
 -- a registration at this place
 unfoldable pub registration_text : ℕ → List ℕ → List ℕ
 registration_text place bytes =
-    decimal (record_number place 4 bytes) ++ (codes "." ++ (decimal (record_number (place + 4) 4 bytes)
-    ++ (codes ", stamp " ++ (decimal (record_number (place + 8) 8 bytes)
-    ++ (codes ", weight " ++ decimal (record_number (place + 16) 8 bytes))))))
+    owner_text (record_owner place bytes) ++ (codes ", stamp " ++ (decimal (record_number (place + 8) 8 bytes)
+    ++ (codes ", weight " ++ decimal (record_number (place + 16) 8 bytes))))
 
 -- the facts of a half at this place
 unfoldable pub facts_text : ℕ → List ℕ → List ℕ

@@ -5,7 +5,7 @@ ghost use Rattle.instruction_set.specs.Machine.{record_len};
 ghost use Rattle.clash_fields.specs.Texts.{facts_text, half_text, registration_text, name_text, record_number, record_text};
 
 use byteorder::{ByteOrder, LittleEndian};
-use clash_record::{ClashRecord, name};
+use clash_record::{ClashRecord, Owner, name};
 use std::alloc::{AllocError, Global};
 
 // Returns the number in four bytes at an offset.
@@ -52,9 +52,12 @@ fn registration_text(alloc: Global, bytes: &[u8], place: usize) -> Result<String
     requires few { length bytes.now ≡ record_len }
     ensures { IfOk result (λ text. string_bytes text ≡ registration_text place bytes.now) }
 {
-    let (node, serial) = (word_at(bytes, place), word_at(bytes, place + 4));
+    let owner = Owner {
+        node: word_at(bytes, place),
+        serial: word_at(bytes, place + 4),
+    };
     let (stamp, weight) = (long_at(bytes, place + 8), long_at(bytes, place + 16));
-    format!(in alloc; "{node}.{serial}, stamp {stamp}, weight {weight}")
+    format!(in alloc; "{owner}, stamp {stamp}, weight {weight}")
 }
 
 // Returns the text of the facts of a half at this place.

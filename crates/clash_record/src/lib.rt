@@ -16,5 +16,7 @@ pub use names::naming::name;
 pub use names::{BadName, NAME_LEN, Name};
 pub use orders::order_theorem;
 pub use records::{ClashRecord, Contender, Facts, record, record_of, set_word, write_record};
-pub use registrations::{Builtin, Owner, ProgramId, Registration, ResolverId, Terms};
+pub use registrations::{
+    Builtin, OWNER_TEXT_LEN, Owner, ProgramId, Registration, ResolverId, Terms,
+};
 pub use side_id::SideId;

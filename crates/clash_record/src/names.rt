@@ -1,5 +1,5 @@
 //! Names: storage, reading and comparison.
-ghost use Rattle.std.specs.Prelude.{◌≡◌, length, drop, nat_eq, IsTrue, Some, None, refl};
+ghost use Rattle.std.specs.Prelude.{◌≡◌, ◌≤◌, length, drop, nat_eq, IsTrue, Some, None, refl};
 ghost use Rattle.std.specs.Ordering.{nat_cmp};
 ghost use Rattle.std.specs.Cmp.Lexicographic.{pointwise, slice_cmp, nat_list_eq_equiv, nat_list_cmp_total, texts_ties, texts_po};
 ghost use Rattle.std.specs.Cmp.{partial_equiv_from_equiv};
@@ -82,7 +82,8 @@ impl Name {
 
     /// Returns the name as text. Allocates nothing.
     pub fn as_str(&self) -> &str
-        ensures { result.now ≡ self.now }
+        ensures value { result.now ≡ self.now }
+        ensures short { length result.now ≤ name_limit }
     {
         str::from_utf8(self.bytes()).unwrap()
     }

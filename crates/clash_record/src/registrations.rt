@@ -4,7 +4,12 @@ ghost use Rattle.std.specs.declared.cmp.Ordering.TheVariants.{Less};
 ghost use Rattle.clash_record.specs.Registrations.{registration_on, registration_terms};
 ghost use Rattle.clash_record.specs.Texts.{builtin_of, builtin_text, owner_text};
 
+use arrayvec::ArrayString;
+use itoa::Buffer;
 use std::fmt;
+
+/// The most bytes of an owner's text: two numbers of ten digits, and a dot between.
+pub const OWNER_TEXT_LEN: usize = 21;
 
 /// The owner of a name: a serial number on a node.
 #[derive(Clone, Copy, Debug, PartialEq, Eq, PartialOrd, Ord)]
@@ -15,13 +20,25 @@ pub struct Owner {
     pub serial: u32,
 }
 
+impl Owner {
+    /// Returns its text, as `1.10`: the node and the serial number in decimal digits.
+    pub fn text(self) -> ArrayString<OWNER_TEXT_LEN>
+        ensures { result.bytes ≡ owner_text self }
+    {
+        let mut digits = Buffer::new();
+        let mut text = ArrayString::new();
+        text.push_str(digits.format(self.node));
+        text.push_str(".");
+        text.push_str(digits.format(self.serial));
+        text
+    }
+}
+
 impl fmt::Display for Owner {
     ghost output = { λ owner. Some (owner_text owner) };
 
     fn fmt<W: fmt::Write>(&self, f: &mut fmt::Formatter<W>) -> fmt::Result {
-        let node = self.node;
-        let serial = self.serial;
-        write!(f, "{node}.{serial}")
+        f.write_str(self.text().as_str())
     }
 }
 
@@ -30,11 +47,14 @@ impl fmt::Display for Owner {
 pub struct ProgramId(pub [u8; 32]);
 
 impl fmt::Display for ProgramId {
+    ghost use Rattle.hex.specs.Hex.{encode_lower};
+
+    ghost output = { λ id. Some (encode_lower id.0) };
+
     fn fmt<W: fmt::Write>(&self, f: &mut fmt::Formatter<W>) -> fmt::Result {
-        for byte in self.0 {
-            write!(f, "{byte:02x}")?;
-        }
-        Ok(())
+        let mut digits = [0; 64];
+        hex::encode_to_slice(self.0, &mut digits).map_err(|_| fmt::Error)?;
+        f.write_str(str::from_utf8(&digits).map_err(|_| fmt::Error)?)
     }
 }
 

@@ -200,6 +200,9 @@ impl Side {
     /// that applies. Returns 90 when out of memory: it copies the table if others still share it.
     pub fn unregister(&mut self, name: &Name) -> Result<Registration, SideFault>
         ensures answer { IsAnswered side_fault_number (due.unregister_fault (is_full self.old) (shown self.old) name.now) result }
+        // A refusal needs no memory.
+        ensures refused { due.unregister_fault (is_full self.old) (shown self.old) name.now ≢ None
+            → IsDecidedBy (due.unregister_fault (is_full self.old) (shown self.old) name.now) result }
         ensures given { IfOk result (λ registration. option_map (λ row. row.registration)
             (get (shown self.old).table name.now) ≡ Some registration) }
         ensures done { OnOk result (IsDone self.old (call.Unregister name.now) self.new) }
@@ -463,7 +466,9 @@ impl Side {
     /// memory: it copies the table if it withdrew a name and others still share the table.
     pub fn abandon(&mut self) -> Result<(), SideFault>
         ensures answer { IsAnswered side_fault_number (due.abandon_fault (is_full self.old) (shown self.old)) result }
-        // Without a withdrawn name it needs no memory.
+        // A refusal needs no memory, and neither does a call without a withdrawn name.
+        ensures refused { due.abandon_fault (is_full self.old) (shown self.old) ≢ None
+            → IsDecidedBy (due.abandon_fault (is_full self.old) (shown self.old)) result }
         ensures free { withdrawn_by (shown self.old) ≡ [] → IsDecidedBy (due.abandon_fault (is_full self.old) (shown self.old)) result }
         ensures done { OnOk result (IsDone self.old call.Abandon self.new) }
         ensures untouched { OnErr result (IsUntouched self.old self.new) }

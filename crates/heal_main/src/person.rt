@@ -9,7 +9,7 @@ use device::{DeviceFault, send_after};
 use explanation::explain_at;
 use insn_codec::decode;
 use refusals::{NumberedRefusal, Place};
-use script_text::{print_at_place, print_number};
+use script_text::print_number;
 use scripts::{Machine, Narrator};
 use std::io::Write;
 use std::rt::Files;
@@ -28,9 +28,8 @@ pub(crate) fn print_refusal_words<W: Write>(
 {
     let mut sent = send_after(sent, writer, b"heal: line ");
     sent = print_number(sent, writer, line);
-    sent = send_after(sent, writer, b": refused ");
-    sent = print_number(sent, writer, u64::from(refusal.number));
-    sent = print_at_place(sent, writer, refusal.place);
+    sent = send_after(sent, writer, b": ");
+    sent = send_after(sent, writer, refusal.text().as_str().as_bytes());
     sent = send_after(sent, writer, b": ");
     sent = send_after(sent, writer, words.as_bytes());
     send_after(sent, writer, b"\n")

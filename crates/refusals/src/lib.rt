@@ -5,6 +5,6 @@ mod place;
 mod refusal;
 mod table;
 
-pub use place::Place;
-pub use refusal::{Numbered, NumberedRefusal, OUT_OF_MEMORY, refusal_of};
+pub use place::{PLACE_TEXT_LEN, Place};
+pub use refusal::{Numbered, NumberedRefusal, OUT_OF_MEMORY, REFUSAL_TEXT_LEN, refusal_of};
 pub use table::{REFUSALS, words_in, words_of};

@@ -4,11 +4,16 @@ ghost use Rattle.refusals.specs.declared.place.Place.{Place};
 ghost use Rattle.refusals.specs.Answers.{out_of_memory};
 ghost use Rattle.refusals.specs.Texts.{refusal_text};
 
-use crate::place::Place;
+use crate::place::{PLACE_TEXT_LEN, Place};
+use arrayvec::ArrayString;
+use itoa::Buffer;
 use std::fmt;
 
 /// The number of the refusal "out of memory".
 pub const OUT_OF_MEMORY: u32 = 90;
+
+/// The most bytes of a refusal's text: two words, a number of ten digits and a place.
+pub const REFUSAL_TEXT_LEN: usize = PLACE_TEXT_LEN + 22;
 
 /// A numbered refusal, and the place that it names, if any.
 #[derive(Clone, Copy, Debug, PartialEq, Eq)]
@@ -26,17 +31,28 @@ impl NumberedRefusal {
     {
         self.number == OUT_OF_MEMORY
     }
+
+    /// Returns its text, as `refused 21 at slot 3`.
+    pub fn text(&self) -> ArrayString<REFUSAL_TEXT_LEN>
+        ensures { result.bytes ≡ refusal_text self.now }
+    {
+        let mut digits = Buffer::new();
+        let mut text = ArrayString::new();
+        text.push_str("refused ");
+        text.push_str(digits.format(self.number));
+        if let Some(place) = self.place {
+            text.push_str(" at ");
+            text.push_str(place.text().as_str());
+        }
+        text
+    }
 }
 
 impl fmt::Display for NumberedRefusal {
     ghost output = { λ refusal. Some (refusal_text refusal) };
 
     fn fmt<W: fmt::Write>(&self, f: &mut fmt::Formatter<W>) -> fmt::Result {
-        let number = self.number;
-        match self.place {
-            None => write!(f, "refused {number}"),
-            Some(place) => write!(f, "refused {number} at {place}"),
-        }
+        f.write_str(self.text().as_str())
     }
 }
 

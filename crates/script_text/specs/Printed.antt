@@ -1,8 +1,8 @@
 -- The lines that scripts print.
-use Rattle.std.specs.Prelude.{ℕ, List, ◌++◌, codes, Option}
+use Rattle.std.specs.Prelude.{ℕ, List, ◌++◌, codes}
 use Rattle.std.specs.Fmt.{decimal}
-use Rattle.refusals.specs.declared.place.Place.{Place}
-use Rattle.refusals.specs.Texts.{at_place}
+use Rattle.refusals.specs.declared.refusal.NumberedRefusal.{NumberedRefusal}
+use Rattle.refusals.specs.Texts.{refusal_text}
 use Rattle.clash_record.specs.declared.registrations.Owner.{Owner}
 use Rattle.clash_record.specs.declared.registrations.Registration.{Registration}
 use Rattle.builtin_resolvers.specs.declared.notice.Notice.{Notice}
@@ -47,6 +47,5 @@ abbrev pub healed_line : ℕ → List ℕ
 healed_line count = codes "healed " ++ decimal count ++ codes " names\n"
 
 -- the line with this number was refused
-abbrev pub refusal_line : ℕ → ℕ → Option Place → List ℕ
-refusal_line line number place =
-    codes "line " ++ decimal line ++ codes ": refused " ++ decimal number ++ at_place place ++ codes "\n"
+abbrev pub refusal_line : ℕ → NumberedRefusal → List ℕ
+refusal_line line refusal = codes "line " ++ decimal line ++ codes ": " ++ refusal_text refusal ++ codes "\n"

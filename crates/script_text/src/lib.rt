@@ -15,7 +15,7 @@ pub use input::{Found, LINE_LIMIT, LineBuffer, ReadBuffer, ReadFailed, Stop, nex
 pub use numbers::long;
 pub use parsing::{command_of, name_in, terms};
 pub use printing::{
-    print_at_place, print_clash, print_code_count, print_healed, print_notice, print_number,
-    print_owner, print_owner_line, print_refusal, print_row, print_withdrawal,
+    print_clash, print_code_count, print_healed, print_notice, print_number, print_owner,
+    print_owner_line, print_refusal, print_row, print_withdrawal,
 };
 pub use words::words_in;

@@ -19,7 +19,7 @@ reply_text line Registered = codes "yes\n"
 reply_text line Unregistered = codes "gone\n"
 reply_text line (Owned owner) = owner_line owner
 reply_text line Undefined = codes "undefined\n"
-reply_text line (Refused refusal) = refusal_line line refusal.number refusal.place
+reply_text line (Refused refusal) = refusal_line line refusal
 
 -- the least status of a script with this answer
 abbrev pub refused_status : ℕ → ℕ
