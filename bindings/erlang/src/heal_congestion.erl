@@ -45,6 +45,7 @@ is_due(Node, {edit, {View, _}, _, _, _}, Part = #part{members = Members}) ->
         _ -> false
     end;
 is_due(_Node, {ask, Reference, _}, #part{heal = Heal}) -> is_query(Reference, Heal);
+is_due(_Node, {turn, Reference, _}, #part{heal = Heal}) -> is_query(Reference, Heal);
 is_due(_Node, {hello, Reference, _, _}, #part{heal = Heal}) -> is_query(Reference, Heal);
 is_due(_Node, {propose, Number, _, _, _}, #part{heal = Heal}) -> is_open(Number, Heal);
 is_due(_Node, {offer, Number, _, _, _}, #part{heal = Heal}) -> is_open(Number, Heal);
@@ -62,7 +63,7 @@ is_open(_Number, _Heal) -> false.
 %% A member that has missed an entry gets no other ones before a snapshot.
 missed(Node, Body, Part = #part{members = Members, full = Full}) ->
     case {element(1, Body), Members} of
-        {Kind, #{Node := Member}} when Kind =:= edit; Kind =:= snapshot ->
+        {Kind, #{Node := Member}} when Kind =:= edit; Kind =:= snapshot; Kind =:= difference ->
             #{Node := {refusing, _, Bodies}} = Full,
             Others = [Other || Other <- Bodies, element(1, Other) =/= edit],
             Part#part{members = Members#{Node := Member#member{is_lagging = true}},

@@ -7,7 +7,7 @@
 -include("heal_part.hrl").
 
 -export([claim/3, change/3, missing/2, is_taken/3, disown/2, is_own/3, waiting/1, conflicts/2, is_conflict/3]).
--export([plan/4, is_current/2, losers/1, conflicts/1, swap/2, differences/1, differences/2, settle/1, restrict/2]).
+-export([plan/4, changes/2, is_current/2, losers/1, conflicts/1, swap/2, differences/1, differences/2, settle/1, restrict/2]).
 -export_type([changes/0, plan/0]).
 
 -define(MAX_PROGRAMS, 256).
@@ -154,6 +154,8 @@ missing(Name, Row, Found = #found{missing = Missing}) ->
 lacking(#found{restored = Restored, changed = Changed}) ->
     Restored ++ Changed.
 
+%% Returns how a table differs from an earlier one.
+-spec changes(Old :: #{heal:name() => #row{}}, New :: #{heal:name() => #row{}}) -> changes().
 changes(Old, New) ->
     Put = [Entry || Entry = {Name, Row} <- maps:to_list(New), not (is_map_key(Name, Old) andalso map_get(Name, Old) =:= Row)],
     {Put, [Name || Name <- maps:keys(Old), not is_map_key(Name, New)]}.

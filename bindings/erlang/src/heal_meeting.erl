@@ -1,8 +1,9 @@
 %% @private How two primaries that are connected exchange, so that their parts become one.
 %%
-%% The smaller node leads. It queries the other's greatest number, both offer the names of their parts, judge every clash, and
-%% send their lists of withdrawn names. The leader then starts a view with the merge. The other node follows it when it hears
-%% so, and until then keeps its own table: an exchange that is abandoned changes nothing. All other nodes get a snapshot.
+%% The smaller node queries the other one. That of the larger part leads, and of two parts alike the smaller node: fewer nodes have another
+%% primary then. The leader queries the other's greatest number, both offer the names of their parts, judge every clash, and send their
+%% lists of withdrawn names. The leader then starts a view with the merge. The other node follows it when it hears so, and until then keeps
+%% its own table: an exchange that is abandoned changes nothing. All other nodes get a snapshot, or what differs.
 -module(heal_meeting).
 
 -include("heal_part.hrl").
@@ -113,13 +114,16 @@ message(Node, {ask, Reference, Members}, Part = #part{node = Self, peers = Peers
         %% It has heard of this node, and not the other way round.
         _ -> heal_peers:hurry(Node, busy(Node, Reference, Nodes, Part))
     end;
+message(Node, {turn, Reference, Members}, Part = #part{heal = {asking, #asking{node = Node, reference = Reference}}}) ->
+    engage(Node, Reference, Members, Part#part{heal = idle});
 message(Node, {hello, Reference, Greatest, Members}, Part = #part{heal = {asking, #asking{node = Node, reference = Reference}}}) ->
     %% Edits that have come meanwhile go first: they wait once the exchange is open.
     heal_state:later({begin_with, Reference, Greatest, Members}, ready_offer(a, [], Part));
 message(Node, {propose, Number, Seed, Members, Reference},
         Part = #part{heal = {engaged, #asking{node = Node, reference = Reference}}}) ->
     accept(Node, Number, Seed, Members, fun(Open) -> Open end, Part#part{heal = idle});
-message(Node, {busy, Reference}, Part = #part{heal = {asking, #asking{node = Node, reference = Reference}}}) ->
+message(Node, {Kind, Reference}, Part = #part{heal = {asking, #asking{node = Node, reference = Reference}}})
+        when Kind =:= busy; Kind =:= cancel ->
     heal_peers:retry(Node, none, heal_state:tick(Part), Part#part{heal = idle});
 message(Node, {ready, _Reference}, Part = #part{node = Self, peers = Peers}) when Self < Node ->
     case Peers of
@@ -171,8 +175,9 @@ asked(Node, Reference, Members, Nodes, Part = #part{heal = Heal, settle_by = Set
     HasMet = has_met(Node, Nodes, Part),
     case {Heal, heal_state:is_primary(Part)} of
         {#open{}, _} -> busy(Node, Reference, Nodes, Part);
+        {{asking, #asking{node = Node, reference = Reference}}, _} -> turn(Node, Reference, Part);
         {{engaged, #asking{node = Other}}, _} when Other =/= Node -> busy(Node, Reference, Nodes, Part);
-        {_, true} when SettleBy =:= none, Limbo =:= none, HasMet -> engage(Node, Reference, Members, cancel(Part));
+        {_, true} when SettleBy =:= none, Limbo =:= none, HasMet -> answer(Node, Reference, Members, cancel(Part));
         {_, true} -> busy(Node, Reference, Nodes, Part);
         {_, false} -> heal_peers:announce_to(Node, busy(Node, Reference, Nodes, Part))
     end.
@@ -184,6 +189,19 @@ cancel(Part = #part{heal = {asking, #asking{node = Node, reference = Reference}}
     heal_state:send(Node, {cancel, Reference}, Part#part{heal = idle});
 cancel(Part) ->
     Part#part{heal = idle}.
+
+%% It leads if its part is the larger one.
+answer(Node, Reference, Members, Part = #part{now = Now, exchange_timeout = Timeout, declined = Declined}) ->
+    case length(members(Part)) > length(Members) andalso heal_peers:takes_differences(Node, Part) of
+        true ->
+            Asking = #asking{node = Node, reference = Reference, deadline = Now + Timeout div 2 + 1},
+            turn(Node, Reference, Part#part{heal = {asking, Asking}, declined = maps:remove(Node, Declined)});
+        false ->
+            engage(Node, Reference, Members, Part)
+    end.
+
+turn(Node, Reference, Part) ->
+    heal_state:send(Node, {turn, Reference, members(Part)}, Part).
 
 %% It makes its offer ready meanwhile.
 engage(Node, Reference, Members, Part = #part{now = Now, exchange_timeout = Timeout, greatest = Greatest, declined = Declined}) ->

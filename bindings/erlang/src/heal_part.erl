@@ -120,7 +120,7 @@ taken(Part = #part{out = Out}) ->
 %% Takes the state of an earlier version over: the fields that it lacks are the last ones.
 -spec upgrade(Earlier :: part()) -> part().
 upgrade(Earlier) ->
-    Part = later(Earlier, record_info(size, part), [none, none, [], none, #{}, #{}, #{}, #{}]),
+    Part = later(Earlier, record_info(size, part), [none, none, [], none, #{}, #{}, #{}, #{}, #{}, none]),
     #part{replica = Replica, waiting = Waiting, requested = Requested, unreleased = Unreleased, adopting = Adopting} = Part,
     #part{arriving = Arriving, leaving = Leaving, storing = Storing} = Part,
     Each = fun(_, Call) -> call(Call) end,
@@ -213,6 +213,8 @@ message(Node, {here, Here}, Part) ->
     act(heal_view:heard(Node, Here, heal_meeting:announced(Node, Here, Part)));
 message(Node, {snapshot, Snapshot}, Part) ->
     act(heal_view:snapshot(Node, Snapshot, Part));
+message(Node, {difference, Difference}, Part) ->
+    act(heal_view:difference(Node, Difference, Part));
 message(Node, {want, View}, Part) ->
     act(heal_view:wanted(Node, View, Part));
 message(Node, {finished, Seq, At, Requests, Edits}, Part) ->

@@ -80,6 +80,9 @@
     touched = #{} :: #{heal:name() => edited}
 }).
 
+%% The position and the half that a primary had before its view, for nodes that may have them too.
+-record(base, {at :: heal_replica:position(), half :: #half{}, nodes :: [node()]}).
+
 -record(part, {
     node :: node(),
     number :: 0..16#ffffffff,
@@ -145,5 +148,9 @@
     %% Nodes whose connections are full, with the bodies that wait for them, the newest first; or have been a moment ago.
     full = #{} :: #{node() => {refusing, Count :: non_neg_integer(), [Body :: term()]} | resting},
     %% Nodes that take the processes of an offer in groups.
-    grouping = #{} :: #{node() => true}
+    grouping = #{} :: #{node() => true},
+    %% Nodes that take differences, and leave it to the larger of two parts to lead an exchange.
+    differing = #{} :: #{node() => true},
+    %% Of a primary, until its view is settled.
+    base = none :: none | heal_difference:base()
 }).

@@ -4,7 +4,7 @@
 -include("heal_part.hrl").
 
 -export([link/2, connecting/2, attempted/2, here/3, announce/1, announce_to/2, hurry/2, moved/4, pulse/1]).
--export([has_met/3, takes_groups/2, is_silent/2, is_connected/2, is_in_setting/2, is_primary/1, followers/1, give_up/2, heard_of/2]).
+-export([has_met/3, takes_groups/2, takes_differences/2, is_silent/2, is_connected/2, is_in_setting/2, is_primary/1, followers/1, give_up/2, heard_of/2]).
 -export([retry/4, hopeful/2, arrived/1, sync/1, report/1]).
 -export_type([refusal/0, problems/0, here/0]).
 
@@ -23,9 +23,11 @@
     members := [node()],
     is_settled := boolean(),
     is_first := boolean(),
-    %% The node takes several bodies in one message, and the processes of an offer in groups. Nodes of earlier versions don't announce it.
+    %% The node takes several bodies in one message, the processes of an offer in groups, and differences in place of snapshots; it leaves
+    %% it to the larger of two parts to lead an exchange. Nodes of earlier versions don't announce it.
     bundles => boolean(),
-    groups => boolean()
+    groups => boolean(),
+    differences => boolean()
 }.
 
 %% ---- Links ----
@@ -56,8 +58,8 @@ link({Kind, Node}, Part = #part{links = Links}) ->
 give_up(Node, Part) ->
     forget(Node, mark(Node, deaf, Part)).
 
-forget(Node, Part = #part{peers = Peers, grouping = Grouping}) ->
-    Part#part{peers = maps:remove(Node, Peers), grouping = maps:remove(Node, Grouping)}.
+forget(Node, Part = #part{peers = Peers, grouping = Grouping, differing = Differing}) ->
+    Part#part{peers = maps:remove(Node, Peers), grouping = maps:remove(Node, Grouping), differing = maps:remove(Node, Differing)}.
 
 mark(Node, State, Part = #part{links = Links, awaited = Awaited}) ->
     case Links of
@@ -122,7 +124,8 @@ announce_to(Node, IsFirst, Part = #part{seq = Seq, number = Number, nodes = Node
         is_settled => SettleBy =:= none,
         is_first => IsFirst,
         bundles => true,
-        groups => true
+        groups => true,
+        differences => true
     },
     heal_state:send(Node, {here, Here}, Part#part{seq = Seq + 1}).
 
@@ -163,14 +166,24 @@ heard(Node, Here = #{seq := Seq, at := At, members := Members, is_settled := IsS
         #peer{retry = Known} -> Known
     end,
     Heard = Peer#peer{seq = Seq, at = At, members = Members, is_settled = IsSettled, heard = Now, retry = Retry},
-    grouping(Node, Here, Part#part{peers = Peers#{Node => Heard}}).
+    #part{grouping = Grouping, differing = Differing} = Part,
+    Part#part{peers = Peers#{Node => Heard}, grouping = taking(Node, groups, Here, Grouping),
+              differing = taking(Node, differences, Here, Differing)}.
 
-grouping(Node, #{groups := true}, Part = #part{grouping = Grouping}) -> Part#part{grouping = Grouping#{Node => true}};
-grouping(Node, _Here, Part = #part{grouping = Grouping}) -> Part#part{grouping = maps:remove(Node, Grouping)}.
+%% Notes whether a node takes what not all versions do.
+taking(Node, Kind, Here, Nodes) ->
+    case Here of
+        #{Kind := true} -> Nodes#{Node => true};
+        _ -> maps:remove(Node, Nodes)
+    end.
 
 %% Returns whether a node takes the processes of an offer in groups.
 -spec takes_groups(node(), #part{}) -> boolean().
 takes_groups(Node, #part{grouping = Grouping}) -> is_map_key(Node, Grouping).
+
+%% Returns whether a node takes differences, and leaves it to the larger of two parts to lead an exchange.
+-spec takes_differences(node(), #part{}) -> boolean().
+takes_differences(Node, #part{differing = Differing}) -> is_map_key(Node, Differing).
 
 %% A node has moved, as another message than an announcement shows. Returns false if that is older than what is known.
 -spec moved(node(), Seq :: pos_integer(), heal_replica:position(), #part{}) -> {true, #part{}} | false.

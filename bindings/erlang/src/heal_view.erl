@@ -8,7 +8,7 @@
 -include("heal_part.hrl").
 
 -export([resume/1, act/1, continue/1, is_settling/1, members/1, lead_alone/1, follow_merge/5, start/5]).
--export([heard/3, snapshot/3, wanted/3, joined/3, join_again/2, settled/3, broadcast/3]).
+-export([heard/3, snapshot/3, difference/3, wanted/3, joined/3, join_again/2, settled/3, broadcast/3]).
 
 %% ---- Starting ----
 
@@ -76,11 +76,11 @@ members(Part = #part{node = Node, members = Members, peers = Peers}) ->
 
 %% ---- The primary ----
 
-%% A node that follows an earlier view of this one gets a snapshot, and so does one that follows this view and isn't a member. A large
-%% snapshot takes a while to send, so the messages that have arrived go before the next one.
+%% A node that follows an earlier view of this one gets a snapshot, and so does one that follows this view and isn't a member, unless its
+%% connection is full. A large snapshot takes a while to send, so the messages that have arrived go before the next one.
 followers(Part = #part{peers = Peers}) ->
     case [Node || {Node, Peer} <- maps:to_list(Peers), is_behind(Node, Peer, Part), not has_snapshot(Node, Part),
-                  not heal_peers:is_silent(Peer, Part)] of
+                  not heal_congestion:is_full(Node, Part), not heal_peers:is_silent(Peer, Part)] of
         [] -> Part;
         [Node] -> welcome(Node, Part);
         [Node | _] -> heal_state:later(welcome, welcome(Node, Part))
@@ -88,7 +88,7 @@ followers(Part = #part{peers = Peers}) ->
 
 is_behind(Node, #peer{life = Of, at = {{Life, Number}, _}}, Part = #part{members = Members}) ->
     case {heal_state:view(Part), Members} of
-        {_, #{Node := #member{life = Of, is_lagging = true}}} -> not heal_congestion:is_full(Node, Part);
+        {_, #{Node := #member{life = Of, is_lagging = true}}} -> true;
         {{Life, Number}, _} -> not is_map_key(Node, Members);
         {{Life, Own}, _} -> Number < Own;
         _ -> false
@@ -146,7 +146,7 @@ continue(Part = #part{members = Members}) ->
         true ->
             Dropped = drop_strangers(Part),
             Sent = heal_state:send_all(maps:keys(Members), {settled, heal_state:at(Dropped)}, Dropped),
-            {Edits, Settled} = heal_home:settle(Sent#part{settle_by = none, losers = []}),
+            {Edits, Settled} = heal_home:settle(Sent#part{settle_by = none, losers = [], base = none}),
             heal_orders:make_each(Edits, element(2, heal_state:at(Settled)), Settled);
         false ->
             Part
@@ -171,8 +171,9 @@ broadcast(Entries = {edit, At, Edits, _By, _Answer}, Awaited, Part = #part{membe
 wanted(Node, View, Part = #part{heal = Heal, members = Members, peers = Peers}) ->
     case heal_state:is_primary(Part) andalso heal_state:view(Part) =:= View andalso {Members, Peers} of
         {#{Node := Member}, #{Node := _}} ->
-            heal_peers:heard_of(Node, Part#part{members = Members#{Node := Member#member{is_lagging = true}}});
-        {_, #{Node := _}} when not is_record(Heal, open) -> regarded(Part, welcome(Node, Part));
+            Lagging = Part#part{members = Members#{Node := Member#member{is_lagging = true}}},
+            heal_peers:heard_of(Node, heal_difference:given(Node, Lagging));
+        {_, #{Node := _}} when not is_record(Heal, open) -> regarded(Part, welcome(Node, heal_difference:given(Node, Part)));
         _ -> Part
     end.
 
@@ -195,7 +196,11 @@ replaced(_Node, _Before, Part) -> Part.
 
 send_snapshot(Node, Part = #part{replica = Replica, losers = Losers}) ->
     All = heal_losers:list(Losers),
-    heal_state:send(Node, {snapshot, {heal_replica:snapshot(Replica), All}}, Part#part{losers = All}).
+    Body = case heal_difference:between(Node, Part) of
+        none -> {snapshot, {heal_replica:snapshot(Replica), All}};
+        Difference -> {difference, {Difference, All}}
+    end,
+    heal_state:send(Node, Body, heal_difference:given(Node, Part#part{losers = All})).
 
 %% A node has followed this view. Its edits are those that its home has and the view lacks.
 -spec joined(node(), {pos_integer(), heal_replica:position(), non_neg_integer(), [heal_edits:edit()]}, #part{}) -> #part{}.
@@ -239,7 +244,7 @@ lead(Half, Members, Part = #part{replica = Replica}) ->
 start(Led, Members, Has, {Losers, Changes}, Part = #part{now = Now, peers = Peers, links = Links}) ->
     Pending = maps:map(fun(Node, Member) -> Member#member{is_lagging = Node =/= Has} end, Members),
     Moved = Part#part{replica = Led, members = Pending, settle_by = Now + heal_state:patience(Part), limbo = none, losers = Losers,
-                      dropped = #{}, since = 0},
+                      dropped = #{}, since = 0, base = heal_difference:base(Members, Has, Part)},
     Plan = heal_home:plan(Losers, heal_state:half(Moved), Changes, Part),
     %% Callers read their own writes, so they are answered after the table has them.
     Swapped = heal_entries:restart(heal_home:swap(Plan, Moved)),
@@ -264,10 +269,19 @@ backup(Part = #part{limbo = Limbo, now = Now}) ->
     case primary(Part) of
         here -> caught_up(Part#part{limbo = none});
         _ when is_integer(Limbo), Now >= Limbo -> lead_alone(Part);
-        gone -> successor(Part);
+        gone -> case is_expected(Part) of true -> Part; false -> successor(Part) end;
         moved when Limbo =:= none -> Part#part{limbo = Now + heal_state:patience(Part)};
         moved -> Part
     end.
+
+%% Returns whether the node waits for a snapshot of another view, whose primary is there.
+is_expected(Part = #part{gap = View = {Primary = {_, _}, _}, peers = Peers}) ->
+    case announced(Primary, Peers) of
+        Peer = #peer{at = {View, _}} -> not heal_peers:is_silent(Peer, Part);
+        _ -> false
+    end;
+is_expected(_Part) ->
+    false.
 
 %% Returns whether this node's primary is in its view, may be moving to another one, or is gone.
 primary(Part = #part{peers = Peers, links = Links}) ->
@@ -364,10 +378,11 @@ join_with(Edits, Part = #part{seq = Seq, requests = Requests}) ->
 %% The connection to a node takes messages again. It may have refused that this node wants a snapshot, or that it follows.
 -spec join_again(node(), #part{}) -> #part{}.
 join_again(Node, Part = #part{gap = Gap}) ->
-    case {missed(Part), heal_state:view(Part)} of
-        {Next = {{Node, _}, _}, _} -> want(Next, Part);
-        {none, {{Node, _}, _}} when Gap =:= none -> join_with(heal_home:differences(Part), Part);
-        {none, View = {{Node, _}, _}} -> want(View, Part);
+    case {missed(Part), Gap, heal_state:view(Part)} of
+        {Next = {{Node, _}, _}, _, _} -> want(Next, Part);
+        {none, Next = {{Node, _}, _}, _} -> want(Next, Part);
+        {none, none, {{Node, _}, _}} -> join_with(heal_home:differences(Part), Part);
+        {none, _, View = {{Node, _}, _}} -> want(View, Part);
         _ -> Part
     end.
 
@@ -383,14 +398,30 @@ settled(Node, {View, Operation}, Part) ->
 restored({[], Part}) -> Part;
 restored({Edits, Part}) -> join_with(Edits, Part).
 
-%% A primary has sent a snapshot. A node that is a primary joins another one by an exchange alone. One that has what the snapshot
-%% has joins again: its primary doesn't know so.
+%% A primary has sent a snapshot.
 -spec snapshot(node(), {heal_replica:snapshot(), [heal_losers:loser()]}, #part{}) -> #part{}.
-snapshot(Node, {Snapshot = {{{Life, _}, _} = At, _}, Losers}, Part = #part{peers = Peers}) ->
+snapshot(Node, {Snapshot = {At, _}, Losers}, Part) ->
+    Follow = fun() -> follow(heal_replica:compact(Snapshot, Part#part.replica), unknown, Losers, Node, Part) end,
+    sent(Node, At, Follow, Part).
+
+%% A primary has sent how its half differs from the one that this node had. A node that had another one wants a snapshot.
+-spec difference(node(), {heal_difference:difference(), [heal_losers:loser()]}, #part{}) -> #part{}.
+difference(Node, {Difference, Losers}, Part) ->
+    At = {View, _} = heal_difference:position(Difference),
+    Follow = fun() ->
+        case heal_difference:applied(Difference, Part) of
+            {Half, Changes} -> follow({At, Half}, Changes, Losers, Node, Part);
+            none -> want(View, Part#part{gap = View})
+        end
+    end,
+    sent(Node, At, Follow, Part).
+
+%% A node that is a primary joins another one by an exchange alone. One that has what was sent joins again: its primary doesn't know so.
+sent(Node, At = {{Life, _}, _}, Follow, Part = #part{peers = Peers}) ->
     case Peers of
         #{Node := #peer{life = Life}} ->
             case {heal_state:is_primary(Part), is_next(Node, At, Part), heal_state:at(Part)} of
-                {false, true, _} -> follow(heal_replica:compact(Snapshot, Part#part.replica), Losers, Node, Part);
+                {false, true, _} -> Follow();
                 {false, false, {View, _}} when View =:= element(1, At) -> join_with(heal_home:differences(Part), Part);
                 _ -> Part
             end;
@@ -398,21 +429,23 @@ snapshot(Node, {Snapshot = {{{Life, _}, _} = At, _}, Losers}, Part = #part{peers
             Part
     end.
 
-is_next(Node, {View = {{_, Incarnation}, Number}, Operation}, Part = #part{followed = Followed}) ->
+%% A node comes back to a view that it has left if it wants a snapshot of it.
+is_next(Node, {View = {{_, Incarnation}, Number}, Operation}, Part = #part{followed = Followed, gap = Gap}) ->
     case {heal_state:at(Part), Followed} of
         {{View, Own}, _} -> Operation > Own;
+        _ when Gap =:= View -> true;
         {_, #{Node := {Incarnation, Last}}} -> Number > Last;
         _ -> true
     end.
 
 %% Follows a snapshot, unless it gives a name of this node to another process. Then an exchange is to decide.
--spec follow(heal_replica:snapshot(), [heal_losers:loser()], node(), #part{}) -> #part{}.
-follow(Snapshot = {{View, _}, Half}, Losers, Node, Part) ->
+-spec follow(heal_replica:snapshot(), heal_home:changes() | unknown, [heal_losers:loser()], node(), #part{}) -> #part{}.
+follow(Snapshot = {{View, _}, Half}, Changes, Losers, Node, Part) ->
     {Lost, Continue} = case heal_state:view(Part) of
         View -> {Losers ++ heal_home:waiting(Part), fun heal_entries:skipped/1};
         _ -> {Losers, fun entered/1}
     end,
-    taken(Snapshot, heal_home:plan(Lost, Half, unknown, Part), Continue, noted(View, Node, Part)).
+    taken(Snapshot, heal_home:plan(Lost, Half, Changes, Part), Continue, noted(View, Node, Part)).
 
 %% Follows the view of another primary, which begins with the outcome of an exchange.
 -spec follow_merge(heal_replica:view(), #half{}, heal_home:plan(), node(), #part{}) -> #part{}.
@@ -434,7 +467,7 @@ taken(Snapshot, Plan, Continue, Part = #part{replica = Replica}) ->
     case heal_home:conflicts(Plan) of
         [] ->
             {ok, Following} = heal_replica:follow(Snapshot, Replica),
-            Moved = Part#part{replica = Following, members = #{}, settle_by = none, losers = [], limbo = none},
+            Moved = Part#part{replica = Following, members = #{}, settle_by = none, losers = [], limbo = none, base = none},
             Swapped = Continue(heal_home:swap(Plan, Moved)),
             heal_peers:announce(join_with(heal_home:differences(Plan, Swapped), Swapped));
         _ ->

@@ -36,6 +36,7 @@ parts_test_() ->
         heal_cluster:cluster(5, #{}, fun into_three/1),
         heal_cluster:cluster(4, #{}, fun three_and_one/1),
         heal_cluster:cluster(4, ?QUICK, fun primary_ends/1),
+        heal_cluster:cluster(3, ?QUICK, fun primary_comes_back/1),
         heal_cluster:cluster(3, ?QUICK, fun primary_hangs/1),
         heal_cluster:cluster(3, ?QUICK, fun member_hangs/1),
         heal_cluster:cluster(3, #{}, fun registry_fails/1),
@@ -60,6 +61,21 @@ one_table(Nodes) ->
     ?assertEqual([], heal_cluster:one_part(Nodes)),
     ?assertEqual([0, 0, 0, 0, 0], [call(It, count, []) || It <- Nodes]),
     [?assertEqual(ok, call(It, sync, [])) || It <- Nodes].
+
+%% A primary ends and starts again. The other nodes have another primary by then, and keep it.
+primary_comes_back(Nodes) ->
+    [First | Rest] = primary_first(Nodes),
+    Kept = [{Name, own(It, Name)} || {It, Name} <- lists:zip(Rest, names("k", length(Rest)))],
+    heal_cluster:kill_node(First),
+    ?assertEqual(lists:sort(Kept), heal_cluster:one_part(Rest)),
+    #{primary := Primary} = heal_cluster:status(hd(Rest)),
+    Again = heal_cluster:start_again(First),
+    heal_cluster:start_registry(Again, any, ?QUICK),
+    New = own(Again, new),
+    heal_cluster:mesh([Again | Rest]),
+    ?assertEqual(lists:sort([{new, New} | Kept]), heal_cluster:one_part([Again | Rest])),
+    [?assertMatch(#{primary := Primary}, heal_cluster:status(It)) || It <- [Again | Rest]],
+    heal_cluster:stop(Again).
 
 %% Each side goes on alone, and every name has one owner afterwards.
 two_and_two(Nodes = [A, B, C, D]) ->

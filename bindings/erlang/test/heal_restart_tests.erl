@@ -142,11 +142,12 @@ during_exchange(A, B) ->
     [begin
          Names = names(lists:concat([Of, Kind, Ends]), 10),
          [OnA, OnB] = [own_each(It, Names, #{resolver => notify}) || It <- [A, B]],
-         Holds = case Of of a -> A; b -> B end,
+         [OfA, OfB] = [primary(It) || It <- [A, B]],
+         Holds = case Of of a -> OfA; b -> OfB end,
          Plan(Holds, {hold, Kind}),
          heal_cluster:connect(A, B),
          heal_cluster:eventually(fun() -> Held(Holds) end),
-         restart(case Ends of a -> A; b -> B end, [A, B], Options),
+         restart(case Ends of a -> OfA; b -> OfB end, [A, B], Options),
          Plan(Holds, none),
          heal_cluster:call(Holds, heal_faults, release, []),
          Table = maps:from_list(heal_cluster:alike(A, B)),
@@ -157,6 +158,11 @@ during_exchange(A, B) ->
          heal_cluster:split(A, B),
          heal_cluster:apart(A, B)
      end || {Of, Kind} <- [{a, offer}, {b, offer}, {a, list}, {b, list}], Ends <- [a, b]].
+
+%% The primary of the side of a node.
+primary(Of) ->
+    #{primary := Primary} = heal_cluster:status(Of),
+    hd([It || It <- heal_cluster:all([Of]), heal_cluster:node_of(It) =:= Primary]).
 
 lost(Names, Table, Owners) ->
     [{It, Pid} || {It, Pids} <- Owners, {Name, Pid} <- lists:zip(Names, Pids), map_get(Name, Table) =/= Pid].

@@ -28,7 +28,7 @@ offer(From, To, Epoch, Body, Rates, Sim = #sim{full = Full, nodes = Nodes, now =
     end.
 
 filled(From, To, Epoch, Body, Sim = #sim{faults = #{full := Rate}, full = Full}) ->
-    Fills = case element(1, Body) of Kind when Kind =:= snapshot; Kind =:= offer -> 10 * Rate; _ -> Rate end,
+    Fills = case element(1, Body) of Kind when Kind =:= snapshot; Kind =:= difference; Kind =:= offer -> 10 * Rate; _ -> Rate end,
     case rand:uniform(1000) =< Fills of
         true ->
             Longest = case rand:uniform(8) of 1 -> 4 * ?FULL; _ -> ?FULL end,

@@ -176,11 +176,11 @@ refused_announcement_test() ->
     Pair = connect(c, d, fun none_lost/3, start([{a, #{}}, {c, #{}}, {d, #{}}])),
     Linked = connect(a, d, fun none_lost/3, Pair),
     ?assertEqual([c, d], Members(d, Linked)),
-    Deaf = fun(a, d, {here, #{is_settled := false}}) -> true; (_, _, _) -> false end,
-    Refused = event(a, {refused, d, [{here, #{}}]}, fun none_lost/3, connect(a, c, Deaf, Linked)),
+    Deaf = fun(c, d, {here, #{is_settled := false}}) -> true; (_, _, _) -> false end,
+    Refused = event(c, {refused, d, [{here, #{}}]}, fun none_lost/3, connect(a, c, Deaf, Linked)),
     ?assertEqual(position(a, Refused), position(d, Refused)),
     ?assertNotEqual([a, c, d], Members(d, Refused)),
-    ?assertEqual([a, c, d], Members(d, event(a, {drained, d}, fun none_lost/3, Refused))).
+    ?assertEqual([a, c, d], Members(d, event(c, {drained, d}, fun none_lost/3, Refused))).
 
 %% A member leaves: the others know so at once.
 members_change_test() ->
@@ -197,15 +197,74 @@ started_registry_test() ->
     Healed = events([{a, {message, b, Body}} || {send, a, Body} <- Actions], fun none_lost/3, Asking#{b := Started}),
     ?assertEqual(position(a, Healed), position(b, Healed)).
 
-%% A snapshot of the view that an exchange has started is lost. The member hears of the view, and wants another one.
+%% A node follows this view and is no member, and its connection is full: it gets no snapshot before it has room and a pause has passed.
+full_connection_of_no_member_test() ->
+    #{a := Part} = Joined = connect(a, b, fun none_lost/3, start([{a, #{}}, {b, #{}}])),
+    Full = Joined#{a := Part#part{members = #{}, full = #{b => {refusing, 0, []}}}},
+    put(done, []),
+    Refused = event(a, {refused, b, [{snapshot, none}]}, fun none_lost/3, Full),
+    Drained = event(a, {drained, b}, fun none_lost/3, event(a, tick, fun none_lost/3, Refused)),
+    ?assertEqual([], begun(a, b)),
+    Rested = event(a, {rested, b}, fun none_lost/3, Drained),
+    ?assertEqual([snapshot], begun(a, b)),
+    ?assertMatch(#part{members = #{b := #member{is_joined = true}}}, maps:get(a, Rested)).
+
+%% What begins the view that an exchange has started is lost. The member hears of the view, and wants a snapshot.
 missed_snapshot_test() ->
     Pair = connect(c, d, fun none_lost/3, start([{a, #{}}, {c, #{}}, {d, #{}}])),
     Linked = connect(a, d, fun none_lost/3, Pair),
-    put(lost, 0),
-    First = fun(a, d, {snapshot, _}) -> put(lost, get(lost) + 1) =:= 0; (_, _, _) -> false end,
-    Healed = connect(a, c, First, Linked),
-    ?assertEqual(2, get(lost)),
+    put(done, []),
+    Healed = connect(a, c, fun(c, d, {difference, _}) -> true; (_, _, _) -> false end, Linked),
+    ?assertEqual([snapshot, difference], begun(c, d)),
     ?assertEqual(position(a, Healed), position(d, Healed)).
+
+%% What one node has sent another for it to follow, the latest first.
+begun(Node, To) ->
+    [Kind || Kind <- kinds(Node, To), Kind =:= snapshot orelse Kind =:= difference].
+
+%% The larger part leads, and a member that has what its primary had gets what differs. Of two parts alike the smaller node leads, and the
+%% members of the other one get snapshots.
+larger_part_leads_test() ->
+    Nodes = start([{Node, #{}} || Node <- [a, b, c, d, e]]),
+    Pair = connect(d, e, fun none_lost/3, connect(b, c, fun none_lost/3, Nodes)),
+    Linked = connect(a, c, fun none_lost/3, Pair),
+    put(done, []),
+    Three = connect(a, b, fun none_lost/3, Linked),
+    ?assertMatch({{{b, 1}, _}, _}, position(a, Three)),
+    ?assertEqual({[], [difference]}, {begun(b, a), begun(b, c)}),
+    Meshed = lists:foldl(fun({One, Other}, Parts) -> connect(One, Other, fun none_lost/3, Parts) end, Pair,
+                         [{b, e}, {c, d}, {c, e}]),
+    put(done, []),
+    Four = connect(b, d, fun none_lost/3, Meshed),
+    ?assertMatch({{{b, 1}, _}, _}, position(e, Four)),
+    ?assertEqual({[difference], [], [snapshot]}, {begun(b, c), begun(b, d), begun(b, e)}),
+    ?assertEqual([position(b, Four)], lists:usort([position(Node, Four) || Node <- [b, c, d, e]])).
+
+%% A member that has missed an entry can't use what differs. It waits for a snapshot, and doesn't lead meanwhile, though its primary is gone.
+missed_entry_test() ->
+    Three = joined_three(),
+    Missed = event(a, upload(1), fun(a, c, _) -> true; (_, _, _) -> false end, Three),
+    ?assertNotEqual(position(b, Missed), position(c, Missed)),
+    put(done, []),
+    Left = event(b, {down, a}, fun none_lost/3, event(c, {down, a}, fun none_lost/3, Missed)),
+    ?assertEqual([snapshot, difference], begun(b, c)),
+    ?assertMatch({{{b, 1}, 2}, _}, position(b, Left)),
+    ?assertEqual(position(b, Left), position(c, Left)).
+
+%% A full connection refuses that the member wants a snapshot. It wants it once there is room.
+refused_want_test() ->
+    Missed = event(a, upload(1), fun(a, c, _) -> true; (_, _, _) -> false end, joined_three()),
+    Deaf = fun(c, b, {want, _}) -> true; (b, c, {here, _}) -> true; (_, _, _) -> false end,
+    Left = event(b, {down, a}, Deaf, event(c, {down, a}, Deaf, Missed)),
+    Refused = event(c, {refused, b, [{want, {{b, 1}, 2}}]}, fun none_lost/3, Left),
+    ?assertNotEqual(position(b, Refused), position(c, Refused)),
+    Drained = event(c, {drained, b}, fun none_lost/3, Refused),
+    ?assertEqual(position(b, Drained), position(c, Drained)).
+
+%% Three nodes, whose primary is a.
+joined_three() ->
+    Pair = connect(a, b, fun none_lost/3, start([{a, #{}}, {b, #{}}, {c, #{}}])),
+    connect(a, c, fun none_lost/3, connect(b, c, fun none_lost/3, Pair)).
 
 %% A registry fails before its loser has its notice. When it starts again, the name that it answers for is its own: another exchange
 %% decides.
@@ -399,8 +458,7 @@ repeated_change_test() ->
 
 %% A request was sent in an earlier view, and a full connection refuses it in the next one. It isn't known whether it is made.
 refused_again_test() ->
-    Pair = connect(b, c, fun none_lost/3, start([{a, #{}}, {b, #{}}, {c, #{}}])),
-    Joined = connect(a, c, fun none_lost/3, connect(a, b, fun none_lost/3, Pair)),
+    Joined = joined_three(),
     Refused = fun(c, _, {request, _, _, _} = Body) -> put(request, Body), true; (_, _, _) -> false end,
     Called = event(c, {call, 7, {unregister, ?NAME, any}}, Refused, Joined),
     Left = event(c, {down, a}, Refused, event(b, {down, a}, Refused, Called)),
