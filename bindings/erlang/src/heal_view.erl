@@ -76,15 +76,20 @@ members(Part = #part{node = Node, members = Members, peers = Peers}) ->
 
 %% ---- The primary ----
 
-%% A node that follows an earlier view of this one gets a snapshot, and so does one that follows this view and isn't a member, unless its
-%% connection is full. A large snapshot takes a while to send, so the messages that have arrived go before the next one.
+%% A node that follows an earlier view of this one gets a snapshot, and so does one that follows this view and isn't a member. A large
+%% snapshot takes a while to send, so the messages that have arrived go before the next one.
 followers(Part = #part{peers = Peers}) ->
     case [Node || {Node, Peer} <- maps:to_list(Peers), is_behind(Node, Peer, Part), not has_snapshot(Node, Part),
-                  not heal_congestion:is_full(Node, Part), not heal_peers:is_silent(Peer, Part)] of
+                  has_room(Node, Part), not heal_peers:is_silent(Peer, Part)] of
         [] -> Part;
         [Node] -> welcome(Node, Part);
         [Node | _] -> heal_state:later(welcome, welcome(Node, Part))
     end.
+
+%% Returns whether a node's connection has room: for a snapshot after a pause, for what differs at once.
+has_room(Node, Part) ->
+    not heal_congestion:is_full(Node, Part)
+        orelse not heal_congestion:is_refusing(Node, Part) andalso heal_difference:between(Node, Part) =/= none.
 
 is_behind(Node, #peer{life = Of, at = {{Life, Number}, _}}, Part = #part{members = Members}) ->
     case {heal_state:view(Part), Members} of

@@ -240,6 +240,15 @@ larger_part_leads_test() ->
     ?assertEqual({[difference], [], [snapshot]}, {begun(b, c), begun(b, d), begun(b, e)}),
     ?assertEqual([position(b, Four)], lists:usort([position(Node, Four) || Node <- [b, c, d, e]])).
 
+%% A connection was full a moment ago: what differs goes at once, and a snapshot after a pause.
+rested_connection_test() ->
+    #{b := Part} = Pair = connect(b, c, fun none_lost/3, start([{a, #{}}, {b, #{}}, {c, #{}}])),
+    Linked = connect(a, c, fun none_lost/3, Pair#{b := Part#part{full = #{c => resting}}}),
+    put(done, []),
+    Three = connect(a, b, fun none_lost/3, Linked),
+    ?assertEqual([difference], begun(b, c)),
+    ?assertEqual(position(b, Three), position(c, Three)).
+
 %% A member that has missed an entry can't use what differs. It waits for a snapshot, and doesn't lead meanwhile, though its primary is gone.
 missed_entry_test() ->
     Three = joined_three(),
