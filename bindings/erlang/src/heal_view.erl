@@ -434,7 +434,7 @@ sent(Node, At = {{Life, _}, _}, Follow, Part = #part{peers = Peers}) ->
             Part
     end.
 
-%% A node comes back to a view that it has left if it wants a snapshot of it.
+%% A node returns to a view that it has left if it wants a snapshot of it.
 is_next(Node, {View = {{_, Incarnation}, Number}, Operation}, Part = #part{followed = Followed, gap = Gap}) ->
     case {heal_state:at(Part), Followed} of
         {{View, Own}, _} -> Operation > Own;

@@ -4,7 +4,7 @@
 %% connects them.
 %%
 %% Most tests have two nodes, a and b. They run on two, three and five nodes: further nodes are on the side of a or of b, in a part with
-%% it, and whatever connects, splits or compares a and b does so with their sides. The side of a is no smaller, so a leads exchanges. The environment's HEAL_NODES has other numbers.
+%% it, and what connects, splits or compares a and b does so with their sides. The side of a is no smaller, so a leads exchanges. The environment's HEAL_NODES has other numbers.
 -module(heal_cluster).
 
 -include("../src/heal_part.hrl").
