@@ -430,7 +430,7 @@ uint32_t heal_side_hear_list(heal_side *side, const uint8_t *list, size_t len);
    missing (the other's offer, a ruling, or a list), 40. */
 uint32_t heal_side_finish(heal_side *side, heal_outcome *outcome);
 
-/* Closes the exchange and keeps the table, without the withdrawn names. Returns 34, 40. */
+/* Closes the exchange and keeps the table, without the withdrawn names. Returns 34, 40. Needs no memory. */
 uint32_t heal_side_abandon(heal_side *side);
 
 /* Returns the side's count of events, at most 16 for each name that it may have. */
@@ -441,7 +441,7 @@ uint32_t heal_side_events(const heal_side *side, size_t *events);
 uint32_t heal_side_renew(heal_side *side);
 
 /* Closes the open exchange as heal_side_abandon does, if there is one, and starts a fresh count of events, also where the
-   count is full. Returns only 91, or 90 for a side that withdrew names. */
+   count is full. Returns only 91. Needs no memory. */
 uint32_t heal_side_give_up(heal_side *side);
 
 /* ---- A message ---- */

@@ -22,13 +22,13 @@ pub enum Fault {
 #[derive(Clone, Copy, Debug, PartialEq, Eq, Error)]
 pub enum LineFault {
     /// A faulty line.
-    #[error("line {line}: {fault}")]
+    #[error("{}: {fault}", Place::Line(*line))]
     Line { fault: Fault, line: usize },
     /// More than 1,024 slots, from this line on.
-    #[error("line {line}: {}", words_of(self.number()))]
+    #[error("{}: {}", Place::Line(*line), words_of(self.number()))]
     TooLong { line: usize },
     /// No instruction in any line, reported at line 1.
-    #[error("line 1: {}", words_of(self.number()))]
+    #[error("{}: {}", Place::Line(1), words_of(self.number()))]
     Empty,
     /// Memory ran out.
     #[error("{}", words_of(OUT_OF_MEMORY))]

@@ -138,5 +138,5 @@ Finishes old new outcome outcome' = GivesDueOrRunsOut
     (Stays old new × (outcome' ≡ outcome))
 
 abbrev pub Abandons : SideAndStore → SideAndStore → ℕ → Type 0
-Abandons old new = GivesDueOrRunsOut (allowed side_fault_number (due.abandon_fault (is_full old.side) (shown old.side)))
+Abandons old new = GivesDue (allowed side_fault_number (due.abandon_fault (is_full old.side) (shown old.side)))
     (λ _. CarriesOut Abandon old new) (Stays old new)

@@ -1,5 +1,5 @@
 -- The calls of a half on its table and its programs: what is due to each, and what it leaves.
-use Rattle.std.specs.Prelude.{◌≡◌, ◌≢◌, ◌≤◌, ◌+◌, ◌⊎◌, ◌&&◌, ℕ, nat_lt, nat_le, ◌==◌, if◌then◌else◌, List, [], length, Result, Ok, Err}
+use Rattle.std.specs.Prelude.{◌≡◌, ◌≤◌, ◌+◌, ◌⊎◌, ◌&&◌, ℕ, nat_lt, nat_le, ◌==◌, if◌then◌else◌, List, [], length, Result, Ok, Err}
 use Rattle.std.specs.Option.{option_map, ok_or}
 use Rattle.std.specs.FinMap as map
 use Rattle.refusals.specs.Answers.{out_of_memory}
@@ -16,7 +16,7 @@ use Rattle.exchange_law.specs.Calls.{Call, Register, Unregister}
 use Rattle.exchange_core.specs.Faults.{side_fault_number}
 use Rattle.exchange_core.specs.Refusals.{register_fault, unregister_fault, renew_fault}
 use Rattle.exchange_core.specs.Shown.{shown, calls, limit_of, is_full, IsDone, IsUntouched}
-use Rattle.exchange_law.specs.Sides.{new_side, rested, shown_table, withdrawn_by}
+use Rattle.exchange_law.specs.Sides.{new_side, rested, shown_table}
 use Rattle.c_calls.specs.Halves.{SideAndStore}
 use Rattle.c_calls.specs.declared.codes.HealRegistration.{HealRegistration}
 use Rattle.c_calls.specs.declared.codes.HealRow.{HealRow}
@@ -124,10 +124,8 @@ pub record GaveUp (old new : SideAndStore) : Type 0 where
   pub short : length (calls new.side) ≤ map.len (shown new.side).table + 2
   pub store : new.store ≡ old.store
 
--- only withdrawn names need memory
 abbrev pub GivesUp : SideAndStore → SideAndStore → ℕ → Type 0
-GivesUp old new n = ((n ≡ 0) × GaveUp old new)
-    ⊎ ((n ≡ out_of_memory) × (withdrawn_by (shown old.side) ≢ []) × Stays old new)
+GivesUp old new n = (n ≡ 0) × GaveUp old new
 
 -- ---- uploading
 

@@ -1,6 +1,6 @@
 //! The calls of a half on its table and its programs.
 ghost use Rattle.std.specs.Prelude.{◌≡◌};
-ghost use Rattle.c_calls.specs.Sides.{IsUpload, id_in, Registers, RegistersEntry, Unregisters, UnregistersName, Renews, GivesUp, IsNewHalf, found_at, row_after, row_code_at};
+ghost use Rattle.c_calls.specs.Sides.{IsUpload, id_in, Registers, RegistersEntry, Unregisters, UnregistersName, Renews, GaveUp, IsNewHalf, found_at, row_after, row_code_at};
 
 use crate::answer::{NOT_REGISTERED, number_of, slot_in};
 use crate::codes::{HealRegistration, HealRow, name_of, registration_code, registration_of};
@@ -101,11 +101,11 @@ impl Half {
     }
 
     /// Gives the open exchange up, if there is one, and starts a fresh journal.
-    pub fn give_up(&mut self) -> u32
-        ensures { GivesUp self.old self.new result }
+    pub fn give_up(&mut self)
+        ensures { GaveUp self.old self.new }
     {
         forget(&mut self.agreement);
-        number_of(&self.side.give_up())
+        self.side.give_up();
     }
 
     /// Looks a name up.

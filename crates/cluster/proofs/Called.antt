@@ -48,12 +48,6 @@ is_renewed : {X : Type 0} (r : Result X SideFault) (was now : code.Side) → OnO
 is_renewed (Ok x) was now same same_limit short = record { side = same; short = short; same_limit = same_limit }
 is_renewed (Err fault) was now same same_limit short = tt
 
-is_given_up : {X : Type 0} (r : Result X SideFault) (was now : code.Side) → OnOk r (shown now ≡ rested (shown was)) →
-    OnOk r (limit_of now ≡ limit_of was) → OnOk r (length (calls now) ≤ len (shown now).table + 2) →
-    OnOk r (IsGivenUp (standing_of was) (standing_of now))
-is_given_up (Ok x) was now rests same_limit short = record { side = rests; short = short; same_limit = same_limit }
-is_given_up (Err fault) was now rests same_limit short = tt
-
 pub renewed_at : {X : Type 0} (r : Result X SideFault) (old new : Cluster) (id : SideId) (was now : code.Side) →
     at old id ≡ standing_of was → new ≡ with_standing old id (standing_of now) → OnOk r (shown now ≡ shown was) →
     OnOk r (limit_of now ≡ limit_of was) → OnOk r (length (calls now) ≤ len (shown was).table + 2) →
@@ -61,9 +55,12 @@ pub renewed_at : {X : Type 0} (r : Result X SideFault) (old new : Cluster) (id :
 renewed_at r old new id was now is_old is_new same same_limit short =
     changed_at IsRenewed r old new id was now is_old is_new (is_renewed r was now same same_limit short)
 
-pub given_up_at : {X : Type 0} (r : Result X SideFault) (old new : Cluster) (id : SideId) (was now : code.Side) →
-    at old id ≡ standing_of was → new ≡ with_standing old id (standing_of now) → OnOk r (shown now ≡ rested (shown was)) →
-    OnOk r (limit_of now ≡ limit_of was) → OnOk r (length (calls now) ≤ len (shown now).table + 2) →
-    OnOk r (HasChanged IsGivenUp old id new)
-given_up_at r old new id was now is_old is_new rests same_limit short =
-    changed_at IsGivenUp r old new id was now is_old is_new (is_given_up r was now rests same_limit short)
+pub given_up_at : (old new : Cluster) (id : SideId) (was now : code.Side) → at old id ≡ standing_of was →
+    new ≡ with_standing old id (standing_of now) → shown now ≡ rested (shown was) → limit_of now ≡ limit_of was →
+    length (calls now) ≤ len (shown now).table + 2 → HasChanged IsGivenUp old id new
+given_up_at old new id was now is_old is_new rests same_limit short = record {
+  standing = standing_of now;
+  changed = subst (λ (s : Standing). IsGivenUp s (standing_of now)) (sym is_old)
+      (record { side = rests; short = short; same_limit = same_limit });
+  rest = is_new;
+}

@@ -1,9 +1,7 @@
 //! Renewing the journals of the halves.
-ghost use Rattle.std.specs.Prelude.{◌≡◌, ◌≢◌, [], IfErr, OnOk, OnErr};
+ghost use Rattle.std.specs.Prelude.{◌≡◌, OnOk, OnErr};
 ghost use Rattle.exchange_core.specs.Refusals as due;
-ghost use Rattle.exchange_core.specs.Faults.{side_fault_number};
-ghost use Rattle.exchange_law.specs.Sides.{withdrawn_by};
-ghost use Rattle.refusals.specs.Answers.{IsDecidedBy, out_of_memory};
+ghost use Rattle.refusals.specs.Answers.{IsDecidedBy};
 ghost use Rattle.cluster.specs.Clusters.{standing_of, cluster_of, at, AreFresh, HasChanged, IsFresh, IsGivenUp, IsRenewed};
 ghost use Rattle.cluster.specs.model.Stages.{halves_of};
 
@@ -29,14 +27,10 @@ impl Cluster {
     }
 
     /// Gives the open exchange of a half up, if there is one, and renews its journal, also a full one. Afterwards the half is idle,
-    /// without the names that it withdrew, and its journal has at most two events more than the table has names.
-    ///
-    /// Returns 90 when out of memory: it copies the table if the half withdrew a name and others still share the table.
-    pub fn give_up(&mut self, id: SideId) -> Result<(), SideFault>
-        ensures answer { IfErr result (λ fault. side_fault_number fault ≡ out_of_memory) }
-        ensures withdrew { OnErr result (withdrawn_by (at (cluster_of self.old) id).side ≢ []) }
-        ensures given_up { OnOk result (HasChanged IsGivenUp (cluster_of self.old) id (cluster_of self.new)) }
-        ensures untouched { OnErr result (cluster_of self.new ≡ cluster_of self.old) }
+    /// without the names that it withdrew, and its journal has at most two events more than the table has names. Allocates
+    /// nothing.
+    pub fn give_up(&mut self, id: SideId)
+        ensures { HasChanged IsGivenUp (cluster_of self.old) id (cluster_of self.new) }
     {
         match id {
             SideId::A => self.halves.a.give_up(),

@@ -89,10 +89,10 @@ impl ItemFault {
 #[derive(Clone, Copy, Debug, PartialEq, Eq, Error)]
 pub enum MessageFault {
     /// The field that begins at this byte, counted from 0, is invalid.
-    #[error("byte {at}: {fault}")]
+    #[error("{}: {fault}", Place::Byte(*at))]
     Field { fault: FieldFault, at: usize },
     /// Every field is valid, but this row or name, counted from 0, isn't.
-    #[error("item {at}: {fault}")]
+    #[error("{}: {fault}", Place::Item(*at))]
     Item { fault: ItemFault, at: usize },
     /// 90: memory ran out.
     #[error("{}", words_of(OUT_OF_MEMORY))]

@@ -1,5 +1,5 @@
 //! The calls of a side.
-ghost use Rattle.std.specs.Prelude.{◌≡◌, ◌≢◌, IsTrue, ◌≤◌, ◌+◌, [], ◌∷◌, Some, None, Ok, Err, IfOk, IfErr, OnOk, OnErr, length};
+ghost use Rattle.std.specs.Prelude.{◌≡◌, ◌≢◌, IsTrue, ◌≤◌, ◌+◌, [], ◌∷◌, Some, None, Ok, Err, IfOk, OnOk, OnErr, length};
 ghost use Rattle.std.specs.Bool.{Decides};
 ghost use Rattle.std.specs.Option.{option_map};
 ghost use Rattle.std.specs.Arc.{arc_value};
@@ -15,7 +15,7 @@ ghost use Rattle.exchange_law.specs.Calls as call;
 ghost use Rattle.exchange_law.specs.Worlds.{offer_of, list_of};
 ghost use Rattle.exchange_core.specs.Journal.{max_events};
 ghost use Rattle.exchange_core.specs.Finished.{finished_from};
-ghost use Rattle.refusals.specs.Answers.{IsAnswered, IsDecidedBy, out_of_memory};
+ghost use Rattle.refusals.specs.Answers.{IsAnswered, IsDecidedBy};
 ghost use Rattle.exchange_core.specs.Faults.{side_fault_number};
 ghost use Rattle.exchange_core.specs.Refusals as due;
 ghost use Rattle.exchange_core.specs.Refusals.{count_lacking};
@@ -356,7 +356,7 @@ impl Side {
     ///
     /// Returns 31 for a name that isn't in the side's table, 34 if no exchange is open, 40 if the journal is full, 47 for
     /// a name that is already withdrawn, and 48 if the list is closed: the least that applies. Returns 90 when out of
-    /// memory.
+    /// memory: it copies the table if others still share it, so that `abandon` needs no memory.
     pub fn withdraw(&mut self, name: &Name) -> Result<(), SideFault>
         ensures answer { IsAnswered side_fault_number (due.withdraw_fault (is_full self.old) (shown self.old) name.now) result }
         ensures done { OnOk result (IsDone self.old (call.Withdraw name.now) self.new) }
@@ -462,39 +462,29 @@ impl Side {
 
     /// Closes the exchange and keeps the table, without the withdrawn names.
     ///
-    /// Returns 34 if no exchange is open, and 40 if the journal is full: the least that applies. Returns 90 when out of
-    /// memory: it copies the table if it withdrew a name and others still share the table.
+    /// Returns 34 if no exchange is open, and 40 if the journal is full: the least that applies. Allocates nothing.
     pub fn abandon(&mut self) -> Result<(), SideFault>
-        ensures answer { IsAnswered side_fault_number (due.abandon_fault (is_full self.old) (shown self.old)) result }
-        // A refusal needs no memory, and neither does a call without a withdrawn name.
-        ensures refused { due.abandon_fault (is_full self.old) (shown self.old) ≢ None
-            → IsDecidedBy (due.abandon_fault (is_full self.old) (shown self.old)) result }
-        ensures free { withdrawn_by (shown self.old) ≡ [] → IsDecidedBy (due.abandon_fault (is_full self.old) (shown self.old)) result }
+        ensures answer { IsDecidedBy (due.abandon_fault (is_full self.old) (shown self.old)) result }
         ensures done { OnOk result (IsDone self.old call.Abandon self.new) }
         ensures untouched { OnErr result (IsUntouched self.old self.new) }
     {
         if let Some(fault) = self.state.abandon_fault(self.is_full()) {
             return Err(fault);
         }
-        self.state.abandon()?;
+        self.state.abandon();
         self.journal.push(Event::Abandon);
         Ok(())
     }
 
     /// Gives the open exchange up, if there is one, and renews the journal, also a full one. Afterwards the side is idle,
-    /// without the names that it withdrew, and its journal has at most two events more than the table has names.
-    ///
-    /// Returns 90 when out of memory: it copies the table if it withdrew a name and others still share the table.
-    pub fn give_up(&mut self) -> Result<(), SideFault>
-        ensures answer { IfErr result (λ fault. side_fault_number fault ≡ out_of_memory) }
-        ensures withdrew { OnErr result (withdrawn_by (shown self.old) ≢ []) }
-        ensures rested { OnOk result (shown self.new ≡ rested (shown self.old)) }
-        ensures limit { OnOk result (limit_of self.new ≡ limit_of self.old) }
-        ensures short { OnOk result (length (calls self.new) ≤ len (shown self.new).table + 2) }
-        ensures untouched { OnErr result (IsUntouched self.old self.new) }
+    /// without the names that it withdrew, and its journal has at most two events more than the table has names. Allocates
+    /// nothing.
+    pub fn give_up(&mut self)
+        ensures rested { shown self.new ≡ rested (shown self.old) }
+        ensures limit { limit_of self.new ≡ limit_of self.old }
+        ensures short { length (calls self.new) ≤ len (shown self.new).table + 2 }
     {
-        self.state.rest()?;
+        self.state.rest();
         self.journal = self.state.fresh_journal();
-        Ok(())
     }
 }

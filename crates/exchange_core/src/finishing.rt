@@ -1,5 +1,5 @@
 //! Finishes an exchange.
-ghost use Rattle.std.specs.Prelude.{◌≡◌, Some, IsTrue, IfOk, OnOk, OnErr, List, is_some, map};
+ghost use Rattle.std.specs.Prelude.{◌≡◌, ◌≢◌, [], Some, IsTrue, IfOk, OnOk, OnErr, List, is_some, map};
 ghost use Rattle.std.specs.Arc.{arc_value};
 ghost use Rattle.partition_table.specs.Tables as tables;
 ghost use Rattle.exchange_law.specs.Sides as sides;
@@ -78,18 +78,32 @@ fn hold(
     merged: MergedTable,
 ) -> Result<HeldTable, AllocError>
     requires { IsTrue (is_some exchange.now.heard) }
-    ensures held { IfOk result (λ held. merged_in id own.old exchange.now merged ≡ Some held) }
-    ensures same { own.new ≡ own.old }
+    ensures held { IfOk result (λ held. merged_in id own.old.table exchange.now merged ≡ Some held.table) }
+    ensures same { own.new.table ≡ own.old.table }
+    ensures alone { exchange.now.withdrawn ≢ [] → own.new ≡ own.old }
 {
     let Some(heard) = &exchange.heard else {
         unreachable!()
     };
     match (merged, id) {
         (MergedTable::New(table), _) => Ok(HeldTable::new(alloc, table)),
-        (MergedTable::A, SideId::A) | (MergedTable::B, SideId::B) => own.share_held(),
+        (MergedTable::A, SideId::A) | (MergedTable::B, SideId::B) => share_own(own, exchange),
         (MergedTable::A, SideId::B) | (MergedTable::B, SideId::A) => {
             Ok(HeldTable::shared(alloc, heard.share_table()?))
         }
+    }
+}
+
+// Holds the side's table once more. After a withdrawal the side holds its table alone until the exchange is closed.
+fn share_own(own: &mut HeldTable, exchange: &Exchange) -> Result<HeldTable, AllocError>
+    ensures held { IfOk result (λ held. held.table ≡ own.old.table) }
+    ensures same { own.new.table ≡ own.old.table }
+    ensures alone { exchange.now.withdrawn ≢ [] → own.new ≡ own.old }
+{
+    if exchange.withdrawn().names().is_empty() {
+        own.share_held()
+    } else {
+        own.copy()
     }
 }
 
@@ -135,12 +149,12 @@ fn finished_with(
     first_of_a: Vec<bool>,
     outcome: Outcome,
 ) -> Finished
-    requires ready { IsMergeable id own exchange }
-    requires marked { IsMarkedIn id own exchange first_of_a.items }
-    requires merged { IsMergeOf id own exchange outcome.rulings.items (arc_value outcome.table) }
+    requires ready { IsMergeable id own.table exchange }
+    requires marked { IsMarkedIn id own.table exchange first_of_a.items }
+    requires merged { IsMergeOf id own.table exchange outcome.rulings.items (arc_value outcome.table) }
     ensures { (heard : sides.Heard) (theirs : List Name) → exchange.heard ≡ Some heard
         → exchange.their_list ≡ Some theirs
-        → result ≡ finished_at id own exchange heard theirs outcome.rulings.items (arc_value outcome.table) }
+        → result ≡ finished_at id own.table exchange heard theirs outcome.rulings.items (arc_value outcome.table) }
 {
     let Outcome { rulings, table } = outcome;
     let (Some(heard), Some(other_gone)) = (exchange.heard, exchange.their_list) else {

@@ -1,11 +1,11 @@
 //! The state of a side, and what each call leaves of it.
-ghost use Rattle.std.specs.Prelude.{◌≡◌, ◌≢◌, [], false, Some, None, IsTrue, IfOk, OnOk, OnErr, is_some};
+ghost use Rattle.std.specs.Prelude.{◌≡◌, false, Some, None, IsTrue, IfOk, OnOk, OnErr, is_some};
 ghost use Rattle.std.specs.Bool.{Decides};
 ghost use Rattle.std.specs.FinMap.{get};
 ghost use Rattle.partition_table.specs.Tables.{agrees_with, row_for, rows_of};
 ghost use Rattle.refusals.specs.Answers.{IsAnswered};
 ghost use Rattle.partition_table.specs.Faults as table;
-ghost use Rattle.exchange_law.specs.Sides.{new_side, rested, withdrawn_by, without, shown_table, heard_clashes};
+ghost use Rattle.exchange_law.specs.Sides.{new_side, rested, withdrawn_by, shown_table, heard_clashes};
 ghost use Rattle.exchange_law.specs.Lists.{AreNamesOf};
 ghost use Rattle.exchange_core.specs.Rows.{rows_left};
 ghost use Rattle.std.specs.Option.{option_map, option_map_or};
@@ -325,12 +325,13 @@ impl State {
         exchange.put(k, judged);
     }
 
-    // Withdraws the name.
+    // Withdraws the name. Copies the table if others read it, so that `abandon` needs no memory.
     pub(crate) fn withdraw(&mut self, name: &Name) -> Result<(), AllocError>
         requires { IsTrue (is_some (sides.withdraw self.old name.now)) }
         ensures done { OnOk result (sides.withdraw self.old name.now ≡ Some self.new) }
         ensures unchanged { OnErr result (self.new ≡ self.old) }
     {
+        self.table.make_own()?;
         let Some(exchange) = &mut self.exchange else {
             unreachable!()
         };
@@ -372,38 +373,29 @@ impl State {
         Ok(())
     }
 
-    // Closes the exchange, and takes out the names that were withdrawn.
-    pub(crate) fn abandon(&mut self) -> Result<(), AllocError>
+    // Closes the exchange, and takes out the names that were withdrawn. Allocates nothing.
+    pub(crate) fn abandon(&mut self)
         requires { IsTrue (is_some (sides.abandon self.old)) }
-        ensures done { OnOk result (sides.abandon self.old ≡ Some self.new) }
-        // Only withdrawn names need memory.
-        ensures withdrew { OnErr result (withdrawn_by self.old ≢ []) }
-        ensures unchanged { OnErr result (self.new ≡ self.old) }
+        ensures { sides.abandon self.old ≡ Some self.new }
     {
         let Some(exchange) = &self.exchange else {
             unreachable!()
         };
         let gone = exchange.withdrawn().names();
         if !gone.is_empty() {
-            let mut table = self.table.take()?;
-            take_out(&mut table, gone);
-            self.table.put(table);
+            self.table.take_out(gone);
         }
         self.exchange = None;
         self.compared = None;
-        Ok(())
     }
 
-    // Closes the exchange as `abandon` does, if one is open.
-    pub(crate) fn rest(&mut self) -> Result<(), AllocError>
-        ensures done { OnOk result (self.new ≡ rested self.old) }
-        ensures withdrew { OnErr result (withdrawn_by self.old ≢ []) }
-        ensures unchanged { OnErr result (self.new ≡ self.old) }
+    // Closes the exchange as `abandon` does, if one is open. Allocates nothing.
+    pub(crate) fn rest(&mut self)
+        ensures { self.new ≡ rested self.old }
     {
-        if self.exchange.is_none() {
-            return Ok(());
+        if self.exchange.is_some() {
+            self.abandon();
         }
-        self.abandon()
     }
 }
 
@@ -412,13 +404,4 @@ fn is_same_list(own: &ClashList, clashes: &ClashList) -> bool
     ensures { Decides result (own.now ≡ clashes.now) }
 {
     own == clashes
-}
-
-// Takes these names out of the table.
-fn take_out(table: &mut Table, names: &[Name])
-    ensures { table.new ≡ without names.now table.old }
-{
-    for name in names {
-        let _ = table.unregister(name);
-    }
 }

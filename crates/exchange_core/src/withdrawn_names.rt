@@ -20,7 +20,7 @@ pub enum ListFault {
     #[error("{}", words_of(self.number()))]
     TooMany,
     /// 77: an earlier name equals the name at this index, counted from 0. No name before it repeats one.
-    #[error("item {at}: {}", words_of(self.number()))]
+    #[error("{}: {}", Place::Item(*at), words_of(self.number()))]
     NameAgain { at: usize },
     /// 90: out of memory.
     #[error("{}", words_of(self.number()))]

@@ -404,11 +404,11 @@ step p after id l (call.hears_list new bytes sent r e) = subst Like (sym e)
 step p after id l (call.finishes new before outcome f r given e) = subst Like (sym e)
     (let d = done _ _ _ r in finished l id new f d.0 given)
 step p after id l (call.abandons new r e) = subst Like (sym e)
-    (like_quiet l id new (Happens (Does id Abandon)) (does l id new Abandon (done _ _ _ r)))
+    (like_quiet l id new (Happens (Does id Abandon)) (does l id new Abandon (settled_so _ _ _ r)))
 step p after id l (call.renews new r e) = subst Like (sym e)
     (like_same l id new (renewed _ _ _ r))
 step p after id l (call.gives_up new r e) = subst Like (sym e)
-    (⊎_elim (λ h. gave_up l id new h.1.state) (λ h. let n = h.0 in absurd (cc)) r)
+    (gave_up l id new r.1.state)
 
 -- no element
 none : {X : Type 0} (xs : List X) (which : ℕ) (x : X) → xs ≡ [] → slice_get xs which ≡ Some x → ⊥

@@ -132,8 +132,7 @@ pub extern "C" fn heal_side_finish(
 
 /// Closes the exchange and keeps the table, without the withdrawn names.
 ///
-/// Returns 91 for an empty handle; then 34 if no exchange is open, and 40 if the journal is full. Returns 90 when out of
-/// memory.
+/// Returns 91 for an empty handle; then 34 if no exchange is open, and 40 if the journal is full.
 #[unsafe(no_mangle)]
 pub extern "C" fn heal_side_abandon(side: &mut HealSide) -> u32
     ensures { OnHandle side.old.half side.new.half Abandons (Unit {0}) result }

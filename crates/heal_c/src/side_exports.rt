@@ -265,13 +265,16 @@ pub extern "C" fn heal_side_renew(side: &mut HealSide) -> u32
 /// Gives the open exchange up, if there is one, and starts a fresh journal, also where the journal is full. Afterwards
 /// the side is idle, without the names that it withdrew.
 ///
-/// Returns 91 for an empty handle. Returns 90 when out of memory, which only withdrawn names need.
+/// Returns 91 for an empty handle.
 #[unsafe(no_mangle)]
 pub extern "C" fn heal_side_give_up(side: &mut HealSide) -> u32
     ensures { OnHandle side.old.half side.new.half GivesUp (Unit {0}) result }
 {
     match side.held() {
-        Some(half) => half.give_up(),
+        Some(half) => {
+            half.give_up();
+            0
+        }
         None => EMPTY_HANDLE,
     }
 }

@@ -9,6 +9,7 @@ use device::send;
 use judge_pool::{Gate, OpenGate};
 use partition_table::NameLimit;
 use questions::{is_standard_input, print_refusals, print_version, reply_to};
+use refusals::out_of_memory_line;
 use scripts::{Crew, Narrator, run_narrated};
 use std::fs;
 use std::io::{ErrorKind, Input, Write};
@@ -105,7 +106,7 @@ fn tell_unopened<W: Write>(kind: ErrorKind, writer: &mut W) -> u8
     ensures prints { TellsUnopened (W.contents writer.old) (W.contents writer.new) }
 {
     if kind == ErrorKind::OutOfMemory {
-        return tell(writer, b"refused 90\n");
+        return tell(writer, out_of_memory_line());
     }
     tell(writer, b"device fault\n")
 }

@@ -38,7 +38,7 @@ pub enum CodecFault {
     #[error(transparent)]
     Length(LengthFault),
     /// The instruction with this first slot is invalid.
-    #[error("slot {slot}: {fault}")]
+    #[error("{}: {fault}", Place::Slot(*slot))]
     Slot { fault: SlotFault, slot: u32 },
     /// Memory ran out.
     #[error("{}", words_of(OUT_OF_MEMORY))]

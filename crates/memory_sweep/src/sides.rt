@@ -34,7 +34,7 @@ impl Call<Exchange> for SideCall {
 
 /// The calls of a side.
 #[rattlefmt::skip]
-const CALLS: [Row; 11] = [
+const CALLS: [Row; 10] = [
     ("Side::register of a built-in", Step::RegisterBuiltin, &[]),
     ("Side::register of a program", Step::RegisterProgram, &[]),
     ("Side::unregister", Step::Unregister, &[]),
@@ -45,7 +45,6 @@ const CALLS: [Row; 11] = [
     ("Side::withdraw", Step::Withdraw, &[Step::Begin]),
     ("Side::close_list", Step::CloseList, &[Step::Begin, Step::Withdraw]),
     ("Side::finish", Step::Finish, &[Step::Begin, Step::Hear, Step::TakeAll, Step::CloseList, Step::HearList]),
-    ("Side::abandon", Step::Abandon, &[Step::Begin, Step::Withdraw]),
 ];
 
 /// Sweeps the calls of a side.

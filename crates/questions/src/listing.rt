@@ -4,7 +4,7 @@ ghost use Rattle.std.specs.List.{flat_map};
 ghost use Rattle.questions.specs.Lines.{IsListing, Prints, refusal_row, version_line};
 
 use device::deliver;
-use refusals::REFUSALS;
+use refusals::{REFUSALS, out_of_memory_line};
 use std::alloc::{AllocError, Global};
 use std::io::Write;
 
@@ -43,7 +43,7 @@ fn print_table<W: Write>(alloc: Global, refusals: &[(u32, &'static str)], writer
             Err(_) => 3,
         },
         Err(AllocError) => {
-            let _ = deliver(writer, b"refused 90\n");
+            let _ = deliver(writer, out_of_memory_line());
             3
         }
     }

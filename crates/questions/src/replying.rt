@@ -17,6 +17,7 @@ use crate::ruling::judge_one;
 use abstract_value::{Both, Domain, Interval};
 use code_file::read_whole;
 use device::{deliver, send};
+use refusals::out_of_memory_line;
 use std::alloc::{AllocError, Global};
 use std::io::{ErrorKind, Input, Read, Write};
 use std::rt::Files;
@@ -187,7 +188,7 @@ pub fn refuse_memory<W: Write, E: Write>(writer: &mut W, errors: &mut E) -> u8
     ensures words { AppendsFront (E.contents errors.old) (E.contents errors.new) (codes "heal: out of memory\n") }
 {
     // A failing writer doesn't change the status.
-    let _ = deliver(writer, b"refused 90\n");
+    let _ = deliver(writer, out_of_memory_line());
     let _ = send(errors, b"heal: out of memory\n");
     3
 }

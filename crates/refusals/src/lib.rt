@@ -6,5 +6,7 @@ mod refusal;
 mod table;
 
 pub use place::{PLACE_TEXT_LEN, Place};
-pub use refusal::{Numbered, NumberedRefusal, OUT_OF_MEMORY, REFUSAL_TEXT_LEN, refusal_of};
+pub use refusal::{
+    Numbered, NumberedRefusal, OUT_OF_MEMORY, REFUSAL_TEXT_LEN, out_of_memory_line, refusal_of,
+};
 pub use table::{REFUSALS, words_in, words_of};

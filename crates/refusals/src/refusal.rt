@@ -1,5 +1,5 @@
 //! Refusals and their numbers.
-ghost use Rattle.std.specs.Prelude.{◌≡◌, ℕ, Option, Some, IsTrue, ◌↔◌};
+ghost use Rattle.std.specs.Prelude.{◌≡◌, ℕ, Option, Some, IsTrue, ◌↔◌, codes};
 ghost use Rattle.refusals.specs.declared.place.Place.{Place};
 ghost use Rattle.refusals.specs.Answers.{out_of_memory};
 ghost use Rattle.refusals.specs.Texts.{refusal_text};
@@ -54,6 +54,13 @@ impl fmt::Display for NumberedRefusal {
     fn fmt<W: fmt::Write>(&self, f: &mut fmt::Formatter<W>) -> fmt::Result {
         f.write_str(self.text().as_str())
     }
+}
+
+/// Returns the line that a command prints when memory runs out, which takes no memory.
+pub fn out_of_memory_line() -> &'static [u8]
+    ensures { result.now ≡ codes "refused 90\n" }
+{
+    b"refused 90\n"
 }
 
 /// A fault with a number, and with a place where it has one.

@@ -246,8 +246,9 @@ module _ (start : ScriptMachine) (read_old left_now written_old written_now : Op
 
 -- nothing was read
 pub starved : (start : ScriptMachine) (read written_old written_new : Option (List ℕ)) {A E : Type 0} (result : Result A E)
-    → Sends written_old written_new (codes "refused 90\n") result → IsRunFrom start read read written_old written_new 3
-starved start read written_old written_new result sent = record {
+    (line : List ℕ) → line ≡ codes "refused 90\n" → Sends written_old written_new line result →
+    IsRunFrom start read read written_old written_new 3
+starved start read written_old written_new result line is sent = record {
   ending = Starved;
   front = [];
   rest = [];
@@ -256,7 +257,8 @@ starved start read written_old written_new result sent = record {
   reads = Consumes-nil read;
   reaches = (refl, refl);
   run = refl;
-  writes = written Starved [] written_old written_new result (λ e. cc) refl sent;
+  writes = written Starved [] written_old written_new result (λ e. cc) refl
+      (subst (λ text. Sends written_old written_new text result) is sent);
 }
 
 -- what an answered line left of the writer, by how sending ended

@@ -12,6 +12,7 @@ use crate::serving::{ReadLine, serve};
 use device::{DeviceFault, send_after};
 use judge_pool::{Gate, Workers};
 use partition_table::NameLimit;
+use refusals::out_of_memory_line;
 use script_text::{LineBuffer, ReadBuffer, Stop, next_line};
 use std::alloc::{AllocError, Global};
 use std::io::{Read, Write};
@@ -79,7 +80,7 @@ where
     let alloc = crew.rt.alloc();
     let Ok(mut buffers) = Buffers::new(alloc) else {
         // That the device takes less doesn't change the status.
-        let _ = send_after(Ok(()), writer, b"refused 90\n");
+        let _ = send_after(Ok(()), writer, out_of_memory_line());
         return 3;
     };
     let mut machine = Machine::new(alloc, limit);

@@ -8,7 +8,7 @@ use thiserror::Error;
 
 /// A failing instruction, by its first slot, and the rule.
 #[derive(Clone, Copy, Debug, PartialEq, Eq, Error)]
-#[error("slot {slot}: {rule}")]
+#[error("{}: {rule}", Place::Slot(*slot))]
 pub struct Refusal {
     /// The first slot of the instruction.
     pub slot: u32,

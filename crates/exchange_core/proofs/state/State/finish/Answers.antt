@@ -5,6 +5,7 @@ use Rattle.exchange_law.specs.Sides.{Exchange, Side, finish}
 use Rattle.exchange_core.specs.Finished.{finished_at, finished_from}
 use Rattle.exchange_core.specs.Views.{state_seen}
 use Rattle.exchange_core.specs.model.Finishing.{IsMergeable, IsMergeOf, merged_in}
+use Rattle.exchange_core.specs.model.Holding.{Holding}
 use Rattle.exchange_core.specs.model.Keeping.{Marks, marks_for}
 use Rattle.exchange_core.specs.model.Pairing.{IsComparedFor}
 use Rattle.exchange_law.specs.laws.Carried.{some_inj}
@@ -16,14 +17,14 @@ use Rattle.exchange_core.proofs.state.State.finish.Goals as goal
 opened : (c : After-replace-own) → c.self.inside.exchange ≡ Some c.in-Some-take.exchange
 opened c = sym c.take.ensures.value ∙ c.in-Some-take.is
 
-ready : (c : After-replace-own) → IsMergeable c.self.inside.id c.self.inside.table c.in-Some-take.exchange
+ready : (c : After-replace-own) → IsMergeable c.self.inside.id c.self.inside.table.table c.in-Some-take.exchange
 ready c =
     subst (λ (s : Side). (x : Exchange) → s.exchange ≡ Some x → IsMergeable s.id s.table x) (sym c.self.view_is)
     c.requires.ready c.in-Some-take.exchange (opened c)
 
 -- the merge is shared
 made : (c : After-replace-own) →
-    IsMergeOf c.self.inside.id c.self.inside.table c.in-Some-take.exchange c.in_ok-rulings.field-0.rulings.items
+    IsMergeOf c.self.inside.id c.self.inside.table.table c.in-Some-take.exchange c.in_ok-rulings.field-0.rulings.items
     (arc_value c.in_ok-table.table)
 made c =
     let same : c.in-Some.exchange ≡ c.in-Some-take.exchange = some_inj (sym c.in-Some.is ∙ opened c) in
@@ -31,12 +32,12 @@ made c =
     subst (λ (p : Table × Exchange). merged_in c.self.inside.id p.0 p.1 c.in_ok-rulings.field-0.table ≡ Some table
     → IsMergeOf c.self.inside.id p.0 p.1 c.in_ok-rulings.field-0.rulings.items table)
     (λ i. (c.table.ensures i, same i)) (c.in_ok-rulings.ensures table)
-    (ap (λ (x : Exchange). merged_in c.self.inside.id c.self.inside.table x c.in_ok-rulings.field-0.table) (sym same)
+    (ap (λ (x : Exchange). merged_in c.self.inside.id c.self.inside.table.table x c.in_ok-rulings.field-0.table) (sym same)
     ∙ c.in_ok-held.ensures.held ∙ ap Some (sym c.in_ok-table.ensures.shared))
 
 -- the own table stays
-owned : (c : After-replace-own) → c.replace-own.result ≡ c.self.inside.table
-owned c = c.replace-own.ensures.value ∙ c.hold.ensures.same
+owned : (c : After-replace-own) → c.replace-own.result.table ≡ c.self.inside.table.table
+owned c = ap (λ (h : Holding). h.table) c.replace-own.ensures.value ∙ c.hold.ensures.same
 
 -- once the side can finish, it compared the two tables
 pub unreachable-requires-in_default-compared : goal.unreachable-requires-in_default-compared
@@ -88,7 +89,7 @@ returns-clause-done c =
     let b = c.before.before.before in
     let m = ready b in
     let merged = made b m.heard m.theirs m.was_heard m.list_heard in
-    let table = c.replace-own.ensures.after ∙ (c.in_ok-table.ensures.same ∙ (sym c.in_ok-table.ensures.shared ∙ merged.1)) in
+    let table = ap (λ (h : Holding). h.table) c.replace-own.ensures.after ∙ (c.in_ok-table.ensures.same ∙ (sym c.in_ok-table.ensures.shared ∙ merged.1)) in
     ap finish (sym c.self.view_is)
     ∙ (finishes (state_seen c.self.inside) c.in-Some-take.exchange m (opened b)
     ∙ (λ i. Some (record {

@@ -22,7 +22,7 @@ returns-then-has_withdrawn c =
     sym (ap (option_map (λ (row : Row). row.registration))
     (ap (λ (s : Side). get (shown_table s) name) (sym c.self.view_is)
     ∙ (ap (λ (t : Table). get t name) (shown_open (state_seen c.self.inside) c.in-Some.exchange c.in-Some.is)
-    ∙ gone c.in-Some.exchange.withdrawn c.self.inside.table name (sym c.has_withdrawn.ensures
+    ∙ gone c.in-Some.exchange.withdrawn c.self.inside.table.table name (sym c.has_withdrawn.ensures
     ∙ c.if-has_withdrawn.true))))
 
 pub returns : goal.returns
@@ -33,5 +33,5 @@ returns c =
     ∙ sym (ap (option_map (λ (row : Row). row.registration))
     (ap (λ (s : Side). get (shown_table s) name) (sym c.self.view_is)
     ∙ (ap (λ (t : Table). get t name) (shown_open (state_seen c.self.inside) c.in-Some.exchange c.in-Some.is)
-    ∙ still_there c.in-Some.exchange.withdrawn c.self.inside.table name (sym c.has_withdrawn.ensures
+    ∙ still_there c.in-Some.exchange.withdrawn c.self.inside.table.table name (sym c.has_withdrawn.ensures
     ∙ c.if-has_withdrawn.false))))
