@@ -269,7 +269,7 @@ register_on(Registry, N, Longest) ->
     receive
         {stop, From} -> From ! {self(), Longest}
     after 1 ->
-        Name = {longest, N},
+        Name = {longest, node(), N},
         {Time, yes} = timer:tc(fun() -> Registry:register_name(Name, self()) end),
         _ = Registry:unregister_name(Name),
         register_on(Registry, N + 1, max(Time, Longest))

@@ -31,7 +31,7 @@ unsent(Number, Edit, Part = #part{requested = Requested, waiting = Waiting}) ->
 entries(Node, {View, Operation}, [Edit | Rest], By, Answer, Part = #part{replica = Replica, node = Self}) ->
     case {heal_state:at(Part), heal_replica:apply({{View, Operation}, Edit}, Replica)} of
         {{{{Node, _}, _}, _}, {ok, How, Applied}} ->
-            Next = entry(How, Edit, By, Part#part{replica = Applied}, Part),
+            Next = entry(How, Edit, By, noted(How, Edit, Part#part{replica = Applied}, Part), Part),
             Answered = case By of {Self, Number} -> entered(Number, {How, Edit}, Answer, Part, Next); _ -> Next end,
             entries(Node, {View, Operation + 1}, Rest, By, Answer, Answered);
         {{View, Own}, {error, 97}} when Part#part.gap =/= Own ->
@@ -41,6 +41,13 @@ entries(Node, {View, Operation}, [Edit | Rest], By, Answer, Part = #part{replica
     end;
 entries(_Node, _At, [], _By, _Answer, Part) ->
     Part.
+
+%% Remembers an entry that is applied now.
+noted(already, _Edit, Applied, _Before) ->
+    Applied;
+noted(now, Edit, Applied = #part{recent = Recent}, Before) ->
+    #half{names = Names} = heal_state:half(Before),
+    Applied#part{recent = heal_recent:note(heal_state:at(Applied), Edit, Names, Recent)}.
 
 entry(already, _Edit, _By, _Applied, Part) ->
     Part;

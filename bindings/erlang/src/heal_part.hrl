@@ -80,8 +80,10 @@
     touched = #{} :: #{heal:name() => edited}
 }).
 
-%% The position and the half that a primary had before its view, for nodes that may have them too.
--record(base, {at :: heal_replica:position(), half :: #half{}, nodes :: [node()]}).
+%% The position and the half that a primary had before its view, with the entries that led there, for nodes that may have them too, or
+%% almost: a node gets what differs (`new'), has been sent that (`sent'), or lacks some of the entries (`behind').
+-record(base, {at :: heal_replica:position(), half :: #half{}, recent :: heal_recent:recent(),
+               nodes :: #{node() => new | sent | behind}}).
 
 -record(part, {
     node :: node(),
@@ -152,5 +154,7 @@
     %% Nodes that take differences, and leave it to the larger of two parts to lead an exchange.
     differing = #{} :: #{node() => true},
     %% Of a primary, until its view is settled.
-    base = none :: none | heal_difference:base()
+    base = none :: none | heal_difference:base(),
+    %% The latest entries that this node has applied.
+    recent = heal_recent:new() :: heal_recent:recent()
 }).

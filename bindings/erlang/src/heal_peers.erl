@@ -10,6 +10,8 @@
 
 -define(STORE_FULL, 43).
 -define(MAX_PROGRAMS, 256).
+%% The form of differences that this version sends and takes.
+-define(DIFFERENCES, 2).
 
 -type refusal() :: nodes | scope | hidden | numbers | version.
 -type problems() :: #{refusal() | silent | dir | pos_integer() => {node(), Info :: term()}}.
@@ -24,10 +26,10 @@
     is_settled := boolean(),
     is_first := boolean(),
     %% The node takes several bodies in one message, the processes of an offer in groups, and differences in place of snapshots; it leaves
-    %% it to the larger of two parts to lead an exchange. Nodes of earlier versions don't announce it.
+    %% it to the larger of two parts to lead an exchange. Nodes of earlier versions don't announce it, or announce other differences.
     bundles => boolean(),
     groups => boolean(),
-    differences => boolean()
+    differences => pos_integer()
 }.
 
 %% ---- Links ----
@@ -125,7 +127,7 @@ announce_to(Node, IsFirst, Part = #part{seq = Seq, number = Number, nodes = Node
         is_first => IsFirst,
         bundles => true,
         groups => true,
-        differences => true
+        differences => ?DIFFERENCES
     },
     heal_state:send(Node, {here, Here}, Part#part{seq = Seq + 1}).
 
@@ -167,13 +169,13 @@ heard(Node, Here = #{seq := Seq, at := At, members := Members, is_settled := IsS
     end,
     Heard = Peer#peer{seq = Seq, at = At, members = Members, is_settled = IsSettled, heard = Now, retry = Retry},
     #part{grouping = Grouping, differing = Differing} = Part,
-    Part#part{peers = Peers#{Node => Heard}, grouping = taking(Node, groups, Here, Grouping),
-              differing = taking(Node, differences, Here, Differing)}.
+    Part#part{peers = Peers#{Node => Heard}, grouping = taking(Node, groups, true, Here, Grouping),
+              differing = taking(Node, differences, ?DIFFERENCES, Here, Differing)}.
 
 %% Notes whether a node takes what not all versions do.
-taking(Node, Kind, Here, Nodes) ->
+taking(Node, Kind, Form, Here, Nodes) ->
     case Here of
-        #{Kind := true} -> Nodes#{Node => true};
+        #{Kind := Form} -> Nodes#{Node => true};
         _ -> maps:remove(Node, Nodes)
     end.
 

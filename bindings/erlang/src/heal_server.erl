@@ -46,7 +46,9 @@
     %% Processes that wait until the connection to a node takes messages again.
     waiters = #{} :: #{pid() => node()},
     %% What full connections have refused, the newest first.
-    refused = [] :: [{node(), Body :: term()}]
+    refused = [] :: [{node(), Body :: term()}],
+    %% The latest pause of each node whose connection has taken messages again.
+    resting = #{} :: #{node() => Pause :: reference()}
 }).
 
 %% Milliseconds until another attempt to start the process that writes.
@@ -265,10 +267,11 @@ informed(Message, State) ->
 %% A process that is monitored has ended.
 ended(Monitor, _Pid, State = #server{log = {_, Monitor}}) ->
     unlogged(State);
-ended(_Monitor, Pid, State = #server{waiters = Waiters, part = Part}) when is_map_key(Pid, Waiters) ->
+ended(_Monitor, Pid, State = #server{waiters = Waiters, part = Part, resting = Resting}) when is_map_key(Pid, Waiters) ->
     {Node, Rest} = maps:take(Pid, Waiters),
-    _ = erlang:send_after(max(?RESPITE, heal_part:count(Part) div ?NAMES_OF_RESPITE), self(), {?REGISTRY, rested, Node}),
-    event({drained, Node}, State#server{waiters = Rest});
+    Pause = make_ref(),
+    _ = erlang:send_after(max(?RESPITE, heal_part:count(Part) div ?NAMES_OF_RESPITE), self(), {?REGISTRY, rested, Node, Pause}),
+    event({drained, Node}, State#server{waiters = Rest, resting = Resting#{Node => Pause}});
 ended(Monitor, Pid, State = #server{reconnect = Reconnect, subscribers = Subscribers}) ->
     case heal_reconnect:attempted(Monitor, Reconnect) of
         {Node, Next} -> event({attempted, Node}, State#server{reconnect = Next});
@@ -284,7 +287,14 @@ own({?REGISTRY, ended, Node, Watch, Reason}, State = #server{watches = Watches})
 own({?REGISTRY, refused}, State = #server{refused = Refused}) ->
     ByNode = maps:groups_from_list(fun({Node, _}) -> Node end, fun({_, Body}) -> unbundled(Body) end, Refused),
     lists:foldl(fun refused/2, State#server{refused = []}, maps:to_list(ByNode));
+own({?REGISTRY, rested, Node, Pause}, State = #server{resting = Resting}) ->
+    %% The connection may have been full again since an earlier pause began.
+    case Resting of
+        #{Node := Pause} -> event({rested, Node}, State#server{resting = maps:remove(Node, Resting)});
+        _ -> State
+    end;
 own({?REGISTRY, rested, Node}, State) ->
+    %% Of the version before.
     event({rested, Node}, State);
 own({?REGISTRY, disk, Log, Ids, Lacking, Problem}, State = #server{log = {Log, _}}) ->
     event({disk, Ids, Lacking, Problem}, State);
@@ -352,7 +362,7 @@ timed(State = #server{part = Part, heap = Heap}) ->
 %% @private Takes the state of an earlier version over: the fields that it lacks are the last ones.
 code_change(_Version, State, _Extra) ->
     Lacks = record_info(size, server) - tuple_size(State),
-    Later = lists:nthtail(6 - Lacks, [none, none, heal_outbox:new(), [], #{}, []]),
+    Later = lists:nthtail(7 - Lacks, [none, none, heal_outbox:new(), [], #{}, [], #{}]),
     Server = #server{part = Part} = list_to_tuple(tuple_to_list(State) ++ Later),
     Monitors = element(#server.watched, State),
     {ok, relogged(rewatched(Monitors, element(#server.heap, State), Server#server{part = heal_part:upgrade(Part)}))}.
@@ -387,9 +397,10 @@ down(Node, State = #server{watches = Watches, reconnect = Reconnect, outbox = Ou
                                                  outbox = heal_outbox:forget(Node, Outbox)})).
 
 %% The next connection to a node isn't full.
-empty(Node, State = #server{refused = Refused, waiters = Waiters}) ->
+empty(Node, State = #server{refused = Refused, waiters = Waiters, resting = Resting}) ->
     State#server{refused = [Entry || Entry = {Of, _} <- Refused, Of =/= Node],
-                 waiters = maps:filter(fun(_, Of) -> Of =/= Node end, Waiters)}.
+                 waiters = maps:filter(fun(_, Of) -> Of =/= Node end, Waiters),
+                 resting = maps:remove(Node, Resting)}.
 
 %% A connection has refused these bodies.
 refused({Node, Bodies}, State) ->

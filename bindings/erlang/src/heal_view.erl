@@ -177,8 +177,8 @@ wanted(Node, View, Part = #part{heal = Heal, members = Members, peers = Peers}) 
     case heal_state:is_primary(Part) andalso heal_state:view(Part) =:= View andalso {Members, Peers} of
         {#{Node := Member}, #{Node := _}} ->
             Lagging = Part#part{members = Members#{Node := Member#member{is_lagging = true}}},
-            heal_peers:heard_of(Node, heal_difference:given(Node, Lagging));
-        {_, #{Node := _}} when not is_record(Heal, open) -> regarded(Part, welcome(Node, heal_difference:given(Node, Part)));
+            heal_peers:heard_of(Node, heal_difference:wanted(Node, Lagging));
+        {_, #{Node := _}} when not is_record(Heal, open) -> regarded(Part, welcome(Node, heal_difference:wanted(Node, Part)));
         _ -> Part
     end.
 
@@ -409,14 +409,15 @@ snapshot(Node, {Snapshot = {At, _}, Losers}, Part) ->
     Follow = fun() -> follow(heal_replica:compact(Snapshot, Part#part.replica), unknown, Losers, Node, Part) end,
     sent(Node, At, Follow, Part).
 
-%% A primary has sent how its half differs from the one that this node had. A node that had another one wants a snapshot.
+%% A primary has sent how its half differs from the one that this node had. A node that had another one announces its position, and wants to
+%% follow.
 -spec difference(node(), {heal_difference:difference(), [heal_losers:loser()]}, #part{}) -> #part{}.
 difference(Node, {Difference, Losers}, Part) ->
     At = {View, _} = heal_difference:position(Difference),
     Follow = fun() ->
         case heal_difference:applied(Difference, Part) of
             {Half, Changes} -> follow({At, Half}, Changes, Losers, Node, Part);
-            none -> want(View, Part#part{gap = View})
+            none -> want(View, heal_peers:announce_to(Node, Part#part{gap = View}))
         end
     end,
     sent(Node, At, Follow, Part).

@@ -18,8 +18,8 @@ message(Body) ->
 %% A row crosses the wire with its registration as a map.
 sent({snapshot, {{At, Half = #half{names = Names}}, Losers}}) ->
     {snapshot, {{At, Half#half{names = maps:map(fun(_, Row) -> heal_row:sent(Row) end, Names)}}, Losers}};
-sent({difference, {{From, At, Put, Drop, Programs, Latest}, Losers}}) ->
-    {difference, {{From, At, maps:map(fun(_, Row) -> heal_row:sent(Row) end, Put), Drop, Programs, Latest}, Losers}};
+sent({difference, {{Since, From, At, Put, Drop, Programs, Latest}, Losers}}) ->
+    {difference, {{Since, From, At, maps:map(fun(_, Row) -> heal_row:sent(Row) end, Put), Drop, Programs, Latest}, Losers}};
 sent({edit, At, Edits, By, Answer}) ->
     {edit, At, [sent_edit(Edit) || Edit <- Edits], By, Answer};
 sent({finished, Seq, At, Requests, Edits}) ->
@@ -62,8 +62,8 @@ body(Sent) ->
 
 received({snapshot, {{At, Half = #half{names = Names}}, Losers}}) ->
     {snapshot, {{At, Half#half{names = maps:map(fun heal_row:received/2, Names)}}, Losers}};
-received({difference, {{From, At, Put, Drop, Programs, Latest}, Losers}}) ->
-    {difference, {{From, At, maps:map(fun heal_row:received/2, Put), Drop, Programs, Latest}, Losers}};
+received({difference, {{Since, From, At, Put, Drop, Programs, Latest}, Losers}}) ->
+    {difference, {{Since, From, At, maps:map(fun heal_row:received/2, Put), Drop, Programs, Latest}, Losers}};
 received({edit, At, Edits, By, Answer}) ->
     {edit, At, [received_edit(Edit) || Edit <- Edits], By, Answer};
 received({finished, Seq, At, Requests, Edits}) ->
@@ -86,9 +86,9 @@ is_valid({want, View}) -> is_view(View);
 is_valid({snapshot, {{At, #half{names = Names, programs = Programs, latest = Latest}}, Losers}}) ->
     is_at(At) andalso are_names(Names, fun is_row/1) andalso are_programs(Programs) andalso is_count(Latest)
         andalso all(fun is_loser/1, Losers);
-is_valid({difference, {{From, At, Put, Drop, Programs, Latest}, Losers}}) ->
-    is_at(From) andalso is_at(At) andalso are_names(Put, fun is_row/1) andalso all(fun is_name/1, Drop) andalso are_programs(Programs)
-        andalso is_count(Latest) andalso all(fun is_loser/1, Losers);
+is_valid({difference, {{Since, From, At, Put, Drop, Programs, Latest}, Losers}}) ->
+    is_count(Since) andalso is_at(From) andalso is_at(At) andalso are_names(Put, fun is_row/1) andalso all(fun is_name/1, Drop)
+        andalso are_programs(Programs) andalso is_count(Latest) andalso all(fun is_loser/1, Losers);
 is_valid({finished, Seq, At, Requests, Edits}) ->
     is_count(Seq) andalso is_at(At) andalso is_count(Requests) andalso all(fun is_edit/1, Edits);
 is_valid({finished, Number, View}) -> is_count(Number) andalso is_view(View);

@@ -3,6 +3,9 @@
 
 -export([send/2, plan/1, held/0, release/0]).
 
+%% Milliseconds after which a full connection refuses a message.
+-define(PAUSE, 5).
+
 %% `none'; `twice': every message is sent twice; `{hold, Kind}': messages of this kind wait for release/0; `{hold_from, Kind}':
 %% those that follow wait too, as on a slow connection;
 %% `{lose, Kind}'; `{halt, Kind, before | later}': the node ends when it sends this kind; `{replace, Kind, Body}': this body is
@@ -34,6 +37,8 @@ act(hold_all, _Kind, Node, Message) ->
 act({lose, Kind}, Kind, _Node, _Message) ->
     lost;
 act({full, Kind}, Kind, _Node, _Message) ->
+    %% A full connection also holds up the message by which the registry learns when there is room. This one lets it through at once.
+    timer:sleep(?PAUSE),
     nosuspend;
 act({replace, Kind, Body}, Kind, Node, Message) ->
     deliver(Node, setelement(tuple_size(Message), Message, Body));

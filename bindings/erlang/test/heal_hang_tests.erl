@@ -139,7 +139,7 @@ full_connection(A, B) ->
     plan(B, {full, request}),
     Two = own(B, two),
     plan(B, none),
-    %% The plan refuses requests and lets through what asks whether there is room, over and over: the other node has thousands of those to read.
+    %% The other node has many messages to read.
     heal_cluster:eventually(fun() -> case heal_cluster:status(A) of #{number := Last} -> Last > Number; _ -> false end end),
     heal_cluster:eventually(fun() -> heal_cluster:table(A) =:= [{one, One}, {two, Two}] end),
     ?assertMatch([{one, One}, {two, Two}], heal_cluster:alike(A, B)).

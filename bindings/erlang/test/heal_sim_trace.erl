@@ -33,8 +33,8 @@ at(Delay, Event, Sim = #sim{now = Now, count = Count, queue = Queue}) ->
 short({message, From, Body}) -> io_lib:format("~p: ~s", [From, short(Body)]);
 short({here, #{at := At, is_settled := IsSettled, seq := Seq}}) -> io_lib:format("here ~0p ~p ~p", [At, IsSettled, Seq]);
 short({snapshot, {{At, #half{names = Names}}, Losers}}) -> io_lib:format("snapshot ~0p ~0p lost ~0p", [At, pids(Names), Losers]);
-short({difference, {{From, At, Put, Drop, _, _}, Losers}}) ->
-    io_lib:format("difference ~0p ~0p ~0p ~0p lost ~0p", [From, At, pids(Put), Drop, Losers]);
+short({difference, {{Since, From, At, Put, Drop, _, _}, Losers}}) ->
+    io_lib:format("difference ~0p ~0p ~0p ~0p ~0p lost ~0p", [Since, From, At, pids(Put), Drop, Losers]);
 short({offer, Number, _, {_, Names, _, Members}, _}) -> io_lib:format("offer ~p ~0p of ~0p", [Number, Names, Members]);
 short({finished, Seq, At, Requests, Edits}) ->
     io_lib:format("finished ~p ~0p ~p ~0p", [Seq, At, Requests, [edit(Edit) || Edit <- Edits]]);

@@ -249,7 +249,7 @@ rested_connection_test() ->
     ?assertEqual([difference], begun(b, c)),
     ?assertEqual(position(b, Three), position(c, Three)).
 
-%% A member that has missed an entry can't use what differs. It waits for a snapshot, and doesn't lead meanwhile, though its primary is gone.
+%% A member that has missed an upload can't use what differs. It waits for a snapshot, and doesn't lead meanwhile, though its primary is gone.
 missed_entry_test() ->
     Three = joined_three(),
     Missed = event(a, upload(1), fun(a, c, _) -> true; (_, _, _) -> false end, Three),
@@ -259,6 +259,35 @@ missed_entry_test() ->
     ?assertEqual([snapshot, difference], begun(b, c)),
     ?assertMatch({{{b, 1}, 2}, _}, position(b, Left)),
     ?assertEqual(position(b, Left), position(c, Left)).
+
+%% The primary is gone, and one of the nodes that are left has an entry that the other one lacks. A node that has it goes back, and its home
+%% restores what it has registered. A node that lacks it gets what differs once more.
+last_entries_test() ->
+    ?assertEqual([difference], last_entry(c, b)),
+    ?assertEqual([difference, difference], last_entry(b, c)).
+
+%% Returns what b sends c for it to follow. The last name is of a node that has its entry, and the other one lacks it.
+last_entry(Node, Lacking) ->
+    Registered = lists:foldl(fun(N, Parts) -> event(b, registering(N, b), fun none_lost/3, Parts) end, joined_three(), lists:seq(1, 6)),
+    Missed = event(Node, registering(7, Node), fun(a, To, _) -> To =:= Lacking; (_, _, _) -> false end, Registered),
+    ?assertEqual(1, operation(Node, Missed) - operation(Lacking, Missed)),
+    put(done, []),
+    Left = event(b, {down, a}, fun none_lost/3, event(c, {down, a}, fun none_lost/3, Missed)),
+    ?assertMatch({{{b, 1}, 2}, _}, position(b, Left)),
+    ?assertEqual(position(b, Left), position(c, Left)),
+    ?assertEqual([{pid, Node, 7}], [Pid || {<<"m7">>, #row{pid = Pid}} <- maps:to_list(names(c, Left))]),
+    ?assertEqual(7, map_size(names(b, Left))),
+    begun(b, c).
+
+registering(N, Node) ->
+    Name = <<"m", ($0 + N)>>,
+    {call, N, {adopt, Name, Name, #{stamp => 1, weight => 0, extra => <<0:128>>, resolver => notify}, {pid, Node, N}, Node}}.
+
+operation(Node, Parts) ->
+    element(2, position(Node, Parts)).
+
+names(Node, Parts) ->
+    (heal_state:half(maps:get(Node, Parts)))#half.names.
 
 %% A full connection refuses that the member wants a snapshot. It wants it once there is room.
 refused_want_test() ->
