@@ -4,26 +4,26 @@
 %% First calls of a gen_server that does nothing, on its node and from another one: no registry that asks another process makes more
 %% registrations. Then, on 2, 4 and 8 nodes: registrations on the primary and on each other node, with one client and with eight; lookups;
 %% memory on the node of the processes and on another one; and healings of two halves whose names all clash, by a resolver that notifies
-%% the loser, while a client goes on to register. Then `global' and heal_registry heal more and more clashes, as far as `global' goes. A
-%% table compares the outcome with the goals.
+%% the loser, while a client goes on to register. Then registrations of heal_registry next to many names. At last `global' and
+%% heal_registry heal more and more clashes, as far as `global' goes. A table compares the outcome with the goals.
 -module(heal_bench).
 
 -behaviour(gen_server).
 
 -export([main/1]).
--export([rates/4, lookups/3, fill/3, spawned/1, named/3, clear/2, memory/0, answers/2, longest/1, stop_longest/1, serve/0]).
+-export([rates/4, lookups/3, fill/3, fill_for/2, spawned/1, named/3, clear/2, memory/0, answers/2, longest/1, stop_longest/1, serve/0]).
 -export([init/1, handle_call/3, handle_cast/2]).
 
 %% How long one measurement of a rate takes, the clashes that are healed, how often (more than 4,096 less often), of how many names the
-%% memory is measured, and how long `global' may take.
--record(plan, {nodes, milliseconds, clashes, rounds, names, alone, limit}).
+%% memory is measured, next to how many others names are registered, and how long `global' may take.
+-record(plan, {nodes, milliseconds, clashes, rounds, names, others, alone, limit}).
 
 plan(full) ->
     #plan{nodes = [2, 4, 8], milliseconds = 3000, clashes = [4096, 16384], rounds = 3,
-          names = [4096, 8192, 16384],
+          names = [4096, 8192, 16384], others = [1000, 100000, 1000000],
           alone = [1024, 4096, 16384, 65536], limit = 600};
 plan(short) ->
-    #plan{nodes = [2, 4], milliseconds = 200, clashes = [512], rounds = 1, names = [1024], alone = [256, 1024], limit = 30}.
+    #plan{nodes = [2, 4], milliseconds = 200, clashes = [512], rounds = 1, names = [1024], others = [1000, 10000], alone = [256, 1024], limit = 30}.
 
 -define(REGISTRIES, [global, heal_registry]).
 -define(OPTIONS, #{names => 1048576, exchange_timeout => 60000, edit_timeout => 60000}).
@@ -32,6 +32,7 @@ main(Mode) ->
     Plan = plan(Mode),
     io:format("~s: OTP ~s, ~p schedulers~n", [Mode, erlang:system_info(otp_release), erlang:system_info(schedulers)]),
     {Time, Rows} = timer:tc(fun() -> bare(Plan) ++ lists:append([on(Count, Plan) || Count <- Plan#plan.nodes]) end),
+    crowded(Plan),
     alone(Plan),
     goals(Rows, Plan),
     io:format("~.1f seconds without the last series~n", [Time / 1.0e6]),
@@ -144,6 +145,25 @@ call(Registry, Name) -> yes = Registry:register_name(Name, self()), ok.
 %% Unregisters the name.
 undone(Server, _Name) when is_tuple(Server) -> ok;
 undone(Registry, Name) -> Registry:unregister_name(Name).
+
+%% Registrations on both of two nodes that have many names of one process, and the usual timeouts.
+crowded(Plan) ->
+    with_nodes(2, fun(Nodes = [First | _]) ->
+        [heal_cluster:start_registry(It, any, maps:with([names], ?OPTIONS)) || It <- Nodes],
+        gathered(heal_registry, Nodes),
+        Owner = heal_cluster:call(First, erlang, spawn, [heal_cluster, serve, [[]]]),
+        lists:foldl(fun(Count, Before) -> crowd(lists:seq(Before + 1, Count), Owner, Nodes, Plan), Count end, 0, Plan#plan.others)
+    end).
+
+crowd(Numbers, Owner, Nodes = [First | _], Plan) ->
+    long_call(First, fill_for, [Owner, Numbers]),
+    filled(heal_registry, {other, lists:last(Numbers)}, Nodes),
+    io:format("next to ~p names:~n", [lists:last(Numbers)]),
+    [rate(heal_registry, It, At, 1, "heal_registry registers", 2, Plan) || {It, At} <- lists:zip([primary, other], Nodes)].
+
+fill_for(Owner, Numbers) ->
+    [ok = heal_registry:register({other, N}, Owner, #{resolver => notify}) || N <- Numbers],
+    ok.
 
 %% Returns how many lookups a second one client makes.
 lookups(Registry, Count, Milliseconds) ->

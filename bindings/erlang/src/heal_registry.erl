@@ -232,7 +232,11 @@ info(Name) ->
     atom() => term()
 }.
 status() ->
-    call(status).
+    counted(call(status)).
+
+%% The caller counts the names, which takes a while where there are many.
+counted(Status) when is_map(Status) -> Status#{names => count()};
+counted(Refused) -> Refused.
 
 %% @doc Waits until this node has healed with all connected nodes that run a registry. Right after its start a registry that
 %% connects nodes waits for that too. Returns `{error, apart}' if they can't heal: {@link status/0} shows why.

@@ -48,7 +48,9 @@
     %% What full connections have refused, the newest first.
     refused = [] :: [{node(), Body :: term()}],
     %% The latest pause of each node whose connection has taken messages again.
-    resting = #{} :: #{node() => Pause :: reference()}
+    resting = #{} :: #{node() => Pause :: reference()},
+    %% Processes that have ended, with those of their names that aren't released so far.
+    ended = [] :: [{pid(), [heal:name()]}]
 }).
 
 %% Milliseconds until another attempt to start the process that writes.
@@ -59,8 +61,9 @@
 %% snapshot may fill the connection again.
 -define(RESPITE, 100).
 -define(NAMES_OF_RESPITE, 16).
-%% How many losers are notified before the next message is handled.
+%% How many losers are notified, and names of a process that has ended released, before the next message is handled.
 -define(LOSERS, 200).
+-define(RELEASED, 200).
 %% How often to look for a registry that has failed, and the milliseconds in between.
 -define(ATTEMPTS, 100).
 -define(PAUSE, 100).
@@ -224,7 +227,7 @@ next(State = #server{outbox = Outbox}) ->
     end.
 
 called(status, From, State = #server{part = Part}) ->
-    answered(From, (heal_part:status(Part))#{names => heal_table:count(), problems => heal_problems:all()}, State);
+    answered(From, (heal_part:status(Part))#{problems => heal_problems:all()}, State);
 called(sync, From, State) ->
     event({sync, From}, State);
 called({subscribe, Pid}, From, State = #server{subscribers = Subscribers}) when is_pid(Pid) ->
@@ -246,9 +249,10 @@ answered(From, Answer, State) ->
 informed(tick, State = #server{part = Part}) ->
     _ = erlang:send_after(heal_part:tick(Part), self(), tick),
     Next = #server{part = Now, heap = Heap} = event(tick, State),
-    Next#server{heap = heal_heap:tick(heal_part:is_idle(Now), Heap)};
+    Next#server{heap = heal_heap:tick(heal_part:is_idle(Now), heal_part:count(Now), Heap)};
 informed({nodeup, Node, #{node_type := Type}}, State) ->
-    up(Node, Type, State);
+    %% Edits may wait for the node.
+    up(Node, Type, release_rest(State));
 informed({nodedown, Node, _}, State) ->
     down(Node, State);
 informed({'DOWN', Monitor, process, Pid, _}, State) ->
@@ -307,8 +311,10 @@ own({?REGISTRY, step, Step}, State) ->
     event({continue, Step}, State);
 own({?REGISTRY, lost}, State) ->
     lost(State);
+own({?REGISTRY, release}, State) ->
+    release_some(State);
 own({?REGISTRY, quiet, Changed}, State = #server{part = Part, heap = Heap}) ->
-    timed(State#server{heap = heal_heap:quiet(Changed, heal_part:is_idle(Part), Heap)});
+    timed(State#server{heap = heal_heap:quiet(Changed, heal_part:is_idle(Part), heal_part:count(Part), Heap)});
 own(Message, State) ->
     message(heal_wire:read(Message), State).
 
@@ -334,11 +340,11 @@ heard(Node, Body = {here, Here}, State = #server{outbox = Outbox}) ->
     event({message, Node, Body}, watched(Node, State#server{outbox = heal_outbox:bundles(Node, Bundles, Outbox)}));
 heard(Node, Body, State) when element(1, Body) =:= ask ->
     %% The registry checks which processes are gone when the offers have come.
-    event({message, Node, Body}, State);
+    event({message, Node, Body}, release_rest(State));
 heard(Node, Body, State) when element(1, Body) =:= hello ->
-    event({message, Node, Body}, cleaned(State));
+    event({message, Node, Body}, cleaned(release_rest(State)));
 heard(Node, Body = {propose, _, _, _, _}, State) ->
-    event({message, Node, Body}, roomy(0, State));
+    event({message, Node, Body}, roomy(0, release_rest(State)));
 heard(Node, Body = {offer, _, _, {_, Processes, _, _}, _}, State) ->
     event({message, Node, Body}, release_dead(roomy(heal_processes:count(Processes), State)));
 heard(Node, Body, State) ->
@@ -362,7 +368,7 @@ timed(State = #server{part = Part, heap = Heap}) ->
 %% @private Takes the state of an earlier version over: the fields that it lacks are the last ones.
 code_change(_Version, State, _Extra) ->
     Lacks = record_info(size, server) - tuple_size(State),
-    Later = lists:nthtail(7 - Lacks, [none, none, heal_outbox:new(), [], #{}, [], #{}]),
+    Later = lists:nthtail(8 - Lacks, [none, none, heal_outbox:new(), [], #{}, [], #{}, []]),
     Server = #server{part = Part} = list_to_tuple(tuple_to_list(State) ++ Later),
     Monitors = element(#server.watched, State),
     {ok, relogged(rewatched(Monitors, element(#server.heap, State), Server#server{part = heal_part:upgrade(Part)}))}.
@@ -370,9 +376,13 @@ code_change(_Version, State, _Extra) ->
 %% A version before had a monitor for each name, and a map of the owners instead of the heap.
 rewatched(Monitors, Owners, State = #server{part = Part}) when is_map(Owners) ->
     [demonitor(Monitor, [flush]) || Monitor <- maps:keys(Monitors)],
-    State#server{watched = watch_all(heal_part:own(Part)), heap = heal_heap:new(heal_part:count(Part))};
+    reheaped(State#server{watched = watch_all(heal_part:own(Part))});
 rewatched(_Watched, _Heap, State) ->
-    State.
+    reheaped(State).
+
+%% The heap of a version before lacks fields.
+reheaped(State = #server{part = Part}) ->
+    State#server{heap = heal_heap:new(heal_part:count(Part))}.
 
 %% A version before knew no folder.
 relogged(State = #server{dir = none}) ->
@@ -598,7 +608,7 @@ spelled(Answer) -> Answer.
 
 %% Notifies some losers. Other messages don't wait for the rest.
 lost(State = #server{losers = Losers}) ->
-    {Now, Later} = lists:split(min(?LOSERS, length(Losers)), Losers),
+    {Now, Later} = split(?LOSERS, Losers),
     _ = Later =/= [] andalso (self() ! {?REGISTRY, lost}),
     lists:foldl(fun lost/2, State#server{losers = Later}, Now).
 
@@ -632,9 +642,33 @@ disown(Name, #row{pid = Pid}, State = #server{watched = Watched}) ->
 %% A process has ended, of which this node may have watched names.
 died(Pid, State = #server{watched = Watched}) ->
     case heal_watching:ended(Pid, Watched) of
-        {Names, Rest} -> lists:foldl(fun(Name, Sum) -> died(Name, Pid, Sum) end, State#server{watched = Rest}, Names);
+        {Names, Rest} -> release_more([{Pid, Names}], State#server{watched = Rest});
         none -> State
     end.
+
+release_more(Others, State = #server{ended = []}) ->
+    release_some(State#server{ended = Others});
+release_more(Others, State = #server{ended = Ended}) ->
+    State#server{ended = Ended ++ Others}.
+
+%% Releases some names. Other messages don't wait for the rest, but those of an exchange do.
+release_some(State) ->
+    Next = #server{ended = Ended} = release_first(State),
+    _ = Ended =/= [] andalso (self() ! {?REGISTRY, release}),
+    Next.
+
+release_rest(State = #server{ended = []}) -> State;
+release_rest(State) -> release_rest(release_first(State)).
+
+release_first(State = #server{ended = []}) ->
+    State;
+release_first(State = #server{ended = [{Pid, Names} | Others]}) ->
+    {Now, Later} = split(?RELEASED, Names),
+    Rest = [{Pid, Later} || Later =/= []] ++ Others,
+    lists:foldl(fun(Name, Sum) -> died(Name, Pid, Sum) end, State#server{ended = Rest}, Now).
+
+split(Most, List) ->
+    lists:split(min(Most, length(List)), List).
 
 died(Name, Pid, State = #server{part = Part}) ->
     case heal_part:own(Part) of
@@ -661,5 +695,5 @@ release_dead(State) ->
     receive
         Down = {'DOWN', _, process, _, _} -> release_dead(informed(Down, State))
     after 0 ->
-        State
+        release_rest(State)
     end.

@@ -106,6 +106,37 @@ watched_test() ->
     exit(Pid, kill),
     receive {'DOWN', _, process, Pid, killed} -> ok end.
 
+%% ---- The heap ----
+
+%% A tick collects the garbage of edits once no row has changed for a while, and while edits go on only where the heap has more than they
+%% leave.
+ticks_test() ->
+    Self = self(),
+    spawn_link(fun() -> Self ! {ticked, ticks(lists:seq(1, 100000))} end),
+    receive {ticked, Collected} -> ?assertEqual([false, false, false, true, true], Collected) end.
+
+%% Whether each tick has collected the garbage that was made before it. `Live' isn't garbage.
+ticks(Live) ->
+    {First, Changed} = ticked(true, 1, 400000, heal_heap:new(0)),
+    {Busy, Still} = ticked(true, 1, 200000, Changed),
+    timer:sleep(200),
+    {Exchanging, Waiting} = ticked(false, 0, 200000, Still),
+    {Quiet, Again} = ticked(true, 0, 200000, Waiting),
+    {Large, _} = ticked(true, 1, 4000000, Again),
+    100000 = length(Live),
+    [First, Busy, Exchanging, Quiet, Large].
+
+%% Makes a list of this length, which is garbage then, in a registry of 10,000 names.
+ticked(IsIdle, Changes, Length, Heap) ->
+    Length = length(lists:seq(1, Length)),
+    Before = total_words(),
+    Next = heal_heap:tick(IsIdle, 10000, heal_heap:changed(Changes, Heap)),
+    {total_words() < Before, Next}.
+
+total_words() ->
+    {total_heap_size, Words} = process_info(self(), total_heap_size),
+    Words.
+
 %% ---- On nodes ----
 
 memory_test_() ->

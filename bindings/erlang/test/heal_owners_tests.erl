@@ -149,7 +149,7 @@ other_version() ->
 winners_test_() ->
     {inparallel, 3, [heal_cluster:halves(#{exchange_timeout => 20000}, Test)
      || Test <- [fun withdrawn_winner/2, fun withdrawn_rival/2, fun late_winner_of_leader/2, fun late_winner_of_other/2,
-                 fun taken_meanwhile/2, fun link_lost_after_merge/2]]}.
+                 fun taken_meanwhile/2, fun link_lost_after_merge/2, fun many_names_of_one/2]]}.
 
 %% A winner that ends before its half closes its list doesn't take its rival along, nor the name.
 withdrawn_winner(A, B) ->
@@ -236,6 +236,22 @@ link_lost_after_merge(A, B) ->
     heal_cluster:connect(A, B),
     ?assertEqual(lists:sort(Names), [Name || {Name, _} <- heal_cluster:alike(A, B)]),
     heal_cluster:eventually(fun() -> length(alive(A, OnA)) + length(alive(B, OnB)) =:= 20 end).
+
+%% A process of many names ends right before the nodes meet: nobody loses a name to it, not even for a while.
+many_names_of_one(A, B) ->
+    Names = names("x", 1000),
+    [OnA, OnB, Subscriber] = [pid_on(It) || It <- [A, B, A]],
+    [ok = register_on(It, Name, Pid, #{resolver => notify}) || {It, Pid} <- [{A, OnA}, {B, OnB}], Name <- Names],
+    ok = heal_cluster:call(A, heal_registry, subscribe, [Subscriber]),
+    ok = heal_cluster:call(B, sys, suspend, [heal_registry]),
+    heal_cluster:kill(B, OnB),
+    heal_cluster:connect(A, B),
+    ok = heal_cluster:call(B, sys, resume, [heal_registry]),
+    ?assertEqual(lists:sort([{Name, OnA} || Name <- Names]), heal_cluster:alike(A, B)),
+    Events = [Event || {heal_registry, Event} <- heal_cluster:mail(A, Subscriber)],
+    ?assertMatch([_ | _], [Facts || {healed, Facts} <- Events]),
+    ?assertEqual([], [Event || Event <- Events, element(1, Event) =:= unregistered orelse element(1, Event) =:= conflict]),
+    ?assertEqual([], heal_cluster:mail(A, OnA)).
 
 %% ---- Answers, and halves that don't fit ----
 

@@ -26,7 +26,7 @@ alone_test_() ->
         fun() -> {ok, Pid} = heal_registry:start_link(#{nodes => [node()]}), Pid end,
         fun(Pid) -> unlink(Pid), gen_server:stop(Pid) end,
         [{timeout, 120, Test}
-         || Test <- [fun alone/0, fun via/0, fun restarts_at_once/0, fun bad_arguments/0, fun long_journal/0]]}.
+         || Test <- [fun alone/0, fun via/0, fun restarts_at_once/0, fun many_names_of_one/0, fun bad_arguments/0, fun long_journal/0]]}.
 
 alone() ->
     Pid = spawn(heal_cluster, serve, [[]]),
@@ -58,6 +58,36 @@ restarts_at_once() ->
         receive {'DOWN', Monitor, _, Pid, Reason} -> Reason end
     end,
     ?assertEqual([normal], lists:usort([Take() || _ <- lists:seq(1, 300)])).
+
+%% A caller doesn't wait until all names of a process that has ended are released.
+many_names_of_one() ->
+    Pid = spawn(heal_cluster, serve, [[]]),
+    [ok = heal_registry:register(Name, Pid, #{}) || Name <- names("many", 1000)],
+    ok = heal_registry:subscribe(),
+    ok = sys:suspend(heal_registry),
+    exit(Pid, kill),
+    arrived('DOWN'),
+    Self = self(),
+    spawn_link(fun() -> Self ! {answer, heal_registry:register(next, Self, #{})} end),
+    arrived('$gen_call'),
+    ok = sys:resume(heal_registry),
+    ?assertEqual(ok, receive {answer, Answer} -> Answer end),
+    heal_cluster:eventually(fun() -> heal_registry:names() =:= [next] end),
+    ok = heal_registry:unsubscribe(Self),
+    Events = [element(1, Event) || Event <- events(), element(2, Event) =:= next orelse element(3, Event) =:= Pid],
+    ?assertEqual(1000, length([unregistered || unregistered <- Events])),
+    ?assertNotEqual(registered, lists:last(Events)),
+    ok = heal_registry:unregister_name(next).
+
+%% Waits until a message of this kind waits for the registry.
+arrived(Kind) ->
+    heal_cluster:eventually(fun() ->
+        {messages, Messages} = process_info(whereis(heal_registry), messages),
+        lists:keymember(Kind, 1, Messages)
+    end).
+
+events() ->
+    receive {heal_registry, Event} -> [Event | events()] after 0 -> [] end.
 
 bad_arguments() ->
     [?assertError(badarg, heal_registry:register(db, self(), Options))

@@ -7,13 +7,15 @@
 -export([load_here/1, take_over_here/1]).
 
 -define(REGISTER, {heal_registry, register}).
-%% The sizes of the records server, part and call before the fields of later versions.
+%% The sizes of the records server, part, call and heap before the fields of later versions.
 -define(SERVER, 13).
 -define(PART, 38).
 -define(CALL, 6).
+-define(HEAP, 4).
 %% Fields of the record server.
 -define(PART_OF, 2).
 -define(MONITORS_OF, 10).
+-define(HEAP_OF, 11).
 
 upgrades_test_() ->
     {inparallel, 2, [
@@ -86,16 +88,20 @@ take_over_here(Version) ->
     ok = sys:change_code(heal_registry, heal_server, undefined, []),
     ok = sys:resume(heal_registry).
 
-%% The last version had no messages that wait for full connections.
+%% The last version released all names of a process at once, and noted less of its heap. One before had no messages that wait for full
+%% connections.
 last(State) ->
-    cut(setelement(?PART_OF, State, cut(element(?PART_OF, State), #part.full - 1)), tuple_size(State) - 1).
+    Fields = [{?PART_OF, cut(element(?PART_OF, State), #part.full - 1)}, {?HEAP_OF, cut(element(?HEAP_OF, State), ?HEAP)}],
+    cut(with(Fields, State), tuple_size(State) - 1).
+
+with(Fields, State) ->
+    lists:foldl(fun({N, Value}, Sum) -> setelement(N, Sum, Value) end, State, Fields).
 
 server(State) ->
     Part = #part{own = Own} = element(?PART_OF, State),
     Owned = maps:from_list([{monitor(process, Pid), {Name, heal_row:owner(Row)}} || {Name, Row = #row{pid = Pid}} <- maps:to_list(Own)]),
     Owners = maps:from_list([{Owner, {Monitor, Name, (map_get(Name, Own))#row.pid}} || {Monitor, {Name, Owner}} <- maps:to_list(Owned)]),
-    Fields = [{?PART_OF, part(Part)}, {?MONITORS_OF, Owned}, {?MONITORS_OF + 1, Owners}],
-    cut(lists:foldl(fun({N, Value}, Sum) -> setelement(N, Sum, Value) end, State, Fields), ?SERVER).
+    cut(with([{?PART_OF, part(Part)}, {?MONITORS_OF, Owned}, {?HEAP_OF, Owners}], State), ?SERVER).
 
 part(Part = #part{own = Own, replica = Replica, lost = Lost}) ->
     Earlier = maps:map(fun(Name, Row) -> {own, heal_row:sent(Row), maps:get(Name, Lost, none)} end, Own),
