@@ -5,12 +5,13 @@
 %% to the virtual machine: the rows of a million names take a quarter of a second.
 -module(heal_heap).
 
--export([new/1, roomy/2, cleaned/2, changed/2, timed/2, quiet/4, tick/3]).
+-export([new/1, expecting/1, roomy/2, cleaned/2, changed/2, timed/2, quiet/4, tick/3]).
 -export_type([heap/0]).
 
-%% Words during an exchange: for each name, and at most.
+%% Words during an exchange: for each name, at most, and for each of so many names that this is too little.
 -define(ROOM_FOR_NAME, 300).
 -define(ROOM, 6000000).
+-define(ROOM_OF_MANY, 60).
 %% Words at other times, at least.
 -define(USUAL, 20000).
 %% Words that edits leave at most, for each name and besides. What is more is an exchange's room.
@@ -41,6 +42,12 @@ new(Rows) ->
     usual(),
     #heap{changed = Rows, since = now_in_milliseconds()}.
 
+%% Makes room for this many rows, which the process is about to make.
+-spec expecting(Rows :: non_neg_integer()) -> ok.
+expecting(Rows) ->
+    _ = room(Rows),
+    ok.
+
 %% An exchange of tables of this many names makes much garbage. With more room fewer collections copy the rows. A tick takes the room
 %% back.
 -spec roomy(Names :: non_neg_integer(), heap()) -> heap().
@@ -50,15 +57,17 @@ roomy(Names, Heap) ->
 
 %% Returns the words that there was room for before.
 room(Names) ->
-    Room = min(?ROOM, ?ROOM_FOR_NAME * Names),
+    Room = room_for(Names),
     _ = process_flag(min_bin_vheap_size, Room),
     process_flag(min_heap_size, Room).
+
+room_for(Names) -> min(?ROOM_FOR_NAME * Names, max(?ROOM, ?ROOM_OF_MANY * Names)).
 
 %% The same, and collects the garbage now, unless the room is there already.
 -spec cleaned(Names :: non_neg_integer(), heap()) -> heap().
 cleaned(Names, Heap) ->
     Before = room(Names),
-    _ = Before < ?ROOM_FOR_NAME * Names andalso Before < ?ROOM andalso erlang:garbage_collect(),
+    _ = Before < room_for(Names) andalso erlang:garbage_collect(),
     changed(Names, Heap).
 
 %% Room for the garbage of some edits: a small table would leave room for one or two.

@@ -16,6 +16,8 @@
 -type outcome() :: {{Clashes :: non_neg_integer(), [heal:loss()], heal_exchange:rulings()}, [{heal:name(), heal:values()}],
                     Lacking :: [heal:name()], Withdrawn :: [heal:name()]}.
 
+%% The names for which the other node has one more millisecond: the steps of an exchange take longer where there are many.
+-define(NAMES_OF_TIMEOUT, 50).
 -define(MAX_PROGRAMS, 256).
 
 %% ---- Who exchanges ----
@@ -238,11 +240,11 @@ opened({ok, Offer, Open}, Reference, Number, Seed, Node, Part) ->
 opened({error, Refusal}, _Reference, Number, _Seed, Node, Part) ->
     refused(Refusal, Node, Number, Part).
 
-open(Node, Side, Number, Seed, Members, Part = #part{now = Now, exchange_timeout = Timeout}) ->
+open(Node, Side, Number, Seed, Members, Part = #part{now = Now}) ->
     case begin_with(ready(Side, Members, Part), Number, Seed, Part) of
         {ok, Bytes, Handle, #prepared{at = At, names = Names}} ->
-            Open = #open{node = Node, number = Number, side = Side, from = At, handle = Handle, own = Names,
-                         members = Members, begun = Now, deadline = Now + Timeout},
+            Open = extended(#open{node = Node, number = Number, side = Side, from = At, handle = Handle, own = Names,
+                                  members = Members, begun = Now, deadline = Now}, Part),
             Processes = heal_processes:sent(heal_processes:groups(Names), heal_peers:takes_groups(Node, Part)),
             {ok, {Bytes, Processes, (heal_state:half(Part))#half.programs, members(Part)}, Open};
         Refused ->
@@ -333,7 +335,12 @@ hear({Bytes, Processes, Programs, Members}, Open = #open{handle = Handle}, Part 
             refused(Refusal, Part)
     end.
 
-extended(Open, #part{now = Now, exchange_timeout = Timeout}) -> Open#open{deadline = Now + Timeout}.
+extended(Open, #part{now = Now, exchange_timeout = Timeout}) ->
+    Open#open{deadline = Now + Timeout + names(Open) div ?NAMES_OF_TIMEOUT}.
+
+names(#open{stage = {done, #half{names = Names}, _}}) -> map_size(Names);
+names(#open{own = Own, others = none}) -> map_size(Own);
+names(#open{own = Own, others = Others}) -> map_size(Own) + heal_processes:count(Others).
 
 %% Sends the list of withdrawn names: steps 2 and 3.
 close(Part = #part{world = World, heal = Open = #open{node = Node, number = Number, handle = Handle, withdrawn = Withdrawn}}) ->

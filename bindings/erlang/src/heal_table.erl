@@ -103,8 +103,7 @@ entry(Name, #row{serial = Serial, stamp = Stamp, alike = {Node, Weight, Extra, R
 row_of(Entry = #entry{node = Node, serial = Serial, stamp = Stamp, weight = Weight, resolver = Resolver}) ->
     Extra = case Entry#entry.extra of none -> ?NOTHING; Bytes -> Bytes end,
     Pid = case Entry#entry.pid of {ended, Ended} -> Ended; Living -> Living end,
-    Registration = #{owner => {Node, Serial}, stamp => Stamp, weight => Weight, extra => Extra, resolver => Resolver},
-    heal_row:new(Entry#entry.name, Registration, Pid, term_of(Entry), home_of(Entry, Pid)).
+    heal_row:of_values(Entry#entry.name, {Serial, Stamp, {Node, Weight, Extra, Resolver}}, Pid, term_of(Entry), home_of(Entry, Pid)).
 
 term_of(#entry{name = Name, term = same}) -> Name;
 term_of(#entry{term = {term, Term}}) -> Term.
@@ -173,6 +172,7 @@ patience(Usual) ->
 %% Returns the settings with which a registry of this life goes on: its replica, the registrations that it answers for, and so on.
 -spec restore(heal_replica:life()) -> map().
 restore(Life) ->
+    ok = heal_heap:expecting(ets:info(?ROWS, size)),
     true = ets:match_delete(?ROWS, #entry{pid = none, _ = '_'}),
     Entries = ets:match_object(?ROWS, #entry{_ = '_'}),
     {Rows, _} = lists:mapfoldl(fun shared_row/2, #{}, Entries),

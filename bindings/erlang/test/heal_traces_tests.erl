@@ -477,6 +477,21 @@ proposal_test() ->
     ?assertMatch([{hear, 1, _}], Begins(fun(_, _, Body) -> element(1, Body) =:= propose end)),
     ?assertEqual([], Begins(fun none_lost/3)).
 
+%% The more names two parts have, the longer each waits for the other one's next step.
+many_names_test() ->
+    Names = maps:from_list([{Name, heal_row:new(Name, heal_row:registration(row(a, N, a, 0)), {pid, a, N}, Name, {a, 1})}
+                            || N <- lists:seq(1, 5000), Name <- [<<"n", (integer_to_binary(N))/binary>>]]),
+    Replica = heal_replica:resume({a, 1}, {{{a, 1}, 1}, 5000}, 1, #half{names = Names}),
+    Begun = start([{a, #{names => 5000, replica => Replica, own => Names}}, {b, #{names => 5000}}]),
+    Deadlines = fun(Kind) ->
+        Parts = connect(a, b, fun(_, _, Body) -> element(1, Body) =:= Kind end, Begun),
+        [{Node, Deadline} || {Node, #part{heal = #open{deadline = Deadline}}} <- lists:sort(maps:to_list(Parts))]
+    end,
+    ?assertEqual([{a, 2 + 2000 + 100}, {b, 2 + 2000 + 100}], Deadlines(list)),
+    %% Before b has heard the offer it doesn't know of the names, and in the end it has the merge.
+    ?assertMatch([{b, 2 + 2000}], [Of || Of = {b, _} <- Deadlines(offer)]),
+    ?assertEqual([{b, 2 + 2000 + 100}], Deadlines(finished)).
+
 %% An exchange that an earlier version of the registry began is given up. One of this version goes on.
 upgraded_exchange_test() ->
     #{a := Part} = start([{a, #{}}]),
