@@ -312,7 +312,7 @@ own({?REGISTRY, step, Step}, State) ->
 own({?REGISTRY, lost}, State) ->
     lost(State);
 own({?REGISTRY, release}, State) ->
-    release_some(State);
+    release_later(true, release_first(State));
 own({?REGISTRY, quiet, Changed}, State = #server{part = Part, heap = Heap}) ->
     timed(State#server{heap = heal_heap:quiet(Changed, heal_part:is_idle(Part), heal_part:count(Part), Heap)});
 own(Message, State) ->
@@ -640,32 +640,26 @@ disown(Name, #row{pid = Pid}, State = #server{watched = Watched}) ->
     State#server{watched = heal_watching:unwatch(Name, Pid, Watched)}.
 
 %% A process has ended, of which this node may have watched names.
-died(Pid, State = #server{watched = Watched}) ->
+died(Pid, State = #server{watched = Watched, ended = Ended}) ->
     case heal_watching:ended(Pid, Watched) of
-        {Names, Rest} -> release_more([{Pid, Names}], State#server{watched = Rest});
+        {Names, Rest} -> release_later(Ended =:= [], release(Pid, Names, State#server{watched = Rest}));
         none -> State
     end.
 
-release_more(Others, State = #server{ended = []}) ->
-    release_some(State#server{ended = Others});
-release_more(Others, State = #server{ended = Ended}) ->
-    State#server{ended = Ended ++ Others}.
+%% Releases some names of a process that has ended. Other messages don't wait for the rest, but those of an exchange do.
+release(Pid, Names, State) ->
+    {Now, Later} = split(?RELEASED, Names),
+    Next = #server{ended = Ended} = lists:foldl(fun(Name, Sum) -> died(Name, Pid, Sum) end, State, Now),
+    Next#server{ended = [{Pid, Later} || Later =/= []] ++ Ended}.
 
-%% Releases some names. Other messages don't wait for the rest, but those of an exchange do.
-release_some(State) ->
-    Next = #server{ended = Ended} = release_first(State),
-    _ = Ended =/= [] andalso (self() ! {?REGISTRY, release}),
-    Next.
+release_later(true, State = #server{ended = [_ | _]}) -> self() ! {?REGISTRY, release}, State;
+release_later(_IsDue, State) -> State.
+
+release_first(State = #server{ended = []}) -> State;
+release_first(State = #server{ended = [{Pid, Names} | Others]}) -> release(Pid, Names, State#server{ended = Others}).
 
 release_rest(State = #server{ended = []}) -> State;
 release_rest(State) -> release_rest(release_first(State)).
-
-release_first(State = #server{ended = []}) ->
-    State;
-release_first(State = #server{ended = [{Pid, Names} | Others]}) ->
-    {Now, Later} = split(?RELEASED, Names),
-    Rest = [{Pid, Later} || Later =/= []] ++ Others,
-    lists:foldl(fun(Name, Sum) -> died(Name, Pid, Sum) end, State#server{ended = Rest}, Now).
 
 split(Most, List) ->
     lists:split(min(Most, length(List)), List).
