@@ -8,19 +8,19 @@
 -export([new/1, expecting/1, roomy/2, cleaned/2, changed/2, timed/2, quiet/4, tick/3]).
 -export_type([heap/0]).
 
-%% Words during an exchange: for each name, at most, and for each of so many names that this is too little.
+%% Words during an exchange: for each name, up to a limit, and for each name of a table for which the limit is too small.
 -define(ROOM_FOR_NAME, 300).
 -define(ROOM, 6000000).
 -define(ROOM_OF_MANY, 60).
 %% Words at other times, at least.
 -define(USUAL, 20000).
-%% Words that edits leave at most, for each name and besides. What is more is an exchange's room.
+%% The most words that edits leave, for each name and in addition. An exchange's room is larger.
 -define(BUSY_FOR_NAME, 200).
 -define(BUSY, 200000).
 %% Milliseconds without a changed row, at least, and the names for which it waits one more.
 -define(QUIET, 50).
 -define(NAMES_OF_QUIET, 100).
-%% So many names that a collection takes about as long as an edit should.
+%% From this many names on a collection takes longer than an edit should.
 -define(MANY, 20000).
 
 -record(heap, {
