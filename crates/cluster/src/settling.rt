@@ -33,8 +33,8 @@ use verdict_board::{Board, Pass, Seat, open};
 impl Cluster {
     /// Heals the split: the halves exchange their tables, `workers` judge the clashes, and both keep the merge.
     ///
-    /// First abandons an exchange that an earlier failure left open, and renews each journal that has more than 32,768
-    /// events, so that an exchange fits. If both halves finish, the split is healed: no call after that can fail.
+    /// First abandons an exchange that an earlier failure left open, and renews each journal that is more than half full, so
+    /// that an exchange fits. If both halves finish, the split is healed: no call after that can fail.
     ///
     /// On failure, abandons each open half, unless the half rejects that, and returns the fault with the least number
     /// met: 31 or 47 if a half doesn't hold each name that it is to withdraw, or is to withdraw one twice; 35 if the

@@ -30,7 +30,7 @@ abbrev pub unless_again : Option ℕ → Withdrawals → Result Withdrawals List
 unless_again None list = Ok list
 unless_again (Some at) list = Err (NameAgain at)
 
--- the list of these names: at most 4,096, each once
+-- the list of these names: at most as many as a table may have, each once
 abbrev pub names_due : Withdrawals → Result Withdrawals ListFault
 names_due list =
     if nat_lt most_names (length list.names) then Err TooMany else unless_again (first_again [] 0 list.names) list

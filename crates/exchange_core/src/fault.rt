@@ -40,7 +40,7 @@ pub enum SideFault {
     StrangeRuling,
     /// 39: the exchange isn't complete.
     Missing(MissingPart),
-    /// 40: the journal has 65,536 events.
+    /// 40: the journal is full: it has 16 events for each name of the limit.
     JournalFull,
     /// 45: the message belongs to another exchange.
     OtherNumber,

@@ -59,7 +59,7 @@ impl From<AllocError> for ListFault {
 impl Withdrawals {
     /// Returns the list of a side that withdrew these names in this exchange, the earliest first.
     ///
-    /// Returns 73 for more than 4,096 names, and otherwise 77 for the first name that repeats an earlier one, with its index.
+    /// Returns 73 for more than 1,048,576 names, and otherwise 77 for the first name that repeats an earlier one, with its index.
     /// Returns 90 when out of memory: it allocates a set of the names, unless they ascend, while it looks for repeated ones.
     pub fn of_names(
         alloc: Global,

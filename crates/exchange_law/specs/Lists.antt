@@ -5,7 +5,7 @@ use Rattle.std.specs.FinMap.{contains_key}
 use Rattle.clash_record.specs.Name.{Name}
 use Rattle.partition_table.specs.Tables.{Table, is_same_name, most_names}
 
--- distinct names, at most 4,096
+-- distinct names, at most as many as a table may have
 pub record IsNameList (names : List Name) : Type 0 where
   pub few : length names ≤ most_names
   pub distinct : IsDistinct is_same_name names
