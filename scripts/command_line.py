@@ -233,14 +233,12 @@ FILE_LINES = [
     ("upload x @digits", "uploaded x 2 instructions"),
 ]
 
-# Lines with a file, and the words for them.
+# Lines with a file, and the words for them, which show nothing of its content.
 FILE_WORDS = (
     "upload x @missing\nupload x @object\nupload y @odd\nupload y @rejected\n",
     "heal: line 1: refused 58: a file that can't be read\n"
     "heal: line 3: refused 50: invalid hex digits, or the wrong number of them\n"
-    "heal: line 4: refused 15 at slot 0: a read of a register that may be unset, or may be an address or a number\n"
-    "      r1=record[0] r10=stack[0]\n"
-    "0: exit\n",
+    "heal: line 4: refused 15 at slot 0: a read of a register that may be unset, or may be an address or a number\n",
 )
 
 

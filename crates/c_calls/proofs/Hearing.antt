@@ -11,8 +11,8 @@ use Rattle.exchange_codec.specs.Withdrawals.{SpellsWithdrawals, list_due}
 use Rattle.exchange_codec.specs.Withdrawals as lists
 use Rattle.c_calls.specs.Halves.{SideAndStore}
 use Rattle.c_calls.specs.Sides.{Stays}
-use Rattle.c_calls.specs.Exchanges.{HearsWhole, HearsOffer, HearsNames, HearsDue, HearsWholeList}
-use Rattle.c_calls.specs.laws.Reading.{boxed_spelled, spent, spent_answer}
+use Rattle.c_calls.specs.Exchanges.{HearsOffer, HearsNames, HearsDue, HearsWholeList}
+use Rattle.c_calls.specs.laws.Reading.{boxed_spelled, spent_answer}
 use Rattle.c_calls.proofs.Repeating.{spent_other}
 
 -- the message on the heap is the one that was encoded
@@ -52,20 +52,3 @@ list_refused bytes old new n (Err f) fault e taken exact is stays = record {
     due (Ok w) r = unheard w r
     due (Err m) (inl same) = let equal : n ≡ message_fault_number m = cc in (inl equal, stays)
     due (Err m) (inr out) = (inr (number_is ∙ out), stays)
-
--- every call may run out of memory
-pub spent_offer : (bytes : List ℕ) (old new : SideAndStore) (n : ℕ) → n ≡ out_of_memory → Stays old new → HearsWhole bytes old new n
-spent_offer bytes old new n e stays = spent _ _ _ (λ offer. HearsOffer offer old new n) _ n e stays (λ offer. unheard offer old new n stays e)
-
-pub spent_list : (bytes : List ℕ) (old new : SideAndStore) (n : ℕ) → n ≡ out_of_memory → Stays old new → HearsWholeList bytes old new n
-spent_list bytes old new n e stays = record {
-  taken = λ w spells. names w;
-  exact = due (list_due (length bytes) (lists.whole_list bytes));
-}
-  where
-    names : (w : sides.Withdrawals) → HearsNames w old new n
-    names w = spent_other _ _ _ _ _ e stays (spent_answer _ _ _ _ e stays)
-
-    due : (d : Result sides.Withdrawals MessageFault) → HearsDue d old new n
-    due (Ok w) = names w
-    due (Err m) = (inr e, stays)

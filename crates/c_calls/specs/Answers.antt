@@ -71,9 +71,9 @@ OnHandle (Some old) None call stays n = ⊥
 OnHandle (Some old) (Some new) call stays n = call old new n
 
 -- A call that only reads a handle
-abbrev pub Reads : {A : Type 0} → Option A → Option A → (A → ℕ → Type 0) → Type 0 → ℕ → Type 0
-Reads None new call stays n = (new ≡ None) × (n ≡ 91) × stays
-Reads (Some held) new call stays n = (new ≡ Some held) × call held n
+abbrev pub ReadsHandle : {A : Type 0} → Option A → Option A → (A → ℕ → Type 0) → Type 0 → ℕ → Type 0
+ReadsHandle None new call stays n = (new ≡ None) × (n ≡ 91) × stays
+ReadsHandle (Some held) new call stays n = (new ≡ Some held) × call held n
 
 -- ---- bytes that a call reads
 

@@ -1,5 +1,5 @@
 -- The calls of a half in an exchange: what is due to each, and what it leaves.
-use Rattle.std.specs.Prelude.{◌≡◌, ◌⊎◌, ℕ, Bool, if◌then◌else◌, List, length, Option, Some, None, IsSomeAnd, Result, Ok, Err}
+use Rattle.std.specs.Prelude.{◌≡◌, ◌⊎◌, ℕ, Bool, true, false, List, length, Option, Some, None, IsSomeAnd, Result, Ok, Err}
 use Rattle.std.specs.Option.{option_map}
 use Rattle.refusals.specs.Answers.{out_of_memory}
 use Rattle.clash_record.specs.Name.{Name}
@@ -44,9 +44,9 @@ Closes old new list list' = GivesDueOrRunsOut
 
 -- ---- what the other side sent
 
--- a message with this refusal is refused unless memory runs out; for one without a refusal this holds
+-- a message with this refusal is refused; for one without a refusal this holds
 abbrev pub UnlessRefused : Option ℕ → SideAndStore → SideAndStore → ℕ → Type 0 → Type 0
-UnlessRefused (Some m) old new n heard = ((n ≡ m) ⊎ (n ≡ out_of_memory)) × Stays old new
+UnlessRefused (Some m) old new n heard = (n ≡ m) × Stays old new
 UnlessRefused None old new n heard = heard
 
 -- of the head of a message: its own fault, or the refusal of every message of its sender and number: 34, 40, 45 or 46
@@ -58,9 +58,10 @@ refusal_of half (Ok head) =
 abbrev pub head_refusal : SideAndStore → List ℕ → Option ℕ
 head_refusal half bytes = refusal_of half (reading.due (length bytes) (peeked bytes))
 
--- another message of its number was heard, which is refused with 83
+-- another message of its number was heard, which is refused with 83 unless memory runs out
 abbrev pub UnlessOther : Bool → SideAndStore → SideAndStore → ℕ → Type 0 → Type 0
-UnlessOther is_other = UnlessRefused (if is_other then Some 83 else None)
+UnlessOther true old new n heard = ((n ≡ 83) ⊎ (n ≡ out_of_memory)) × Stays old new
+UnlessOther false old new n heard = heard
 
 -- the side's answer to an offer
 abbrev pub HearsFirst : sides.Offer → SideAndStore → SideAndStore → ℕ → Type 0

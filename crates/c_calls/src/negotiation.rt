@@ -57,7 +57,7 @@ impl Half {
     }
 
     /// Hears the other side's offer. Reads no more than its head if that is refused.
-    #[tactic(auto, using(crate::proofs::Heads::refused, crate::proofs::Heads::passed, crate::proofs::Hearing::spent_offer))]
+    #[tactic(auto, using(crate::proofs::Heads::refused, crate::proofs::Heads::passed))]
     pub fn hear(&mut self, alloc: Global, bytes: &[u8]) -> u32
         ensures { Hears bytes.now self.old self.new result }
     {
@@ -67,10 +67,10 @@ impl Half {
         }
     }
 
-    // Returns the refusal that the head of a message is due, or 90.
+    // Returns the refusal that the head of a message is due.
     #[tactic(auto, using(crate::proofs::Heads::read, crate::proofs::Heads::unread))]
     fn head_refusal(&self, bytes: &[u8]) -> Option<u32>
-        ensures { (result ≡ head_refusal self.now bytes.now) ⊎ (result ≡ Some out_of_memory) }
+        ensures { result ≡ head_refusal self.now bytes.now }
     {
         match peek(bytes) {
             Ok(head) => self.refusal_of(&head),
@@ -164,7 +164,7 @@ impl Half {
     }
 
     /// Hears the other side's list. Reads no more than its head if that is refused.
-    #[tactic(auto, using(crate::proofs::Heads::refused, crate::proofs::Heads::passed, crate::proofs::Hearing::spent_list))]
+    #[tactic(auto, using(crate::proofs::Heads::refused, crate::proofs::Heads::passed))]
     pub fn hear_list(&mut self, alloc: Global, bytes: &[u8]) -> u32
         ensures { HearsList bytes.now self.old self.new result }
     {

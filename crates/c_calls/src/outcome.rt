@@ -46,8 +46,8 @@ const UNJUDGED: Judged = Judged {
 };
 
 impl Outcome {
-    /// Returns an outcome of these clashes and withdrawn names, with a place for what is known of each clash.
-    pub fn new(
+    // Returns an outcome of these clashes and withdrawn names, with a place for what is known of each clash.
+    pub(crate) fn new(
         alloc: Global,
         clashes: Arc<ClashList>,
         gone_a: Vec<Name>,
@@ -76,8 +76,8 @@ impl Outcome {
         })
     }
 
-    /// Fills in the numbers, the rulings, and what is known of each clash. Allocates nothing.
-    pub fn fill(&mut self, finished: &Finished)
+    // Fills in the numbers, the rulings, and what is known of each clash. Allocates nothing.
+    pub(crate) fn fill(&mut self, finished: &Finished)
         requires { IsRoomFor (clashes_merged finished.now) finished.now.gone self.old }
         ensures { IsOutcome finished.now self.new }
     {

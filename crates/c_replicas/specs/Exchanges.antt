@@ -1,9 +1,9 @@
 -- The exchange of a primary: what is due to each call, and what it leaves.
-use Rattle.std.specs.Prelude.{◌≡◌, ℕ, Bool, true, false, nat_le, if◌then◌else◌, is_some, Option, Some, None, Result, Ok, Err}
+use Rattle.std.specs.Prelude.{◌≡◌, ℕ, ◌+◌, ◌≤◌, length, Bool, true, false, nat_le, if◌then◌else◌, is_some, Option, Some, None, Result, Ok, Err}
 use Rattle.std.specs.FinMap.{len}
 use Rattle.clash_record.specs.declared.side_id.SideId.{SideId}
 use Rattle.exchange_law.specs.Sides as sides
-use Rattle.exchange_core.specs.Shown.{shown, limit_of}
+use Rattle.exchange_core.specs.Shown.{shown, calls, limit_of}
 use Rattle.replica.specs.Faults.{replica_fault_number}
 use Rattle.replica.specs.Replicas.{Replica, Change, left_by, change_fault}
 use Rattle.c_calls.specs.Halves.{SideAndStore}
@@ -12,7 +12,7 @@ use Rattle.c_calls.specs.Sides.{side_id}
 use Rattle.c_replicas.specs.declared.positions.HealPosition.{HealPosition}
 use Rattle.c_replicas.specs.Positions.{position_of}
 
--- the side has what the replica's half has, and no exchange is open
+-- the side has what the replica's half has, no exchange is open, and its journal has at most two events more than names
 pub record IsSideOf (id : SideId) (replica : Replica) (half : SideAndStore) : Type 0 where
   pub state : shown half.side ≡ record {
     id = id;
@@ -21,6 +21,7 @@ pub record IsSideOf (id : SideId) (replica : Replica) (half : SideAndStore) : Ty
     latest = replica.half.latest;
   }
   pub limit : limit_of half.side ≡ replica.half.limit
+  pub short : length (calls half.side) ≤ len replica.half.table + 2
   pub store : half.store ≡ replica.half.store
 
 -- the side of this number, or 74, or 32 for a table that has more names than the limit

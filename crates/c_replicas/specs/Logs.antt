@@ -1,6 +1,5 @@
 -- The front of a log as C reads it.
-use Rattle.std.specs.Prelude.{◌≡◌, ◌⊎◌, ℕ, List, Result, Ok, Err}
-use Rattle.refusals.specs.Answers.{out_of_memory}
+use Rattle.std.specs.Prelude.{ℕ, List, Result, Ok, Err}
 use Rattle.replica_codec.specs.declared.fault.ReplicaMessageFault.{ReplicaMessageFault}
 use Rattle.replica_codec.specs.declared.log.LogFront.{LogFront}
 use Rattle.replica_codec.specs.declared.log.LogFront.TheVariants.{End, Cut, Entry, Snapshot}
@@ -24,7 +23,3 @@ front_in (Err fault) = Err (replica_message_fault_number fault)
 -- the front of the bytes, or the number of their fault
 abbrev pub front_due : List ℕ → Result HealLogFront ℕ
 front_due bytes = front_in (logs.front_of bytes)
-
--- this is returned, or memory ran out
-abbrev pub ReturnsFront : Result HealLogFront ℕ → Result HealLogFront ℕ → Type 0
-ReturnsFront due result = (result ≡ due) ⊎ (result ≡ Err out_of_memory)

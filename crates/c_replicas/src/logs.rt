@@ -16,10 +16,10 @@ pub struct HealLogFront {
 }
 
 /// Returns what a log begins with. Rejects bytes that begin with no entry and no snapshot: 71, or 82 for another version; and a
-/// header and a length that differ from their checksum: 84.
+/// header and a length that differ from their checksum: 84. Allocates nothing.
 #[tactic(auto, using(crate::proofs::Fronts::read, crate::proofs::Fronts::unread))]
 pub fn log_front(log: &[u8]) -> Result<HealLogFront, u32>
-    ensures { code.ReturnsFront (code.front_due log.now) result }
+    ensures { result ≡ code.front_due log.now }
 {
     match read_front(log) {
         Ok(front) => Ok(front_code(front)),

@@ -1,5 +1,5 @@
 //! The record of a clash by its fields: read from words (a name, two registrations such as `1.10,stamp=5`, and a word), and
-//! told in words.
+//! printed as text.
 #![tactic(auto)]
 
 mod reading;

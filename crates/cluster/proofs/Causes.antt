@@ -30,10 +30,10 @@ use Rattle.exchange_core.specs.Shown.{shown, IsDone, IsUntouched}
 use Rattle.exchange_law.specs.laws.Carried.{when, when_some, goes}
 use Rattle.exchange_core.specs.Refusals as due
 use Rattle.cluster.specs.Clusters.{Cluster, at}
-use Rattle.cluster.specs.Healing.{Plan, IsNew, HasHeld, are_held_after, gone_of_side}
+use Rattle.cluster.specs.Healing.{Plan, IsNew, HasHeld, FitsIn, BothFit, are_held_after, gone_of_side}
 use Rattle.cluster.specs.declared.fault.HealFault.{HealFault}
-use Rattle.cluster.specs.Causes.{BothNew, BothHeld, BothFit, IsSideCause, IsCause}
-use Rattle.cluster.specs.model.Stages.{other, IsRested, offer_in, no_ruling, IsTrying, IsUnlisted, IsRefusalOf}
+use Rattle.cluster.specs.Causes.{BothNew, BothHeld, IsSideCause, IsCause}
+use Rattle.cluster.specs.model.Stages.{other, IsRested, offer_in, no_ruling, IsTrying, IsUnlisted, IsUnheard, IsRefusalOf}
 use Rattle.cluster.proofs.Held.{left_holds, right_holds}
 use Rattle.cluster.proofs.Answered.{was_ok, by_answer}
 
@@ -255,6 +255,56 @@ module _ (plan : Plan) (was : Cluster) where
             from_other offer.side offer.number (ap (λ (o : Offer). o.side) same) (ap (λ (o : Offer). o.number) same)
             fault e
 
+    -- an offer that is taken fits
+
+    first_fits : (offer : Offer) → offer ≡ offer_in plan was (other id) →
+        due.first_offer_fault (at was id).limit full side t.exchange offer ≡ None → FitsIn was id
+    first_fits offer same e =
+        let theirs = sym (ap (λ (o : Offer). o.table) same) in
+        by (t.exchange.seed == offer.seed) (nat_le (due.union_for side.id side.table offer.table) (at was id).limit) full
+        (due.agree_for side.id side.table offer.table)
+        (ap (λ n. nat_le n (at was id).limit) (sym (union_of id)
+        ∙ (λ i. due.union_for (sym t.same_id i) (sym t.table i) (theirs i))))
+        (sym (agree_of id) ∙ (λ i. due.agree_for (sym t.same_id i) (sym t.table i) (theirs i))) e
+      where
+        by : (seed few full code : Bool) → nat_le (union_len table_a table_b) (at was id).limit ≡ few →
+            tables_agree table_a table_b ≡ code →
+            (if not seed then Some of.SeedDiffers
+            else (if not few then Some (of.Table at_table.TooManyNames)
+            else (if full then Some of.JournalFull
+            else (if not code then Some (of.Table at_table.OtherCode) else None)))) ≡ None →
+            FitsIn was id
+        by true true false true f c e = λ i. f i && c i
+        by false few full code f c e = absurd (cc)
+        by true false full code f c e = absurd (cc)
+        by true true true code f c e = absurd (cc)
+        by true true false false f c e = absurd (cc)
+
+    pub hear_fits : (limit : ℕ) → limit ≡ (at was id).limit → t.exchange.heard ≡ None → (offer : Offer) →
+        offer ≡ offer_in plan was (other id) → due.hear_fault limit full side offer ≡ None → FitsIn was id
+    hear_fits limit is unheard offer same e =
+        by (due.is_first_offer side.id t.exchange offer) first
+        (sym (ap (λ (o : Option Exchange). option_map_or (due.hear_fault_in (at was id).limit full side offer) o (Some of.NotHealing))
+        t.opened) ∙ ap (λ n. due.hear_fault n full side offer) (sym is) ∙ e)
+      where
+        numbers : offer.number ≡ plan.number
+        numbers = ap (λ (o : Offer). o.number) same
+
+        senders : offer.side ≡ other id
+        senders = ap (λ (o : Offer). o.side) same
+
+        first : due.is_first_offer side.id t.exchange offer ≡ true
+        first =
+            (λ i. is_none (unheard i) && (t.under_way.number i == numbers i && not (is_side (t.same_id i) (senders i))))
+            ∙ (λ i. eq_self plan.number i && not (not_own id i))
+
+        by : (first : Bool) → first ≡ true →
+            (if first then due.first_offer_fault (at was id).limit full side t.exchange offer
+            else due.sent_fault full side.id t.exchange offer.side offer.number) ≡ None →
+            FitsIn was id
+        by true f e = first_fits offer same e
+        by false f e = absurd (true≢false (sym f))
+
     pub hear_list_cause : (sent : Withdrawals) → sent.side ≡ other id → sent.number ≡ plan.number →
         (fault : SideFault) → due.hear_list_fault full side sent ≡ Some fault → IsSideCause plan was fault
     hear_list_cause sent theirs same fault e =
@@ -342,6 +392,10 @@ unlisted_begun : (side new : Side) (number seed uptime : ℕ) → begin side num
 unlisted_begun side new number seed uptime e =
     subst IsUnlisted (when _ _ _ e).1 (λ x is. closed_of (some_is is))
 
+unheard_begun : (side new : Side) (number seed uptime : ℕ) → begin side number seed uptime ≡ Some new → IsUnheard new
+unheard_begun side new number seed uptime e =
+    subst IsUnheard (when _ _ _ e).1 (λ x is. ap (λ (x : Exchange). x.heard) (sym (some_is is)))
+
 unlisted_hears : (offer : Offer) (side new : Side) → hear side offer ≡ Some new → IsUnlisted side → IsUnlisted new
 unlisted_hears offer side new e =
     unlisted_on side new (hear_in side.id side.table offer) e
@@ -376,6 +430,11 @@ pub begun_unlisted : {X : Type 0} (r : Result X SideFault) (x : X) (old new : co
     r ≡ Ok x → OnOk r (IsDone old (Begin number seed uptime) new) → IsUnlisted (shown new)
 begun_unlisted r x old new number seed uptime is done =
     unlisted_begun (shown old) (shown new) number seed uptime (was_ok r x is done).carried
+
+pub begun_unheard : {X : Type 0} (r : Result X SideFault) (x : X) (old new : code.Side) (number seed uptime : ℕ) →
+    r ≡ Ok x → OnOk r (IsDone old (Begin number seed uptime) new) → IsUnheard (shown new)
+begun_unheard r x old new number seed uptime is done =
+    unheard_begun (shown old) (shown new) number seed uptime (was_ok r x is done).carried
 
 -- ---- the causes of calls
 

@@ -1,6 +1,7 @@
 mod Answered
 mod Called
 mod Causes
+mod Early
 mod Held
 mod Left
 mod Listed

@@ -10,7 +10,7 @@ use Rattle.exchange_core.specs.Finished.{Finished, IsFinished}
 use Rattle.partition_table.specs.Tables.{Table, Clash, clashes}
 use Rattle.verdict_board.specs.Boards.{Place, Pass}
 use Rattle.cluster.specs.Clusters.{Cluster}
-use Rattle.cluster.specs.Healing.{Plan, finished_as, idle_side, HealsSplit}
+use Rattle.cluster.specs.Healing.{Plan, BothFit, finished_as, idle_side, HealsSplit}
 use Rattle.clash_record.specs.declared.side_id.SideId.TheVariants.{A, B}
 use Rattle.registry_lock.specs.Meeting.{IsFault, IsOfRuling}
 use Rattle.registry_lock.specs.declared.fault.MeetFault.{MeetFault}
@@ -35,9 +35,9 @@ heard_shown plan was names now all t e =
 
 pub settled : (plan : Plan) (was : Cluster) (pass : Pass) (now : Cluster) (first second : Finished) (rulings : List Judged) (all : List Clash)
     (count : ℕ) (place : Place) → AreInRounds plan was pass (Some first) (Some second) now → all ≡ clashes_shown plan was →
-    HaveMet place first second rulings count →
+    BothFit was → HaveMet place first second rulings count →
     HealsSplit plan was now (record { clashes = all; rulings = rulings; withdrawn = plan.gone; names = count })
-settled plan was pass now first second rulings all count place rounds same_clashes have =
+settled plan was pass now first second rulings all count place rounds same_clashes fit have =
     let met = have.healed in
     let lawful : IsFinished (finished_as plan was rulings first.table) =
     subst (λ (l : List Judged). IsFinished (finished_as plan was l first.table)) (sym have.same_rulings)
@@ -48,6 +48,7 @@ settled plan was pass now first second rulings all count place rounds same_clash
       clashes_are = same_clashes;
       withdrawn_are = refl;
       count_is = have.counted ∙ ap (λ (t : Table). len t) (sym met.first_has);
+      fit = fit;
       new_a = rounds.a.is_new;
       new_b = rounds.b.is_new;
       held_a = rounds.a.held;

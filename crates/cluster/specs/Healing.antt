@@ -7,7 +7,7 @@ use Rattle.clash_record.specs.declared.halves.Uptimes.{Uptimes}
 use Rattle.clash_record.specs.declared.halves.Withdrawal.{Withdrawal}
 use Rattle.clash_record.specs.declared.side_id.SideId.{SideId}
 use Rattle.clash_record.specs.declared.side_id.SideId.TheVariants.{A, B}
-use Rattle.partition_table.specs.Tables.{Table, Gone, is_in}
+use Rattle.partition_table.specs.Tables.{Table, Gone, is_in, fit_within}
 use Rattle.partition_table.specs.declared.judged.Judged.{Judged}
 use Rattle.exchange_law.specs.Sides.{Side, Exchange, is_above, is_side, shown_table, without}
 use Rattle.exchange_core.specs.Finished.{Finished, IsFinished, clashes_merged}
@@ -84,14 +84,22 @@ IsNew plan old id = IsTrue (is_above plan.number (at old id).side.latest)
 abbrev pub HasHeld : Cluster → SideId → List Withdrawal → Type 0
 HasHeld old id gone = AreHeld (shown_table (at old id).side) (gone_of_side id gone)
 
--- the split is healed: both halves have one table, the lawful merge of the two that they showed, and each half held the
--- names that it withdrew, each once
+-- the tables that the halves show fit together within a half's limit
+abbrev pub FitsIn : Cluster → SideId → Type 0
+FitsIn old id = IsTrue (fit_within (at old id).limit (shown_table old.a.side) (shown_table old.b.side))
+
+abbrev pub BothFit : Cluster → Type 0
+BothFit old = FitsIn old A × FitsIn old B
+
+-- the split is healed: both halves have one table, the lawful merge of the two that they showed, which fit together, and
+-- each half held the names that it withdrew, each once
 pub record HealsSplit (plan : Plan) (old new : Cluster) (healing : Healing) : Type 0 where
   pub table : Table
   pub lawful : IsLawful plan old healing.rulings table
   pub clashes_are : healing.clashes ≡ clashes_merged (finished_as plan old healing.rulings table)
   pub withdrawn_are : healing.withdrawn ≡ plan.gone
   pub count_is : healing.names ≡ len table
+  pub fit : BothFit old
   pub new_a : IsNew plan old A
   pub new_b : IsNew plan old B
   pub held_a : HasHeld old A plan.gone

@@ -6,9 +6,11 @@ ghost use Rattle.cluster.specs.Clusters as shown_as;
 ghost use Rattle.cluster.specs.Healing as planned;
 ghost use Rattle.cluster.specs.Healing.{plan_of, IsFailed};
 ghost use Rattle.exchange_law.specs.Sides.{rested};
-ghost use Rattle.cluster.specs.Causes.{IsSideCause, IsCause};
+ghost use Rattle.cluster.specs.declared.fault.HealFault.TheVariants.{Side as OfSide};
+ghost use Rattle.cluster.specs.Healing.{BothFit};
+ghost use Rattle.cluster.specs.Causes.{IsSideCause, IsCause, IsEarly, ShowAsBefore};
 ghost use Rattle.cluster.specs.model.Stages.{halves_of, AreSides, AddsEvents, AreRested, HaveAbandoned, AreOffers, AreTrying};
-ghost use Rattle.cluster.specs.model.Stages.{AreUnlisted, IsRefusalOf};
+ghost use Rattle.cluster.specs.model.Stages.{AreUnlisted, AreUnheard, IsRefusalOf};
 
 use crate::fault::HealFault;
 use crate::plan::Plan;
@@ -32,6 +34,8 @@ impl Halves {
             → IsFailed plan was (halves_of self.old)
             → IsFailed plan was (halves_of self.new) }
         ensures cause { IfErr result (λ fault. (plan : planned.Plan) (was : shown_as.Cluster) → IsCause plan was fault) }
+        ensures late { IfErr result (λ fault. ¬ IsEarly fault) }
+        ensures shown { ShowAsBefore (halves_of self.old) (halves_of self.new) }
     {
         let _ = both(abandon_open(&mut self.a), abandon_open(&mut self.b))?;
         Ok(())
@@ -45,6 +49,10 @@ impl Halves {
             → AreTrying (plan_of plan.entry.now) was plan.entry.now.gone.now (halves_of self.new)) }
         ensures failed { OnErr result ((was : shown_as.Cluster) → AreSides was → AreRested was (halves_of self.old)
             → IsFailed (plan_of plan.entry.now) was (halves_of self.new)) }
+        ensures fits { OnOk result ((was : shown_as.Cluster) → AreSides was → AreRested was (halves_of self.old)
+            → BothFit was) }
+        ensures early { IfErr result (λ fault. (was : shown_as.Cluster) → AreSides was
+            → AreRested was (halves_of self.old) → IsEarly fault → ShowAsBefore was (halves_of self.new)) }
     {
         let (of_a, of_b) = self.begin(alloc, plan)?;
         self.hear(alloc, &of_a, &of_b)?;
@@ -55,6 +63,9 @@ impl Halves {
     // Begins the exchange on both halves. Returns the offers, A's first.
     fn begin(&mut self, alloc: Global, plan: &Plan<'_>) -> Result<(Offer, Offer), HealFault>
         ensures unlisted { OnOk result (AreUnlisted (halves_of self.new)) }
+        ensures unheard { OnOk result (AreUnheard (halves_of self.new)) }
+        ensures shown { (was : shown_as.Cluster) → AreSides was → AreRested was (halves_of self.old)
+            → ShowAsBefore was (halves_of self.new) }
         ensures cause { IfErr result (λ fault. (was : shown_as.Cluster) → AreRested was (halves_of self.old)
             → IsCause (plan_of plan.entry.now) was fault) }
         ensures offers { IfOk result (λ offers. (was : shown_as.Cluster) → AreSides was
@@ -79,6 +90,8 @@ impl Halves {
             → IsCause plan was fault) }
         ensures heard { (plan : planned.Plan) (was : shown_as.Cluster) → AreOffers plan was of_a.now of_b.now
             → AreTrying plan was [] (halves_of self.old) → AreTrying plan was [] (halves_of self.new) }
+        ensures fits { OnOk result (AreUnheard (halves_of self.old) → (plan : planned.Plan) (was : shown_as.Cluster)
+            → AreOffers plan was of_a.now of_b.now → AreTrying plan was [] (halves_of self.old) → BothFit was) }
     {
         let _ = both(self.a.hear(alloc, of_b), self.b.hear(alloc, of_a))?;
         Ok(())
@@ -141,6 +154,7 @@ fn abandon_open(side: &mut Side) -> Result<(), SideFault>
     ensures few { length (calls side.new) ≤ length (calls side.old) + 1 }
     ensures cause { IfErr result (λ fault. (plan : planned.Plan) (was : shown_as.Cluster)
         → IsSideCause plan was fault) }
+    ensures late { IfErr result (λ fault. ¬ IsEarly (OfSide fault)) }
 {
     match side.abandon() {
         Err(SideFault::NotHealing) => Ok(()),

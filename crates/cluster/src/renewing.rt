@@ -38,8 +38,7 @@ impl Cluster {
         }
     }
 
-    /// Renews the journal of each idle half that is more than half full: 32,768 events unless the halves have another limit.
-    /// Allocates nothing.
+    /// Renews the journal of each idle half that is more than half full. Allocates nothing.
     pub fn renew_long(&mut self)
         ensures { AreFresh (cluster_of self.old) (cluster_of self.new) }
     {

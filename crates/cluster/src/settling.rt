@@ -8,8 +8,8 @@ ghost use Rattle.registry_lock.specs.Telling.{IsTold};
 ghost use Rattle.cluster.specs.Clusters as shown_as;
 ghost use Rattle.cluster.specs.Clusters.{cluster_of};
 ghost use Rattle.cluster.specs.Healing as planned;
-ghost use Rattle.cluster.specs.Healing.{plan_of, HealsSplit, IsFailed};
-ghost use Rattle.cluster.specs.Causes.{IsCause};
+ghost use Rattle.cluster.specs.Healing.{plan_of, BothFit, HealsSplit, IsFailed};
+ghost use Rattle.cluster.specs.Causes.{IsCause, IsEarly, ShowAsBefore};
 ghost use Rattle.cluster.specs.Healings.{healing_of};
 ghost use Rattle.cluster.specs.model.Stages.{halves_of, clashes_shown, AreSides, AreRested, AreTrying};
 ghost use Rattle.cluster.specs.model.Stages.{AreInRounds, HaveMet, CanMeet};
@@ -58,6 +58,9 @@ impl Cluster {
         ensures failed { OnErr result (IsFailed (plan_of plan.entry.now) (cluster_of self.old) (cluster_of self.new)) }
         // The fault has its cause in the halves before the call, or is 39, 40 or 90.
         ensures cause { IfErr result (IsCause (plan_of plan.entry.now) (cluster_of self.old)) }
+        // 35, 37 and 42 change no table.
+        ensures early { IfErr result (λ fault. IsEarly fault
+            → ShowAsBefore (cluster_of self.old) (cluster_of self.new)) }
     {
         let crew = Crew {
             rt,
@@ -82,6 +85,8 @@ impl Halves {
             → IsFailed (plan_of plan.entry.now) (halves_of self.old) (halves_of self.new)) }
         ensures cause { IfErr result (λ fault. AreSides (halves_of self.old)
             → IsCause (plan_of plan.entry.now) (halves_of self.old) fault) }
+        ensures early { IfErr result (λ fault. AreSides (halves_of self.old) → IsEarly fault
+            → ShowAsBefore (halves_of self.old) (halves_of self.new)) }
     {
         self.abandon_open()?;
         self.renew_long();
@@ -97,6 +102,8 @@ impl Halves {
             → IsCause plan was result }
         ensures left { (plan : planned.Plan) (was : shown_as.Cluster) → AreSides was → IsFailed plan was (halves_of self.old)
             → IsFailed plan was (halves_of self.new) }
+        ensures early { IsEarly result → IsEarly fault }
+        ensures shown { ShowAsBefore (halves_of self.old) (halves_of self.new) }
     {
         match self.abandon_open() {
             Ok(()) => fault,
@@ -117,6 +124,8 @@ impl Halves {
             → IsFailed (plan_of plan.entry.now) was (halves_of self.new)) }
         ensures cause { IfErr result (λ fault. (was : shown_as.Cluster) → AreSides was
             → AreRested was (halves_of self.old) → IsCause (plan_of plan.entry.now) was fault) }
+        ensures early { IfErr result (λ fault. (was : shown_as.Cluster) → AreSides was
+            → AreRested was (halves_of self.old) → IsEarly fault → ShowAsBefore was (halves_of self.new)) }
     {
         let withdrawn = copy(crew.alloc, plan.gone)?;
         self.open(crew.alloc, plan)?;
@@ -141,7 +150,7 @@ impl Halves {
         requires own { heard_clashes (shown self.old.a) ≡ Some clashes.now }
         ensures healed { IfOk result (λ settled. (was : shown_as.Cluster) → AreSides was
             → AreTrying (plan_of plan.entry.now) was plan.entry.now.gone.now (halves_of self.old)
-            → clashes.now ≡ clashes_shown (plan_of plan.entry.now) was
+            → clashes.now ≡ clashes_shown (plan_of plan.entry.now) was → BothFit was
             → HealsSplit (plan_of plan.entry.now) was (halves_of self.new) (record {
               clashes = clashes.now;
               rulings = settled.0.items;

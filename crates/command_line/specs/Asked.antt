@@ -3,7 +3,7 @@ use Rattle.std.specs.Prelude.{◌≡◌, ◌⊎◌, ℕ, Bool, true, false, ◌&
 use Rattle.std.specs.Str.{bytes_eq}
 use Rattle.std.specs.declared.io.ErrorKind.{ErrorKind}
 use Rattle.std.specs.declared.io.ErrorKind.TheVariants as of_io
-use Rattle.clap.specs.Words.{App, Row, Rule, Text, first_of, fault_of, new_app, new_rule, kind_of, subcommand_of, with_rule, with_subcommand}
+use Rattle.clap.specs.Words.{App, IsAmong, Row, Rule, Text, first_of, fault_of, new_app, new_rule, kind_of, subcommand_of, with_rule, with_subcommand}
 use Rattle.clap.specs.Simple.{on_top}
 use Rattle.clap.specs.ValueTests.{is_numeral}
 use Rattle.std.specs.Str.Parse.{digits_value, without_leading_plus}
@@ -242,6 +242,12 @@ abbrev pub IsForMemory : CommandFault → Type 0
 IsForMemory (Parse e) = kind_of e ≡ OutOfMemory
 IsForMemory NoTask = ⊥
 IsForMemory NotText = ⊥
+
+-- the usage error of these words: the answer of clap in place of a parse, or none where they parse
+abbrev pub IsUsageFault : List Text → CommandFault → Type 0
+IsUsageFault words (Parse e) = IsAmong (kind_of e) (fault_of heal_app words)
+IsUsageFault words NoTask = fault_of heal_app words ≡ []
+IsUsageFault words NotText = ⊥
 
 -- if reading the arguments fails by this kind, the fault is out of memory or invalid UTF-8
 abbrev pub IsArgumentFault : ErrorKind → CommandFault → Type 0

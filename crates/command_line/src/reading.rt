@@ -1,7 +1,7 @@
 //! Reads the arguments as a task.
 ghost use Rattle.std.specs.Prelude.{◌≡◌, ◌∷◌, ◌&&◌, true, false, ◌||◌, [], codes, ◌⊎◌, List, ℕ, IfOk, IfErr, map, option_map, option_and_then};
 ghost use Rattle.clap.specs.Words.{first_of, found_of, rows_of, subcommand_rows_of};
-ghost use Rattle.command_line.specs.Asked.{AskedTask, Asks, IsForMemory, asked_task, subcommand_asked};
+ghost use Rattle.command_line.specs.Asked.{AskedTask, Asks, IsForMemory, IsUsageFault, asked_task, subcommand_asked};
 ghost use Rattle.command_line.specs.Asked as asked;
 ghost use Rattle.std.specs.Str.{bytes_eq};
 ghost use Rattle.command_line.specs.Asked.{asm, asm_asked, by_bytes, check, check_asked, clash_by, clash_named, dis, dis_asked, explain_named, judge, judge_asked, names_named, profile_named, refusals, run, run_asked, version, workers_named};
@@ -223,12 +223,15 @@ fn asks_refusals<S: AsStr>(words: &[S]) -> bool
 
 /// Reads the arguments as a task. The first is the program's name.
 ///
-/// Returns the answer of `clap` for arguments that don't parse, including help and out of memory.
+/// Returns the answer of `clap` for arguments that don't parse, including help and out of memory, and `NoTask` for
+/// arguments that parse but give no task.
 pub fn command<'a, S: AsStr>(alloc: Global, words: &'a [S]) -> Result<Task<'a>, CommandFault>
     // The task is that of the arguments.
     ensures ok { IfOk result (λ task. Asks (map S.text words.now) (asked_task task)) }
     // Arguments that give a task fail only when out of memory.
     ensures err { IfErr result (λ e. IsForMemory e ⊎ ((task : AskedTask) → Asks (map S.text words.now) task → ⊥)) }
+    // Unless memory ran out, the error is the usage error of the arguments.
+    ensures usage { IfErr result (λ e. IsForMemory e ⊎ IsUsageFault (map S.text words.now) e) }
 {
     if asks_version(words) {
         return Ok(Task::Version);

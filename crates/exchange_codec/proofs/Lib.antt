@@ -1,4 +1,5 @@
 pub mod WrittenLaws
+pub mod FrontLaws
 pub mod WithdrawalLaws
 pub mod EachLaws
 pub mod ListedLaws

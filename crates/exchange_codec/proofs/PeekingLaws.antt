@@ -1,17 +1,9 @@
 -- The head of a message that bytes spell.
-use Rattle.std.proofs.Common.{◌≡◌, ℕ, ◌^◌, List, ◌∷◌, ◌++◌, length, Result, Ok, Err, inl, inr, refl, ap, ◌∙◌, append_assoc, lit<}
+use Rattle.std.proofs.Common.{◌≡◌, ℕ, ◌^◌, List, ◌∷◌, ◌++◌, length, Ok, refl, ap, ◌∙◌, append_assoc, lit<}
 use Rattle.std.specs.List.{flat_map}
 use Rattle.std.specs.Int.{w32, w64, to_le_bytes}
-use Rattle.refusals.specs.Answers.{ReturnsOrRunsOut}
 use Rattle.exchange_law.specs.Sides.{Offer, Withdrawals}
-use Rattle.exchange_codec.specs.declared.fault.Fault.{Fault}
-use Rattle.exchange_codec.specs.declared.fault.ReadError.{ReadError}
-use Rattle.exchange_codec.specs.declared.fault.ReadError.TheVariants as errors
-use Rattle.exchange_codec.specs.declared.fault.MessageFault.{MessageFault}
-use Rattle.exchange_codec.specs.declared.head.MessageHead.{MessageHead}
-use Rattle.exchange_codec.specs.Faults.{message_fault_number}
-use Rattle.exchange_codec.specs.Placing.{told_of}
-use Rattle.exchange_codec.specs.Reading.{Fails}
+use Rattle.exchange_codec.specs.Reading.{due}
 use Rattle.exchange_codec.specs.Names.{side_byte, name_bytes}
 use Rattle.exchange_codec.specs.Rows.{row_bytes}
 use Rattle.exchange_codec.specs.Offers.{offers_header, head_bytes, offer_text, SpellsOffer}
@@ -20,7 +12,7 @@ use Rattle.exchange_codec.specs.Peeking.{head_of_offer, head_of_list, peeked_off
 use Rattle.exchange_codec.specs.laws.Fields.{wide64, number_again}
 use Rattle.exchange_codec.specs.laws.Names.{side_again}
 
-pub offer_peeked : (bytes : List ℕ) (o : Offer) → SpellsOffer bytes o → peeked bytes ≡ Ok (head_of_offer o)
+offer_peeked : (bytes : List ℕ) (o : Offer) → SpellsOffer bytes o → peeked bytes ≡ Ok (head_of_offer o)
 unfolding peeked peeked_offer
 offer_peeked bytes o spells =
     let text = offer_text o in
@@ -41,7 +33,7 @@ offer_peeked bytes o spells =
       number_again w64 (2 ^ 64) wide64 o.seed uptime head.seed,
     ) refl
 
-pub list_peeked : (bytes : List ℕ) (w : Withdrawals) → SpellsWithdrawals bytes w → peeked bytes ≡ Ok (head_of_list w)
+list_peeked : (bytes : List ℕ) (w : Withdrawals) → SpellsWithdrawals bytes w → peeked bytes ≡ Ok (head_of_list w)
 unfolding peeked peeked_list
 list_peeked bytes w spells =
     let more = to_le_bytes w32 (length w.names) ++ flat_map name_bytes w.names in
@@ -53,14 +45,9 @@ list_peeked bytes w spells =
       number_again w64 (2 ^ 64) wide64 w.number more spells.is_list.number,
     ) refl
 
--- a head that is read is the one that is spelled
-pub head_is : (read : Result MessageHead Fault) (head due : MessageHead) → read ≡ Ok head → read ≡ Ok due →
-    ReturnsOrRunsOut message_fault_number (Ok head) (Ok due)
-head_is read head due e h = inl (cc)
+-- what is due for bytes that spell a message
+pub offer_due : (bytes : List ℕ) (o : Offer) → SpellsOffer bytes o → due (length bytes) (peeked bytes) ≡ Ok (head_of_offer o)
+offer_due bytes o spells = ap (due (length bytes)) (offer_peeked bytes o spells)
 
--- where a head is spelled, reading fails only when out of memory
-pub never_fails : (len : ℕ) (read : Result MessageHead Fault) (due : MessageHead) (error : ReadError) (fault : MessageFault)
-    → Fails error read → fault ≡ told_of len error → read ≡ Ok due →
-    ReturnsOrRunsOut message_fault_number (Err fault) (Ok due)
-never_fails len read due errors.Memory fault h is e = inr (ap message_fault_number is)
-never_fails len read due (errors.Fault f) fault h is e = absurd (cc)
+pub list_due : (bytes : List ℕ) (w : Withdrawals) → SpellsWithdrawals bytes w → due (length bytes) (peeked bytes) ≡ Ok (head_of_list w)
+list_due bytes w spells = ap (due (length bytes)) (list_peeked bytes w spells)

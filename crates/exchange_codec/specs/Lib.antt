@@ -1,6 +1,7 @@
 pub mod Faults
 pub mod Placing
 pub mod Reading
+pub mod Writing
 pub mod Names
 pub mod Withdrawals
 pub mod Rows

@@ -15,7 +15,12 @@ use Rattle.exchange_codec.specs.Placing.{placed}
 abbrev pub wrong : {A : Type 0} → FieldFault → List ℕ → Result A Fault
 wrong what bytes = Err (record { what = what; left = length bytes })
 
--- what a function returned, seen by view, is what reading gives, unless memory ran out
+-- what a function returned, seen by view, is what reading gives
+abbrev pub Reads : {E X Y : Type 0} → (X → Y) → Result X E → Result Y E → Type 0
+Reads view (Ok x) read = read ≡ Ok (view x)
+Reads view (Err e) read = read ≡ Err e
+
+-- the same of a function that allocates, unless memory ran out
 abbrev pub Fails : {Y : Type 0} → ReadError → Result Y Fault → Type 0
 Fails errors.Memory read = Unit {0}
 Fails (errors.Fault f) read = read ≡ Err f

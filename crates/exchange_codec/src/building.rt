@@ -94,7 +94,7 @@ pub(crate) fn table_at(
     for k in 0..count {
         let (row, after) = match row_at(rest) {
             Ok(found) => found,
-            Err(error) => return Err(error),
+            Err(fault) => return Err(ReadError::Fault(fault)),
         };
         builder.table.known();
         let at = k as usize;
@@ -102,7 +102,7 @@ pub(crate) fn table_at(
             // A field of a later row may be invalid: its fault comes first.
             match skip_rows(count - k - 1, after) {
                 Ok(rest) => return Ok((Err(fault), rest)),
-                Err(error) => return Err(error),
+                Err(fault) => return Err(ReadError::Fault(fault)),
             }
         }
         last = Some(row.name);

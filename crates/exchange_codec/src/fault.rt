@@ -5,7 +5,7 @@ ghost use Rattle.exchange_codec.specs.Faults.{field_fault_number, item_fault_num
 ghost use Rattle.exchange_codec.specs.declared.fault.ReadError.TheVariants as errors;
 ghost use Rattle.exchange_codec.specs.declared.fault.MessageFault.TheVariants as message;
 ghost use Rattle.refusals.specs.Answers.{out_of_memory};
-ghost use Rattle.exchange_codec.specs.Placing.{told_of};
+ghost use Rattle.exchange_codec.specs.Placing.{placed, told_of};
 
 use refusals::{Numbered, OUT_OF_MEMORY, Place, words_of};
 use std::alloc::{AllocError, AllocFailed};
@@ -137,7 +137,29 @@ pub struct Fault {
     pub left: usize,
 }
 
-/// The reason why a field was not read.
+impl Fault {
+    /// Returns the fault of a field that begins where these bytes do.
+    pub fn at(what: FieldFault, bytes: &[u8]) -> Fault
+        ensures { result ≡ record { what = what; left = length bytes.now } }
+    {
+        Fault {
+            what,
+            left: bytes.len(),
+        }
+    }
+
+    /// Returns the fault of a message of `len` bytes.
+    pub fn placed(self, len: usize) -> MessageFault
+        ensures { result ≡ placed len self }
+    {
+        MessageFault::Field {
+            fault: self.what,
+            at: len.saturating_sub(self.left),
+        }
+    }
+}
+
+/// The reason why fields were not read where reading allocates.
 #[derive(Clone, Copy, Debug, PartialEq, Eq)]
 pub enum ReadError {
     Memory,
@@ -145,27 +167,22 @@ pub enum ReadError {
 }
 
 impl ReadError {
-    /// Returns the fault of a field that begins where these bytes do.
-    pub fn at(what: FieldFault, bytes: &[u8]) -> ReadError
-        ensures { result ≡ errors.Fault (record { what = what; left = length bytes.now }) }
-    {
-        ReadError::Fault(Fault {
-            what,
-            left: bytes.len(),
-        })
-    }
-
     /// Returns the fault of a message of `len` bytes.
     pub fn told(self, len: usize) -> MessageFault
         ensures { result ≡ told_of len self }
     {
         match self {
             ReadError::Memory => MessageFault::OutOfMemory,
-            ReadError::Fault(Fault { what, left }) => MessageFault::Field {
-                fault: what,
-                at: len.saturating_sub(left),
-            },
+            ReadError::Fault(fault) => fault.placed(len),
         }
+    }
+}
+
+impl From<Fault> for ReadError {
+    ghost from_gives = { λ fault error. error ≡ errors.Fault fault };
+
+    fn from(fault: Fault) -> ReadError {
+        ReadError::Fault(fault)
     }
 }
 

@@ -4,13 +4,13 @@ ghost use Rattle.refusals.specs.Answers.{HasCause, ReturnsOrRunsOut};
 ghost use Rattle.exchange_law.specs.Sides as sides;
 ghost use Rattle.exchange_codec.specs.Faults.{message_fault_number};
 ghost use Rattle.exchange_codec.specs.declared.fault.MessageFault.{MessageFault};
-ghost use Rattle.exchange_codec.specs.Reading.{Fails, Gives};
+ghost use Rattle.exchange_codec.specs.Reading.{Fails, Reads};
 ghost use Rattle.exchange_codec.specs.Rows.{RowText};
 ghost use Rattle.exchange_codec.specs.model.Building.{IsBuiltOf};
 ghost use Rattle.exchange_codec.specs.Offers.{SpellsOffer, IsOfferFault, IsHead, head_at, whole_offer, head_bytes};
 
 use crate::building::begun;
-use crate::fault::{MessageFault, ReadError};
+use crate::fault::{Fault, MessageFault, ReadError};
 use crate::fields::{header_at, push_u64, u64_at};
 use crate::names::{push_side, side_at};
 use crate::tables::{push_table, table_of};
@@ -125,8 +125,8 @@ fn all(alloc: Global, bytes: &[u8]) -> Result<(OfferHead, Result<Table, MessageF
 
 // The head at the front.
 #[tactic(auto, unfolding(crate::specs::Offers::head_at))]
-fn read_head(bytes: &[u8]) -> Result<(OfferHead, &[u8]), ReadError>
-    ensures { Gives (λ x. (x.0, x.1.now)) result (head_at bytes.now) }
+fn read_head(bytes: &[u8]) -> Result<(OfferHead, &[u8]), Fault>
+    ensures { Reads (λ x. (x.0, x.1.now)) result (head_at bytes.now) }
 {
     let (side, rest) = side_at(bytes)?;
     let (number, rest) = u64_at(rest)?;

@@ -1,5 +1,5 @@
 //! The rows of offers as bytes.
-ghost use Rattle.std.specs.Prelude.{◌≡◌, ◌≤◌, ◌++◌, List, Ok, IfOk, IfErr, OnOk, length};
+ghost use Rattle.std.specs.Prelude.{◌≡◌, ◌≤◌, ◌++◌, List, Ok, Err, IfOk, IfErr, OnOk, OnErr, length};
 ghost use Rattle.std.specs.List.{flat_map};
 ghost use Rattle.std.specs.Option.{option_map};
 ghost use Rattle.std.specs.Arc.{arc_value};
@@ -8,12 +8,13 @@ ghost use Rattle.insn_codec.specs.Encoding.{insn_bytes};
 ghost use Rattle.clash_record.specs.declared.registrations.ResolverId.TheVariants.{Program};
 ghost use Rattle.clash_record.specs.Orders.{builtin_place};
 ghost use Rattle.clash_record.specs.declared.registrations.ProgramId.{ProgramId};
-ghost use Rattle.exchange_codec.specs.Reading.{Fails, Gives, many_at, bytes_at};
+ghost use Rattle.exchange_codec.specs.Reading.{Reads, many_at, bytes_at};
 ghost use Rattle.exchange_codec.specs.Rows as texts;
 ghost use Rattle.exchange_codec.specs.Rows.{owner_at, terms_at, resolver_at, row_at, row_bytes, owner_bytes, row_text, ids_after, fields_bytes, resolver_bytes, resolver_text, Code, code_bytes, sized_code, max_code, IsRow, IsResolver, HasFields, AreIds};
 ghost use Rattle.exchange_codec.specs.RowsText.{row_view, resolver_view};
+ghost use Rattle.exchange_codec.specs.Writing.{BeginsWith};
 
-use crate::fault::{FieldFault, ReadError};
+use crate::fault::{Fault, FieldFault};
 use crate::fields::{bytes_at, count_at, push_u32, u32_at, u64_at};
 use crate::names::{name_at, push_name};
 use clash_record::{Builtin, Name, Owner, ProgramId, Registration, ResolverId, Terms};
@@ -48,16 +49,16 @@ pub struct RowText<'a> {
 }
 
 /// Reads this many rows, and returns what follows them.
-pub(crate) fn skip_rows(count: u32, bytes: &[u8]) -> Result<&[u8], ReadError>
+pub(crate) fn skip_rows(count: u32, bytes: &[u8]) -> Result<&[u8], Fault>
     ensures read { IfOk result (λ rest. (rows : List texts.RowText)
         × (many_at row_at count bytes.entry.now ≡ Ok (rows, rest.now))) }
-    ensures failed { IfErr result (λ error. Fails error (many_at row_at count bytes.entry.now)) }
+    ensures failed { IfErr result (λ fault. many_at row_at count bytes.entry.now ≡ Err fault) }
 {
     let mut rest = bytes;
     for _ in 0..count {
         match row_at(rest) {
             Ok(found) => rest = found.1,
-            Err(error) => return Err(error),
+            Err(fault) => return Err(fault),
         }
     }
     Ok(rest)
@@ -70,12 +71,12 @@ pub(crate) fn rows_within(count: u32, bytes: &[u8]) -> usize {
 
 /// The row at the front, and what follows it.
 #[tactic(auto, unfolding(crate::specs::Rows::row_at))]
-pub fn row_at(bytes: &[u8]) -> Result<(RowText<'_>, &[u8]), ReadError>
-    ensures { Gives (λ x. (row_view x.0, x.1.now)) result (row_at bytes.entry.now) }
+pub fn row_at(bytes: &[u8]) -> Result<(RowText<'_>, &[u8]), Fault>
+    ensures { Reads (λ x. (row_view x.0, x.1.now)) result (row_at bytes.entry.now) }
 {
     let (name, rest) = match name_at(bytes) {
         Ok(found) => found,
-        Err(error) => return Err(error),
+        Err(fault) => return Err(fault),
     };
     let (terms, rest) = terms_of(rest)?;
     let (resolver, rest) = resolver_of(rest)?;
@@ -91,8 +92,8 @@ pub fn row_at(bytes: &[u8]) -> Result<(RowText<'_>, &[u8]), ReadError>
 
 // All of a registration but its resolver, at the front.
 #[tactic(auto, unfolding(crate::specs::Rows::terms_at))]
-fn terms_of(bytes: &[u8]) -> Result<(Terms, &[u8]), ReadError>
-    ensures { Gives (λ x. (x.0, x.1.now)) result (terms_at bytes.now) }
+fn terms_of(bytes: &[u8]) -> Result<(Terms, &[u8]), Fault>
+    ensures { Reads (λ x. (x.0, x.1.now)) result (terms_at bytes.now) }
 {
     let (owner, rest) = owner_of(bytes)?;
     let (stamp, rest) = u64_at(rest)?;
@@ -111,8 +112,8 @@ fn terms_of(bytes: &[u8]) -> Result<(Terms, &[u8]), ReadError>
 
 // The owner at the front.
 #[tactic(auto, unfolding(crate::specs::Rows::owner_at))]
-fn owner_of(bytes: &[u8]) -> Result<(Owner, &[u8]), ReadError>
-    ensures { Gives (λ x. (x.0, x.1.now)) result (owner_at bytes.now) }
+fn owner_of(bytes: &[u8]) -> Result<(Owner, &[u8]), Fault>
+    ensures { Reads (λ x. (x.0, x.1.now)) result (owner_at bytes.now) }
 {
     let (node, rest) = u32_at(bytes)?;
     let (serial, rest) = u32_at(rest)?;
@@ -120,8 +121,8 @@ fn owner_of(bytes: &[u8]) -> Result<(Owner, &[u8]), ReadError>
 }
 
 // Sixteen bytes.
-fn extra_of(bytes: &[u8]) -> Result<([u8; 16], &[u8]), ReadError>
-    ensures { Gives (λ x. (x.0, x.1.now)) result (bytes_at 16 bytes.now) }
+fn extra_of(bytes: &[u8]) -> Result<([u8; 16], &[u8]), Fault>
+    ensures { Reads (λ x. (x.0, x.1.now)) result (bytes_at 16 bytes.now) }
 {
     let (front, rest) = bytes_at(16, bytes)?;
     let mut extra = [0; 16];
@@ -130,8 +131,8 @@ fn extra_of(bytes: &[u8]) -> Result<([u8; 16], &[u8]), ReadError>
 }
 
 // The id of a program.
-fn id_at(bytes: &[u8]) -> Result<(ProgramId, &[u8]), ReadError>
-    ensures { Gives (λ x. (x.0.0, x.1.now)) result (bytes_at 32 bytes.now) }
+fn id_at(bytes: &[u8]) -> Result<(ProgramId, &[u8]), Fault>
+    ensures { Reads (λ x. (x.0.0, x.1.now)) result (bytes_at 32 bytes.now) }
 {
     let (front, rest) = bytes_at(32, bytes)?;
     let mut id = [0; 32];
@@ -141,11 +142,11 @@ fn id_at(bytes: &[u8]) -> Result<(ProgramId, &[u8]), ReadError>
 
 // The resolver at the front.
 #[tactic(auto, unfolding(crate::specs::Rows::resolver_at))]
-fn resolver_of(bytes: &[u8]) -> Result<(ResolverText<'_>, &[u8]), ReadError>
-    ensures { Gives (λ x. (resolver_view x.0, x.1.now)) result (resolver_at bytes.entry.now) }
+fn resolver_of(bytes: &[u8]) -> Result<(ResolverText<'_>, &[u8]), Fault>
+    ensures { Reads (λ x. (resolver_view x.0, x.1.now)) result (resolver_at bytes.entry.now) }
 {
     match bytes {
-        [] => Err(ReadError::at(FieldFault::Cut, bytes)),
+        [] => Err(Fault::at(FieldFault::Cut, bytes)),
         [0, rest @ ..] => Ok((ResolverText::Builtin(Builtin::Exit), rest)),
         [1, rest @ ..] => Ok((ResolverText::Builtin(Builtin::Notify), rest)),
         [2, rest @ ..] => Ok((ResolverText::Builtin(Builtin::NotifyAll), rest)),
@@ -158,11 +159,12 @@ fn resolver_of(bytes: &[u8]) -> Result<(ResolverText<'_>, &[u8]), ReadError>
             let (code, rest) = bytes_at(len as usize, rest)?;
             Ok((ResolverText::Code(code), rest))
         }
-        [_, ..] => Err(ReadError::at(FieldFault::Resolver, bytes)),
+        [_, ..] => Err(Fault::at(FieldFault::Resolver, bytes)),
     }
 }
 
 /// Writes a row at the end. The programs with these ids stand before; the row's is added to them.
+#[tactic(auto, using(crate::proofs::FrontLaws::same, crate::proofs::FrontLaws::further))]
 pub(crate) fn push_row(
     out: &mut Vec<u8>,
     before: &mut BTreeSet<ProgramId>,
@@ -177,6 +179,7 @@ pub(crate) fn push_row(
         → AreIds before.new (ids_after ids registration.now.resolver)) }
     ensures fits { OnOk result ((ids : List ProgramId) → AreIds before.old ids → IsRow (row_text ids name.now
         (record { registration = registration.now; code = option_map (λ p. arc_value p.now) program.entry }))) }
+    ensures front { OnErr result (BeginsWith out.new.items out.old.items) }
 {
     push_name(out, name)?;
     push_fields(out, registration.terms())?;
@@ -184,9 +187,12 @@ pub(crate) fn push_row(
 }
 
 /// Writes all of a registration but its resolver at the end.
+#[tactic(auto, using(crate::proofs::FrontLaws::same, crate::proofs::FrontLaws::further))]
 pub fn push_fields(out: &mut Vec<u8>, terms: Terms) -> Result<(), AllocError>
     ensures written { OnOk result (out.new.items ≡ out.old.items ++ fields_bytes terms) }
     ensures fits { OnOk result (HasFields terms) }
+    // After a failure, the old bytes are still at the front.
+    ensures front { OnErr result (BeginsWith out.new.items out.old.items) }
 {
     let Terms {
         owner,
@@ -212,6 +218,7 @@ fn number_bytes(owner: Owner, stamp: u64, weight: u64) -> [u8; 24]
 }
 
 // Writes a resolver at the end.
+#[tactic(auto, using(crate::proofs::FrontLaws::same, crate::proofs::FrontLaws::further))]
 fn push_resolver(
     out: &mut Vec<u8>,
     before: &mut BTreeSet<ProgramId>,
@@ -225,6 +232,7 @@ fn push_resolver(
         → AreIds before.new (ids_after ids resolver)) }
     ensures fits { OnOk result ((ids : List ProgramId) → AreIds before.old ids → IsResolver (resolver_text ids
         resolver (option_map (λ p. arc_value p.now) program.entry))) }
+    ensures front { OnErr result (BeginsWith out.new.items out.old.items) }
 {
     match resolver {
         ResolverId::Builtin(builtin) => {
@@ -247,6 +255,7 @@ pub fn place_of(builtin: Builtin) -> u8
 }
 
 // Writes a program: its id where it stands before, and else its code.
+#[tactic(auto, using(crate::proofs::FrontLaws::same, crate::proofs::FrontLaws::further))]
 fn push_program(
     out: &mut Vec<u8>,
     before: &mut BTreeSet<ProgramId>,
@@ -260,6 +269,7 @@ fn push_program(
         → AreIds before.new (ids_after ids (Program id))) }
     ensures fits { OnOk result ((ids : List ProgramId) → AreIds before.old ids → IsResolver (resolver_text ids
         (Program id) (option_map (λ p. arc_value p.now) program.entry))) }
+    ensures front { OnErr result (BeginsWith out.new.items out.old.items) }
 {
     if before.contains(&id) {
         out.push(3)?;
@@ -270,10 +280,12 @@ fn push_program(
 }
 
 // Writes a program where none with its id stands before.
+#[tactic(auto, using(crate::proofs::FrontLaws::same, crate::proofs::FrontLaws::further))]
 fn push_first(out: &mut Vec<u8>, program: Option<&Arc<Verified>>) -> Result<(), AllocError>
     ensures written { OnOk result (out.new.items
         ≡ out.old.items ++ resolver_bytes (Code (code_bytes (option_map (λ p. arc_value p.now) program.entry)))) }
     ensures fits { OnOk result (IsResolver (Code (code_bytes (option_map (λ p. arc_value p.now) program.entry)))) }
+    ensures front { OnErr result (BeginsWith out.new.items out.old.items) }
 {
     out.push(4)?;
     match program {
@@ -283,6 +295,7 @@ fn push_first(out: &mut Vec<u8>, program: Option<&Arc<Verified>>) -> Result<(), 
 }
 
 /// Writes the code of a program at the end.
+#[tactic(auto, using(crate::proofs::FrontLaws::same, crate::proofs::FrontLaws::further))]
 pub fn push_code(
     alloc: Global,
     out: &mut Vec<u8>,
@@ -290,6 +303,8 @@ pub fn push_code(
 ) -> Result<(), AllocError>
     ensures written { OnOk result (out.new.items ≡ out.old.items ++ sized_code (flat_map insn_bytes (arc_value program.now))) }
     ensures fits { OnOk result (length (flat_map insn_bytes (arc_value program.now)) ≤ max_code) }
+    // After a failure, the old bytes are still at the front.
+    ensures front { OnErr result (BeginsWith out.new.items out.old.items) }
 {
     let code = encode(alloc, program.code())?;
     push_u32(out, code.len() as u32)?;

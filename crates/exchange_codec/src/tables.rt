@@ -1,5 +1,5 @@
 //! Tables as bytes: the last part of an offer.
-ghost use Rattle.std.specs.Prelude.{◌≡◌, ◌++◌, List, Ok, Err, IfOk, IfErr, OnOk};
+ghost use Rattle.std.specs.Prelude.{◌≡◌, ◌++◌, List, Ok, Err, IfOk, IfErr, OnOk, OnErr};
 ghost use Rattle.std.specs.List.{flat_map, AllByRecursion};
 ghost use Rattle.refusals.specs.Answers.{HasCause, ReturnsOrRunsOut};
 ghost use Rattle.partition_table.specs.Tables as tables;
@@ -7,11 +7,12 @@ ghost use Rattle.exchange_codec.specs.Faults.{message_fault_number};
 ghost use Rattle.exchange_codec.specs.Rows.{RowText, row_bytes, IsRow};
 ghost use Rattle.exchange_codec.specs.declared.fault.MessageFault.{MessageFault};
 ghost use Rattle.exchange_codec.specs.Reading.{Fails};
+ghost use Rattle.exchange_codec.specs.Writing.{BeginsWith};
 ghost use Rattle.exchange_codec.specs.model.Building.{IsBuiltOf};
 ghost use Rattle.exchange_codec.specs.Tables.{SpellsTable, IsTableFault, IsTableText, whole_rows, table_bytes, table_text};
 
 use crate::building::table_at;
-use crate::fault::{FieldFault, MessageFault, ReadError};
+use crate::fault::{Fault, FieldFault, MessageFault, ReadError};
 use crate::fields::{count_at, push_u32};
 use crate::rows::push_row;
 use crate::theorem::one_program_theorem;
@@ -29,19 +30,24 @@ pub fn encode_table(alloc: Global, table: &Table) -> Result<Vec<u8>, AllocError>
 }
 
 /// Writes a table at the end: the number of its rows, and the rows in the order of names.
+#[tactic(auto, using(crate::proofs::FrontLaws::same, crate::proofs::FrontLaws::further))]
 pub fn push_table(alloc: Global, out: &mut Vec<u8>, table: &Table) -> Result<(), AllocError>
     ensures written { OnOk result (out.new.items ≡ out.old.items ++ table_bytes (table_text table.now)) }
     ensures fits { OnOk result (IsTableText (table_text table.now)) }
     ensures kept { OnOk result (tables.IsTable table.now) }
+    // After a failure, the old bytes are still at the front.
+    ensures front { OnErr result (BeginsWith out.new.items out.old.items) }
 {
     push_u32(out, table.len() as u32)?;
     push_rows(alloc, out, table)
 }
 
 // Writes the rows of a table at the end, in the order of names.
+#[tactic(auto, using(crate::proofs::FrontLaws::same, crate::proofs::FrontLaws::further))]
 fn push_rows(alloc: Global, out: &mut Vec<u8>, table: &Table) -> Result<(), AllocError>
     ensures written { OnOk result (out.new.items ≡ out.old.items ++ flat_map row_bytes (table_text table.now)) }
     ensures fit { OnOk result (AllByRecursion IsRow (table_text table.now)) }
+    ensures front { OnErr result (BeginsWith out.new.items out.old.items) }
 {
     let mut before = BTreeSet::new(alloc);
     let mut rows = table.rows();
@@ -88,7 +94,7 @@ pub(crate) fn table_of(
     let (count, rest) = count_at(NameLimit::MAX as u32, bytes)?;
     let (built, rest) = table_at(alloc, count, rest)?;
     if !rest.is_empty() {
-        return Err(ReadError::at(FieldFault::Trailing, rest));
+        return Err(ReadError::Fault(Fault::at(FieldFault::Trailing, rest)));
     }
     Ok(built)
 }

@@ -12,7 +12,7 @@ ghost use Rattle.exchange_codec.specs.Names.{name_at, name_bytes};
 ghost use Rattle.exchange_codec.specs.Withdrawals.{SpellsWithdrawals, names_bytes, first_again, unless_name_again, list_at, whole_list, list_due};
 ghost use Rattle.exchange_codec.specs.WithdrawalsText.{list_view};
 
-use crate::fault::{FieldFault, ItemFault, MessageFault, ReadError};
+use crate::fault::{Fault, FieldFault, ItemFault, MessageFault, ReadError};
 use crate::fields::{count_at, header_at, push_u32, push_u64, u64_at};
 use crate::names::{name_at, push_name, push_side, side_at};
 use clash_record::{Name, SideId};
@@ -129,7 +129,7 @@ fn all(alloc: Global, bytes: &[u8]) -> Result<ListText, ReadError>
 {
     let (text, rest) = text_at(alloc, bytes)?;
     if !rest.is_empty() {
-        return Err(ReadError::at(FieldFault::Trailing, rest));
+        return Err(ReadError::Fault(Fault::at(FieldFault::Trailing, rest)));
     }
     Ok(text)
 }
@@ -169,7 +169,7 @@ fn all_names(alloc: Global, count: u32, bytes: &[u8]) -> Result<(Vec<Name>, &[u8
                 names.push(found.0)?;
                 rest = found.1;
             }
-            Err(error) => return Err(error),
+            Err(fault) => return Err(ReadError::Fault(fault)),
         }
     }
     Ok((names, rest))

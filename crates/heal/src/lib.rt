@@ -14,7 +14,7 @@
 //! | name and register | `name`, `Name`, `Owner`, `Registration`, `Terms`, `ResolverId`, `SideId`, `Withdrawal` | `clash_record` |
 //! | notify owners | `notices`, `Notice`, `Notices`, `Verdict3`, `decide` | `builtin_resolvers` |
 //! | report refusals | `Numbered`, `NumberedRefusal`, `Place`, `refusal_of`, `words_of`, `REFUSALS` | `refusals` |
-//! | read, write and run programs | the module `programs` | `program` and those below it |
+//! | read, write and run programs | the module `programs` | `verifier`, `interpreter`, `assembler_text` and those below |
 //! | replicate a half, and keep a log | the module `replicas` | `replica`, `replica_codec` |
 //! | judge with several threads | the module `boards` | `verdict_board`, `judge_pool`, `registry_lock` |
 //!

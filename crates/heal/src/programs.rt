@@ -2,7 +2,7 @@
 //!
 //! | task | items | crate |
 //! |---|---|---|
-//! | read and verify bytes | `read_program`, `Verified`, `ProgramFault` | `program`, `verifier` |
+//! | read and verify bytes | `read_program`, `Verified`, `ProgramFault` | `verifier` |
 //! | read the fault | `CodecFault`, `LengthFault`, `SlotFault`, `VerifyFault`, `Refusal`, `Rule` | `insn_codec`, `verifier` |
 //! | convert bytes and code | `decode`, `encode`, `Code`, `Insn`, `MAX_SLOTS` | `insn_codec`, `instruction_set` |
 //! | convert text and code | `assemble`, `disassemble`, `LineFault`, `Fault` | `assembler_text` |

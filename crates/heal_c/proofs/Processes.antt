@@ -88,7 +88,7 @@ message_positive message.OutOfMemory e = cc
 
 -- a message that was taken isn't refused
 unrefused : (m : ℕ) (old new : SideAndStore) (X : Type 0) → (0 ≡ m → ⊥) → UnlessRefused (Some m) old new 0 X → X
-unrefused m old new X positive h = absurd (⊎_elim positive (λ e. cc) h.0)
+unrefused m old new X positive h = absurd (positive h.0)
 
 -- by its head
 was_read : (half : SideAndStore) (head : Result MessageHead MessageFault) (old new : SideAndStore) (X : Type 0)
@@ -103,7 +103,7 @@ was_read half (Ok head) old new X h =
 
 -- it is the first, or the same again
 was_first : (b : Bool) (old new : SideAndStore) (X : Type 0) → UnlessOther b old new 0 X → X
-was_first true old new X h = unrefused 83 old new X (λ e. cc) h
+was_first true old new X h = absurd (⊎_elim (λ e. cc) (λ e. cc) h.0)
 was_first false old new X h = h
 
 -- nothing refused it, so it is done

@@ -34,10 +34,11 @@ pub extern "C" fn heal_side_begin(
 
 /// Hears the other side's offer.
 ///
-/// Returns 91 for an empty handle. Rejects bytes that aren't an offer (70 to 82); then returns 34 if no exchange is open,
-/// 36 if the seeds differ, 37 if both tables have more than 4,096 names together, 40 if the journal is full, 42 if the
-/// tables have two codes under one id, 45 for another number, and 46 for an offer of the side itself. Returns 90 when
-/// out of memory.
+/// Returns 91 for an empty handle. Judges the head first: 70, 71, 74 or 82; then 34 if no exchange is open; then the least of
+/// 40, a full journal, 45, another number, and 46, an offer of the side itself. Then 70 to 82 if the other bytes aren't those
+/// of an offer; then 83 for an offer that differs from the one that was heard; for the first one 36 if the seeds differ, 37 if
+/// both tables have more names together than the side may have, 40, and 42 if the tables have two codes under one id.
+/// Returns 90 when out of memory.
 #[unsafe(no_mangle)]
 pub extern "C" fn heal_side_hear(alloc: Global, side: &mut HealSide, offer: &[u8]) -> u32
     ensures { OnHandle side.old.half side.new.half (Hears offer.now) (Unit {0}) result }
@@ -98,8 +99,8 @@ pub extern "C" fn heal_side_close_list(
 
 /// Hears the other side's list.
 ///
-/// Returns 91 for an empty handle. Rejects bytes that aren't a list (70 to 82); then returns 34 if no exchange is open,
-/// 40 if the journal is full, 45 for another number, and 46 for a list of the side itself. Returns 90 when out of memory.
+/// Returns 91 for an empty handle. Judges the head like `heal_side_hear`; then returns 70 to 82 if the other bytes aren't those
+/// of a list, 83 for a list that differs from the one that was heard, and 40. Returns 90 when out of memory.
 #[unsafe(no_mangle)]
 pub extern "C" fn heal_side_hear_list(alloc: Global, side: &mut HealSide, list: &[u8]) -> u32
     ensures { OnHandle side.old.half side.new.half (HearsList list.now) (Unit {0}) result }

@@ -1,6 +1,6 @@
 //! The head of a message, read without the rest.
 ghost use Rattle.std.specs.Prelude.{◌≡◌};
-ghost use Rattle.c_calls.specs.Answers.{GivesDueOrRunsOut};
+ghost use Rattle.c_calls.specs.Answers.{GivesDue};
 ghost use Rattle.heal_c.specs.Heads as spec;
 
 use c_calls::side_code;
@@ -24,11 +24,11 @@ const VERSION: u32 = 1;
 
 /// Reads the first 25 bytes of an offer, or 17 of a list.
 ///
-/// Returns 70 if the bytes end within them, 71 for no message, 74 for neither side, and 82 for another version.
+/// Returns 70 if the bytes end within them, 71 for no message, 74 for neither side, and 82 for another version. Needs no memory.
 #[unsafe(no_mangle)]
 #[tactic(auto, using(crate::proofs::Heading::peeked_so, crate::proofs::Heading::peeked_not))]
 pub extern "C" fn heal_message_peek(bytes: &[u8], head: &mut HealHead) -> u32
-    ensures { GivesDueOrRunsOut (spec.peeked_head bytes.now) (λ found. head.new ≡ found) (head.new ≡ head.old) result }
+    ensures { GivesDue (spec.peeked_head bytes.now) (λ found. head.new ≡ found) (head.new ≡ head.old) result }
 {
     match peek(bytes) {
         Ok(found) => {

@@ -1,6 +1,5 @@
 //! The front of a log.
-ghost use Rattle.std.specs.Prelude.{◌≡◌, ◌⊎◌};
-ghost use Rattle.refusals.specs.Answers.{out_of_memory};
+ghost use Rattle.std.specs.Prelude.{◌≡◌};
 ghost use Rattle.c_calls.specs.Answers.{GivesDue};
 ghost use Rattle.c_replicas.specs.Logs as logs;
 
@@ -13,8 +12,7 @@ use c_replicas::{HealLogFront, log_front};
 /// checksum.
 #[unsafe(no_mangle)]
 pub extern "C" fn heal_log_front(log: &[u8], front: &mut HealLogFront) -> u32
-    ensures { (GivesDue (logs.front_due log.now) (λ found. front.new ≡ found) (front.new ≡ front.old) result)
-        ⊎ ((result ≡ out_of_memory) × (front.new ≡ front.old)) }
+    ensures { GivesDue (logs.front_due log.now) (λ found. front.new ≡ found) (front.new ≡ front.old) result }
 {
     give(log_front(log), front)
 }

@@ -2,7 +2,7 @@
 ghost use Rattle.std.specs.Prelude.{◌≡◌, MatchOption, None, length};
 ghost use Rattle.std.specs.Borrow.{sem};
 ghost use Rattle.heal_c.specs.Lending.{StaysLent};
-ghost use Rattle.c_calls.specs.Answers.{GivesDue, Reads};
+ghost use Rattle.c_calls.specs.Answers.{GivesDue, ReadsHandle};
 ghost use Rattle.c_calls.specs.Messages.{copy_of};
 
 use crate::message_handle::HealBytes;
@@ -14,7 +14,7 @@ use std::alloc::Global;
 /// Returns 91 for an empty handle.
 #[unsafe(no_mangle)]
 pub extern "C" fn heal_bytes_len(bytes: &mut HealBytes, len: &mut usize) -> u32
-    ensures { Reads bytes.old.message bytes.new.message (λ held n. (n ≡ 0) × (len.new ≡ length held))
+    ensures { ReadsHandle bytes.old.message bytes.new.message (λ held n. (n ≡ 0) × (len.new ≡ length held))
         (len.new ≡ len.old) result }
 {
     match bytes.held() {
@@ -67,7 +67,7 @@ fn point<'a>(bytes: Option<&'a [u8]>, span: &mut HealSpan<'a>) -> u32
 /// Returns 91 for an empty handle, and 93 unless `to` has as many bytes as the message.
 #[unsafe(no_mangle)]
 pub extern "C" fn heal_bytes_copy(bytes: &mut HealBytes, to: &mut [u8]) -> u32
-    ensures { Reads bytes.old.message bytes.new.message
+    ensures { ReadsHandle bytes.old.message bytes.new.message
         (λ held. GivesDue (copy_of held (length to.old)) (λ copy. to.new ≡ copy) (to.new ≡ to.old)) (to.new ≡ to.old) result }
 {
     match bytes.held() {

@@ -1,6 +1,6 @@
 //! Outcomes.
 ghost use Rattle.std.specs.Prelude.{◌≡◌, None, length};
-ghost use Rattle.c_calls.specs.Answers.{GivesDue, Reads};
+ghost use Rattle.c_calls.specs.Answers.{GivesDue, ReadsHandle};
 ghost use Rattle.c_calls.specs.Outcomes.{clash_code_at, clashes_in, notice_at, withdrawn_of};
 
 use crate::outcome_handle::HealOutcome;
@@ -12,7 +12,7 @@ use std::alloc::Global;
 /// Returns 91 for an empty handle.
 #[unsafe(no_mangle)]
 pub extern "C" fn heal_outcome_number(outcome: &mut HealOutcome, number: &mut u64) -> u32
-    ensures { Reads outcome.old.outcome outcome.new.outcome (λ held n. (n ≡ 0) × (number.new ≡ held.number))
+    ensures { ReadsHandle outcome.old.outcome outcome.new.outcome (λ held n. (n ≡ 0) × (number.new ≡ held.number))
         (number.new ≡ number.old) result }
 {
     match outcome.held() {
@@ -29,7 +29,7 @@ pub extern "C" fn heal_outcome_number(outcome: &mut HealOutcome, number: &mut u6
 /// Returns 91 for an empty handle.
 #[unsafe(no_mangle)]
 pub extern "C" fn heal_outcome_merged(outcome: &mut HealOutcome, names: &mut usize) -> u32
-    ensures { Reads outcome.old.outcome outcome.new.outcome (λ held n. (n ≡ 0) × (names.new ≡ held.merged))
+    ensures { ReadsHandle outcome.old.outcome outcome.new.outcome (λ held n. (n ≡ 0) × (names.new ≡ held.merged))
         (names.new ≡ names.old) result }
 {
     match outcome.held() {
@@ -51,7 +51,7 @@ pub extern "C" fn heal_outcome_withdrawn(
     i: usize,
     name: &mut HealName,
 ) -> u32
-    ensures { Reads outcome.old.outcome outcome.new.outcome
+    ensures { ReadsHandle outcome.old.outcome outcome.new.outcome
         (λ held. GivesDue (withdrawn_of half i held) (λ found. name.new ≡ found) (name.new ≡ name.old))
         (name.new ≡ name.old) result }
 {
@@ -66,7 +66,7 @@ pub extern "C" fn heal_outcome_withdrawn(
 /// Returns 91 for an empty handle.
 #[unsafe(no_mangle)]
 pub extern "C" fn heal_outcome_clashes(outcome: &mut HealOutcome, clashes: &mut usize) -> u32
-    ensures { Reads outcome.old.outcome outcome.new.outcome
+    ensures { ReadsHandle outcome.old.outcome outcome.new.outcome
         (λ held n. (n ≡ 0) × (clashes.new ≡ length (clashes_in held))) (clashes.new ≡ clashes.old) result }
 {
     match outcome.held() {
@@ -87,7 +87,7 @@ pub extern "C" fn heal_outcome_clash(
     i: usize,
     clash: &mut HealClash,
 ) -> u32
-    ensures { Reads outcome.old.outcome outcome.new.outcome
+    ensures { ReadsHandle outcome.old.outcome outcome.new.outcome
         (λ held. GivesDue (clash_code_at held i) (λ found. clash.new ≡ found) (clash.new ≡ clash.old))
         (clash.new ≡ clash.old) result }
 {
@@ -107,7 +107,7 @@ pub extern "C" fn heal_outcome_notice(
     n: usize,
     notice: &mut HealNotice,
 ) -> u32
-    ensures { Reads outcome.old.outcome outcome.new.outcome
+    ensures { ReadsHandle outcome.old.outcome outcome.new.outcome
         (λ held. GivesDue (notice_at held i n) (λ found. notice.new ≡ found) (notice.new ≡ notice.old))
         (notice.new ≡ notice.old) result }
 {

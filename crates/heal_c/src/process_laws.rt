@@ -13,7 +13,7 @@ use exchange_core::two_halves_theorem;
 pub fn two_processes_theorem()
     ensures one_outcome { (p : Processes) (earlier : List Processes) (f g : Finished) → IsHistory (p ∷ earlier)
         → HasOutcome p f → HasOutcome p g → f.number ≡ g.number → f ≡ g }
-    // Its table is the merge of the two that the halves offered, each clash decided at the word of round 0.
+    // Its table is the merge of its two tables, each clash decided at the word of round 0.
     ensures merge { (p : Processes) (earlier : List Processes) (f : Finished) → IsHistory (p ∷ earlier) → HasOutcome p f
         → IsFinished f × IsOfRound the_round f }
 {

@@ -1,6 +1,6 @@
 //! Programs: they are loaded, judge records, and are freed.
 ghost use Rattle.std.specs.Prelude.{◌≡◌, None};
-ghost use Rattle.c_calls.specs.Answers.{Reads};
+ghost use Rattle.c_calls.specs.Answers.{ReadsHandle};
 ghost use Rattle.c_calls.specs.Programs.{IsLoad, AnswersRecord};
 
 use crate::program_handle::HealProgram;
@@ -46,7 +46,7 @@ pub extern "C" fn heal_program_judge(
     record: &[u8; 160],
     ended: &mut HealEnded,
 ) -> u32
-    ensures { Reads program.old.program program.new.program
+    ensures { ReadsHandle program.old.program program.new.program
         (λ held n. (n ≡ 0) × AnswersRecord held «record».now ended.new) (ended.new ≡ ended.old) result }
 {
     match program.held() {
@@ -68,7 +68,7 @@ pub extern "C" fn heal_program_judge(
 /// Returns 91 for an empty handle.
 #[unsafe(no_mangle)]
 pub extern "C" fn heal_program_id(program: &mut HealProgram, id: &mut [u8; 32]) -> u32
-    ensures { Reads program.old.program program.new.program
+    ensures { ReadsHandle program.old.program program.new.program
         (λ held n. (n ≡ 0) × (id.new ≡ held.id.0)) (id.new ≡ id.old) result }
 {
     match program.held() {

@@ -1,7 +1,7 @@
 //! The edits of a primary.
 ghost use Rattle.std.specs.Prelude.{◌≡◌};
 ghost use Rattle.replica.specs.declared.edit.Edit.TheVariants as edit_of;
-ghost use Rattle.c_calls.specs.Answers.{OnHandle, Reads};
+ghost use Rattle.c_calls.specs.Answers.{OnHandle, ReadsHandle};
 ghost use Rattle.c_replicas.specs.Edits.{Makes, MakesIf, MakesLimit, register_edit, unregister_edit};
 
 use crate::message_handle::HealBytes;
@@ -66,7 +66,7 @@ pub extern "C" fn heal_replica_upload(
     program: &mut HealProgram,
     entry: &mut HealBytes,
 ) -> u32
-    ensures { Reads program.old.program program.new.program (λ loaded. OnHandle replica.old.replica replica.new.replica
+    ensures { ReadsHandle program.old.program program.new.program (λ loaded. OnHandle replica.old.replica replica.new.replica
         (λ old new. Makes (edit_of.Upload loaded) old new entry.old.message entry.new.message)
         (entry.new.message ≡ entry.old.message))
         ((replica.new.replica ≡ replica.old.replica) × (entry.new.message ≡ entry.old.message)) result }

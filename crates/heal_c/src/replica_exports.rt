@@ -2,7 +2,7 @@
 ghost use Rattle.std.specs.Prelude.{◌≡◌, ◌⊎◌, Some, None, IfOk};
 ghost use Rattle.refusals.specs.Answers.{out_of_memory};
 ghost use Rattle.replica.specs.Replicas.{new_replica};
-ghost use Rattle.c_calls.specs.Answers.{GivesDue, OnHandle, Reads};
+ghost use Rattle.c_calls.specs.Answers.{GivesDue, OnHandle, ReadsHandle};
 ghost use Rattle.c_calls.specs.Rows.{found_in, row_in, row_in_after};
 ghost use Rattle.c_replicas.specs.Exchanges.{Changes, Gets};
 ghost use Rattle.c_replicas.specs.Following.{AppliesBytes, FollowsBytes, Leads, Shows};
@@ -64,7 +64,7 @@ pub extern "C" fn heal_replica_free(alloc: Global, replica: &mut HealReplica)
 /// Returns 91 for an empty handle.
 #[unsafe(no_mangle)]
 pub extern "C" fn heal_replica_query(replica: &mut HealReplica, known: &mut HealReplicaState) -> u32
-    ensures { Reads replica.old.replica replica.new.replica (λ held n. (n ≡ 0) × (known.new ≡ state_code held))
+    ensures { ReadsHandle replica.old.replica replica.new.replica (λ held n. (n ≡ 0) × (known.new ≡ state_code held))
         (known.new ≡ known.old) result }
 {
     match replica.held() {
@@ -85,7 +85,7 @@ pub extern "C" fn heal_replica_whereis(
     name: &[u8],
     registration: &mut HealRegistration,
 ) -> u32
-    ensures { Reads replica.old.replica replica.new.replica (λ held. GivesDue (found_in name.now held.half.table)
+    ensures { ReadsHandle replica.old.replica replica.new.replica (λ held. GivesDue (found_in name.now held.half.table)
         (λ found. registration.new ≡ found) (registration.new ≡ registration.old)) (registration.new ≡ registration.old) result }
 {
     match replica.held() {
@@ -99,7 +99,7 @@ pub extern "C" fn heal_replica_whereis(
 /// Returns 91 for an empty handle, and 92 for an index out of range.
 #[unsafe(no_mangle)]
 pub extern "C" fn heal_replica_row(replica: &mut HealReplica, i: usize, row: &mut HealRow) -> u32
-    ensures { Reads replica.old.replica replica.new.replica (λ held. GivesDue (row_in i held.half.table)
+    ensures { ReadsHandle replica.old.replica replica.new.replica (λ held. GivesDue (row_in i held.half.table)
         (λ found. row.new ≡ found) (row.new ≡ row.old)) (row.new ≡ row.old) result }
 {
     match replica.held() {
@@ -117,7 +117,7 @@ pub extern "C" fn heal_replica_row_after(
     name: &[u8],
     row: &mut HealRow,
 ) -> u32
-    ensures { Reads replica.old.replica replica.new.replica (λ held. GivesDue (row_in_after name.now held.half.table)
+    ensures { ReadsHandle replica.old.replica replica.new.replica (λ held. GivesDue (row_in_after name.now held.half.table)
         (λ found. row.new ≡ found) (row.new ≡ row.old)) (row.new ≡ row.old) result }
 {
     match replica.held() {
@@ -148,7 +148,7 @@ pub extern "C" fn heal_replica_snapshot(
     replica: &mut HealReplica,
     shown: &mut HealBytes,
 ) -> u32
-    ensures { Reads replica.old.replica replica.new.replica (λ held. Shows held shown.old.message shown.new.message)
+    ensures { ReadsHandle replica.old.replica replica.new.replica (λ held. Shows held shown.old.message shown.new.message)
         (shown.new.message ≡ shown.old.message) result }
 {
     match replica.held() {
@@ -200,7 +200,7 @@ pub extern "C" fn heal_replica_side(
     id: u32,
     made: &mut HealSide,
 ) -> u32
-    ensures { Reads replica.old.replica replica.new.replica (λ held. Gets id held made.old.half made.new.half)
+    ensures { ReadsHandle replica.old.replica replica.new.replica (λ held. Gets id held made.old.half made.new.half)
         (made.new.half ≡ made.old.half) result }
 {
     match replica.held() {
@@ -210,7 +210,7 @@ pub extern "C" fn heal_replica_side(
 }
 
 /// Starts a view with the table and the greatest number of a side, which an exchange left there. `from` is the position of the
-/// replica when the exchange began.
+/// replica after `heal_replica_begin`.
 ///
 /// Returns 91 for an empty handle; then 33 if the side's exchange is open, 49 if the replica isn't at `from` any more, and 99 if no
 /// view number is left. Returns 90 when out of memory.
@@ -221,7 +221,7 @@ pub extern "C" fn heal_replica_change(
     from: &HealPosition,
     left: &mut HealSide,
 ) -> u32
-    ensures { Reads left.old.half left.new.half
+    ensures { ReadsHandle left.old.half left.new.half
         (λ half. OnHandle replica.old.replica replica.new.replica (Changes from.now half) (Unit {0}))
         (replica.new.replica ≡ replica.old.replica) result }
 {

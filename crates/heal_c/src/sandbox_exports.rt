@@ -4,7 +4,7 @@ ghost use Rattle.refusals.specs.Answers.{HasCause, RanOut};
 ghost use Rattle.instruction_set.specs.declared.insn.Insn.{Insn};
 ghost use Rattle.verifier.specs.Programs.{program_fault_number, IsLoadable, IsLoadFault};
 ghost use Rattle.verifier.specs.declared.program_fault.ProgramFault.{ProgramFault};
-ghost use Rattle.c_calls.specs.Answers.{Reads};
+ghost use Rattle.c_calls.specs.Answers.{ReadsHandle};
 ghost use Rattle.heal_c.specs.Sandboxes.{IsLoadedFor, IsLoadFor, IsLoadWithin, Runs};
 
 use crate::sandbox_handle::HealSandbox;
@@ -80,7 +80,7 @@ fn boxed(alloc: Global, code: &[u8], context_len: u16) -> Result<Box<Sandbox>, L
 /// Returns 91 for an empty handle, and 93 if the context has another length than the program's.
 #[unsafe(no_mangle)]
 pub extern "C" fn heal_bpf_run(bpf: &mut HealSandbox, context: &[u8], ended: &mut HealEnded) -> u32
-    ensures { Reads bpf.old.sandbox bpf.new.sandbox
+    ensures { ReadsHandle bpf.old.sandbox bpf.new.sandbox
         (λ held n. Runs held context.now ended.old ended.new n) (ended.new ≡ ended.old) result }
 {
     match bpf.held() {

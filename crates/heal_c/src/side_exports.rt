@@ -4,7 +4,7 @@ ghost use Rattle.std.specs.FinMap.{len};
 ghost use Rattle.refusals.specs.Answers.{out_of_memory};
 ghost use Rattle.partition_table.specs.Tables.{max_names};
 ghost use Rattle.exchange_core.specs.Shown.{shown, calls};
-ghost use Rattle.c_calls.specs.Answers.{GivesDue, GivesDueOrRunsOut, OnHandle, Reads};
+ghost use Rattle.c_calls.specs.Answers.{GivesDue, GivesDueOrRunsOut, OnHandle, ReadsHandle};
 ghost use Rattle.c_calls.specs.Kept.{Forgets, GivesCode, id_from};
 ghost use Rattle.c_calls.specs.Sides.{side_id, side_within, Registers, Unregisters, Renews, GivesUp, IsNewHalf, IsUpload, found_at, row_after, row_code_at};
 
@@ -123,7 +123,7 @@ pub extern "C" fn heal_side_code(
     id: &[u8; 32],
     code: &mut HealBytes,
 ) -> u32
-    ensures { Reads side.old.half side.new.half
+    ensures { ReadsHandle side.old.half side.new.half
         (λ held. GivesCode (id_from id.now) held code.old.message code.new.message)
         (code.new.message ≡ code.old.message) result }
 {
@@ -177,7 +177,7 @@ pub extern "C" fn heal_side_whereis(
     name: &[u8],
     registration: &mut HealRegistration,
 ) -> u32
-    ensures { Reads side.old.half side.new.half (λ held. GivesDue (found_at name.now held) (λ found. registration.new ≡ found)
+    ensures { ReadsHandle side.old.half side.new.half (λ held. GivesDue (found_at name.now held) (λ found. registration.new ≡ found)
         (registration.new ≡ registration.old)) (registration.new ≡ registration.old) result }
 {
     match side.held() {
@@ -191,7 +191,7 @@ pub extern "C" fn heal_side_whereis(
 /// Returns 91 for an empty handle.
 #[unsafe(no_mangle)]
 pub extern "C" fn heal_side_count(side: &mut HealSide, count: &mut usize) -> u32
-    ensures { Reads side.old.half side.new.half (λ held n. (n ≡ 0) × (count.new ≡ len (shown held.side).table))
+    ensures { ReadsHandle side.old.half side.new.half (λ held n. (n ≡ 0) × (count.new ≡ len (shown held.side).table))
         (count.new ≡ count.old) result }
 {
     match side.held() {
@@ -208,7 +208,7 @@ pub extern "C" fn heal_side_count(side: &mut HealSide, count: &mut usize) -> u32
 /// Returns 91 for an empty handle, and 92 for an index out of range.
 #[unsafe(no_mangle)]
 pub extern "C" fn heal_side_row(side: &mut HealSide, i: usize, row: &mut HealRow) -> u32
-    ensures { Reads side.old.half side.new.half (λ held. GivesDue (row_code_at i held) (λ found. row.new ≡ found)
+    ensures { ReadsHandle side.old.half side.new.half (λ held. GivesDue (row_code_at i held) (λ found. row.new ≡ found)
         (row.new ≡ row.old)) (row.new ≡ row.old) result }
 {
     match side.held() {
@@ -223,7 +223,7 @@ pub extern "C" fn heal_side_row(side: &mut HealSide, i: usize, row: &mut HealRow
 /// Returns 91 for an empty handle, 44 for an invalid name, and 92 if no name is above it.
 #[unsafe(no_mangle)]
 pub extern "C" fn heal_side_row_after(side: &mut HealSide, name: &[u8], row: &mut HealRow) -> u32
-    ensures { Reads side.old.half side.new.half (λ held. GivesDue (row_after name.now held) (λ found. row.new ≡ found)
+    ensures { ReadsHandle side.old.half side.new.half (λ held. GivesDue (row_after name.now held) (λ found. row.new ≡ found)
         (row.new ≡ row.old)) (row.new ≡ row.old) result }
 {
     match side.held() {
@@ -237,7 +237,7 @@ pub extern "C" fn heal_side_row_after(side: &mut HealSide, name: &[u8], row: &mu
 /// Returns 91 for an empty handle.
 #[unsafe(no_mangle)]
 pub extern "C" fn heal_side_events(side: &mut HealSide, events: &mut usize) -> u32
-    ensures { Reads side.old.half side.new.half (λ held n. (n ≡ 0) × (events.new ≡ length (calls held.side)))
+    ensures { ReadsHandle side.old.half side.new.half (λ held n. (n ≡ 0) × (events.new ≡ length (calls held.side)))
         (events.new ≡ events.old) result }
 {
     match side.held() {

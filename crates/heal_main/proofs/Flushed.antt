@@ -73,11 +73,11 @@ module _ (old mid new told_old told_new : Option (List ℕ)) (status : ℕ) (k :
   reply_cut question (starved s) = starved (starved_cut s)
 
   listing_kept : IsListing old mid status → IsListing old new status
-  listing_kept (inl h) = inl (h.0, prints_kept _ _ h.1)
+  listing_kept (inl h) = inl (prints_kept _ _ h)
   listing_kept (inr h) = inr (h.0, front_kept old mid new _ h.1 k)
 
   listing_cut : IsListing old mid status → IsListing old new 3
-  listing_cut (inl h) = inl (h.0, prints_cut _ _ h.1)
+  listing_cut (inl h) = inl (prints_cut _ _ h)
   listing_cut (inr h) = inr (refl, front_kept old mid new _ h.1 k)
 
   writes_kept : (ending : Ending) (answers : List said.Answer) → Writes ending answers old mid status

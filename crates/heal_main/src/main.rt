@@ -40,7 +40,7 @@ impl Write for StandardError<'_> {
     }
 }
 
-/// Tells the person at standard error of refused lines and of healings. A failing device changes nothing.
+/// Reports refused lines and healings on standard error. A failing device changes nothing.
 impl Narrator for StandardError<'_> {
     fn listens(&self) -> bool {
         true
@@ -53,7 +53,7 @@ impl Narrator for StandardError<'_> {
     }
 
     fn hear_code(&self, word: &[u8], refusal: NumberedRefusal) {
-        if let Some(details) = code_details(self.rt, word, refusal) {
+        if let Some(details) = code_details(self.rt.alloc(), word, refusal) {
             let _ = eprint!(self.rt; "{details}");
         }
     }

@@ -4,15 +4,14 @@ ghost use Rattle.device.specs.Sending.{SendsOn};
 ghost use Rattle.heal_main.specs.Words.{refusal_words};
 
 use cluster::Healing;
-use code_file::digits_in;
 use device::{DeviceFault, send_after};
 use explanation::explain_at;
 use insn_codec::decode;
 use refusals::{NumberedRefusal, Place};
 use script_text::print_number;
 use scripts::{Machine, Narrator};
+use std::alloc::Global;
 use std::io::Write;
-use std::rt::Files;
 use verifier::Profile;
 
 /// Prints the refusal of a line with its words.
@@ -35,24 +34,16 @@ pub(crate) fn print_refusal_words<W: Write>(
     send_after(sent, writer, b"\n")
 }
 
-/// Returns what the verifier knows before the instruction that an upload's refusal names, in words; the upload's word has the code.
-pub(crate) fn code_details<R: Files + AllocGlobal>(
-    rt: &R,
-    word: &[u8],
-    refusal: NumberedRefusal,
-) -> Option<String> {
+/// Returns what the verifier knows before the instruction that an upload's refusal names, in words.
+///
+/// The upload's word has the code in hex digits. Returns `None` for a word that names a file.
+pub(crate) fn code_details(alloc: Global, word: &[u8], refusal: NumberedRefusal) -> Option<String> {
     let Some(Place::Slot(slot)) = refusal.place else {
         return None;
     };
-    let bytes = match word {
-        [b'@', file @ ..] => {
-            let digits = digits_in(rt, str::from_utf8(file).ok()?).ok()?;
-            hex::decode(rt.alloc(), digits.as_bytes()).ok()?
-        }
-        _ => hex::decode(rt.alloc(), word).ok()?,
-    };
-    let code = decode(rt.alloc(), &bytes).ok()?;
-    explain_at::<Profile>(rt.alloc(), &code, slot as usize).ok()
+    let bytes = hex::decode(alloc, word).ok()?;
+    let code = decode(alloc, &bytes).ok()?;
+    explain_at::<Profile>(alloc, &code, slot as usize).ok()
 }
 
 /// A narrator that hears of healings only on request.

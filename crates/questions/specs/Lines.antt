@@ -1,6 +1,5 @@
 -- The answers to questions, what is printed for them, and the exit status.
 use Rattle.std.specs.Prelude.{◌≡◌, ◌⊎◌, ◌++◌, ℕ, List, [], length, codes, Option, None, IsSome, Result, Ok, Err}
-use Rattle.std.specs.Borrow.{Bor}
 use Rattle.std.specs.declared.alloc.AllocError.{AllocError}
 use Rattle.std.specs.Fmt.{decimal}
 use Rattle.std.specs.List.{flat_map}
@@ -20,6 +19,7 @@ use Rattle.questions.specs.declared.question.Profile.TheVariants.{Unsigned, Both
 use Rattle.questions.specs.declared.question.Question.{Question}
 use Rattle.questions.specs.declared.question.Question.TheVariants.{Check, Judge, Asm, Dis}
 use Rattle.refusals.specs.Texts.{refusal_text}
+use Rattle.refusals.specs.declared.table.TheConstants.{REFUSALS}
 use Rattle.refusals.specs.declared.NumberedRefusal.{NumberedRefusal}
 use Rattle.questions.specs.declared.failures.Failure.{Failure}
 use Rattle.questions.specs.declared.failures.Failure.TheVariants as failure
@@ -195,8 +195,10 @@ pub data IsReply (question : Question) (old new told_old told_new : Option (List
 abbrev pub refusal_row : ℕ → List ℕ → List ℕ
 refusal_row number words = decimal number ++ (codes " " ++ (words ++ codes "\n"))
 
--- a table of refusals is printed row by row, or memory ran out
+-- these rows are printed, or memory ran out
+abbrev pub Lists : List ℕ → Option (List ℕ) → Option (List ℕ) → ℕ → Type 0
+Lists rows old new status = Prints old new rows 0 status ⊎ ((status ≡ 3) × AppendsFront old new (codes "refused 90\n"))
+
+-- each refusal is printed with its words, in the order of the table, or memory ran out
 abbrev pub IsListing : Option (List ℕ) → Option (List ℕ) → ℕ → Type 0
-IsListing old new status =
-    ((rows : List (ℕ × Bor (List ℕ))) × Prints old new (flat_map (λ row. refusal_row row.0 row.1.now) rows) 0 status)
-    ⊎ ((status ≡ 3) × AppendsFront old new (codes "refused 90\n"))
+IsListing old new status = Lists (flat_map (λ row. refusal_row row.0 row.1.now) REFUSALS) old new status

@@ -1,7 +1,8 @@
 //! The version, and the list of refusals.
 ghost use Rattle.std.specs.Prelude.{◌≡◌, IfOk, string_bytes};
 ghost use Rattle.std.specs.List.{flat_map};
-ghost use Rattle.questions.specs.Lines.{IsListing, Prints, refusal_row, version_line};
+ghost use Rattle.questions.specs.Lines.{IsListing, Lists, Prints, refusal_row, version_line};
+ghost use Rattle.refusals.specs.declared.table.TheConstants.{REFUSALS};
 
 use device::deliver;
 use refusals::{REFUSALS, out_of_memory_line};
@@ -35,7 +36,8 @@ fn rows_text(alloc: Global, refusals: &[(u32, &'static str)]) -> Result<String, 
 
 // Prints a table of refusals.
 fn print_table<W: Write>(alloc: Global, refusals: &[(u32, &'static str)], writer: &mut W) -> u8
-    ensures { IsListing (W.contents writer.old) (W.contents writer.new) result }
+    ensures { Lists (flat_map (λ row. refusal_row row.0 row.1.now) refusals.now) (W.contents writer.old)
+        (W.contents writer.new) result }
 {
     match rows_text(alloc, refusals) {
         Ok(text) => match deliver(writer, text.as_bytes()) {
@@ -49,9 +51,17 @@ fn print_table<W: Write>(alloc: Global, refusals: &[(u32, &'static str)], writer
     }
 }
 
+// Returns the table of refusals.
+fn all_refusals() -> &'static [(u32, &'static str)]
+    ensures { flat_map (λ row. refusal_row row.0 row.1.now) result.now
+        ≡ flat_map (λ row. refusal_row row.0 row.1.now) REFUSALS }
+{
+    &REFUSALS
+}
+
 /// Prints each refusal with its words, and returns the exit status: 0, or 3 if the writer fails or memory runs out.
 pub fn print_refusals<W: Write>(alloc: Global, writer: &mut W) -> u8
     ensures { IsListing (W.contents writer.old) (W.contents writer.new) result }
 {
-    print_table(alloc, &REFUSALS, writer)
+    print_table(alloc, all_refusals(), writer)
 }

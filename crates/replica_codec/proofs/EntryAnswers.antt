@@ -1,8 +1,8 @@
 -- The answers of `decode_entry`.
 use Rattle.std.proofs.Common.{◌≡◌, ℕ, List, ◌<◌, ◌≤◌, Result, Ok, Err, refl, sym, ap, subst, ◌∙◌, inl, inr}
-use Rattle.std.specs.Prelude.{◌⊎◌, IfOk, IfErr}
+use Rattle.std.specs.Prelude.{IfOk, IfErr}
 use Rattle.std.specs.List.{flat_map}
-use Rattle.refusals.specs.Answers.{out_of_memory, HasCause}
+use Rattle.refusals.specs.Answers.{HasCause}
 use Rattle.instruction_set.specs.declared.insn.Insn.{Insn}
 use Rattle.insn_codec.specs.Encoding.{insn_bytes}
 use Rattle.verifier.specs.declared.program_fault.ProgramFault.{ProgramFault}
@@ -145,8 +145,6 @@ is_refused bytes t (Err f) read (inl cause) = inl (inr (t, read, cause))
 is_refused bytes t (Err f) read (inr out) = inr out
 
 -- the fault of a field
-pub read_fault : (bytes : List ℕ) (f : ReplicaMessageFault)
-    → (entry_from bytes ≡ Err f) ⊎ (replica_message_fault_number f ≡ out_of_memory)
+pub read_fault : (bytes : List ℕ) (f : ReplicaMessageFault) → entry_from bytes ≡ Err f
     → HasCause replica_message_fault_number (IsEntryFault bytes) f
-read_fault bytes f (inl h) = inl (inl h)
-read_fault bytes f (inr out) = inr out
+read_fault bytes f h = inl (inl h)

@@ -4,19 +4,17 @@ use Rattle.std.specs.Prelude.{◌⊎◌}
 use Rattle.std.specs.Int.{w64, to_le_bytes}
 use Rattle.std.proofs.lemmas.Bool.{lt-ltb}
 use Rattle.std.proofs.lemmas.List.{length-append}
-use Rattle.refusals.specs.Answers.{◌>>=◌, ReturnsOrRunsOut}
+use Rattle.refusals.specs.Answers.{◌>>=◌}
 use Rattle.exchange_codec.specs.declared.fault.Fault.{Fault}
 use Rattle.exchange_codec.specs.declared.fault.FieldFault.TheVariants as wrongs
-use Rattle.exchange_codec.specs.declared.fault.MessageFault.TheVariants as message
 use Rattle.exchange_codec.specs.Reading.{number_at, bytes_at, header_at}
 use Rattle.exchange_codec.specs.laws.Fields.{wide64, number_again, header_again}
 use Rattle.exchange_codec.specs.laws.Rows.{bytes_again}
 use Rattle.replica_codec.specs.declared.fault.ReplicaMessageFault.{ReplicaMessageFault}
-use Rattle.replica_codec.specs.declared.fault.ReplicaMessageFault.TheVariants.{Message, Checksum}
+use Rattle.replica_codec.specs.declared.fault.ReplicaMessageFault.TheVariants.{Checksum}
 use Rattle.replica_codec.specs.declared.log.LogFront.{LogFront}
 use Rattle.replica_codec.specs.declared.log.LogFront.TheVariants as front
-use Rattle.replica_codec.specs.Faults.{replica_message_fault_number}
-use Rattle.replica_codec.specs.Frames.{entry_header, snapshot_header, checksum, frame_head_bytes, front_bytes, frame_bytes, frame_head_at, head_due, frame_head_of, tail_at, in_message, IsReadAs}
+use Rattle.replica_codec.specs.Frames.{entry_header, snapshot_header, checksum, frame_head_bytes, front_bytes, frame_bytes, frame_head_at, head_due, frame_head_of, tail_at, in_message}
 use Rattle.replica_codec.specs.Logs.{IsDamaged, after_at, after_due, front_at, front_of, kind_at, kind_due, kind_or_wrong, or_cut, whole_message, whole_due}
 use Rattle.replica_codec.proofs.SumLaws.{sum_fits}
 use Rattle.replica_codec.proofs.FrameLaws.{sized, head_parts, head_in, head_found, head_read, tail_again, checked_unmet}
@@ -261,66 +259,8 @@ damaged bytes d =
 
 -- ---- answers
 
-abbrev fronts : LogFront → Result LogFront ReplicaMessageFault
-fronts x = Ok x
-
-abbrev refuses : ReplicaMessageFault → Result LogFront ReplicaMessageFault
-refuses f = Err f
-
-front_inj : (x y : LogFront) → fronts x ≡ fronts y → x ≡ y
-front_inj x y e = cc
-
-not_front : (x : LogFront) (f : ReplicaMessageFault) → fronts x ≡ refuses f → ⊥
-not_front x f e = cc
-
-fault_inj : (f g : ReplicaMessageFault) → refuses f ≡ refuses g → f ≡ g
-fault_inj f g e = cc
-
--- what is read is the answer, unless memory ran out
-pub read_is : (read r : Result LogFront ReplicaMessageFault) (y : LogFront) → IsReadAs (λ x. x) read r → read ≡ Ok y
-    → ReturnsOrRunsOut replica_message_fault_number r (Ok y)
-read_is read (Ok x) y h e = inl (ap Ok (front_inj x y (sym h ∙ e)))
-read_is read (Err f) y (inl h) e = absurd (not_front y f (sym e ∙ h))
-read_is read (Err f) y (inr out) e = inr out
-
-pub fault_is : (read r : Result LogFront ReplicaMessageFault) (g : ReplicaMessageFault) → IsReadAs (λ x. x) read r → read ≡ Err g
-    → ReturnsOrRunsOut replica_message_fault_number r (Err g)
-fault_is read (Ok x) g h e = absurd (not_front x g (sym h ∙ e))
-fault_is read (Err f) g (inl h) e = inl (ap Err (fault_inj f g (sym h ∙ e)))
-fault_is read (Err f) g (inr out) e = inr out
-
--- what `or_cut` makes of a fault
-cut_or_same : (f : ReplicaMessageFault) → ((or_cut (Err f) ≡ Ok front.Cut) × (replica_message_fault_number f ≡ 70)) ⊎ (or_cut (Err f) ≡ Err f)
-cut_or_same (Message (message.Field wrongs.Cut at)) = inl (refl, refl)
-cut_or_same (Message (message.Field wrongs.Header at)) = inr refl
-cut_or_same (Message (message.Field wrongs.Trailing at)) = inr refl
-cut_or_same (Message (message.Field wrongs.Count at)) = inr refl
-cut_or_same (Message (message.Field wrongs.Side at)) = inr refl
-cut_or_same (Message (message.Field wrongs.Name at)) = inr refl
-cut_or_same (Message (message.Field wrongs.Resolver at)) = inr refl
-cut_or_same (Message (message.Field wrongs.Version at)) = inr refl
-cut_or_same (Message (message.Item fault at)) = inr refl
-cut_or_same (Message message.OutOfMemory) = inr refl
-cut_or_same Checksum = inr refl
-
 abbrev Fronts : Type 0
 Fronts = Result LogFront ReplicaMessageFault
-
-cut_kept : (read : Fronts) (f : ReplicaMessageFault) → IsReadAs (λ x. x) read (Err f) → IsReadAs (λ x. x) (or_cut read) (or_cut (Err f))
-cut_kept read f (inl h) =
-    elim (cut_or_same f) [
-      | inl (cut, number) ↦ subst (IsReadAs (λ x. x) (or_cut read)) (sym cut) (ap or_cut h ∙ cut)
-      | inr same ↦ subst (IsReadAs (λ x. x) (or_cut read)) (sym same) (inl (ap or_cut h ∙ same))
-    ]
-cut_kept read f (inr out) =
-    elim (cut_or_same f) [
-      | inl (cut, number) ↦ absurd (omega (arith, number, out))
-      | inr same ↦ subst (IsReadAs (λ x. x) (or_cut read)) (sym same) (inr out)
-    ]
-
-or_cut_kept : (read made : Fronts) → IsReadAs (λ x. x) read made → IsReadAs (λ x. x) (or_cut read) (or_cut made)
-or_cut_kept read (Ok x) h = ap or_cut h
-or_cut_kept read (Err f) h = cut_kept read f h
 
 some : (bytes : List ℕ) (b : Bool) → b ≡ eqb (length bytes) 0 → b ≡ false → 0 < length bytes
 some [] b is none = absurd (true≢false (sym is ∙ none))
@@ -328,7 +268,6 @@ some (x ∷ bytes) b is none = omega arith
 
 -- what is read of bytes, of which there are some
 pub front_taken : (bytes : List ℕ) (b : Bool) (made r : Fronts) → b ≡ eqb (length bytes) 0 → b ≡ false
-    → IsReadAs (λ x. x) (front_at bytes) made → r ≡ or_cut made → IsReadAs (λ x. x) (front_of bytes) r
+    → made ≡ front_at bytes → r ≡ or_cut made → r ≡ front_of bytes
 front_taken bytes b made r is none h e =
-    subst (λ (read : Fronts). IsReadAs (λ x. x) read r) (sym (front_by bytes (front_at bytes) (some bytes b is none) refl))
-    (subst (IsReadAs (λ x. x) (or_cut (front_at bytes))) (sym e) (or_cut_kept (front_at bytes) made h))
+    e ∙ ap or_cut h ∙ sym (front_by bytes (front_at bytes) (some bytes b is none) refl)

@@ -1,10 +1,10 @@
 //! The frame of a message.
 ghost use Rattle.std.specs.Prelude.{◌≡◌, ◌≤◌, ◌<◌, ◌^◌, ◌++◌, IfOk, length, drop};
-ghost use Rattle.exchange_codec.specs.Reading.{Gives};
-ghost use Rattle.replica_codec.specs.Frames.{IsReadAs, body_of, checksum, frame_bytes, frame_head_at, frame_head_bytes, frame_head_of, no_head, tail_at, tail_of};
+ghost use Rattle.exchange_codec.specs.Reading.{Reads};
+ghost use Rattle.replica_codec.specs.Frames.{body_of, checksum, frame_bytes, frame_head_at, frame_head_bytes, frame_head_of, no_head, tail_at, tail_of};
 
 use crate::fault::ReplicaMessageFault;
-use exchange_codec::{FieldFault, ReadError, bytes_at, header_at, push_u64, u64_at};
+use exchange_codec::{Fault, FieldFault, bytes_at, header_at, push_u64, u64_at};
 use std::alloc::{AllocError, Global};
 use std::hash::{DefaultHasher, Hasher};
 
@@ -68,7 +68,7 @@ fn head(header: u64, len: u64) -> [u8; 24]
 
 /// Returns the body of a message that is all of the bytes.
 pub(crate) fn body_of(header: u64, bytes: &[u8]) -> Result<&[u8], ReplicaMessageFault>
-    ensures { IsReadAs (λ body. body.now) (body_of header bytes.now) result }
+    ensures { Reads (λ body. body.now) result (body_of header bytes.now) }
 {
     let (len, rest) = head_of(header, bytes)?;
     match tail_of(len, rest) {
@@ -80,13 +80,13 @@ pub(crate) fn body_of(header: u64, bytes: &[u8]) -> Result<&[u8], ReplicaMessage
                 Err(ReplicaMessageFault::Checksum)
             }
         }
-        Err(error) => Err(ReplicaMessageFault::Message(error.told(bytes.len()))),
+        Err(fault) => Err(ReplicaMessageFault::Message(fault.placed(bytes.len()))),
     }
 }
 
 /// Returns the length of the body of a message at the front, and what follows its head.
 pub(crate) fn head_of(header: u64, bytes: &[u8]) -> Result<(u64, &[u8]), ReplicaMessageFault>
-    ensures { IsReadAs (λ x. (x.0, x.1.now)) (frame_head_of header bytes.now) result }
+    ensures { Reads (λ x. (x.0, x.1.now)) result (frame_head_of header bytes.now) }
 {
     match head_at(header, bytes) {
         Ok(((len, sum), rest)) => {
@@ -97,7 +97,7 @@ pub(crate) fn head_of(header: u64, bytes: &[u8]) -> Result<(u64, &[u8]), Replica
                 Err(ReplicaMessageFault::Checksum)
             }
         }
-        Err(error) => Err(ReplicaMessageFault::Message(error.told(bytes.len()))),
+        Err(fault) => Err(ReplicaMessageFault::Message(fault.placed(bytes.len()))),
     }
 }
 
@@ -113,8 +113,8 @@ fn checksum(bytes: &[u8]) -> u64
 
 // The length and the checksum at the front.
 #[tactic(auto, unfolding(crate::specs::Frames::frame_head_at))]
-fn head_at(header: u64, bytes: &[u8]) -> Result<((u64, u64), &[u8]), ReadError>
-    ensures { Gives (λ x. (x.0, x.1.now)) result (frame_head_at header bytes.now) }
+fn head_at(header: u64, bytes: &[u8]) -> Result<((u64, u64), &[u8]), Fault>
+    ensures { Reads (λ x. (x.0, x.1.now)) result (frame_head_at header bytes.now) }
 {
     let rest = header_at(header, bytes)?;
     let (len, rest) = u64_at(rest)?;
@@ -124,20 +124,20 @@ fn head_at(header: u64, bytes: &[u8]) -> Result<((u64, u64), &[u8]), ReadError>
 
 // A body of this length and a checksum, which are all of the bytes.
 #[tactic(auto, unfolding(crate::specs::Frames::tail_of))]
-fn tail_of(len: u64, bytes: &[u8]) -> Result<(&[u8], u64), ReadError>
-    ensures { Gives (λ x. (x.0.now, x.1)) result (tail_of len bytes.now) }
+fn tail_of(len: u64, bytes: &[u8]) -> Result<(&[u8], u64), Fault>
+    ensures { Reads (λ x. (x.0.now, x.1)) result (tail_of len bytes.now) }
 {
     let (tail, rest) = tail_at(len, bytes)?;
     if !rest.is_empty() {
-        return Err(ReadError::at(FieldFault::Trailing, rest));
+        return Err(Fault::at(FieldFault::Trailing, rest));
     }
     Ok(tail)
 }
 
 /// A body of this length and a checksum at the front.
 #[tactic(auto, unfolding(crate::specs::Frames::tail_at))]
-pub(crate) fn tail_at(len: u64, bytes: &[u8]) -> Result<((&[u8], u64), &[u8]), ReadError>
-    ensures { Gives (λ x. ((x.0.0.now, x.0.1), x.1.now)) result (tail_at len bytes.now) }
+pub(crate) fn tail_at(len: u64, bytes: &[u8]) -> Result<((&[u8], u64), &[u8]), Fault>
+    ensures { Reads (λ x. ((x.0.0.now, x.0.1), x.1.now)) result (tail_at len bytes.now) }
 {
     let (body, rest) = bytes_at(len as usize, bytes)?;
     let (sum, rest) = u64_at(rest)?;

@@ -1,7 +1,6 @@
 //! Logs: snapshots and entries, one after the other.
 ghost use Rattle.std.specs.Prelude.{◌≡◌, ◌<◌, ◌++◌, List, ℕ, Ok, Err, length};
-ghost use Rattle.refusals.specs.Answers.{ReturnsOrRunsOut};
-ghost use Rattle.exchange_codec.specs.Reading.{Gives};
+ghost use Rattle.exchange_codec.specs.Reading.{Reads};
 ghost use Rattle.replica.specs.declared.messages.Entry as entries;
 ghost use Rattle.replica_codec.specs.declared.fault.ReplicaMessageFault.TheVariants.{Checksum};
 ghost use Rattle.replica_codec.specs.declared.log.LogFront.TheVariants as front;
@@ -9,13 +8,11 @@ ghost use Rattle.replica_law.specs.Groups as law;
 ghost use Rattle.replica.specs.Halves.{HalfState};
 ghost use Rattle.replica_codec.specs.Entries.{SpellsEntry};
 ghost use Rattle.replica_codec.specs.Snapshots.{SpellsSnapshot};
-ghost use Rattle.replica_codec.specs.Faults.{replica_message_fault_number};
-ghost use Rattle.replica_codec.specs.Frames.{IsReadAs};
 ghost use Rattle.replica_codec.specs.Logs.{IsDamaged, after_at, front_at, front_of, kind_at, or_cut, whole_message};
 
 use crate::fault::ReplicaMessageFault;
 use crate::frames::{ENTRY, SNAPSHOT, head_of, tail_at};
-use exchange_codec::{FieldFault, MessageFault, ReadError, header_fault, u64_at};
+use exchange_codec::{Fault, FieldFault, MessageFault, header_fault, u64_at};
 
 /// The first message of a log.
 #[derive(Clone, Copy, Debug, PartialEq, Eq)]
@@ -36,25 +33,25 @@ pub enum LogFront {
 /// begin with no entry and no snapshot: 71, or 82 for another version, at byte 0; and a header and a length that differ from
 /// their checksum: 84. So a changed length doesn't make a log look cut.
 pub fn read_front(bytes: &[u8]) -> Result<LogFront, ReplicaMessageFault>
-    ensures exact { IsReadAs (λ front. front) (front_of bytes.now) result }
+    ensures exact { result ≡ front_of bytes.now }
     // The length of an entry that the bytes begin with.
     ensures entry { (message rest : List ℕ) (entry : entries.Entry) → SpellsEntry message entry
         → bytes.now ≡ message ++ rest
-        → ReturnsOrRunsOut replica_message_fault_number result (Ok (front.Entry (length message))) }
+        → result ≡ Ok (front.Entry (length message)) }
     // The length of a snapshot that the bytes begin with.
     ensures snapshot { (message rest : List ℕ) (s : law.Snapshot HalfState) → SpellsSnapshot message s
         → bytes.now ≡ message ++ rest
-        → ReturnsOrRunsOut replica_message_fault_number result (Ok (front.Snapshot (length message))) }
+        → result ≡ Ok (front.Snapshot (length message)) }
     // A part of an entry is cut.
     ensures cut { (more : List ℕ) (entry : entries.Entry) → 0 < length bytes.now → 0 < length more
         → SpellsEntry (bytes.now ++ more) entry
-        → ReturnsOrRunsOut replica_message_fault_number result (Ok front.Cut) }
+        → result ≡ Ok front.Cut }
     // So is a part of a snapshot.
     ensures cut_snapshot { (more : List ℕ) (s : law.Snapshot HalfState) → 0 < length bytes.now → 0 < length more
         → SpellsSnapshot (bytes.now ++ more) s
-        → ReturnsOrRunsOut replica_message_fault_number result (Ok front.Cut) }
+        → result ≡ Ok front.Cut }
     // A changed head isn't cut, however long its message is.
-    ensures damaged { IsDamaged bytes.now → ReturnsOrRunsOut replica_message_fault_number result (Err Checksum) }
+    ensures damaged { IsDamaged bytes.now → result ≡ Err Checksum }
 {
     if bytes.is_empty() {
         return Ok(LogFront::End);
@@ -81,29 +78,29 @@ fn or_cut(read: Result<LogFront, ReplicaMessageFault>) -> Result<LogFront, Repli
 
 // A whole message at the front.
 fn front_at(bytes: &[u8]) -> Result<LogFront, ReplicaMessageFault>
-    ensures { IsReadAs (λ front. front) (front_at bytes.now) result }
+    ensures { result ≡ front_at bytes.now }
 {
     let header = match kind_at(bytes) {
         Ok(header) => header,
-        Err(error) => return Err(ReplicaMessageFault::Message(error.told(bytes.len()))),
+        Err(fault) => return Err(ReplicaMessageFault::Message(fault.placed(bytes.len()))),
     };
     let (len, rest) = head_of(header, bytes)?;
     match after_at(len, rest) {
         Ok(after) => Ok(whole(header, bytes.len().saturating_sub(after.len()))),
-        Err(error) => Err(ReplicaMessageFault::Message(error.told(bytes.len()))),
+        Err(fault) => Err(ReplicaMessageFault::Message(fault.placed(bytes.len()))),
     }
 }
 
 // The header of an entry or a snapshot at the front.
 #[tactic(auto, unfolding(crate::specs::Logs::kind_at))]
-fn kind_at(bytes: &[u8]) -> Result<u64, ReadError>
-    ensures { Gives (λ x. x) result (kind_at bytes.now) }
+fn kind_at(bytes: &[u8]) -> Result<u64, Fault>
+    ensures { result ≡ kind_at bytes.now }
 {
     let (found, _) = u64_at(bytes)?;
     if found == ENTRY || found == SNAPSHOT {
         return Ok(found);
     }
-    Err(ReadError::at(header_fault(found), bytes))
+    Err(Fault::at(header_fault(found), bytes))
 }
 
 // Returns a whole message of this kind and length.
@@ -119,8 +116,8 @@ fn whole(header: u64, len: usize) -> LogFront
 
 // What follows a message with a body of this length, of which these bytes come after the head.
 #[tactic(auto, unfolding(crate::specs::Logs::after_at))]
-fn after_at(len: u64, bytes: &[u8]) -> Result<&[u8], ReadError>
-    ensures { Gives (λ x. x.now) result (after_at len bytes.now) }
+fn after_at(len: u64, bytes: &[u8]) -> Result<&[u8], Fault>
+    ensures { Reads (λ x. x.now) result (after_at len bytes.now) }
 {
     let (_, after) = tail_at(len, bytes)?;
     Ok(after)

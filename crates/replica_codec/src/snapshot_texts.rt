@@ -1,5 +1,5 @@
 //! The fields of a snapshot but its table, read.
-ghost use Rattle.exchange_codec.specs.Reading.{Gives, many_at};
+ghost use Rattle.exchange_codec.specs.Reading.{Gives, Reads, many_at};
 ghost use Rattle.replica_codec.specs.Frames.{IsReadAs};
 ghost use Rattle.replica_codec.specs.Snapshots.{code_at, codes_at, latest_at, snapshot_from, text_at};
 ghost use Rattle.replica_codec.specs.SnapshotsText.{codes_view, text_view};
@@ -7,7 +7,7 @@ ghost use Rattle.replica_codec.specs.SnapshotsText.{codes_view, text_view};
 use crate::fault::ReplicaMessageFault;
 use crate::frames::{SNAPSHOT, SUM, body_of};
 use crate::texts::{limit_at, position_at};
-use exchange_codec::{FieldFault, MAX_CODE, ReadError, bytes_at, count_at, u64_at};
+use exchange_codec::{Fault, FieldFault, MAX_CODE, ReadError, bytes_at, count_at, u64_at};
 use replica::Position;
 use std::alloc::Global;
 use upload_store::MAX_PROGRAMS;
@@ -61,17 +61,17 @@ fn text_at(alloc: Global, bytes: &[u8]) -> Result<(SnapshotText<'_>, &[u8]), Rea
 
 // The greatest number of an exchange at the front.
 #[tactic(auto, unfolding(crate::specs::Snapshots::latest_at))]
-fn latest_at(bytes: &[u8]) -> Result<(Option<u64>, &[u8]), ReadError>
-    ensures { Gives (λ x. (x.0, x.1.now)) result (latest_at bytes.now) }
+fn latest_at(bytes: &[u8]) -> Result<(Option<u64>, &[u8]), Fault>
+    ensures { Reads (λ x. (x.0, x.1.now)) result (latest_at bytes.now) }
 {
     match bytes {
-        [] => Err(ReadError::at(FieldFault::Cut, bytes)),
+        [] => Err(Fault::at(FieldFault::Cut, bytes)),
         [0, rest @ ..] => Ok((None, rest)),
         [1, rest @ ..] => {
             let (number, rest) = u64_at(rest)?;
             Ok((Some(number), rest))
         }
-        [_, ..] => Err(ReadError::at(FieldFault::Count, bytes)),
+        [_, ..] => Err(Fault::at(FieldFault::Count, bytes)),
     }
 }
 
@@ -98,7 +98,7 @@ fn all_codes(alloc: Global, count: u32, bytes: &[u8]) -> Result<(Vec<&[u8]>, &[u
                 };
                 rest = after;
             }
-            Err(error) => return Err(error),
+            Err(fault) => return Err(ReadError::Fault(fault)),
         }
     }
     Ok((codes, rest))
@@ -106,8 +106,8 @@ fn all_codes(alloc: Global, count: u32, bytes: &[u8]) -> Result<(Vec<&[u8]>, &[u
 
 // The code at the front.
 #[tactic(auto, unfolding(crate::specs::Snapshots::code_at))]
-fn code_at(bytes: &[u8]) -> Result<(&[u8], &[u8]), ReadError>
-    ensures { Gives (λ x. (x.0.now, x.1.now)) result (code_at bytes.entry.now) }
+fn code_at(bytes: &[u8]) -> Result<(&[u8], &[u8]), Fault>
+    ensures { Reads (λ x. (x.0.now, x.1.now)) result (code_at bytes.entry.now) }
 {
     let (len, rest) = count_at(MAX_CODE, bytes)?;
     bytes_at(len as usize, rest)

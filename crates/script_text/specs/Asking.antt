@@ -1,5 +1,5 @@
 -- The request of a line.
-use Rattle.std.specs.Prelude.{ℕ, ◌-◌, ◌^◌, ◌==◌, Bool, false, if◌then◌else◌, Option, Some, None, Result, Ok, Err, List, [], ◌∷◌, replicate, codes}
+use Rattle.std.specs.Prelude.{ℕ, ◌-◌, ◌^◌, ◌==◌, Bool, false, not, ◌&&◌, if◌then◌else◌, Option, Some, None, Result, Ok, Err, List, [], ◌∷◌, replicate, codes}
 use Rattle.std.specs.List.{list_all}
 use Rattle.std.specs.Option.{option_map}
 use Rattle.std.specs.Str.{bytes_eq}
@@ -184,3 +184,13 @@ asked_of_words printable (first ∷ words) =
 
 abbrev pub asked_of : List ℕ → Result (Option Asked) LineFault
 asked_of line = asked_of_words (list_all is_printable line) (words_of line)
+
+-- these words are put in a list, which takes memory: those of a command other than `register`
+abbrev pub needs_list : Bool → List (List ℕ) → Bool
+needs_list printable [] = false
+needs_list printable (first ∷ words) =
+    printable && (not (begins_comment first) && not (is_word first (codes "register")))
+
+-- a line that takes memory to read
+abbrev pub takes_memory : List ℕ → Bool
+takes_memory line = needs_list (list_all is_printable line) (words_of line)

@@ -1,8 +1,8 @@
 //! Reading a line.
-ghost use Rattle.std.specs.Prelude.{◌≡◌, ◌<◌, false, codes, length, drop, map, Ok, None};
+ghost use Rattle.std.specs.Prelude.{◌≡◌, ◌<◌, true, false, codes, length, drop, map, Ok, None};
 ghost use Rattle.std.specs.Option.{option_map};
 ghost use Rattle.script_text.specs.Asking as asking;
-ghost use Rattle.script_text.specs.Asking.{is_word, side_named, name_of, extra_of, terms_of, triples_of, withdrawals_of, if_right, long_of, asked_by, asked_of};
+ghost use Rattle.script_text.specs.Asking.{is_word, side_named, name_of, extra_of, terms_of, triples_of, withdrawals_of, if_right, long_of, asked_by, asked_of, takes_memory};
 ghost use Rattle.script_text.specs.Words.{words_of};
 ghost use Rattle.script_text.specs.Commands.{IsRight, right_command, right_option};
 ghost use Rattle.script_text.specs.model.Triples.{after_first, right_triple, given_uptimes, right_triples, right_withdrawals, shown_triple};
@@ -19,12 +19,14 @@ use std::alloc::{AllocError, Global};
 ///
 /// The line has no line feed. Returns 51 for an unknown word, a wrong number of words or a byte outside ASCII's printable
 /// characters, and otherwise, for the leftmost invalid word, 44 for a name, 50 for hex digits and 52 for a number.
-/// Returns 90 when out of memory: it allocates the list of words and the list of withdrawn names, and nothing for a
-/// blank line, a comment or a registration.
+/// Returns 90 when out of memory: it allocates the list of words and the list of withdrawn names. It allocates nothing
+/// for a blank line, a comment, a registration or a line with a byte outside ASCII's printable characters.
 #[tactic(auto, using(crate::proofs::Silences::asks_something))]
 pub fn command_of(alloc: Global, line: &[u8]) -> Result<Option<Command<'_>>, LineFault>
     ensures asked { IsRight (right_option result) (asked_of line.now) }
     ensures silent { asked_of line.now ≡ Ok None → result ≡ Ok None }
+    // A line that takes no memory is never refused 90.
+    ensures exact { takes_memory line.now ≡ false → right_option result ≡ asked_of line.now }
 {
     let Some((first, rest)) = split_word(line) else {
         return Ok(None);
@@ -46,7 +48,9 @@ fn begins_comment(first: &[u8]) -> bool
 
 // Parses a command, with the text that follows its first word. Allocates nothing for `register`, the most frequent one.
 fn command<'a>(alloc: Global, first: &[u8], rest: &'a [u8]) -> Result<Command<'a>, LineFault>
-    ensures { IsRight (right_command result) (asked_by first.now (words_of rest.now)) }
+    ensures right { IsRight (right_command result) (asked_by first.now (words_of rest.now)) }
+    ensures exact { is_word first.now (codes "register") ≡ true
+        → right_command result ≡ asked_by first.now (words_of rest.now) }
 {
     if first == b"register".as_slice() {
         return register(rest);

@@ -88,8 +88,7 @@ answered old (Show id) (Heals healing) new h = absurd h
 text_answered : (old : ScriptMachine) (asked : Result (Option Asked) LineFault) (answer : Answer) (new : ScriptMachine)
     → AnswersText old asked answer new → new.latest ≤ old.latest + 1
 text_answered old (Ok (Some asked)) answer new h = answered old asked answer new h
-text_answered old (Ok None) (Says reply) new (inl h) = stays old new h.1
-text_answered old (Ok None) (Says reply) new (inr h) = stays old new h.1
+text_answered old (Ok None) (Says reply) new h = stays old new h.1
 text_answered old (Ok None) (Shows labels rows) new h = absurd h
 text_answered old (Ok None) (Heals healing) new h = absurd h
 text_answered old (Err fault) (Says reply) new (inl h) = stays old new h.1

@@ -19,26 +19,26 @@ pub said : {E : Type 0} (IsAnswer : Answer → Type 0) (number : ℕ) (old new :
 said IsAnswer number old new reply result is_answer sends status =
     record { answer = Says reply; is_answer = is_answer; sends = sends; status = status }
 
--- any line may be refused when out of memory
-starved : (machine : ScriptMachine) (asked : Result (Option Asked) LineFault) (reply : Reply)
+-- a line that is neither blank nor a comment may be refused when out of memory
+starved : (machine : ScriptMachine) (asked : Result (Option Asked) LineFault) (reply : Reply) → (asked ≡ Ok None → ⊥)
     → Refuses 90 None machine reply machine → AnswersText machine asked (Says reply) machine
-starved machine (Ok (Some asked)) reply h = inr h
-starved machine (Ok None) reply h = inr h
-starved machine (Err fault) reply h = inr h
+starved machine (Ok (Some asked)) reply some h = inr h
+starved machine (Ok None) reply some h = absurd (some refl)
+starved machine (Err fault) reply some h = inr h
 
 -- an invalid line is refused
 pub fault_told : (machine : ScriptMachine) (text : List ℕ) (fault : LineFault) (reply : Reply)
-    → (asked_of text ≡ Err fault) ⊎ (fault ≡ OutOfMemory)
+    → (asked_of text ≡ Ok None → ⊥) → (asked_of text ≡ Err fault) ⊎ (fault ≡ OutOfMemory)
     → reply ≡ Refused (record { number = script_fault_number fault; place = None })
     → AnswersLine machine (Short text) (Says reply) machine
-fault_told machine text fault reply (inl e) told =
+fault_told machine text fault reply some (inl e) told =
     subst (λ asked. AnswersText machine asked (Says reply) machine) (sym e) (inl (told, refl))
-fault_told machine text fault reply (inr e) told =
-    starved machine (asked_of text) reply
+fault_told machine text fault reply some (inr e) told =
+    starved machine (asked_of text) reply some
     (subst (λ f. reply ≡ Refused (record { number = script_fault_number f; place = None })) e told, refl)
 
 -- a blank line or a comment has an empty answer
 pub nothing_told : (machine : ScriptMachine) (text : List ℕ) → asked_of text ≡ Ok None
     → AnswersLine machine (Short text) (Says Silent) machine
 nothing_told machine text e =
-    subst (λ asked. AnswersText machine asked (Says Silent) machine) (sym e) (inl (refl, refl))
+    subst (λ asked. AnswersText machine asked (Says Silent) machine) (sym e) (refl, refl)

@@ -32,7 +32,7 @@ use Rattle.script_text.specs.declared.fault.LineFault.{LineFault}
 use Rattle.script_text.specs.Faults.{script_fault_number}
 use Rattle.script_text.specs.Asking.{Asked, Upload, Register, Unregister, Whereis, Show, Heal, asked_of}
 use Rattle.script_text.specs.Lines.{Line, Short, Long}
-use Rattle.cluster.specs.Causes.{IsCause}
+use Rattle.cluster.specs.Causes.{IsCause, IsEarly, ShowAsBefore}
 use Rattle.cluster.specs.Clusters.{AreFresh, at, with_standing, is_full_at}
 use Rattle.cluster.specs.Healing.{Plan, HealsSplit, IsFailed}
 use Rattle.cluster.specs.Healings.{Healing}
@@ -170,12 +170,14 @@ pub record HasHealed (old new : ScriptMachine) : Type 0 where
   pub programs : new.programs ≡ old.programs
   pub latest : new.latest ≡ old.latest + 1
 
--- the exchange failed, with a fault that has its cause in the halves before it, or with 39, 40 or 90
+-- the exchange failed, with a fault that has its cause in the halves before it, or with 39, 40 or 90. 35, 37 and 42 change
+-- no table
 pub record HealRefused (plan : Plan) (old : ScriptMachine) (reply : Reply) (new : ScriptMachine) : Type 0 where
   pub fault : HealFault
   pub said : reply ≡ Refused (record { number = heal_fault_number fault; place = None })
   pub cause : IsCause plan old.cluster fault
   pub failed : IsFailed plan old.cluster new.cluster
+  pub early : IsEarly fault → ShowAsBefore old.cluster new.cluster
   pub healed : HasHealed old new
 
 pub record HealsAs (plan : Plan) (old : ScriptMachine) (healing : Healing) (new : ScriptMachine) : Type 0 where
@@ -202,10 +204,10 @@ Answers old (Heal seed uptimes gone) (Heals healing) new =
     HealsAs (plan_for old seed uptimes gone) old healing new
 Answers old asked answer new = ⊥
 
+-- a blank line and a comment have an empty answer, also when out of memory
 abbrev pub AnswersText : ScriptMachine → Result (Option Asked) LineFault → Answer → ScriptMachine → Type 0
 AnswersText old (Ok (Some asked)) answer new = Answers old asked answer new
-AnswersText old (Ok None) (Says reply) new =
-    UnlessMemory (λ reply new. (reply ≡ Silent) × (new ≡ old)) old reply new
+AnswersText old (Ok None) (Says reply) new = (reply ≡ Silent) × (new ≡ old)
 AnswersText old (Ok None) answer new = ⊥
 AnswersText old (Err fault) (Says reply) new =
     UnlessMemory (Refuses (script_fault_number fault) None old) old reply new

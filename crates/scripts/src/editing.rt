@@ -1,4 +1,4 @@
-//! Names, registered and taken out.
+//! Names, registered and unregistered.
 ghost use Rattle.std.specs.Prelude.{◌≡◌};
 ghost use Rattle.scripts.specs.Machines as machines;
 ghost use Rattle.scripts.specs.Machines.{machine_of};

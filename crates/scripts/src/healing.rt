@@ -28,8 +28,8 @@ pub struct Split<'a> {
 impl Machine {
     /// Heals the split as an exchange of the next number. A failure uses the number up.
     ///
-    /// The crew's workers judge the clashes, and it waits for them. Requires fewer than 2^64 - 1 exchanges so far. Returns the
-    /// least refusal.
+    /// The crew's workers judge the clashes, and it waits for them. Requires fewer than 2^64 - 1 exchanges so far. Returns
+    /// the refusal with the least number that the code met; no clause states which.
     pub fn heal<T: Threads + Wait + Sync + AllocGlobal, G: Gate + Sync, N>(
         &mut self,
         crew: &Crew<'_, T, G, N>,

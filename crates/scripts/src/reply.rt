@@ -19,7 +19,7 @@ pub enum Reply {
     Uploaded { label: Name, count: usize },
     /// A name was registered.
     Registered,
-    /// A name was taken out.
+    /// A name was unregistered.
     Unregistered,
     /// The owner of a name.
     Owned(Owner),

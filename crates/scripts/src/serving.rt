@@ -87,6 +87,7 @@ fn obey<T: Files + Threads + Wait + Sync + AllocGlobal, G: Gate + Sync, N: Narra
     ensures { ServesAsked (machine_of machine.old) (machine_of machine.new) (asked command.now) number
         (W.contents writer.old) (W.contents writer.new) result }
 {
+    let narrator = crew.narrator;
     match command {
         Command::Upload { label, code } => {
             upload(crew, machine, writer, number, Uploading { label, code })
@@ -97,23 +98,17 @@ fn obey<T: Files + Threads + Wait + Sync + AllocGlobal, G: Gate + Sync, N: Narra
             terms,
             resolver,
         } => say(
-            crew.narrator,
+            narrator,
             writer,
             number,
             &machine.register(*side, *name, *terms, resolver),
         ),
-        Command::Unregister { side, name } => say(
-            crew.narrator,
-            writer,
-            number,
-            &machine.unregister(*side, name),
-        ),
-        Command::Whereis { side, name } => say(
-            crew.narrator,
-            writer,
-            number,
-            &machine.whereis(*side, name),
-        ),
+        Command::Unregister { side, name } => {
+            say(narrator, writer, number, &machine.unregister(*side, name))
+        }
+        Command::Whereis { side, name } => {
+            say(narrator, writer, number, &machine.whereis(*side, name))
+        }
         Command::Show { side } => with_status(machine.print_rows(Ok(()), writer, *side), 0),
         Command::Heal {
             seed,

@@ -135,6 +135,14 @@ pub record AreUnlisted (now : Cluster) : Type 0 where
   pub a : IsUnlisted now.a.side
   pub b : IsUnlisted now.b.side
 
+-- a half that heard no offer
+abbrev pub IsUnheard : Side → Type 0
+IsUnheard side = (exchange : Exchange) → side.exchange ≡ Some exchange → exchange.heard ≡ None
+
+pub record AreUnheard (now : Cluster) : Type 0 where
+  pub a : IsUnheard now.a.side
+  pub b : IsUnheard now.b.side
+
 -- ---- after it finished
 
 -- a half that finished by the rulings that the pass has seen

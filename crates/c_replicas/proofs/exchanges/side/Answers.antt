@@ -14,4 +14,4 @@ returns-in-Ok-new c before =
     got _ _ c.in_ok-id.id _ (λ id. (h : SideAndStore) × (Some c.in-Ok-new.half.value ≡ Some h) × IsSideOf id c.args.replica.now h) _
     (sym c.in_ok-id.was ∙ c.side_id.ensures) e.answer
     (subst (λ (x : SideAndStore). (h : SideAndStore) × (Some x ≡ Some h) × IsSideOf c.in_ok-id.id c.args.replica.now h) (sym (c.in-Ok-new.ensures.ok ∙ c.of.ensures))
-    (made, refl, record { state = e.state; limit = e.limit; store = store }))
+    (made, refl, record { state = e.state; limit = e.limit; short = e.short; store = store }))

@@ -3,11 +3,11 @@ use Rattle.std.specs.Prelude.{option_map, option_and_then}
 use Rattle.std.specs.Option.{ok_or}
 use Rattle.clap.specs.Words.{Text, HasKind, IsAmong, fault_of, is_simple_and_free, is_simple, kind_of, subcommand_of}
 use Rattle.clap.specs.declared.error.Error.{Error}
-use Rattle.command_line.specs.declared.faults.CommandFault.TheVariants.{Parse}
+use Rattle.command_line.specs.declared.faults.CommandFault.TheVariants.{NoTask, Parse}
 use Rattle.clap.proofs.OnLiterals.{clap_on_literals}
 use Rattle.command_line.specs.declared.task.Task.{Task}
 use Rattle.command_line.specs.declared.faults.CommandFault.{CommandFault}
-use Rattle.command_line.specs.Asked.{AskedTask, Asks, IsForMemory, asked_task, subcommand_asked, asks_refusals, asks_version, heal_app}
+use Rattle.command_line.specs.Asked.{AskedTask, Asks, IsForMemory, IsUsageFault, asked_task, subcommand_asked, asks_refusals, asks_version, heal_app}
 use Rattle.command_line.proofs.reading.command.Goals as goal
 
 is_simple_heal : is_simple heal_app ≡ true
@@ -86,4 +86,33 @@ returns-in_err-matches-clause-err g c =
     refused_as words c.in_err-matches.field-0.0 c.from_residual-in_err-matches.result
     c.from_residual-in_err-matches.ensures.1
     (sym c.asks_version.ensures ∙ c.if-asks_version.false) (sym c.asks_refusals.ensures ∙ c.if-asks_refusals.false)
+    (subst (λ a. HasKind (fault_of a words) c.in_err-matches.field-0.0) app_is kinds)
+
+-- if the rows give no task, the words parse
+without_task : (words : List Text) (o : Option Task) (r : Result Task CommandFault) → r ≡ ok_or o NoTask
+    → fault_of heal_app words ≡ [] → IfErr r (λ f. IsForMemory f ⊎ IsUsageFault words f)
+without_task words (Some t) r is none = rw is tt
+without_task words None r is none = rw is (inr none)
+
+pub returns-clause-usage : goal.returns-clause-usage
+returns-clause-usage g c =
+    let words = map g.S.AsStr.text c.args.words.now in
+    let app_is = c.in_ok-heal.ensures in
+    let none = c.in_ok-matches.ensures.kinds (ap is_simple_and_free app_is ∙ is_free_heal) in
+    without_task words c.task_of.result c.ok_or.result c.ok_or.ensures.value
+    (ap (λ a. fault_of a words) (sym app_is) ∙ none)
+
+refused_by : (words : List Text) (error : Error) (result : Result Task CommandFault)
+    → IsErrAnd result (λ f. f ≡ Parse error) → HasKind (fault_of heal_app words) error
+    → IfErr result (λ f. IsForMemory f ⊎ IsUsageFault words f)
+refused_by words error (Ok task) is kind = tt
+refused_by words error (Err fault) is kind = rw is kind
+
+pub returns-in_err-matches-clause-usage : goal.returns-in_err-matches-clause-usage
+returns-in_err-matches-clause-usage g c =
+    let words = map g.S.AsStr.text c.args.words.now in
+    let app_is = c.in_ok-heal.ensures in
+    let kinds = c.in_err-matches.ensures.kinds (ap is_simple_and_free app_is ∙ is_free_heal) in
+    refused_by words c.in_err-matches.field-0.0 c.from_residual-in_err-matches.result
+    c.from_residual-in_err-matches.ensures.1
     (subst (λ a. HasKind (fault_of a words) c.in_err-matches.field-0.0) app_is kinds)

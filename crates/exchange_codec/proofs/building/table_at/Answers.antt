@@ -1,5 +1,6 @@
 use Rattle.std.proofs.Common.{[]}
 use Rattle.std.specs.FinMap.{entries}
+use Rattle.exchange_codec.specs.declared.fault.ReadError.TheVariants as errors
 use Rattle.exchange_codec.specs.Reading.{many_at}
 use Rattle.exchange_codec.specs.Rows.{row_at, texts_of}
 use Rattle.exchange_codec.specs.RowsText.{row_view}
@@ -16,7 +17,7 @@ loop-k-init c =
 
 pub returns-in-Err-clause-failed : goal.returns-in-Err-clause-failed
 returns-in-Err-clause-failed c =
-    ends row_at c.in-Err.error (texts_of [] (entries c.loop-k.builder.table)) c.args.count c.loop-k.k c.loop-k.rest.now
+    ends row_at (errors.Fault c.in-Err.fault) (texts_of [] (entries c.loop-k.builder.table)) c.args.count c.loop-k.k c.loop-k.rest.now
     (many_at row_at c.args.count c.args.bytes.now) c.loop-k-test.true c.in-Err.ensures c.loop-k.invariant.parts
 
 pub returns-in-Ok-skip_rows-clause-built : goal.returns-in-Ok-skip_rows-clause-built
@@ -37,7 +38,7 @@ pub returns-in-Err-skip_rows-clause-failed : goal.returns-in-Err-skip_rows-claus
 returns-in-Err-skip_rows-clause-failed c =
     read_fails_later c.args.count c.loop-k.k c.args.bytes.now c.loop-k.rest.now c.loop-k.builder.table c.loop-k.builder.programs c.loop-k.last
     c.loop-k.invariant (row_view c.in-Ok-row_at.found.0) c.in-Ok-row_at.found.1.now c.loop-k-test.true c.in-Ok-row_at.ensures
-    c.in-Err-skip_rows.error c.in-Err-skip_rows.ensures.failed
+    (errors.Fault c.in-Err-skip_rows.fault) c.in-Err-skip_rows.ensures.failed
 
 pub loop-k-preserved : goal.loop-k-preserved
 loop-k-preserved c =

@@ -1,24 +1,24 @@
-use Rattle.std.proofs.Common.{length}
-use Rattle.exchange_codec.specs.Peeking.{peeked, head_of_offer, head_of_list}
-use Rattle.exchange_codec.proofs.PeekingLaws.{offer_peeked, list_peeked, head_is, never_fails}
+use Rattle.std.proofs.Common.{Err, length, ap, ◌∙◌}
+use Rattle.exchange_codec.specs.Reading.{due}
+use Rattle.exchange_codec.proofs.PeekingLaws.{offer_due, list_due}
 use Rattle.exchange_codec.proofs.head.peek.Goals as goal
 
-pub returns-in-Ok-clause-offer : goal.returns-in-Ok-clause-offer
-returns-in-Ok-clause-offer c = λ offer spells.
-    head_is (peeked c.args.bytes.now) c.in-Ok.head (head_of_offer offer) c.in-Ok.ensures
-    (offer_peeked c.args.bytes.now offer spells)
+pub returns-in-Ok : goal.returns-in-Ok
+returns-in-Ok c =
+    let bytes = c.args.bytes.now in
+    let exact = ap (due (length bytes)) c.in-Ok.ensures in
+    record {
+      exact = exact;
+      offer = λ offer spells. exact ∙ offer_due bytes offer spells;
+      list = λ list spells. exact ∙ list_due bytes list spells;
+    }
 
-pub returns-in-Ok-clause-list : goal.returns-in-Ok-clause-list
-returns-in-Ok-clause-list c = λ list spells.
-    head_is (peeked c.args.bytes.now) c.in-Ok.head (head_of_list list) c.in-Ok.ensures
-    (list_peeked c.args.bytes.now list spells)
-
-pub returns-in-Err-clause-offer : goal.returns-in-Err-clause-offer
-returns-in-Err-clause-offer c = λ offer spells.
-    never_fails (length c.args.bytes.now) (peeked c.args.bytes.now) (head_of_offer offer) c.in-Err.error c.told.result
-    c.in-Err.ensures c.told.ensures (offer_peeked c.args.bytes.now offer spells)
-
-pub returns-in-Err-clause-list : goal.returns-in-Err-clause-list
-returns-in-Err-clause-list c = λ list spells.
-    never_fails (length c.args.bytes.now) (peeked c.args.bytes.now) (head_of_list list) c.in-Err.error c.told.result
-    c.in-Err.ensures c.told.ensures (list_peeked c.args.bytes.now list spells)
+pub returns-in-Err : goal.returns-in-Err
+returns-in-Err c =
+    let bytes = c.args.bytes.now in
+    let exact = ap Err c.placed.ensures ∙ ap (due (length bytes)) c.in-Err.ensures in
+    record {
+      exact = exact;
+      offer = λ offer spells. exact ∙ offer_due bytes offer spells;
+      list = λ list spells. exact ∙ list_due bytes list spells;
+    }

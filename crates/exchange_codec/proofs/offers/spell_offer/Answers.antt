@@ -9,7 +9,7 @@ pub returns : goal.returns
 returns c =
     let head = c.args.head in
     let offer : Offer = record { side = head.side; number = head.number; seed = head.seed; uptime = head.uptime; table = c.args.table.now } in
-    let header = c.in_ok-push_u64.ensures ∙ ap (λ (xs : List ℕ). xs ++ to_le_bytes w64 offers_header) c.new-out.ensures.items in
+    let header = c.in_ok-push_u64.ensures.written ∙ ap (λ (xs : List ℕ). xs ++ to_le_bytes w64 offers_header) c.new-out.ensures.items in
     let bytes = offer_written offer c.args.table.now c.push_u64.new.out.items
     c.push_head.new.out.items c.push_table.new.out.items refl
     header c.in_ok-push_head.ensures.written c.in_ok-push_table.ensures.written in

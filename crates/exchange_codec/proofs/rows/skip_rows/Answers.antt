@@ -1,4 +1,5 @@
 use Rattle.std.proofs.Common.{◌∷◌, [], ◌++◌}
+use Rattle.exchange_codec.specs.declared.fault.ReadError.TheVariants as errors
 use Rattle.exchange_codec.specs.Reading.{many_at}
 use Rattle.exchange_codec.specs.Rows.{row_at}
 use Rattle.exchange_codec.specs.RowsText.{row_view}
@@ -10,7 +11,7 @@ loop-init c = ([], starts row_at c.args.count c.args.bytes.now)
 
 pub returns-in-Err-clause-failed : goal.returns-in-Err-clause-failed
 returns-in-Err-clause-failed c =
-    ends row_at c.in-Err.error c.loop.invariant.0 c.args.count c.loop.counter c.loop.rest.now
+    ends row_at (errors.Fault c.in-Err.fault) c.loop.invariant.0 c.args.count c.loop.counter c.loop.rest.now
     (many_at row_at c.args.count c.args.bytes.now) c.loop-test.true c.in-Err.ensures c.loop.invariant.1
 
 pub loop-preserved : goal.loop-preserved

@@ -28,4 +28,5 @@ returns c =
     record {
       written = all_written c.args.table.now c.args.out.now.items c.loop-name.out.items c.loop-name.before done;
       fit = all_fit c.args.table.now c.args.out.now.items c.loop-name.out.items c.loop-name.before done;
+      front = tt;
     }

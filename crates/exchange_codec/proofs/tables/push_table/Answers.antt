@@ -6,7 +6,7 @@ pub returns-clause-written : goal.returns-clause-written
 returns-clause-written c =
     on_ok_weaker c.push_rows.result (λ wrote.
     table_written c.args.table.now c.len.result c.args.out.now.items c.push_u32.new.out.items c.push_rows.new.out.items
-    c.len.ensures.count c.in_ok-push_u32.ensures wrote) c.push_rows.ensures.written
+    c.len.ensures.count c.in_ok-push_u32.ensures.written wrote) c.push_rows.ensures.written
 
 pub returns-clause-fits : goal.returns-clause-fits
 returns-clause-fits c =

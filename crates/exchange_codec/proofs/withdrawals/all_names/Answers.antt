@@ -1,12 +1,13 @@
 use Rattle.std.proofs.Common.{◌≡◌, ◌++◌, ◌∷◌, [], List, ap, ◌∙◌, ◌-◌, ◌+◌}
 use Rattle.clash_record.specs.Name.{Name}
+use Rattle.exchange_codec.specs.declared.fault.ReadError.TheVariants as errors
 use Rattle.exchange_codec.specs.Reading.{many_at}
 use Rattle.exchange_codec.specs.Names.{name_at}
 use Rattle.exchange_codec.specs.laws.Many.{with_front, goes_on, ends, is_done}
 use Rattle.exchange_codec.proofs.withdrawals.all_names.Goals as goal
 
 pub returns-in-Err : goal.returns-in-Err
-returns-in-Err c = ends name_at c.in-Err.error c.loop.names.items c.args.count c.loop.counter c.loop.rest.now
+returns-in-Err c = ends name_at (errors.Fault c.in-Err.fault) c.loop.names.items c.args.count c.loop.counter c.loop.rest.now
     (many_at name_at c.args.count c.args.bytes.now) c.loop-test.true c.in-Err.ensures c.loop.invariant
 
 pub loop-preserved : goal.loop-preserved

@@ -1,6 +1,7 @@
 use Rattle.std.proofs.Common.{◌≡◌, ◌++◌, ◌∷◌, [], ◌-◌, ◌+◌, List, ℕ, ap, ◌∙◌}
 use Rattle.std.specs.Borrow.{Bor}
 use Rattle.std.proofs.lemmas.List.{map_push}
+use Rattle.exchange_codec.specs.declared.fault.ReadError.TheVariants as errors
 use Rattle.exchange_codec.specs.Reading.{many_at}
 use Rattle.exchange_codec.specs.laws.Many.{with_front, goes_on, ends, is_done}
 use Rattle.replica_codec.specs.Snapshots.{code_at}
@@ -8,7 +9,7 @@ use Rattle.replica_codec.specs.SnapshotsText.{codes_view}
 use Rattle.replica_codec.proofs.snapshot_texts.all_codes.Goals as goal
 
 pub returns-in-Err : goal.returns-in-Err
-returns-in-Err c = ends code_at c.in-Err.error (codes_view c.loop.codes.items) c.args.count c.loop.counter c.loop.rest.now
+returns-in-Err c = ends code_at (errors.Fault c.in-Err.fault) (codes_view c.loop.codes.items) c.args.count c.loop.counter c.loop.rest.now
     (many_at code_at c.args.count c.args.bytes.now) c.loop-test.true c.in-Err.ensures c.loop.invariant
 
 pub loop-preserved : goal.loop-preserved

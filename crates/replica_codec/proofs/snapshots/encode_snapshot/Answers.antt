@@ -27,7 +27,7 @@ returns c =
     subst (λ (s : Snapshot HalfState). IfOk c.framed.result (λ (v : Vec ℕ Global). SpellsSnapshot v.items s)) is
     (encoded made c.in_ok-out.out.items c.push_position.new.out.items c.push_u32.new.out.items c.push_latest.new.out.items
     c.push_codes.new.out.items c.push_table.new.out.items c.framed.result
-    c.in_ok-out.ensures c.in_ok-push_position.ensures.written c.in_ok-push_u32.ensures c.in_ok-push_latest.ensures.written
+    c.in_ok-out.ensures c.in_ok-push_position.ensures.written c.in_ok-push_u32.ensures.written c.in_ok-push_latest.ensures.written
     c.in_ok-push_codes.ensures.written c.in_ok-push_table.ensures.written
     (record {
       at = c.in_ok-push_position.ensures.fits;

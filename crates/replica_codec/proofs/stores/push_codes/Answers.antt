@@ -9,7 +9,7 @@ pub returns-clause-written : goal.returns-clause-written
 returns-clause-written c =
     on_ok_weaker c.push_each.result (λ wrote.
     codes_written c.args.store.now c.len.result c.args.out.now.items c.push_u32.new.out.items c.push_each.new.out.items
-    c.len.ensures.count c.in_ok-push_u32.ensures wrote) c.push_each.ensures.written
+    c.len.ensures.count c.in_ok-push_u32.ensures.written wrote) c.push_each.ensures.written
 
 pub returns-clause-few : goal.returns-clause-few
 returns-clause-few c =

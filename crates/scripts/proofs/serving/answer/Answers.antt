@@ -1,21 +1,29 @@
-use Rattle.std.proofs.Common.{◌∙◌, ap, subst, Result, Option, Ok}
+use Rattle.std.proofs.Common.{◌≡◌, ◌∙◌, ap, sym, subst, Result, Option, Ok, Err, None}
 use Rattle.std.specs.Option.{option_map}
 use Rattle.script_text.specs.declared.command.Command.{Command}
 use Rattle.script_text.specs.declared.fault.LineFault.{LineFault}
-use Rattle.script_text.specs.Asking.{asked_of}
+use Rattle.script_text.specs.Asking.{Asked, asked_of}
 use Rattle.script_text.specs.Commands.{IsRight, asked, right_option}
 use Rattle.scripts.specs.declared.reply.Reply.TheVariants.{Silent}
 use Rattle.scripts.specs.Machines.{machine_of}
 use Rattle.scripts.proofs.Saying.{said, fault_told, nothing_told}
 use Rattle.scripts.proofs.serving.answer.Goals as goal
 
+-- a line that command_of refuses has a request
+not_silent : (result : Result (Option Command) LineFault) (fault : LineFault) (due : Result (Option Asked) LineFault)
+    → result ≡ Err fault → (due ≡ Ok None → result ≡ Ok None) → due ≡ Ok None → ⊥
+not_silent result fault due failed silent none = let said = sym failed ∙ silent none in cc
+
 pub returns-in-Err : goal.returns-in-Err
 returns-in-Err g c =
     let right =
     subst (λ (r : Result (Option Command) LineFault). IsRight (right_option r) (asked_of c.args.line.now))
     c.in-Err.is c.command_of.ensures.asked in
+    let some = not_silent c.command_of.result c.in-Err.fault (asked_of c.args.line.now) c.in-Err.is
+    c.command_of.ensures.silent in
     said _ _ _ _ c.refused.result c.say.result
-    (fault_told (machine_of c.args.machine.now) c.args.line.now c.in-Err.fault c.refused.result right c.refused.ensures)
+    (fault_told (machine_of c.args.machine.now) c.args.line.now c.in-Err.fault c.refused.result some right
+    c.refused.ensures)
     c.say.ensures.sends c.say.ensures.status
 
 pub returns-in-Ok-None : goal.returns-in-Ok-None

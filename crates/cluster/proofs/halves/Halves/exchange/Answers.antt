@@ -40,7 +40,7 @@ returns-clause-healed g c = λ was sides rest.
       withdrawn = gone;
       names = c.in_ok-rulings.names;
     } in
-    let healed = c.in_ok-rulings.ensures.healed was sides trying (are ∙ shown) in
+    let healed = c.in_ok-rulings.ensures.healed was sides trying (are ∙ shown) (c.in_ok-open.ensures.fits was sides rest) in
     subst (λ (h : Healing). HealsSplit plan was (halves_of c.settle.new.self) h)
     (λ i. outcome (are i) (sym c.in_ok-withdrawn.ensures i)) healed
 

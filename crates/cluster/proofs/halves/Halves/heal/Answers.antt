@@ -2,6 +2,7 @@ use Rattle.cluster.specs.Healing.{plan_of}
 use Rattle.cluster.specs.model.Stages.{halves_of}
 use Rattle.cluster.proofs.Answered.{on_err}
 use Rattle.cluster.proofs.Causes.{if_converted}
+use Rattle.cluster.proofs.Early.{shown_on}
 use Rattle.cluster.proofs.Trying.{nothing_done, rested_fresh}
 use Rattle.cluster.proofs.halves.Halves.heal.Goals as goal
 
@@ -33,3 +34,11 @@ returns-in-Err-clause-cause g c = λ sides.
     let was = halves_of c.args.self.now in
     c.give_up.ensures.cause (plan_of c.args.plan.now) was
     (c.in-Err.ensures.cause was sides (rested_fresh was _ _ c.in_ok-abandon_open.ensures.rested c.renew_long.ensures))
+
+pub returns-in-Err-clause-early : goal.returns-in-Err-clause-early
+returns-in-Err-clause-early g c = λ sides early.
+    let was = halves_of c.args.self.now in
+    shown_on was (halves_of c.exchange.new.self) (halves_of c.give_up.new.self)
+    (c.in-Err.ensures.early was sides (rested_fresh was _ _ c.in_ok-abandon_open.ensures.rested c.renew_long.ensures)
+    (c.give_up.ensures.early early))
+    c.give_up.ensures.shown

@@ -1,7 +1,9 @@
+use Rattle.std.proofs.Common.{[]}
 use Rattle.cluster.specs.Healing.{plan_of}
 use Rattle.cluster.specs.model.Stages.{halves_of}
 use Rattle.cluster.proofs.Answered.{on_ok, on_err}
 use Rattle.cluster.proofs.Causes.{if_converted, if_err}
+use Rattle.cluster.proofs.Early.{trying_shown, if_any, never_early}
 use Rattle.cluster.proofs.Trying.{trying_failed, all_failed}
 use Rattle.cluster.proofs.halves.Halves.open.Goals as goal
 
@@ -55,4 +57,35 @@ returns-clause-cause c = if_err c.exchange_lists.result (λ fault h was sides re
     (c.in_ok-of_a.ensures.tried was sides rest) in
     h plan was (c.in_ok-withdraw.ensures.withdrawn was heard)
     (c.in_ok-withdraw.ensures.unlisted (c.hear.ensures.unlisted c.in_ok-of_a.ensures.unlisted)))
+    c.exchange_lists.ensures.cause
+
+pub returns-in_err-hear-clause-early : goal.returns-in_err-hear-clause-early
+returns-in_err-hear-clause-early c = if_any c.from_residual-in_err-hear.result (λ fault was sides rest early.
+    let plan = plan_of c.args.plan.now in
+    trying_shown plan was (halves_of c.hear.new.self)
+    (c.hear.ensures.heard plan was (c.in_ok-of_a.ensures.offers was sides rest)
+    (c.in_ok-of_a.ensures.tried was sides rest)))
+
+pub returns-in_err-withdraw-clause-early : goal.returns-in_err-withdraw-clause-early
+returns-in_err-withdraw-clause-early c =
+    if_converted _ c.from_residual-in_err-withdraw.result c.in_err-withdraw.field-0.0
+    c.from_residual-in_err-withdraw.ensures (λ was sides rest early.
+    let plan = plan_of c.args.plan.now in
+    let offers = c.in_ok-of_a.ensures.offers was sides rest in
+    let tried = c.in_ok-of_a.ensures.tried was sides rest in
+    let heard = c.hear.ensures.heard plan was offers tried in
+    absurd (never_early plan was (halves_of c.hear.new.self) [] heard
+    (c.in_ok-hear.ensures.fits c.in_ok-of_a.ensures.unheard plan was offers tried) c.in_err-withdraw.field-0.0
+    (c.in_err-withdraw.ensures.cause was heard (c.hear.ensures.unlisted c.in_ok-of_a.ensures.unlisted)) early))
+
+pub returns-clause-early : goal.returns-clause-early
+returns-clause-early c = if_err c.exchange_lists.result (λ fault h was sides rest early.
+    let plan = plan_of c.args.plan.now in
+    let offers = c.in_ok-of_a.ensures.offers was sides rest in
+    let tried = c.in_ok-of_a.ensures.tried was sides rest in
+    let heard = c.hear.ensures.heard plan was offers tried in
+    absurd (never_early plan was (halves_of c.hear.new.self) [] heard
+    (c.in_ok-hear.ensures.fits c.in_ok-of_a.ensures.unheard plan was offers tried) fault
+    (h plan was (c.in_ok-withdraw.ensures.withdrawn was heard)
+    (c.in_ok-withdraw.ensures.unlisted (c.hear.ensures.unlisted c.in_ok-of_a.ensures.unlisted))) early))
     c.exchange_lists.ensures.cause

@@ -22,10 +22,11 @@ returns-in_err-pass-clause-failed g c = on_err c.from_residual-in_err-pass.resul
     all_failed (plan_of c.args.plan.now) was (halves_of c.args.self.now) sides trying)
 
 pub returns-clause-healed : goal.returns-clause-healed
-returns-clause-healed g c = if_ok c.meet_halves.result (λ met have was sides trying clashes.
+returns-clause-healed g c = if_ok c.meet_halves.result (λ met have was sides trying clashes fit.
     let plan = plan_of c.args.plan.now in
     settled plan was c.judge.new.pass (halves_of c.judge.new.self) c.in_ok-first.first c.in_ok-first.second met.0.items
-    c.args.clashes.now met.1 c.in_ok-board.board.place (c.in_ok-first.ensures.merged plan was trying) clashes have)
+    c.args.clashes.now met.1 c.in_ok-board.board.place (c.in_ok-first.ensures.merged plan was trying) clashes
+    fit have)
     c.meet_halves.ensures.met
 
 -- two halves that finished meet

@@ -12,5 +12,6 @@ returns-in-Err-clause-refused g c = record {
       c.refusal_of.ensures.place;
   cause = c.in-Err.ensures.cause;
   failed = c.in-Err.ensures.failed;
+  early = c.in-Err.ensures.early;
   healed = record { labels = refl; programs = refl; latest = refl };
 }
