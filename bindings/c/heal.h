@@ -28,10 +28,10 @@
  *           take at most quadratic time in the slots of the code, and judge one step for each instruction. A message that is
  *           refused by its head (heal_side_hear) takes constant time, and so do the other calls. begin and finish copy no
  *           table; a side holds about 250 bytes for each name, and 360 to 640 while an exchange is open: the more, the more clash.
- * YOU OWE   Valid pointers: each argument points to as many readable bytes (results: writable) as its comment states, and
+ * CALLER    Passes valid pointers: each argument points to as many readable bytes (results: writable) as its comment states, and
  *           results don't overlap other arguments. A pointer with length 0 may be NULL. Every other pointer isn't NULL.
  *           A handle holds only what a call here has put there.
- * NAMES     1 to 32 bytes, each from 0x21 to 0x7e (44 otherwise). They don't end with a zero byte.
+ * NAMES     1 to 32 bytes, each from 0x21 to 0x7e (44 otherwise). They aren't NUL-terminated.
  */
 #ifndef HEAL_H
 #define HEAL_H
@@ -339,7 +339,7 @@ size_t heal_refusal_words(uint32_t number, uint8_t *words, size_t capacity);
 /* Creates an idle side without names: HEAL_A or HEAL_B. Two halves that meet are one A and one B. Returns 74 for another id. */
 uint32_t heal_side_new(uint32_t id, heal_side *side);
 
-/* Creates a side like heal_side_new, which may have `names` names, from 1 to HEAL_MOST_NAMES; heal_side_new is that of
+/* Creates a side like heal_side_new, which may have `names` names, from 1 to HEAL_MOST_NAMES; heal_side_new uses
    HEAL_MAX_NAMES. The side counts 16 events for each of these names. No call changes the limit. Returns 92 for another number of
    names. The two sides of an exchange may have different limits: each refuses a union above its own (37). */
 uint32_t heal_side_new_within(uint32_t id, size_t names, heal_side *side);
@@ -350,8 +350,8 @@ void heal_side_free(heal_side *side);
    Rejects what heal_program_load rejects, an id that other code has (42), and a 257th program (43). */
 uint32_t heal_side_upload(heal_side *side, const uint8_t *code, size_t len, uint8_t id[32], uint32_t *slot);
 
-/* Forgets an uploaded program that no row of the side's table names, so that another one has room. The id can't be registered any
-   more. Returns 94 if a row names it, else 41 if it isn't uploaded. Needs no memory. */
+/* Forgets an uploaded program that no row of the side's table names, so that another one has room. No registration can name it
+   any more. Returns 94 if a row names it, else 41 if it isn't uploaded. Needs no memory. */
 uint32_t heal_side_forget(heal_side *side, const uint8_t id[32]);
 
 /* Puts the code of a program into `code`: of an uploaded one, or of one that a row of the side's table names, also if it came from
@@ -391,7 +391,7 @@ uint32_t heal_side_live_after(const heal_side *side, const uint8_t *name, size_t
 uint32_t heal_side_query(const heal_side *side, heal_side_state *state);
 
 /* Returns name i, from 0, of those that the side withdrew in the open exchange, the earliest first. Returns 92 for an index
-   that is too big; without an open exchange each is. */
+   that is too big; without an open exchange every index is. */
 uint32_t heal_side_withdrawn(const heal_side *side, size_t i, heal_name *name);
 
 /* Opens an exchange and puts the offer to be sent into `offer`. Until finish or abandon the table doesn't change.
@@ -462,8 +462,8 @@ void heal_bytes_free(heal_bytes *bytes);
    within them, 71 for no message, 74, 82. */
 uint32_t heal_message_peek(const uint8_t *message, size_t len, heal_head *head);
 
-/* Says what is wrong with a received message: reads it as an offer or as a list, without a side, writes its first fault in full,
-   and returns the number of it: 70 to 82, or 0 for a message without fault. Takes as long as hearing it. Also returns 90. */
+/* Finds the first fault of a received message: reads it as an offer or as a list, without a side, writes the fault in full, and
+   returns its number: 70 to 82, or 0 for a message without fault. Takes as long as hearing it. Also returns 90. */
 uint32_t heal_offer_fault(const uint8_t *offer, size_t len, heal_fault *fault);
 uint32_t heal_list_fault(const uint8_t *list, size_t len, heal_fault *fault);
 

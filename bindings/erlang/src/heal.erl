@@ -314,7 +314,7 @@ replica_rows(Replica) -> turn(fun() -> replica_rows_in_turn(Replica) end).
 -spec replica_side(replica(), a | b) -> result(side()).
 replica_side(Replica, Id) -> turn(fun() -> replica_side_in_turn(Replica, Id) end).
 
-%% @doc Starts a view with what an exchange left in the side. `From' is the position at which the exchange began.
+%% @doc Starts a view with what an exchange left in the side. `From' is the position after `replica_begin'.
 -spec replica_change(replica(), From :: position(), side()) -> result().
 replica_change(Replica, From, Side) -> turn(fun() -> replica_change_in_turn(Replica, From, Side) end).
 

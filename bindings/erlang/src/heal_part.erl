@@ -193,7 +193,7 @@ event({refused, Node, Bodies}, Part) ->
 event({Kind, Node}, Part) when Kind =:= drained; Kind =:= rested ->
     act(heal_congestion:Kind(Node, Part));
 event({failed, Node}, Part) ->
-    act(heal_meeting:failed_with(Node, Part));
+    act(heal_meeting:failed_with(Node, heal_peers:failed(Node, Part)));
 event(Event, Part) ->
     act(heal_meeting:broken(heal_peers:link(Event, Part))).
 

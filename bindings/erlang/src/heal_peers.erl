@@ -3,13 +3,15 @@
 
 -include("heal_part.hrl").
 
--export([link/2, connecting/2, attempted/2, here/3, announce/1, announce_to/2, hurry/2, moved/4, pulse/1]).
+-export([link/2, connecting/2, attempted/2, failed/2, here/3, announce/1, announce_to/2, hurry/2, moved/4, pulse/1]).
 -export([has_met/3, takes_groups/2, takes_differences/2, is_silent/2, is_connected/2, is_in_setting/2, is_primary/1, followers/1, give_up/2, heard_of/2]).
 -export([retry/4, hopeful/2, arrived/1, sync/1, report/1]).
 -export_type([refusal/0, problems/0, here/0]).
 
 -define(STORE_FULL, 43).
 -define(MAX_PROGRAMS, 256).
+%% A registry that has failed is silent for a millisecond more for each of so many names.
+-define(NAMES_OF_SILENCE, 50).
 %% The form of differences that this version sends and takes.
 -define(DIFFERENCES, 2).
 
@@ -90,6 +92,17 @@ attempted(Node, Part = #part{links = Links}) when is_map_key(Node, Links) ->
     Part;
 attempted(Node, Part = #part{awaited = Awaited}) ->
     Part#part{awaited = maps:remove(Node, Awaited)}.
+
+%% The registry of a node has failed. It is expected to start again, which takes longer the more names there are.
+-spec failed(node(), #part{}) -> #part{}.
+failed(Node, Part = #part{peers = Peers, now = Now}) ->
+    case Peers of
+        #{Node := Peer} ->
+            More = map_size((heal_state:half(Part))#half.names) div ?NAMES_OF_SILENCE,
+            Part#part{peers = Peers#{Node := Peer#peer{heard = Now + More}}};
+        _ ->
+            Part
+    end.
 
 %% Returns whether a node is connected.
 -spec is_connected(node(), #part{}) -> boolean().

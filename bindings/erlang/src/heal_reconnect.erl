@@ -9,13 +9,15 @@
 -define(INTERVAL, 10000).
 %% An attempt may not hold up edits for longer than this part of `edit_timeout'.
 -define(EDIT_TIMEOUT, 5000).
-%% How often a node that isn't in the setting is tried before it is forgotten.
--define(ATTEMPTS, 360).
+%% A node that isn't in the setting is tried at each interval, then at one of so many, and then forgotten: an hour and a week by default.
+-define(OFTEN, 360).
+-define(SELDOM, 60).
+-define(INTERVALS, 60480).
 
 -record(state, {
     interval :: pos_integer() | never,
     timeout :: pos_integer(),
-    %% The nodes to connect, with how many attempts are left.
+    %% The nodes to connect, with how many intervals are left.
     lost :: #{node() => pos_integer() | infinity},
     setting :: [node()],
     attempts = #{} :: #{reference() => node()},
@@ -41,14 +43,17 @@ start(Nodes, Options) ->
     #state{interval = Interval, timeout = Timeout div 2, setting = Setting,
            lost = maps:from_keys(Setting -- nodes(connected), infinity)}.
 
-%% Tries to connect all nodes that are apart and returns them. The next attempt follows after the interval.
+%% Tries to connect the nodes that are apart and returns them. The next attempt follows after the interval.
 -spec attempt(state()) -> {[node()], state()}.
 attempt(State = #state{interval = never}) ->
     {[], State};
 attempt(State = #state{lost = Lost, attempts = Attempts}) ->
-    Nodes = maps:keys(Lost) -- maps:values(Attempts),
+    Nodes = [Node || {Node, Left} <- maps:to_list(Lost), is_due(Left)] -- maps:values(Attempts),
     Made = maps:from_list([{connect(Node, State), Node} || Node <- Nodes]),
     {Nodes, timed(State#state{attempts = maps:merge(Attempts, Made), lost = maps:filtermap(fun less/2, Lost)})}.
+
+is_due(infinity) -> true;
+is_due(Left) -> Left > ?INTERVALS - ?OFTEN orelse Left rem ?SELDOM =:= 0.
 
 less(_Node, 1) -> false;
 less(_Node, infinity) -> true;
@@ -87,5 +92,5 @@ up(Node, State = #state{lost = Lost}) ->
 down(_Node, State = #state{interval = never}) ->
     State;
 down(Node, State = #state{lost = Lost, setting = Setting}) ->
-    Left = case lists:member(Node, Setting) of true -> infinity; false -> ?ATTEMPTS end,
+    Left = case lists:member(Node, Setting) of true -> infinity; false -> ?INTERVALS end,
     timed(State#state{lost = Lost#{Node => Left}}).

@@ -136,7 +136,7 @@ is_other(_Printable, _Name) ->
 set_resolver(Name, Resolver) ->
     update(Name, #{resolver => Resolver}).
 
-%% @doc Unregisters a name. It is `ok' too if nobody has the name.
+%% @doc Unregisters a name. Returns `ok' also if nobody has it.
 -spec unregister_name(Name :: term()) -> ok | {error, reason()}.
 unregister_name(Name) ->
     Bytes = heal_names:name(Name),
@@ -223,7 +223,8 @@ info(Name) ->
 %% @doc Returns the part of this node: its `primary' and `members', its `view', the nodes that are `connected', the greatest
 %% `number' of an exchange, the count of `names', and how it is linked: `apart' from all others, `asking' for an exchange, `open'
 %% or `joined'. `problems' has what keeps nodes apart: refusals by their number, `nodes', `scope', `hidden' and `numbers' for
-%% nodes with other settings, `version' for other messages, and `silent' for a node that is connected and doesn't answer.
+%% nodes with other settings, `version' for other messages, `silent' for a node that is connected and doesn't answer, and `dir' for a disk
+%% that can't be written.
 -spec status() -> #{
     link := apart | asking | open | joined,
     number := non_neg_integer(),

@@ -479,10 +479,7 @@ proposal_test() ->
 
 %% The more names two parts have, the longer each waits for the other one's next step.
 many_names_test() ->
-    Names = maps:from_list([{Name, heal_row:new(Name, heal_row:registration(row(a, N, a, 0)), {pid, a, N}, Name, {a, 1})}
-                            || N <- lists:seq(1, 5000), Name <- [<<"n", (integer_to_binary(N))/binary>>]]),
-    Replica = heal_replica:resume({a, 1}, {{{a, 1}, 1}, 5000}, 1, #half{names = Names}),
-    Begun = start([{a, #{names => 5000, replica => Replica, own => Names}}, {b, #{names => 5000}}]),
+    Begun = many_names(5000),
     Deadlines = fun(Kind) ->
         Parts = connect(a, b, fun(_, _, Body) -> element(1, Body) =:= Kind end, Begun),
         [{Node, Deadline} || {Node, #part{heal = #open{deadline = Deadline}}} <- lists:sort(maps:to_list(Parts))]
@@ -491,6 +488,21 @@ many_names_test() ->
     %% Before b has heard the offer it doesn't know of the names, and in the end it has the merge.
     ?assertMatch([{b, 2 + 2000}], [Of || Of = {b, _} <- Deadlines(offer)]),
     ?assertEqual([{b, 2 + 2000 + 100}], Deadlines(finished)).
+
+%% The more names a part has, the longer a registry that has failed may take to start again.
+failed_registry_test() ->
+    Failed = event_at(3, b, {failed, a}, connect(a, b, fun none_lost/3, many_names(5000))),
+    Count = fun(Now, Event) -> heal_part:count(maps:get(b, event_at(Now, b, Event, Failed))) end,
+    ?assertEqual(5000, Count(3 + 4000 + 100, tick)),
+    ?assertEqual(0, Count(3 + 4000 + 101, tick)),
+    ?assertEqual(0, Count(4, {absent, a})).
+
+%% Two nodes, the first of which has so many names.
+many_names(Count) ->
+    Names = maps:from_list([{Name, heal_row:new(Name, heal_row:registration(row(a, N, a, 0)), {pid, a, N}, Name, {a, 1})}
+                            || N <- lists:seq(1, Count), Name <- [<<"n", (integer_to_binary(N))/binary>>]]),
+    Replica = heal_replica:resume({a, 1}, {{{a, 1}, 1}, Count}, 1, #half{names = Names}),
+    start([{a, #{names => Count, replica => Replica, own => Names}}, {b, #{names => Count}}]).
 
 %% An exchange that an earlier version of the registry began is given up. One of this version goes on.
 upgraded_exchange_test() ->

@@ -242,7 +242,7 @@ impl Replica {
         Ok(Side { held })
     }
 
-    /// Starts a view with what an exchange left in the side. `from` is the position at which the exchange began.
+    /// Starts a view with what an exchange left in the side. `from` is the position after `begin`.
     pub fn change(&mut self, from: Position, side: &Side) -> Result<(), Refused> {
         answer(unsafe {
             ffi::heal_replica_change(self.held.at_mut(), &from.into(), side.held.at())

@@ -1,0 +1,56 @@
+%% @private How often a registry tries to connect nodes that it has lost.
+-module(heal_reconnect_tests).
+
+-include_lib("eunit/include/eunit.hrl").
+
+-define(LOST, 'lost@nowhere.invalid').
+-define(HOUR, 360).
+-define(WEEK, 60480).
+
+%% A node that isn't in the setting is tried at each interval for an hour, then every ten minutes, and forgotten after a week.
+any_test_() ->
+    {timeout, 120, fun() ->
+        Tried = tried(?WEEK + ?HOUR, lost(any)),
+        ?assertEqual(lists:seq(1, ?HOUR), [N || N <- Tried, N =< ?HOUR]),
+        Later = [N || N <- Tried, N > ?HOUR],
+        ?assert(lists:max(gaps([?HOUR | Later])) =< 60),
+        ?assertEqual((?WEEK - ?HOUR) div 60, length(Later)),
+        ?assert(lists:last(Tried) =< ?WEEK),
+        ?assert(lists:last(Tried) > ?WEEK - 60)
+    end}.
+
+%% A node of the setting is tried for ever.
+list_test_() ->
+    {timeout, 120, fun() ->
+        ?assertEqual(lists:seq(1, ?WEEK + 1), tried(?WEEK + 1, lost([node(), ?LOST])))
+    end}.
+
+%% A node that is back isn't tried.
+back_test() ->
+    ?assertEqual([], tried(3, heal_reconnect:up(?LOST, lost(any)))).
+
+%% No node is tried without an interval.
+never_test() ->
+    State = heal_reconnect:down(?LOST, heal_reconnect:start(any, #{reconnect_interval => never})),
+    ?assertEqual([], tried(3, State)).
+
+lost(Nodes) ->
+    heal_reconnect:down(?LOST, heal_reconnect:start(Nodes, #{reconnect_interval => 1 bsl 31})).
+
+%% The intervals, of so many, at which the node is tried.
+tried(Intervals, State) ->
+    {Tried, _} = lists:foldl(fun interval/2, {[], State}, lists:seq(1, Intervals)),
+    lists:reverse(Tried).
+
+interval(N, {Tried, State}) ->
+    case heal_reconnect:attempt(heal_reconnect:expired(State)) of
+        {[], Next} -> {Tried, Next};
+        {[?LOST], Next} -> receive {'DOWN', Monitor, process, _, _} -> {[N | Tried], over(Monitor, Next)} end
+    end.
+
+over(Monitor, State) ->
+    {?LOST, Next} = heal_reconnect:attempted(Monitor, State),
+    Next.
+
+gaps(Numbers) ->
+    lists:zipwith(fun(N, M) -> M - N end, lists:droplast(Numbers), tl(Numbers)).
