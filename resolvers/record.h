@@ -19,7 +19,7 @@ struct record {
     uint32_t name_length; /* 1 to 32 */
     uint32_t zero;
     uint8_t name[32];     /* padded with zeros */
-    uint64_t word;        /* one of four numbers that both sides know; serves as a lot */
+    uint64_t word;        /* one of four numbers that both sides know; use it as a random number */
     struct registration first;
     struct registration second;
     struct facts of_first;

@@ -26,7 +26,7 @@ BUILT = {"heal_main": "heal_main", "heal_c": "libheal_c.a"}
 MOST_JOBS = 4
 # Two crates with fewer bytes of sources took longer with several jobs, each of which loads the libraries below.
 LARGE = 100_000
-# `rt run` builds the program, and then asks it a question.
+# `rt run` builds the program, and then runs it.
 BUILDING = {"heal_main": ["rt", "run", "--", "check", "b7000000010000009500000000000000"], "heal_c": ["rt", "lib"]}
 
 

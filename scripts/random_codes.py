@@ -176,7 +176,7 @@ class Codes:
 
     def probe(self):
         """Operations on numbers, then tests at the ends of a register's ranges. Behind an edge that the ranges show dead
-        stands a read of an unset register, so that an end that is off by one is noticed."""
+        is a read of an unset register, so that an end that is off by one is noticed."""
         numbers = [0, 2, 3]
         code = b"".join(self.rng.choice([self.load(r), self.load(r), wide(r, self.number()), slot(0xb7, r, imm=self.small())])
                         for r in numbers)

@@ -1,5 +1,5 @@
 #!/usr/bin/env python3
-"""random_inputs.py [COUNT]: runs heal on so many random inputs (10,000 where no count is given), always the same ones: each as a
+"""random_inputs.py [COUNT]: runs heal on COUNT random inputs (10,000 if none is given), always the same ones: each as a
 script, as the text of code, and as hex digits that are checked, judged by and written as text. Each run has to end with status 0, 2
 or 3, and each line that it prints has to be one that heal can print. Needs ./heal to have been run once."""
 import os
