@@ -10,7 +10,7 @@
 
 -define(STORE_FULL, 43).
 -define(MAX_PROGRAMS, 256).
-%% A registry that has failed is silent for a millisecond more for each of so many names.
+%% The number of names for which a registry that has failed may be silent for a millisecond more.
 -define(NAMES_OF_SILENCE, 50).
 %% The form of differences that this version sends and takes.
 -define(DIFFERENCES, 2).

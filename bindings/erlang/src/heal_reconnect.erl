@@ -9,7 +9,8 @@
 -define(INTERVAL, 10000).
 %% An attempt may not hold up edits for longer than this part of `edit_timeout'.
 -define(EDIT_TIMEOUT, 5000).
-%% A node that isn't in the setting is tried at each interval, then at one of so many, and then forgotten: an hour and a week by default.
+%% A node that isn't in the setting is tried at each of the first intervals, then at each sixtieth, and then forgotten: after an hour and a week
+%% by default.
 -define(OFTEN, 360).
 -define(SELDOM, 60).
 -define(INTERVALS, 60480).

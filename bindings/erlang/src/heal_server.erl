@@ -64,8 +64,8 @@
 %% How many losers are notified, and names of a process that has ended released, before the next message is handled.
 -define(LOSERS, 200).
 -define(RELEASED, 200).
-%% How often to look for a registry that has failed, and the milliseconds in between. A registry of many names takes a while to start again, so
-%% there is one more attempt for each of so many names.
+%% How often to look for a registry that has failed, the milliseconds in between, and the number of names for which there is one more attempt: a
+%% registry of many names takes a while to start again.
 -define(ATTEMPTS, 100).
 -define(PAUSE, 100).
 -define(NAMES_OF_ATTEMPT, 5000).

@@ -37,7 +37,7 @@ never_test() ->
 lost(Nodes) ->
     heal_reconnect:down(?LOST, heal_reconnect:start(Nodes, #{reconnect_interval => 1 bsl 31})).
 
-%% The intervals, of so many, at which the node is tried.
+%% Returns the intervals, up to this one, at which the node is tried.
 tried(Intervals, State) ->
     {Tried, _} = lists:foldl(fun interval/2, {[], State}, lists:seq(1, Intervals)),
     lists:reverse(Tried).
