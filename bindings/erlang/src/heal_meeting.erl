@@ -16,8 +16,6 @@
 -type outcome() :: {{Clashes :: non_neg_integer(), [heal:loss()], heal_exchange:rulings()}, [{heal:name(), heal:values()}],
                     Lacking :: [heal:name()], Withdrawn :: [heal:name()]}.
 
-%% The names for which the other node has one more millisecond: the steps of an exchange take longer where there are many.
--define(NAMES_OF_TIMEOUT, 50).
 -define(MAX_PROGRAMS, 256).
 
 %% ---- Who exchanges ----
@@ -336,7 +334,7 @@ hear({Bytes, Processes, Programs, Members}, Open = #open{handle = Handle}, Part 
     end.
 
 extended(Open, #part{now = Now, exchange_timeout = Timeout}) ->
-    Open#open{deadline = Now + Timeout + names(Open) div ?NAMES_OF_TIMEOUT}.
+    Open#open{deadline = Now + Timeout + heal_state:longer(names(Open))}.
 
 names(#open{stage = {done, #half{names = Names}, _}}) -> map_size(Names);
 names(#open{own = Own, others = none}) -> map_size(Own);

@@ -10,8 +10,6 @@
 
 -define(STORE_FULL, 43).
 -define(MAX_PROGRAMS, 256).
-%% The number of names for which a registry that has failed may be silent for a millisecond more.
--define(NAMES_OF_SILENCE, 50).
 %% The form of differences that this version sends and takes.
 -define(DIFFERENCES, 2).
 
@@ -98,8 +96,8 @@ attempted(Node, Part = #part{awaited = Awaited}) ->
 failed(Node, Part = #part{peers = Peers, now = Now}) ->
     case Peers of
         #{Node := Peer} ->
-            More = map_size((heal_state:half(Part))#half.names) div ?NAMES_OF_SILENCE,
-            Part#part{peers = Peers#{Node := Peer#peer{heard = Now + More}}};
+            Longer = heal_state:longer(map_size((heal_state:half(Part))#half.names)),
+            Part#part{peers = Peers#{Node := Peer#peer{heard = Now + Longer}}};
         _ ->
             Part
     end.

@@ -64,11 +64,9 @@
 %% How many losers are notified, and names of a process that has ended released, before the next message is handled.
 -define(LOSERS, 200).
 -define(RELEASED, 200).
-%% How often to look for a registry that has failed, the milliseconds in between, and the number of names for which there is one more attempt: a
-%% registry of many names takes a while to start again.
+%% How often to look for a registry that has failed, at least, and the milliseconds in between.
 -define(ATTEMPTS, 100).
 -define(PAUSE, 100).
--define(NAMES_OF_ATTEMPT, 5000).
 
 %% Starts the process of heal_registry.
 -spec start_link(Parent :: pid(), heal_registry:options()) -> gen_server:start_ret().
@@ -459,7 +457,7 @@ registry_ended(_Node, noconnection, State) -> State;
 registry_ended(Node, Reason, State) when Reason =:= shutdown; Reason =:= normal; element(1, Reason) =:= shutdown ->
     event({stopped, Node}, State);
 registry_ended(Node, _Failed, State = #server{watches = Watches, part = Part}) ->
-    Attempts = ?ATTEMPTS + heal_part:count(Part) div ?NAMES_OF_ATTEMPT,
+    Attempts = ?ATTEMPTS + heal_state:longer(heal_part:count(Part)) div ?PAUSE,
     Watch = spawn_link(?MODULE, observe, [self(), Node, Attempts]),
     event({failed, Node}, State#server{watches = Watches#{Node => Watch}}).
 

@@ -3,7 +3,7 @@
 
 -include("heal_part.hrl").
 
--export([at/1, view/1, half/1, owner/2, life/1, is_primary/1, primary/1, patience/1, tick/1]).
+-export([at/1, view/1, half/1, owner/2, life/1, is_primary/1, primary/1, patience/1, longer/1, tick/1]).
 -export([add/2, continue/2, later/2, send/3, send_all/3]).
 
 %% Returns the position of this node's replica.
@@ -41,6 +41,10 @@ primary(Part) -> element(1, view(Part)).
 %% How long a part waits for one node, so that edits that wait for it are still made in time.
 -spec patience(#part{}) -> pos_integer().
 patience(#part{edit_timeout = Edit, exchange_timeout = Exchange}) -> max(1, min(Edit div 2, Exchange)).
+
+%% Returns how many milliseconds longer something with this number of names may take: one for each 50.
+-spec longer(Names :: non_neg_integer()) -> non_neg_integer().
+longer(Names) -> Names div 50.
 
 %% How often a part looks for what is late.
 -spec tick(#part{}) -> pos_integer().

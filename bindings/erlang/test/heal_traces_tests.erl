@@ -497,7 +497,7 @@ failed_registry_test() ->
     ?assertEqual(0, Count(3 + 4000 + 101, tick)),
     ?assertEqual(0, Count(4, {absent, a})).
 
-%% Two nodes, the first of which has so many names.
+%% Returns two nodes, the first of which has this number of names.
 many_names(Count) ->
     Names = maps:from_list([{Name, heal_row:new(Name, heal_row:registration(row(a, N, a, 0)), {pid, a, N}, Name, {a, 1})}
                             || N <- lists:seq(1, Count), Name <- [<<"n", (integer_to_binary(N))/binary>>]]),
