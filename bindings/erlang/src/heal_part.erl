@@ -120,7 +120,7 @@ taken(Part = #part{out = Out}) ->
 %% Takes the state of an earlier version over: the fields that it lacks are the last ones.
 -spec upgrade(Earlier :: part()) -> part().
 upgrade(Earlier) ->
-    Part = later(Earlier, record_info(size, part), [none, none, [], none, #{}, #{}, #{}, #{}, #{}, none, heal_recent:new()]),
+    Part = later(Earlier, record_info(size, part), [none, none, [], none, #{}, #{}, #{}, #{}, #{}, none, heal_recent:new(), 0]),
     #part{replica = Replica, waiting = Waiting, requested = Requested, unreleased = Unreleased, adopting = Adopting} = Part,
     #part{arriving = Arriving, leaving = Leaving, storing = Storing} = Part,
     Each = fun(_, Call) -> call(Call) end,
@@ -256,7 +256,7 @@ is_idle(Part) ->
 %% Returns the number of names.
 -spec count(part()) -> non_neg_integer().
 count(Part) ->
-    map_size((heal_state:half(Part))#half.names).
+    heal_state:count(Part).
 
 %% Returns what `heal_registry:status/0' shows, apart from the table.
 -spec status(part()) -> status().

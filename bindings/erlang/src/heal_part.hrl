@@ -156,5 +156,7 @@
     %% Of a primary, until its view is settled.
     base = none :: none | heal_difference:base(),
     %% The latest entries that this node has applied.
-    recent = heal_recent:new() :: heal_recent:recent()
+    recent = heal_recent:new() :: heal_recent:recent(),
+    %% Of a backup: when it may compare its registrations with its half again.
+    next_check = 0 :: integer()
 }).

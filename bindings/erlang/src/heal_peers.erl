@@ -96,7 +96,7 @@ attempted(Node, Part = #part{awaited = Awaited}) ->
 failed(Node, Part = #part{peers = Peers, now = Now}) ->
     case Peers of
         #{Node := Peer} ->
-            Longer = heal_state:longer(map_size((heal_state:half(Part))#half.names)),
+            Longer = heal_state:longer(heal_state:count(Part)),
             Part#part{peers = Peers#{Node := Peer#peer{heard = Now + Longer}}};
         _ ->
             Part

@@ -3,7 +3,7 @@
 
 -include("heal_part.hrl").
 
--export([at/1, view/1, half/1, owner/2, life/1, is_primary/1, primary/1, patience/1, longer/1, tick/1]).
+-export([at/1, view/1, half/1, count/1, owner/2, life/1, is_primary/1, primary/1, patience/1, longer/1, until_followed/1, tick/1]).
 -export([add/2, continue/2, later/2, send/3, send_all/3]).
 
 %% Returns the position of this node's replica.
@@ -17,6 +17,10 @@ view(#part{replica = Replica}) -> element(1, heal_replica:position(Replica)).
 %% Returns the half of this node's replica.
 -spec half(#part{}) -> #half{}.
 half(#part{replica = Replica}) -> heal_replica:half(Replica).
+
+%% Returns how many names that half has.
+-spec count(#part{}) -> non_neg_integer().
+count(Part) -> map_size((half(Part))#half.names).
 
 %% Returns who has a name in this node's replica.
 -spec owner(heal:name(), #part{}) -> heal:owner() | none.
@@ -45,6 +49,10 @@ patience(#part{edit_timeout = Edit, exchange_timeout = Exchange}) -> max(1, min(
 %% Returns how many milliseconds longer something with this number of names may take: one for each 50.
 -spec longer(Names :: non_neg_integer()) -> non_neg_integer().
 longer(Names) -> Names div 50.
+
+%% Returns until when a part waits for a node to follow a view, or to lead one. One of the two sends a snapshot, and the other one reads it.
+-spec until_followed(#part{}) -> integer().
+until_followed(Part = #part{now = Now}) -> Now + patience(Part) + 2 * longer(count(Part)).
 
 %% How often a part looks for what is late.
 -spec tick(#part{}) -> pos_integer().

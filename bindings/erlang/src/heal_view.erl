@@ -14,7 +14,7 @@
 
 %% Goes on with the replica that this node had. A primary may have made an edit that nobody knows of, so it starts a view.
 -spec resume(#part{}) -> #part{}.
-resume(Part = #part{replica = Replica, now = Now}) ->
+resume(Part = #part{replica = Replica}) ->
     Half = heal_state:half(Part),
     Homes = homes(Half, Part),
     %% It has announced the latest view that it was to lead, perhaps without a position in it.
@@ -27,7 +27,7 @@ resume(Part = #part{replica = Replica, now = Now}) ->
         {false, _, []} ->
             {Primary, _} = heal_state:primary(Part),
             case heal_peers:is_in_setting(Primary, Part) of
-                true -> Part#part{limbo = Now + heal_state:patience(Part)};
+                true -> Part#part{limbo = heal_state:until_followed(Part)};
                 false -> lead_alone(Part)
             end
     end.
@@ -183,14 +183,14 @@ wanted(Node, View, Part = #part{heal = Heal, members = Members, peers = Peers}) 
     end.
 
 %% Makes a node a member, unless it is one, and sends it a snapshot.
-welcome(Node, Part = #part{members = Members, peers = Peers, now = Now, settle_by = SettleBy}) ->
+welcome(Node, Part = #part{members = Members, peers = Peers, settle_by = SettleBy}) ->
     #{Node := #peer{life = Life, at = {Was, _}}} = Peers,
     case Members of
         #{Node := Member = #member{life = Life}} ->
             Sent = send_snapshot(Node, Part#part{members = Members#{Node := Member#member{is_lagging = false}}}),
             heal_peers:announce_to(Node, Sent);
         _ ->
-            By = case SettleBy of none -> Now + heal_state:patience(Part); _ -> SettleBy end,
+            By = case SettleBy of none -> heal_state:until_followed(Part); _ -> SettleBy end,
             Added = Members#{Node => #member{life = Life, was = Was}},
             send_snapshot(Node, replaced(Node, Members, Part#part{members = Added, settle_by = By}))
     end.
@@ -246,10 +246,11 @@ lead(Half, Members, Part = #part{replica = Replica}) ->
 %% half already.
 -spec start(heal_replica:replica(), #{node() => #member{}}, Has :: none | node(),
             {heal_losers:losers(), heal_home:changes() | unknown}, #part{}) -> #part{}.
-start(Led, Members, Has, {Losers, Changes}, Part = #part{now = Now, peers = Peers, links = Links}) ->
+start(Led, Members, Has, {Losers, Changes}, Part = #part{peers = Peers, links = Links}) ->
     Pending = maps:map(fun(Node, Member) -> Member#member{is_lagging = Node =/= Has} end, Members),
-    Moved = Part#part{replica = Led, members = Pending, settle_by = Now + heal_state:patience(Part), limbo = none, losers = Losers,
-                      dropped = #{}, since = 0, base = heal_difference:base(Members, Has, Part)},
+    Next = Part#part{replica = Led, members = Pending, limbo = none, losers = Losers, dropped = #{}, since = 0,
+                     base = heal_difference:base(Members, Has, Part)},
+    Moved = Next#part{settle_by = heal_state:until_followed(Next)},
     Plan = heal_home:plan(Losers, heal_state:half(Moved), Changes, Part),
     %% Callers read their own writes, so they are answered after the table has them.
     Swapped = heal_entries:restart(heal_home:swap(Plan, Moved)),
@@ -275,7 +276,7 @@ backup(Part = #part{limbo = Limbo, now = Now}) ->
         here -> caught_up(Part#part{limbo = none});
         _ when is_integer(Limbo), Now >= Limbo -> lead_alone(Part);
         gone -> case is_expected(Part) of true -> Part; false -> successor(Part) end;
-        moved when Limbo =:= none -> Part#part{limbo = Now + heal_state:patience(Part)};
+        moved when Limbo =:= none -> Part#part{limbo = heal_state:until_followed(Part)};
         moved -> Part
     end.
 
@@ -345,7 +346,7 @@ want(View = {{Primary, _}, _}, Part) ->
     heal_state:send(Primary, {want, View}, Part).
 
 %% The smallest node that is left of the part leads it. The others wait for its snapshot.
-successor(Part = #part{node = Node, now = Now, limbo = Limbo}) ->
+successor(Part = #part{node = Node, limbo = Limbo}) ->
     View = heal_state:view(Part),
     Left = maps:filter(fun(_, Peer) -> not heal_peers:is_silent(Peer, Part) end, heal_peers:followers(Part)),
     Members = maps:map(fun(_, #peer{life = Life}) -> #member{life = Life, was = View} end, Left),
@@ -353,7 +354,7 @@ successor(Part = #part{node = Node, now = Now, limbo = Limbo}) ->
     case {lists:min([Node | maps:keys(Left)]), heal_home:conflicts(heal_state:half(Part), Part)} of
         {Node, []} -> lead(heal_home:restrict(Lives, Part), Members, Part);
         {Node, _} -> lead_alone(Part);
-        _ when Limbo =:= none -> Part#part{limbo = Now + heal_state:patience(Part)};
+        _ when Limbo =:= none -> Part#part{limbo = heal_state:until_followed(Part)};
         _ -> Part
     end.
 
@@ -370,10 +371,14 @@ caught_up(Part = #part{peers = Peers, checked = Checked}) ->
         true -> join_with(heal_home:differences(Noted), Noted)
     end.
 
-rejoin(Part) ->
-    case heal_home:differences(Part) of
-        [] -> Part;
-        Edits -> join_with(Edits, Part)
+%% A message that is lost is made good. With many names the comparison takes long, so it is made less often.
+rejoin(Part = #part{now = Now, next_check = Next}) when Now < Next ->
+    Part;
+rejoin(Part = #part{now = Now}) ->
+    Checked = Part#part{next_check = Now + heal_state:longer(heal_state:count(Part))},
+    case heal_home:differences(Checked) of
+        [] -> Checked;
+        Edits -> join_with(Edits, Checked)
     end.
 
 join_with(Edits, Part = #part{seq = Seq, requests = Requests}) ->

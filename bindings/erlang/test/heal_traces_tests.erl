@@ -499,10 +499,45 @@ failed_registry_test() ->
 
 %% Returns two nodes, the first of which has this number of names.
 many_names(Count) ->
-    Names = maps:from_list([{Name, heal_row:new(Name, heal_row:registration(row(a, N, a, 0)), {pid, a, N}, Name, {a, 1})}
-                            || N <- lists:seq(1, Count), Name <- [<<"n", (integer_to_binary(N))/binary>>]]),
-    Replica = heal_replica:resume({a, 1}, {{{a, 1}, 1}, Count}, 1, #half{names = Names}),
-    start([{a, #{names => Count, replica => Replica, own => Names}}, {b, #{names => Count}}]).
+    start([{a, with_names(a, Count, Count)}, {b, #{names => Count}}]).
+
+%% The settings of a node that has this number of names.
+with_names(Node, Count, Limit) ->
+    Names = maps:from_list([{Name, heal_row:new(Name, heal_row:registration(row(Node, N, Node, 0)), {pid, Node, N}, Name, {Node, 1})}
+                            || N <- lists:seq(1, Count), Name <- [<<(atom_to_binary(Node))/binary, (integer_to_binary(N))/binary>>]]),
+    Replica = heal_replica:resume({Node, 1}, {{{Node, 1}, 1}, Count}, 1, #half{names = Names}),
+    #{names => Limit, replica => Replica, own => Names}.
+
+%% The registry of a primary starts again, and its snapshots are lost. The more names there are, the longer the other node waits for one, and
+%% the longer the primary keeps the names of that node.
+follows_many_names_test() ->
+    Joined = #{a := A} = connect(a, b, fun none_lost/3, start([{a, with_names(a, 5000, 5001)}, {b, with_names(b, 1, 5001)}])),
+    #part{replica = Replica, own = Own} = A,
+    {Actions, Again} = heal_part:new((settings(a))#{names => 5001, replica => Replica, own => Own, connected => [{b, visible}], seq => 100}),
+    [First | _] = Announced = [Body || {send, b, Body = {here, _}} <- Actions],
+    Heard = lists:foldl(fun(Body, Sum) -> event_at(3, b, {message, a, Body}, Sum) end, Joined#{a := Again}, Announced),
+    ?assertNotEqual(position(a, Heard), position(b, Heard)),
+    Count = fun(Now, Node, Parts) -> heal_part:count(maps:get(Node, event_at(Now, Node, tick, Parts))) end,
+    ?assertEqual(5001, Count(3 + 500 + 199, b, Heard)),
+    ?assertEqual(1, Count(3 + 500 + 200, b, Heard)),
+    {here, #{at := At}} = First,
+    [Answer | _] = [Body || {send, a, Body = {here, #{at := Of}}} <- done(b), Of =:= At],
+    Answered = event_at(3, a, {message, b, Answer}, Heard),
+    ?assertEqual(5001, Count(1 + 500 + 199, a, Answered)),
+    ?assertEqual(5000, Count(1 + 500 + 200, a, Answered)).
+
+%% A node joins again if its part lacks one of its registrations. The more names there are, the less often it looks.
+looks_for_lost_names_test() ->
+    Joined = #{b := B} = connect(a, b, fun none_lost/3, many_names(5000)),
+    Lacking = Joined#{b := B#part{own = #{<<"b1">> => heal_row:new(<<"b1">>, heal_row:registration(row(b, 1, b, 0)), {pid, b, 1}, b1, {b, 1})}}},
+    {here, Here = #{seq := Seq}} = hd([Body || {send, b, Body = {here, _}} <- done(a)]),
+    Joins = fun({Later, Now}, Parts) ->
+        put(done, []),
+        Next = event_at(Now, b, {message, a, {here, Here#{seq := Seq + Later, at := position(a, Parts), is_settled := true}}}, Parts),
+        {[finished || {send, a, {finished, _, _, _, [_]}} <- done(b)], Next}
+    end,
+    {Each, _} = lists:mapfoldl(Joins, Lacking, [{10, 3}, {11, 102}, {12, 103}]),
+    ?assertEqual([[finished], [], [finished]], Each).
 
 %% An exchange that an earlier version of the registry began is given up. One of this version goes on.
 upgraded_exchange_test() ->
