@@ -173,7 +173,7 @@ shown(Name, Row, Part) ->
 finish(Call = #call{edit = {register, Name, Row = #row{home = Home}}}, ok, Part) ->
     case {heal_state:life(Part), is_made(Call#call.edit, Part)} of
         {Home, {true, _, _}} -> claim(Call, Name, Row, Part);
-        {Home, false} -> heal_arrivals:arriving(Name, Call, heal_home:missing([Name], heal_home:claim(Name, Row, Part)));
+        {Home, false} -> heal_arrivals:arriving(Name, Call, heal_home:show(Name, heal_home:claim(Name, Row, Part)));
         _ -> heal_edits:answer(Call, ok, Part)
     end;
 finish(Call = #call{edit = {change, _, _, _}, is_repeated = true}, {error, _}, Part) ->

@@ -49,8 +49,12 @@ report(Actions, Subscribers) ->
 events({rows, Put, Drop}) ->
     [Event || Name <- Drop, Event <- unregistered(Name)]
         ++ [Event || {Name, Row} <- Put, Event <- changed(Name, Row)];
+events({restoring, Rows}) ->
+    [Event || {Name, Row} <- Rows, Event <- changed(Name, Row)];
 events({hide, Name}) ->
     unregistered(Name);
+events({disown, Name, _Row}) ->
+    [Event || heal_table:is_restoring(Name), Event <- unregistered(Name)];
 events({lost, Losers}) ->
     [{conflict, Term, Pid, Rival} || {_, #row{term = Term, pid = Pid}, {_, Rival}} <- Losers];
 events({healed, Facts}) ->

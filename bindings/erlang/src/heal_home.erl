@@ -6,7 +6,7 @@
 
 -include("heal_part.hrl").
 
--export([claim/3, change/3, missing/2, is_taken/3, disown/2, is_own/3, waiting/1, conflicts/2, is_conflict/3]).
+-export([claim/3, change/3, show/2, show_all/1, is_taken/3, disown/2, is_own/3, waiting/1, conflicts/2, is_conflict/3]).
 -export([plan/4, changes/2, is_current/2, losers/1, conflicts/1, swap/2, differences/1, differences/2, settle/1, restrict/2]).
 -export_type([changes/0, plan/0]).
 
@@ -27,8 +27,8 @@
     lost :: #{heal:name() => heal_losers:loss()},
     %% Names whose process another node answers for.
     moved :: [heal:name()],
-    %% Registrations that the table lacks.
-    missing :: [{heal:name(), #row{}}],
+    %% Registrations that have lost their names.
+    losing :: [{heal:name(), #row{}}],
     %% Rows of this node that it doesn't answer for.
     strange :: [{heal:name(), #row{}}],
     %% What the half lacks of this node's registrations.
@@ -36,12 +36,12 @@
 }).
 -opaque plan() :: #plan{}.
 
-%% How a table differs from the registrations of this node. `moved' has names whose process another node answers for, `missing' the
-%% registrations that the table lacks or that have lost their names, `restored' and `changed' the edits that make the table as they are.
+%% How a table differs from the registrations of this node. `moved' has names whose process another node answers for, `losing' the
+%% registrations that have lost their names, `restored' and `changed' the edits that make the table as they are.
 -record(found, {
     conflicts = [] :: [heal:name()],
     moved = [] :: [heal:name()],
-    missing = [] :: [{heal:name(), #row{}}],
+    losing = [] :: [{heal:name(), #row{}}],
     restored = [] :: [heal_edits:edit()],
     changed = [] :: [heal_edits:edit()]
 }).
@@ -53,11 +53,28 @@ claim(Name, Row, Part = #part{own = Own}) when not is_map_key(Name, Own) ->
 claim(_Name, _Row, Part) ->
     Part.
 
-%% Keeps registrations that the table lacks, so that a registry that starts again has them.
--spec missing([heal:name()], #part{}) -> #part{}.
-missing(Names, Part = #part{own = Own}) ->
-    kept([{Name, Row} || Name <- Names, #{Name := Row} <- [Own]], Part).
+%% The half lacks a name, or has yet to drop another registration of it. The processes of this node find its own registration in a half that
+%% lacks the name, unless an exchange has decided against it.
+-spec show(heal:name(), #part{}) -> #part{}.
+show(Name, Part = #part{own = Own, lost = Lost}) ->
+    #half{names = Names} = heal_state:half(Part),
+    case Own of
+        #{Name := Row} when is_map_key(Name, Names) -> kept([{Name, Row}], Part);
+        #{Name := Row} when not is_map_key(Name, Lost) -> restoring([{Name, Row}], Part);
+        #{Name := Row} -> heal_state:add({rows, [], [Name]}, kept([{Name, Row}], Part));
+        _ -> heal_state:add({rows, [], [Name]}, Part)
+    end.
 
+%% Shows all registrations of this node that the half lacks.
+-spec show_all(#part{}) -> #part{}.
+show_all(Part = #part{own = Own, lost = Lost}) ->
+    #half{names = Names} = heal_state:half(Part),
+    restoring(lacked(lacking(found(Own, Names, Lost)), Names), Part).
+
+restoring([], Part) -> Part;
+restoring(Rows, Part) -> heal_state:add({restoring, Rows}, Part).
+
+%% Keeps registrations, so that a registry that starts again has them.
 kept([], Part) -> Part;
 kept(Rows, Part) -> heal_state:add({keep_own, Rows}, Part).
 
@@ -120,7 +137,7 @@ plan(Losers, #half{names = New}, Changes, Part = #part{own = Own}) ->
         changes = case Changes of unknown -> changes(Old, New); _ -> Changes end,
         lost = Lost,
         moved = Found#found.moved,
-        missing = Found#found.missing,
+        losing = Found#found.losing,
         strange = strange(maps:to_list(New), Part),
         lacking = lacking(Found)
     }.
@@ -133,29 +150,40 @@ found(Name, Row, Names, Lost, Found) ->
     case Names of
         #{Name := Row} when not is_map_key(Name, Lost) -> Found;
         #{Name := Other} -> other(Name, Row, Other, is_map_key(Name, Lost), Found);
-        _ when is_map_key(Name, Lost) -> missing(Name, Row, Found);
-        _ -> missing(Name, Row, Found#found{restored = [{register, Name, Row} | Found#found.restored]})
+        _ when is_map_key(Name, Lost) -> losing(Name, Row, Found);
+        _ -> restored(Name, Row, Found)
     end.
 
 %% The table has another row under the name.
-other(Name, Row = #row{pid = Pid}, Other = #row{pid = Of}, IsLost, Found) ->
+other(Name, Row = #row{pid = Pid, home = Home}, Other = #row{pid = Of, home = OfHome}, IsLost, Found) ->
     case {heal_row:are_of_one(Row, Other), IsLost} of
         {false, _} when Pid =:= Of -> Found#found{moved = [Name | Found#found.moved]};
-        {_, true} -> missing(Name, Row, Found);
+        {_, true} -> losing(Name, Row, Found);
+        %% A registration that this node answers for no more: it is dropped first.
+        {false, false} when Home =:= OfHome -> restored(Name, Row, Found);
         {false, false} -> Found#found{conflicts = [Name | Found#found.conflicts]};
         {true, false} ->
             Change = {change, Name, owner(Row), maps:remove(owner, heal_row:registration(Row))},
             Found#found{changed = [Change | Found#found.changed]}
     end.
 
-missing(Name, Row, Found = #found{missing = Missing}) ->
-    Found#found{missing = [{Name, Row} | Missing]}.
+restored(Name, Row, Found = #found{restored = Restored}) ->
+    Found#found{restored = [{register, Name, Row} | Restored]}.
+
+losing(Name, Row, Found = #found{losing = Losing}) ->
+    Found#found{losing = [{Name, Row} | Losing]}.
 
 lacking(#found{restored = Restored, changed = Changed}) ->
     Restored ++ Changed.
 
+%% The registrations that such edits restore and a table lacks.
+lacked(Edits, Names) ->
+    [{Name, Row} || {register, Name, Row} <- Edits, not is_map_key(Name, Names)].
+
 %% Returns how a table differs from an earlier one.
 -spec changes(Old :: #{heal:name() => #row{}}, New :: #{heal:name() => #row{}}) -> changes().
+changes(Same, Same) ->
+    {[], []};
 changes(Old, New) ->
     Put = [Entry || Entry = {Name, Row} <- maps:to_list(New), not (is_map_key(Name, Old) andalso map_get(Name, Old) =:= Row)],
     {Put, [Name || Name <- maps:keys(Old), not is_map_key(Name, New)]}.
@@ -176,12 +204,19 @@ conflicts(#plan{conflicts = Conflicts}) -> Conflicts.
 %% Notes which registrations have lost their names and replaces the table that processes read, now that the replica has the half of the
 %% plan. Names of processes that ended are hidden already.
 -spec swap(plan(), #part{}) -> #part{}.
-swap(#plan{lost = Lost, moved = Moved, missing = Missing, strange = Strange, changes = {Put, Drop}}, Part) ->
-    #half{programs = Known} = heal_state:half(Part),
+swap(Plan = #plan{lost = Lost, moved = Moved, losing = Losing, strange = Strange, lacking = Lacking, changes = {Put, _}}, Part) ->
+    #half{names = Names, programs = Known} = heal_state:half(Part),
     All = maps:merge(Part#part.programs, Known),
     Noted = heal_state:add({keep, programs, All}, lists:foldl(fun disown/2, Part#part{lost = Lost, programs = All}, Moved)),
-    Shown = heal_state:add({rows, Put, Drop}, kept(Missing, Noted)),
+    Restoring = lacked(Lacking, Names),
+    Shown = heal_state:add({rows, Put, gone(Plan, maps:from_list(Restoring), Names)}, restoring(Restoring, kept(Losing, Noted))),
     lists:foldl(fun({Name, _}, Sum) -> heal_state:add({hide, Name}, Sum) end, Shown, Strange).
+
+%% The names that leave the table: those that the half lacks now and nobody restores, and those that an exchange has taken from registrations
+%% which were to be restored.
+gone(#plan{before = Before, losing = Losing, changes = {_, Drop}}, Restoring, Names) ->
+    [Name || Name <- Drop, not is_map_key(Name, Restoring)]
+        ++ [Name || {Name, _} <- Losing, not is_map_key(Name, Before), not is_map_key(Name, Names)].
 
 %% The rows that this node answered for and does no more.
 strange(Rows, Part = #part{own = Own}) ->
@@ -223,7 +258,8 @@ settle(Part = #part{own = Own, lost = Lost}) ->
     Settled = [{Name, map_get(Name, Own), Loss} || {Name, Loss} <- lists:sort(maps:to_list(Lost))],
     {Free, Taken} = lists:partition(fun({Name, _, Loss}) -> is_free(Name, Loss, Names) end, Settled),
     Left = Part#part{own = without([Name || {Name, _, _} <- Taken], Own), lost = #{}},
-    {[{register, Name, Row} || {Name, Row, _} <- Free], lost(Taken, Left)}.
+    Restored = [{register, Name, Row} || {Name, Row, _} <- Free],
+    {Restored, restoring(lacked(Restored, Names), lost(Taken, Left))}.
 
 %% Where much is left out, it takes less to make the map again.
 without(Names, Own) when 8 * length(Names) < map_size(Own) ->
@@ -242,4 +278,9 @@ lost(Losers, Part) -> heal_state:add({lost, Losers}, Part).
 -spec restrict([heal_replica:life()], #part{}) -> #half{}.
 restrict(Homes, Part) ->
     Half = #half{names = Names} = heal_state:half(Part),
-    Half#half{names = maps:filter(fun(_, #row{home = Home}) -> lists:member(Home, Homes) end, Names)}.
+    IsKept = fun(#row{home = Home}) -> lists:member(Home, Homes) end,
+    %% Most often nothing is left out, and then the map stays the same.
+    case lists:all(IsKept, maps:values(Names)) of
+        true -> Half;
+        false -> Half#half{names = maps:filter(fun(_, Row) -> IsKept(Row) end, Names)}
+    end.

@@ -150,12 +150,18 @@ applied({register, Name, Row = #row{home = Home}}, _By, _Before, Part) ->
 applied({unregister, Name}, By, Before, Part) ->
     #{Name := Row = #row{home = Home}} = (heal_state:half(Before))#half.names,
     Owner = heal_row:owner(Row),
-    Dropped = heal_arrivals:left(Owner, heal_state:add({rows, [], [Name]}, note(Owner, Part))),
-    case {Home =:= heal_state:life(Part), By =/= none orelse heal_state:is_primary(Part)} of
-        {true, true} -> release(Name, Owner, By, Dropped);
-        %% The primary thinks that this node has left. The name is missing for a while.
-        {true, false} -> heal_home:missing([Name], Dropped);
-        {false, _} -> Dropped
+    IsHome = Home =:= heal_state:life(Part),
+    %% Otherwise the primary thinks that the home has left. The name is missing on other nodes for a while.
+    IsMeant = By =/= none orelse heal_state:is_primary(Part),
+    Noted = note(Owner, Part),
+    Gone = case IsHome andalso not (IsMeant andalso heal_home:is_own(Name, Owner, Part)) of
+        true -> heal_home:show(Name, Noted);
+        false -> heal_state:add({rows, [], [Name]}, Noted)
+    end,
+    Left = heal_arrivals:left(Owner, Gone),
+    case IsHome andalso IsMeant of
+        true -> release(Name, Owner, By, Left);
+        false -> Left
     end;
 applied({change, Name, _}, By, _Before, Part) ->
     #{Name := Row = #row{home = Home}} = (heal_state:half(Part))#half.names,
@@ -199,11 +205,18 @@ is_current(_From, _Edit, _Part) ->
 is_later(Operation, Owner, #part{dropped = Dropped, since = Since}) ->
     Operation >= Since andalso maps:get(Owner, Dropped, 0) =< Operation.
 
-%% This node answers no more for a name that another one has unregistered, and confirms it.
+%% This node answers no more for a name that another one has unregistered, and confirms it. If it answers for another registration of the
+%% name, that is restored.
 release(Name, Owner, By, Part) ->
     case heal_home:is_own(Name, Owner, Part) of
         true -> confirm(Owner, By, heal_home:disown(Name, Part));
-        false -> confirm(Owner, By, Part)
+        false -> confirm(Owner, By, again(Name, Part))
+    end.
+
+again(Name, Part = #part{own = Own, lost = Lost}) ->
+    case Own of
+        #{Name := Row} when not is_map_key(Name, Lost) -> heal_edits:edit(#call{edit = {register, Name, Row}}, Part);
+        _ -> Part
     end.
 
 %% The home of a name confirms an edit of it to the node that requested it.

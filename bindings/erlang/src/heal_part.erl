@@ -77,8 +77,10 @@
     %% Processes that have lost their names: this node answers for them no more, and notifies them.
     | {lost, [{heal:name(), #row{}, heal_losers:loss()}]}
     | {keep, Key :: term(), Value :: term()}
-    %% Registrations that this node answers for, and that the table lacks.
+    %% Registrations that this node answers for otherwise than the half has them, or that have lost their names.
     | {keep_own, [{heal:name(), #row{}}]}
+    %% Registrations that this node answers for and the half lacks. The table has them.
+    | {restoring, [{heal:name(), #row{}}]}
     | {problems, heal_peers:problems()}
     | {healed, #{atom() => term()}}
     %% After the other actions, and before any other event.

@@ -573,6 +573,9 @@ act({keep, Key, Value}, State) ->
 act({keep_own, Rows}, State) ->
     ok = heal_table:keep_own(Rows),
     State;
+act({restoring, Rows}, State) ->
+    ok = heal_table:restoring(Rows),
+    State;
 act({reply, From, Answer}, State) ->
     reply(From, spelled(Answer)),
     State;

@@ -7,9 +7,9 @@
 
 -include("heal_replica.hrl").
 
--export([create/0, give/1, bequeath/1, rows/2, hide/1, disown/1, disown/2, kept/2, keep/2, keep_own/1]).
+-export([create/0, give/1, bequeath/1, rows/2, restoring/1, hide/1, disown/1, disown/2, kept/2, keep/2, keep_own/1]).
 -export([keep_position/3, keep_operation/1, keep_patience/1, patience/1, restore/1]).
--export([is_running/0, find/2, names/0, names/1, count/0, info/2, row/1]).
+-export([is_running/0, find/2, names/0, names/1, count/0, info/2, row/1, is_restoring/1]).
 
 -define(ROWS, heal_registry).
 %% A counter: the operation of the replica's position, which each edit changes.
@@ -17,12 +17,12 @@
 %% How long a caller waits for the registry. Each call reads it, so it isn't in the table, which the registry writes meanwhile.
 -define(PATIENCE, {?MODULE, call_timeout}).
 
-%% A name. `ended' if its process has ended and its row is about to go. The other fields are those of the row, without what ETS would
-%% copy for each: extra bytes that are zero, a term that is the name, and a home that is the node of the process, of which it has the
-%% incarnation.
+%% A name. `ended' if its process has ended and its row is about to go; `restoring' if this node answers for the row, the replica lacks it,
+%% and this node restores it. The other fields are those of the row, without what ETS would copy for each: extra bytes that are zero, a term
+%% that is the name, and a home that is the node of the process, of which it has the incarnation.
 -record(entry, {
     name :: heal:name() | atom(),
-    pid :: pid() | {ended, pid()} | atom(),
+    pid :: pid() | {ended | restoring, pid()} | atom(),
     term :: same | {term, term()} | atom(),
     node :: 0..16#ffffffff | atom(),
     serial :: 0..16#ffffffff | atom(),
@@ -102,7 +102,7 @@ entry(Name, #row{serial = Serial, stamp = Stamp, alike = {Node, Weight, Extra, R
 %% Returns the row of an entry.
 row_of(Entry = #entry{node = Node, serial = Serial, stamp = Stamp, weight = Weight, resolver = Resolver}) ->
     Extra = case Entry#entry.extra of none -> ?NOTHING; Bytes -> Bytes end,
-    Pid = case Entry#entry.pid of {ended, Ended} -> Ended; Living -> Living end,
+    Pid = case Entry#entry.pid of {_, Of} -> Of; Of -> Of end,
     heal_row:of_values(Entry#entry.name, {Serial, Stamp, {Node, Weight, Extra, Resolver}}, Pid, term_of(Entry), home_of(Entry, Pid)).
 
 term_of(#entry{name = Name, term = same}) -> Name;
@@ -110,6 +110,21 @@ term_of(#entry{term = {term, Term}}) -> Term.
 
 home_of(#entry{home = Incarnation}, Pid) when is_integer(Incarnation) -> {node(Pid), Incarnation};
 home_of(#entry{home = Home}, _Pid) -> Home.
+
+%% Shows registrations that this node answers for and the replica lacks, and keeps them.
+-spec restoring([{heal:name(), #row{}}]) -> ok.
+restoring(Rows) ->
+    ok = keep_own(Rows),
+    true = ets:insert(?ROWS, [(entry(Name, Row))#entry{pid = {restoring, Pid}} || {Name, Row = #row{pid = Pid}} <- Rows]),
+    ok.
+
+%% Returns whether the row of a name is such a one.
+-spec is_restoring(heal:name()) -> boolean().
+is_restoring(Name) ->
+    case ets:lookup(?ROWS, Name) of
+        [#entry{pid = {restoring, _}}] -> true;
+        _ -> false
+    end.
 
 %% The process of a name has ended.
 -spec hide(heal:name()) -> ok.
@@ -124,6 +139,7 @@ hide(Name) ->
 -spec disown(heal:name()) -> ok.
 disown(Name) ->
     true = ets:delete(?ROWS, {own, Name}),
+    _ = is_restoring(Name) andalso ets:delete(?ROWS, Name),
     ok.
 
 %% The same, unless this node answers for another registration of the name by now.
@@ -174,7 +190,7 @@ patience(Usual) ->
 restore(Life) ->
     ok = heal_heap:expecting(ets:info(?ROWS, size)),
     true = ets:match_delete(?ROWS, #entry{pid = none, _ = '_'}),
-    Entries = ets:match_object(?ROWS, #entry{_ = '_'}),
+    Entries = ets:select(?ROWS, [{#entry{pid = '$1', _ = '_'}, [{'orelse', {is_pid, '$1'}, {'=:=', {element, 1, '$1'}, ended}}], ['$_']}]),
     {Rows, _} = lists:mapfoldl(fun shared_row/2, #{}, Entries),
     Names = maps:from_list(Rows),
     Found = #{own => own(Life, Entries, Names), programs => kept(programs, #{}), greatest => kept(greatest, 0),
@@ -221,6 +237,7 @@ find(Name, Term) ->
     try ets:lookup_element(?ROWS, Name, #entry.pid) of
         Pid when node(Pid) =:= node() -> case is_process_alive(Pid) of true -> found(Name, Term, Pid); false -> none end;
         Pid when is_pid(Pid) -> found(Name, Term, Pid);
+        {restoring, Pid} -> case node(Pid) =/= node() orelse is_process_alive(Pid) of true -> found(Name, Term, Pid); false -> none end;
         _Ended -> none
     catch
         error:badarg -> case is_running() of true -> none; false -> not_running end
@@ -244,7 +261,7 @@ is_running() ->
 %% Returns all names, each as the term that was registered.
 -spec names() -> [term()].
 names() ->
-    ets:select(?ROWS, terms('$2', [{is_pid, '$2'}])).
+    ets:select(?ROWS, terms('$2', [{is_pid, '$2'}]) ++ terms({restoring, '_'}, [])).
 
 %% What selects the terms of the entries with such a process.
 terms(Pid, Guards) ->
@@ -262,12 +279,12 @@ names(Pid) ->
     names_of(Pid).
 
 names_of(Pid) ->
-    ets:select(?ROWS, terms(Pid, [])).
+    ets:select(?ROWS, terms(Pid, []) ++ terms({restoring, Pid}, [])).
 
 %% Returns how many names there are.
 -spec count() -> non_neg_integer().
 count() ->
-    ets:select_count(?ROWS, [{#entry{pid = '$1', _ = '_'}, [{is_pid, '$1'}], [true]}]).
+    ets:select_count(?ROWS, [{#entry{pid = '$1', _ = '_'}, [{is_pid, '$1'}], [true]}, {#entry{pid = {restoring, '_'}, _ = '_'}, [], [true]}]).
 
 %% Returns what is registered under a name.
 -spec info(heal:name(), Term :: term()) -> {ok, #row{}} | none | not_running.
@@ -275,7 +292,7 @@ info(Name, Term) ->
     case find(Name, Term) of
         {ok, Pid} ->
             case ets:lookup(?ROWS, Name) of
-                [Entry = #entry{pid = Pid}] -> {ok, row_of(Entry)};
+                [Entry = #entry{pid = Of}] when Of =:= Pid; Of =:= {restoring, Pid} -> {ok, row_of(Entry)};
                 _ -> none
             end;
         Other ->
@@ -286,6 +303,6 @@ info(Name, Term) ->
 -spec row(heal:name()) -> {ok, #row{}} | none.
 row(Name) ->
     case ets:lookup(?ROWS, Name) of
-        [Entry = #entry{pid = Pid}] when is_pid(Pid) -> {ok, row_of(Entry)};
+        [Entry = #entry{pid = Pid}] when is_pid(Pid); element(1, Pid) =:= restoring -> {ok, row_of(Entry)};
         _ -> none
     end.

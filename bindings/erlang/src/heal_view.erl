@@ -27,7 +27,7 @@ resume(Part = #part{replica = Replica}) ->
         {false, _, []} ->
             {Primary, _} = heal_state:primary(Part),
             case heal_peers:is_in_setting(Primary, Part) of
-                true -> Part#part{limbo = heal_state:until_followed(Part)};
+                true -> heal_home:show_all(Part#part{limbo = heal_state:until_followed(Part)});
                 false -> lead_alone(Part)
             end
     end.

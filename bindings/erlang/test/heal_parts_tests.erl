@@ -3,7 +3,10 @@
 
 -include_lib("eunit/include/eunit.hrl").
 
--export([read/2]).
+-export([read/2, look_here/1, looked_here/0]).
+
+%% Milliseconds that a node is cut off: it waits longer than that for another primary.
+-define(CUT, 300).
 
 -define(REGISTER, {heal_registry, register}).
 -define(QUICK, #{edit_timeout => 2000, exchange_timeout => 1000}).
@@ -40,6 +43,7 @@ parts_test_() ->
         heal_cluster:cluster(3, ?QUICK, fun primary_hangs/1),
         heal_cluster:cluster(3, ?QUICK, fun member_hangs/1),
         heal_cluster:cluster(3, #{}, fun registry_fails/1),
+        heal_cluster:cluster(3, #{}, fun found_at_home/1),
         heal_cluster:cluster(3, #{}, fun not_transitive/1),
         heal_cluster:cluster(3, #{}, fun others_process/1),
         heal_cluster:cluster(3, #{}, fun three_way_clash/1),
@@ -61,6 +65,38 @@ one_table(Nodes) ->
     ?assertEqual([], heal_cluster:one_part(Nodes)),
     ?assertEqual([0, 0, 0, 0, 0], [call(It, count, []) || It <- Nodes]),
     [?assertEqual(ok, call(It, sync, [])) || It <- Nodes].
+
+%% A node is cut off from its primary for a moment. The primary drops the node's names, which the node itself finds all the time.
+found_at_home(Nodes) ->
+    [Primary, _, It] = primary_first(Nodes),
+    Names = names("n", 1000),
+    Pids = heal_cluster:own_each(It, ?REGISTER, Names, #{resolver => notify}),
+    Table = heal_cluster:one_part(Nodes),
+    ok = heal_cluster:call(It, ?MODULE, look_here, [lists:zip(Names, Pids)]),
+    true = heal_cluster:call(It, erlang, disconnect_node, [heal_cluster:node_of(Primary)]),
+    heal_cluster:eventually(fun() -> call(Primary, count, []) =:= 0 end),
+    timer:sleep(?CUT),
+    heal_cluster:mesh(Nodes),
+    ?assertEqual(Table, heal_cluster:one_part(Nodes)),
+    ?assertMatch({Rounds, []} when Rounds > 0, heal_cluster:call(It, ?MODULE, looked_here, [])).
+
+%% Looks for processes by their names again and again, until another process wants to know how often and what was not found.
+look_here(Names) ->
+    Caller = self(),
+    _ = spawn(fun() -> register(?MODULE, self()), Caller ! looking, look(Names, 0, []) end),
+    receive looking -> ok end.
+
+look(Names, Rounds, Lacking) ->
+    Lost = [Name || {Name, Pid} <- Names, heal_registry:whereis_name(Name) =/= Pid],
+    receive
+        {looked, Caller} -> Caller ! {looked, {Rounds, Lacking}}
+    after 0 ->
+        look(Names, Rounds + 1, lists:usort(Lost ++ Lacking))
+    end.
+
+looked_here() ->
+    ?MODULE ! {looked, self()},
+    receive {looked, Looked} -> Looked end.
 
 %% A primary ends and starts again. The other nodes have another primary by then, and keep it.
 primary_comes_back(Nodes) ->

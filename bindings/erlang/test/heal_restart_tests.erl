@@ -3,7 +3,7 @@
 
 -include_lib("eunit/include/eunit.hrl").
 
--export([start_and_register/3, work/2, stop/1]).
+-export([start_and_register/3, work/2, stop/1, lack_here/1]).
 
 -define(REGISTER, {heal_registry, register}).
 
@@ -36,6 +36,7 @@ restarts_test_() ->
         heal_cluster:pair(#{}, fun successors/2),
         {timeout, 120, fun other_nodes/0},
         heal_cluster:pair(#{}, fun half_written/2),
+        heal_cluster:pair(#{}, fun restoring/2),
         heal_cluster:halves(#{exchange_timeout => 1000}, fun during_exchange/2),
         heal_cluster:halves(#{exchange_timeout => 20000}, fun losers/2),
         heal_cluster:halves(#{exchange_timeout => 20000}, fun failed_leader/2),
@@ -133,6 +134,32 @@ half_written(A, B) ->
     ?assertEqual(undefined, heal_cluster:call(A, heal_registry, whereis_name, [removed])),
     heal_cluster:start_registry(A, [A, B], #{}),
     ?assertEqual([{one, Pid}], heal_cluster:alike(A, B)).
+
+%% The part lacks a registration of a node. Its processes find it, also while the registry is down, and a registry that starts again restores it.
+restoring(A, B) ->
+    #{primary := Primary} = heal_cluster:status(A),
+    [It] = [Of || Of <- [A, B], heal_cluster:node_of(Of) =:= Primary],
+    Term = {any, term},
+    [Pid, Of] = own_each(It, [one, Term], #{}),
+    heal_cluster:alike(A, B),
+    heal_cluster:kill_registry(It),
+    [ok = heal_cluster:call(It, ?MODULE, lack_here, [Name]) || Name <- [one, Term]],
+    Call = fun(Function, Args) -> heal_cluster:call(It, heal_registry, Function, Args) end,
+    ?assertEqual([Pid, Of], [Call(whereis_name, [Name]) || Name <- [one, Term]]),
+    ?assertEqual({lists:sort([one, Term]), 2, [Term]}, {lists:sort(Call(names, [])), Call(count, []), Call(names, [Of])}),
+    ?assertMatch(#{pid := Of, name := Term}, Call(info, [Term])),
+    heal_cluster:kill(It, Of),
+    ?assertEqual(undefined, Call(whereis_name, [Term])),
+    heal_cluster:start_registry(It, [A, B], #{}),
+    ?assertEqual([{one, Pid}], heal_cluster:alike(A, B)),
+    ?assertEqual(1, Call(count, [])).
+
+%% Makes the table of this node as if the part lacked a name, which this node restores.
+lack_here(Name) ->
+    Bytes = heal_names:name(Name),
+    {ok, Row} = heal_table:row(Bytes),
+    ok = heal_table:rows([], [Bytes]),
+    heal_table:restoring([{Bytes, Row}]).
 
 %% A registry ends at each step of an exchange. Every name has an owner afterwards, and every loser one notice.
 during_exchange(A, B) ->

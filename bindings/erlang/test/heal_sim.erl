@@ -100,7 +100,8 @@ start_registry(Name, Sim = #sim{nodes = Nodes, count = Count, now = Now, timeout
     Settings = case Kept of
         #{position := {At, Led, Latest}} ->
             Programs = maps:merge(maps:get(programs, Common, #{}), maps:get(programs, Kept, #{})),
-            Half = #half{names = maps:map(fun(_, {Row, _}) -> Row end, Table), programs = #{}, latest = Latest},
+            Names = maps:filtermap(fun(_, {Row, How}) -> How =/= restoring andalso {true, Row} end, Table),
+            Half = #half{names = Names, programs = #{}, latest = Latest},
             Common#{replica => heal_replica:resume(Life, At, max(Led, maps:get(led, Kept, Led)), Half), own => Own, programs => Programs,
                     greatest => max(maps:get(greatest, Common, 0), maps:get(greatest, Kept, 0))};
         _ ->
@@ -230,6 +231,7 @@ handled(Name, Node = #node{part = Part, offset = Offset, rate = Rate}, Event, Si
         true -> Acted;
         false -> heal_sim_calls:check_position(Name, Acted)
     end,
+    ok = heal_sim_calls:check_home(Name, Checked),
     steps(Name, [Step || Step = {continue, _} <- Actions], Checked).
 
 %% A registry may fail between two steps.

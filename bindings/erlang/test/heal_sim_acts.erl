@@ -30,10 +30,16 @@ action({rows, Put, Drop}, Name, Sim) ->
         Rows = maps:from_list([{Key, {Row, shown}} || {Key, Row} <- Put]),
         Node#node{table = maps:merge(maps:without(Drop, Table), Rows)}
     end, Checked);
+action({restoring, Rows}, Name, Sim) ->
+    [_ | _] = Rows,
+    update(Name, fun(Node = #node{table = Table, own = Own}) ->
+        Node#node{table = maps:merge(Table, maps:from_list([{Term, {Row, restoring}} || {Term, Row} <- Rows])),
+                  own = lists:foldl(fun({Term, Row}, Sum) -> Sum#{Term := Row} end, Own, Rows)}
+    end, Sim);
 action({hide, Term}, Name, Sim) ->
     update(Name, fun(Node = #node{table = Table}) ->
         case Table of
-            #{Term := {Row, _}} -> Node#node{table = Table#{Term := {Row, hidden}}};
+            #{Term := {Row, shown}} -> Node#node{table = Table#{Term := {Row, hidden}}};
             _ -> Node
         end
     end, Sim);
@@ -46,7 +52,10 @@ action({own, Term, Row = #row{pid = Pid}}, Name, Sim) ->
     end;
 action({disown, Term, #row{pid = Pid}}, Name, Sim) ->
     Traced = heal_sim_trace:trace("~p disowns ~0p ~p", [Name, Term, Pid], Sim),
-    Rest = update(Name, fun(Node = #node{own = Own}) -> Node#node{own = maps:remove(Term, Own)} end, Traced),
+    Rest = update(Name, fun(Node = #node{own = Own, table = Table}) ->
+        Rows = case Table of #{Term := {_, restoring}} -> maps:remove(Term, Table); _ -> Table end,
+        Node#node{own = maps:remove(Term, Own), table = Rows}
+    end, Traced),
     %% A caller may have unregistered it: also one whose answer is still to come, or whose request a node that hung carries out late.
     case heal_sim_calls:is_unregistered(Term) of
         true -> process(Pid, fun heal_sim_calls:doubtful/1, Rest);

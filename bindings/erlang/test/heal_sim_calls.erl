@@ -3,7 +3,7 @@
 
 -include("heal_sim.hrl").
 
--export([answered/4, check_position/2, client/2, client/3, doubtful/1, finish/1, is_unregistered/1, reply/4]).
+-export([answered/4, check_home/2, check_position/2, client/2, client/3, doubtful/1, finish/1, is_unregistered/1, reply/4]).
 
 client(N, Sim = #sim{nodes = Nodes}) ->
     Name = heal_sim_net:any(heal_sim_net:names(Sim)),
@@ -90,7 +90,7 @@ answered({register, Pid}, {error, _}, _Name, Sim) ->
 answered({unregister, Term}, {ok, Owner}, Name, Sim = #sim{nodes = Nodes}) ->
     #{Name := #node{table = Table}} = Nodes,
     case Table of
-        #{Term := {Row, shown}} -> heal_row:owner(Row) =/= Owner orelse heal_sim_trace:broken(reads_its_writes, {Term, Owner}, Sim);
+        #{Term := {Row, How}} when How =/= hidden -> heal_row:owner(Row) =/= Owner orelse heal_sim_trace:broken(reads_its_writes, {Term, Owner}, Sim);
         _ -> ok
     end,
     each(fun(_, Process = #process{owner = Of}) when Of =:= Owner -> Process#process{until = unregistered}; (_, P) -> P end, Sim);
@@ -151,6 +151,18 @@ check_position(Name, Sim = #sim{nodes = Nodes, positions = Positions}) ->
         #{At := _} -> heal_sim_trace:broken(one_table_at_a_position, {Name, At}, Sim);
         _ -> Sim#sim{positions = Positions#{At => Hash}}
     end.
+
+%% A node finds the living processes that it answers for, unless an exchange has given the name away, or the replica has a registration
+%% under the name that this node answers for no more.
+check_home(Name, Sim = #sim{nodes = Nodes}) ->
+    #{Name := #node{table = Table, own = Own, part = Part = #part{lost = Lost}}} = Nodes,
+    [is_found(Pid, maps:get(Term, Table, none), heal_state:life(Part)) orelse heal_sim_trace:broken(found_at_home, {Pid, Term, Name}, Sim)
+     || {Term, #row{pid = Pid}} <- maps:to_list(Own), not is_map_key(Term, Lost), heal_sim_world:is_alive(Pid)],
+    ok.
+
+is_found(Pid, {#row{pid = Pid}, How}, _Life) -> How =/= hidden;
+is_found(_Pid, {#row{home = Life}, hidden}, Life) -> true;
+is_found(_Pid, _Other, _Life) -> false.
 
 finish(Sim = #sim{nodes = Nodes, processes = Processes, positions = Positions}) ->
     Parts = [{Name, Node} || {Name, Node} <- lists:sort(maps:to_list(Nodes))],
