@@ -19,9 +19,10 @@ states() {
     grep -qxF "$2" "$1" || { echo "$1 doesn't state the version of the file VERSION: $2" >&2; exit 1; }
 }
 
-# The refusals by name are those of the tables.
+# The refusals by name are those of the tables, and each binding has the calls of heal.h.
 if command -v python3 > /dev/null; then
     ./refusals.py --check
+    ./calls.py
 fi
 ../scripts/versions.py
 if ! command -v cc > /dev/null; then

@@ -5,7 +5,7 @@ RELEASE is the folder of a release (scripts/release.sh). The archive in it is in
 folder; with PREFIX, the release is installed there already. Only standard tools are in PATH. Every code block of the pages is
 
     a session         run in the order of the pages, each step prints what the page shows. `…` stands for any text within a line
-    an excerpt        occurs in a file that a session builds and runs, or in a program that the gate proves and runs
+    an excerpt        occurs in a file that a session names, or in a program that the gate proves and runs
     a body in C       of `resolve`, with its verdict in a comment: compiled as compile.sh does, `heal check` returns that verdict
     listed            in EXEMPT, with the reason why it isn't run
 
@@ -27,7 +27,8 @@ from code_blocks import blocks_of
 from terminals import ErlangShell, Shell, Stuck
 
 TOP = os.path.dirname(os.path.dirname(os.path.abspath(__file__)))
-PAGES = ["docs/INSTALL.md", "README.md", "docs/WRITING_RESOLVERS.md", "docs/EMBEDDING.md", "docs/ERLANG.md"]
+PAGES = ["docs/INSTALL.md", "README.md", "docs/SCRIPTS.md", "docs/TEXT.md", "docs/WRITING_RESOLVERS.md", "docs/EMBEDDING.md",
+         "docs/ERLANG.md"]
 # The programs of the checkout that `rt ci` proves and runs, and what it compares their output with.
 PROVED = ["crates/example_cluster/src/*.rt", "crates/example_cluster/stdout", "crates/example_half/src/*.rt"]
 # The first line of each block that isn't run, and why.

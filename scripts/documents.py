@@ -1,9 +1,10 @@
 #!/usr/bin/env python3
-"""documents.py: checks the links of the documents, and the tables of promises.
+"""documents.py [RELEASE]: checks the links of the documents, and the tables of promises.
 
 Each relative link of a page leads to a file or a folder of this repository, and its anchor to a heading there. In docs/proofs each row
 has a promise, a contract and its wrong bodies, and is there once; each wrong body is a file of crates/*/must-fail, and each of these
-files has a row. Prints what is wrong, and fails if anything is.
+files has a row. Prints what is wrong, and fails if anything is. With RELEASE, checks the links of all pages of this folder alone,
+which lead to its own files.
 """
 import glob
 import os
@@ -11,7 +12,8 @@ import re
 import subprocess
 import sys
 
-TOP = os.path.dirname(os.path.dirname(os.path.abspath(__file__)))
+RELEASE = sys.argv[1] if len(sys.argv) > 1 else None
+TOP = os.path.abspath(RELEASE) if RELEASE else os.path.dirname(os.path.dirname(os.path.abspath(__file__)))
 LINK = re.compile(r"\]\(([^()\s]+)\)")
 HEADER = "| promise | contract | a wrong body that is refused |"
 
@@ -36,7 +38,7 @@ def link_faults(page):
         if ":" in path:
             continue
         target = os.path.normpath(os.path.join(os.path.dirname(page), path)) if path else page
-        if not os.path.exists(os.path.join(TOP, target)):
+        if target.startswith("..") or not os.path.exists(os.path.join(TOP, target)):
             yield f"{page}: {link} leads nowhere"
         elif anchor and anchor not in anchors(target):
             yield f"{page}: {target} has no heading {anchor}"
@@ -58,12 +60,22 @@ def row_faults(pages):
     yield from (f"docs/proofs: no row has the wrong body {name}" for name in sorted(edits - named))
 
 
-def main():
+def all_pages():
+    """The pages of the release, or of the checkout."""
+    if RELEASE:
+        return [os.path.relpath(path, TOP) for path in glob.glob(os.path.join(TOP, "**/*.md"), recursive=True)]
     listed = subprocess.run(["git", "ls-files", "--cached", "--others", "--exclude-standard", "*.md"],
                             cwd=TOP, capture_output=True, text=True, check=True).stdout.split("\n")
-    pages = [page for page in listed if page and os.path.exists(os.path.join(TOP, page))]
+    return [page for page in listed if page and os.path.exists(os.path.join(TOP, page))]
+
+
+def main():
+    pages = all_pages()
     faults = [fault for page in pages for fault in link_faults(page)]
-    faults += row_faults([page for page in pages if page.startswith("docs/proofs/")])
+    if not RELEASE:
+        faults += row_faults([page for page in pages if page.startswith("docs/proofs/")])
+    elif not pages:
+        faults = ["there is no page"]
     sys.exit("\n".join("documents.py: " + fault for fault in faults) or None)
 
 

@@ -1,8 +1,8 @@
 #!/bin/sh
 # installed.sh FOLDER: installs the release in FOLDER (scripts/release.sh) into empty roots, and follows the documents there.
 #
-# The archive and the Debian package are tried each. Only /usr/bin and /bin are in PATH, and the folder of cargo. Prints what it skips
-# because a tool is missing; with HEAL_NO_SKIP=1 it fails instead.
+# The archive and the Debian package are tried each, and the links of their pages must lead to their files. Only /usr/bin and /bin are in
+# PATH, and the folder of cargo. Prints what it skips because a tool is missing; with HEAL_NO_SKIP=1 it fails instead.
 set -eu
 folder=$(cd "$1" && pwd)
 cd "$(dirname "$0")/.."
@@ -11,6 +11,7 @@ version=$(cat VERSION)
 work=$(mktemp -d)
 trap 'rm -rf "$work"' EXIT
 (cd "$folder" && sha256sum -c --quiet SHA256SUMS)
+scripts/documents.py "$folder"
 mkdir -p "$work/tar" "$work/debian"
 tar -C "$work/tar" -xzf "$folder/heal-$version-x86_64-linux.tar.gz"
 dpkg-deb -x "$folder/heal_${version}_amd64.deb" "$work/debian"
@@ -23,6 +24,7 @@ heal() {
 # Checks the files of a root, and the program on all examples.
 check_root() {
     (cd "$prefix" && sha256sum -c --quiet share/doc/heal/SHA256SUMS)
+    scripts/documents.py "$prefix"
     # The same checkout gives the same bytes, wherever it is.
     if grep -rlF "$root" "$prefix"; then
         echo "installed.sh: these files of the release name the folder of the checkout" >&2

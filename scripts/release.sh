@@ -73,6 +73,7 @@ tracked bindings/rust "$tree/share/heal/rust"
 cp bindings/c/first.c bindings/c/example.c bindings/c/cluster.c bindings/c/node.c bindings/c/nodes.py "$tree/share/heal/examples/"
 cp bindings/python/first.py bindings/python/cluster.py bindings/python/node.py "$tree/share/heal/examples/"
 tracked bindings/erlang/examples "$tree/share/heal/examples"
+find "$tree" -name '*.md' -exec scripts/release_links.py "$tree" {} +
 cat > "$doc/PROVED" <<END
 heal $version, commit $commit
 kit: $(rt version 2> /dev/null | head -n 1 || cat out/kit)
@@ -125,4 +126,5 @@ find "$work/deb" -exec touch -hd "@$SOURCE_DATE_EPOCH" {} +
 dpkg-deb --root-owner-group -Zgzip -b "$work/deb" "$out/heal_${version}_amd64.deb" > /dev/null
 (cd "$out" && sha256sum "$name.tar.gz" "heal_${version}_amd64.deb" "${wheel##*/}" > SHA256SUMS)
 cp docs/INSTALL.md "$out/"
+scripts/release_links.py "$out" "$out/INSTALL.md"
 ls -l "$out"

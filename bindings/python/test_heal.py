@@ -193,6 +193,12 @@ class Words(unittest.TestCase):
         self.assertEqual(refusal_words(1000), "unknown refusal")
 
 
+class Versions(unittest.TestCase):
+    def test_the_library_has_the_version_of_the_checkout(self):
+        with open(os.path.join(os.path.dirname(os.path.abspath(__file__)), "..", "..", "VERSION"), encoding="utf-8") as file:
+            self.assertEqual(".".join(map(str, package.version())), file.read().strip())
+
+
 def split():
     """Returns two halves that registered `cache` and `db` while the link was down; B also has `web`."""
     halves = Side("a"), Side("b")

@@ -55,6 +55,7 @@ __all__ = [
     "peek",
     "record",
     "refusal_words",
+    "version",
 ]
 
 # Bytes, or an object whose bytes can be read: any item size will do.
@@ -354,9 +355,7 @@ _ARGUMENTS = {
     "heal_message_peek": [_BYTES, c_size_t, POINTER(_Head)],
     "heal_offer_fault": [_BYTES, c_size_t, POINTER(_Fault)],
     "heal_list_fault": [_BYTES, c_size_t, POINTER(_Fault)],
-    "heal_bytes_len": [_HANDLE, POINTER(c_size_t)],
     "heal_bytes_lend": [_HANDLE, POINTER(_Span)],
-    "heal_bytes_copy": [_HANDLE, _BYTES, c_size_t],
     "heal_side_live": [_HANDLE, c_size_t, POINTER(_Row)],
     "heal_side_live_after": [*_NAMED, POINTER(_Row)],
     "heal_side_withdrawn": [_HANDLE, c_size_t, POINTER(_Name)],
@@ -377,6 +376,7 @@ def _load() -> ctypes.CDLL:
     library = ctypes.CDLL(os.environ.get("HEAL_LIBRARY", built))
     library.heal_refusal_words.argtypes = [c_uint32, _BYTES, c_size_t]
     library.heal_refusal_words.restype = c_size_t
+    library.heal_version.argtypes, library.heal_version.restype = [], c_uint32
     return library
 
 
@@ -390,15 +390,15 @@ def _declare(arguments: dict[str, list[Any]]) -> None:
         getattr(_LIBRARY, name).restype = c_uint32
 
 
-def _declare_free(kind: str) -> None:
-    """Declares the function that frees an object of this kind."""
-    free = getattr(_LIBRARY, f"heal_{kind}_free")
+def _declare_free(name: str) -> None:
+    """Declares a function that frees an object."""
+    free = getattr(_LIBRARY, name)
     free.argtypes, free.restype = [_HANDLE], None
 
 
 _declare(_ARGUMENTS)
-for _kind in ("program", "side", "bytes", "outcome"):
-    _declare_free(_kind)
+for _free in ("heal_program_free", "heal_bpf_free", "heal_side_free", "heal_bytes_free", "heal_outcome_free"):
+    _declare_free(_free)
 
 
 def _call(name: str, *arguments: Any) -> None:
@@ -471,6 +471,12 @@ def _from_c(registration: _Registration) -> Registration:
 
 def _text(name: _Name) -> bytes:
     return bytes(name.bytes[: name.len])
+
+
+def version() -> tuple[int, int, int]:
+    """Returns the version of the library: its major, minor and patch numbers."""
+    number = _LIBRARY.heal_version()
+    return number >> 16, number >> 8 & 0xFF, number & 0xFF
 
 
 def refusal_words(number: int) -> str:

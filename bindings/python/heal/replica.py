@@ -112,7 +112,7 @@ heal._declare(
         "heal_log_front": [_BYTES, c_size_t, POINTER(_Front)],
     }
 )
-heal._declare_free("replica")
+heal._declare_free("heal_replica_free")
 
 
 def log_front(log: Buffer) -> LogFront:

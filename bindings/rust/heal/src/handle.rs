@@ -1,5 +1,5 @@
 //! Handles that are freed when they go out of scope.
-use crate::types::{bytes_of, verdict_of};
+use crate::types::{bytes_of, side_of, verdict_of};
 use crate::{answer, Clash, Notice, Outcome, Refused, SideId, NO_ROW};
 use heal_sys as ffi;
 
@@ -103,10 +103,7 @@ impl Held {
             word: found.word,
             verdict: verdict_of(found.verdict),
             keeps: verdict_of(found.keeps),
-            first_half: match found.first_half {
-                0 => SideId::A,
-                _ => SideId::B,
-            },
+            first_half: side_of(found.first_half),
             notices: notices
                 .map(|n| self.notice(i, n))
                 .collect::<Result<_, _>>()?,

@@ -12,6 +12,7 @@
 //! # Ok::<(), heal::Refused>(())
 //! ```
 mod handle;
+mod message;
 mod refusal;
 mod replica;
 mod sandbox;
@@ -19,13 +20,15 @@ mod types;
 
 use handle::{Held, Kind};
 use heal_sys as ffi;
+pub use message::{list_fault, offer_fault, peek, Fault, Head, MessageKind, Place};
 pub use refusal::Refusal;
 pub use replica::{log_front, Life, LogFront, Position, Replica, ReplicaState};
 pub use sandbox::Sandbox;
 use std::error::Error;
 use std::fmt;
 pub use types::{
-    Clash, Ended, Facts, Notice, Outcome, Owner, ProgramId, Registration, Resolver, Verdict,
+    Clash, Ended, Facts, Missing, Notice, OpenExchange, Outcome, Owner, ProgramId, Registration,
+    Resolver, SideState, Verdict,
 };
 
 /// The length of a clash record in bytes.
@@ -68,6 +71,13 @@ impl fmt::Display for Refused {
 }
 
 impl Error for Refused {}
+
+/// Returns the version of the library: its major, minor and patch numbers.
+pub fn version() -> (u8, u8, u8) {
+    // SAFETY: the call has no arguments.
+    let [_, major, minor, patch] = unsafe { ffi::heal_version() }.to_be_bytes();
+    (major, minor, patch)
+}
 
 /// Returns the words of a refusal.
 pub fn words_of(number: u32) -> String {
@@ -174,6 +184,11 @@ pub enum SideId {
     B = 1,
 }
 
+/// A call that returns a row by its index.
+type RowAt = unsafe extern "C" fn(*const ffi::Handle, usize, *mut ffi::Row) -> u32;
+/// A call that returns the row after a name.
+type RowAfter = unsafe extern "C" fn(*const ffi::Handle, *const u8, usize, *mut ffi::Row) -> u32;
+
 // SAFETY in each call below: the handle is owned; `&mut self` makes a call that changes it the only one on it, and calls with
 // `&self` only read it; slices have `len` bytes; results are live values of their types.
 impl Side {
@@ -261,22 +276,50 @@ impl Side {
         }
     }
 
-    /// Returns the names and registrations of the table, in the order of names.
+    /// Returns the names and registrations of the table, in the order of names; in an open exchange, with the withdrawn ones.
     pub fn rows(&self) -> Result<Vec<(Vec<u8>, Registration)>, Refused> {
+        self.walk(ffi::heal_side_row, ffi::heal_side_row_after)
+    }
+
+    /// Returns the same without the names that the side withdrew in the open exchange.
+    pub fn live_rows(&self) -> Result<Vec<(Vec<u8>, Registration)>, Refused> {
+        self.walk(ffi::heal_side_live, ffi::heal_side_live_after)
+    }
+
+    /// Returns the rows that two calls of the library list: one by an index, the other after a name.
+    fn walk(&self, at: RowAt, after: RowAfter) -> Result<Vec<(Vec<u8>, Registration)>, Refused> {
         let mut count = 0;
         answer(unsafe { ffi::heal_side_count(self.held.at(), &mut count) })?;
         let mut rows = Vec::with_capacity(count);
         let mut row = ffi::Row::default();
-        let mut number = unsafe { ffi::heal_side_row(self.held.at(), 0, &mut row) };
+        let mut number = unsafe { at(self.held.at(), 0, &mut row) };
         while number != NO_ROW {
             answer(number)?;
-            let name = types::bytes_of(&row.name);
-            number = unsafe {
-                ffi::heal_side_row_after(self.held.at(), name.as_ptr(), name.len(), &mut row)
-            };
-            rows.push((name, row.registration.into()));
+            let (name, registration) = (types::bytes_of(&row.name), row.registration.into());
+            number = unsafe { after(self.held.at(), name.as_ptr(), name.len(), &mut row) };
+            rows.push((name, registration));
         }
         Ok(rows)
+    }
+
+    /// Returns what the side knows. After 39, `missing` of the open exchange states what is missing.
+    pub fn state(&self) -> Result<SideState, Refused> {
+        let mut found = ffi::State::default();
+        answer(unsafe { ffi::heal_side_query(self.held.at(), &mut found) })?;
+        Ok(found.into())
+    }
+
+    /// Returns the names that the side withdrew in the open exchange, the earliest first.
+    pub fn withdrawn(&self) -> Result<Vec<Vec<u8>>, Refused> {
+        let mut names = Vec::new();
+        let mut name = ffi::Name::default();
+        loop {
+            match unsafe { ffi::heal_side_withdrawn(self.held.at(), names.len(), &mut name) } {
+                NO_ROW => return Ok(names),
+                number => answer(number)?,
+            }
+            names.push(types::bytes_of(&name));
+        }
     }
 
     /// Opens an exchange, and returns the offer to be sent.

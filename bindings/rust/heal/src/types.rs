@@ -127,6 +127,45 @@ pub struct Outcome {
     pub clashes: Vec<Clash>,
 }
 
+/// What a side knows.
+#[derive(Clone, Copy, Debug, PartialEq, Eq)]
+#[non_exhaustive]
+pub struct SideState {
+    pub id: SideId,
+    /// The greatest number that the side began.
+    pub latest: Option<u64>,
+    /// The open exchange.
+    pub open: Option<OpenExchange>,
+}
+
+/// What a side knows of its open exchange.
+#[derive(Clone, Copy, Debug, PartialEq, Eq)]
+#[non_exhaustive]
+pub struct OpenExchange {
+    pub number: u64,
+    /// The other side's offer was heard.
+    pub has_heard: bool,
+    /// The list of this side is closed.
+    pub has_closed: bool,
+    /// The other side's list was heard.
+    pub has_heard_list: bool,
+    /// The first thing that the exchange lacks before `finish`.
+    pub missing: Option<Missing>,
+}
+
+/// What an open exchange lacks.
+#[derive(Clone, Copy, Debug, PartialEq, Eq)]
+pub enum Missing {
+    /// The other side's offer.
+    Offer,
+    /// The ruling of this clash, counted from 0 in the order of names: call `settle`.
+    Ruling(usize),
+    /// The list of this side: call `close_list`.
+    OwnList,
+    /// The other side's list.
+    List,
+}
+
 impl From<Owner> for ffi::Owner {
     fn from(owner: Owner) -> ffi::Owner {
         ffi::Owner {
@@ -200,6 +239,37 @@ impl From<ffi::Notice> for Notice {
             1 => Notice::Conflict(notice.to.into()),
             _ => Notice::ConflictWith(notice.to.into(), notice.other.into()),
         }
+    }
+}
+
+impl From<ffi::State> for SideState {
+    fn from(state: ffi::State) -> SideState {
+        let open = OpenExchange {
+            number: state.number,
+            has_heard: state.has_heard != 0,
+            has_closed: state.has_closed != 0,
+            has_heard_list: state.has_heard_list != 0,
+            missing: match state.missing {
+                0 => None,
+                1 => Some(Missing::Offer),
+                2 => Some(Missing::Ruling(state.missing_clash as usize)),
+                3 => Some(Missing::OwnList),
+                _ => Some(Missing::List),
+            },
+        };
+        SideState {
+            id: side_of(state.side),
+            latest: (state.has_begun != 0).then_some(state.latest),
+            open: (state.is_open != 0).then_some(open),
+        }
+    }
+}
+
+/// Returns the side that the library writes as this number.
+pub(crate) fn side_of(number: u32) -> SideId {
+    match number {
+        0 => SideId::A,
+        _ => SideId::B,
     }
 }
 

@@ -1,7 +1,7 @@
 //! Programs, refusals and whole exchanges through the C library.
 use heal::{
-    record, words_of, Facts, Notice, Outcome, Owner, Program, Refused, Registration, Resolver,
-    Side, SideId, Verdict,
+    record, version, words_of, Facts, Missing, Notice, Outcome, Owner, Program, Refused,
+    Registration, Resolver, Side, SideId, Verdict,
 };
 use std::time::{Duration, Instant};
 
@@ -155,6 +155,77 @@ fn a_side_gives_up() -> Result<(), Refused> {
     side.give_up()?;
     assert_eq!((side.rows()?.len(), refused(side.begin(1, 0, 0))), (2, 35));
     Ok(())
+}
+
+/// The first thing that the open exchange of a side lacks.
+fn missing(side: &Side) -> Result<Option<Missing>, Refused> {
+    Ok(side.state()?.open.expect("an open exchange").missing)
+}
+
+#[test]
+fn a_side_states_what_it_knows() -> Result<(), Refused> {
+    let [mut a, mut b] = split()?;
+    let idle = a.state()?;
+    assert_eq!((idle.id, idle.latest, idle.open), (SideId::A, None, None));
+    a.begin(3, 0, 10)?;
+    let offer = b.begin(3, 0, 20)?;
+    assert_eq!(missing(&a)?, Some(Missing::Offer));
+    assert_eq!(refused(a.finish()), 39);
+    a.hear(&offer)?;
+    assert_eq!(missing(&a)?, Some(Missing::Ruling(0)));
+    a.settle()?;
+    assert_eq!(missing(&a)?, Some(Missing::OwnList));
+    a.close_list()?;
+    let state = a.state()?;
+    let open = state.open.expect("an open exchange");
+    assert_eq!((state.latest, open.number), (Some(3), 3));
+    assert_eq!(open.missing, Some(Missing::List));
+    assert!(open.has_heard && open.has_closed && !open.has_heard_list);
+    let of_b = b.state()?;
+    let open = of_b.open.expect("an open exchange");
+    assert_eq!(of_b.id, SideId::B);
+    assert!(!open.has_heard && !open.has_closed && !open.has_heard_list);
+    a.hear_list(&b.close_list()?)?;
+    assert_eq!(missing(&a)?, None);
+    a.finish()?;
+    assert_eq!((a.state()?.latest, a.state()?.open), (Some(3), None));
+    Ok(())
+}
+
+#[test]
+fn withdrawn_names_are_listed_apart() -> Result<(), Refused> {
+    let serials = |rows: Vec<(Vec<u8>, Registration)>| -> Vec<(Vec<u8>, u32)> {
+        let of_owner = |(name, found): (Vec<u8>, Registration)| (name, found.owner.serial);
+        rows.into_iter().map(of_owner).collect()
+    };
+    let all = [
+        (b"cache".to_vec(), 1),
+        (b"db".to_vec(), 2),
+        (b"mail".to_vec(), 3),
+    ];
+    let [mut side, _] = split()?;
+    assert!(side.withdrawn()?.is_empty());
+    assert_eq!(serials(side.live_rows()?), all);
+    side.begin(1, 0, 0)?;
+    side.withdraw(b"mail")?;
+    assert_eq!(serials(side.live_rows()?), all[..2]);
+    side.withdraw(b"cache")?;
+    assert_eq!(side.withdrawn()?, [&b"mail"[..], b"cache"]);
+    assert_eq!(serials(side.rows()?), all);
+    assert_eq!(serials(side.live_rows()?), all[1..2]);
+    side.abandon()?;
+    assert!(side.withdrawn()?.is_empty());
+    assert_eq!(serials(side.rows()?), all[1..2]);
+    Ok(())
+}
+
+#[test]
+fn the_library_has_the_version_of_the_crate() {
+    let (major, minor, patch) = version();
+    assert_eq!(
+        format!("{major}.{minor}.{patch}"),
+        env!("CARGO_PKG_VERSION")
+    );
 }
 
 #[test]
