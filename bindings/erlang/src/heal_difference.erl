@@ -1,5 +1,5 @@
 %% @private How the half of a view differs from the one that its primary had before. A node that had the earlier one gets that in place of
-%% a snapshot: most names stay as they are when a node comes or goes.
+%% a snapshot: most names stay as they are when a node comes or goes. So does a node that lacks the latest entries of the view.
 %%
 %% A primary that is gone may have sent its last entries to some nodes alone. A node that has further ones goes back first. One that lacks
 %% some wants what differs again, and then gets the names of these entries too.
@@ -7,7 +7,7 @@
 
 -include("heal_part.hrl").
 
--export([base/3, between/2, given/2, wanted/2, position/1, applied/2]).
+-export([note/3, base/3, between/2, given/2, wanted/2, position/1, applied/2]).
 -export_type([difference/0, base/0]).
 
 %% From a position, or one of its view after the operation `Since', to another position: the rows that may differ, the names that have none,
@@ -16,6 +16,12 @@
                        Put :: #{heal:name() => #row{}}, Drop :: [heal:name()], Programs :: #{Id :: binary() => Code :: binary()},
                        Latest :: non_neg_integer()}.
 -opaque base() :: #base{}.
+
+%% Remembers an entry that this node has made or applied.
+-spec note(heal_replica:edit(), Applied :: #part{}, Before :: #part{}) -> #part{}.
+note(Edit, Applied = #part{recent = Recent}, Before) ->
+    #half{names = Names} = heal_state:half(Before),
+    Applied#part{recent = heal_recent:note(heal_state:at(Applied), Edit, Names, Recent)}.
 
 %% Returns what the nodes may have that follow this node's view and are to follow its next one, except one that has that already.
 -spec base(#{node() => #member{}}, Has :: none | node(), #part{}) -> none | base().
@@ -28,16 +34,37 @@ base(Members, Has, Part = #part{recent = Recent}) ->
 
 %% Returns how this primary's half differs from the one that a node may have, or `none' if that isn't known or is much.
 -spec between(node(), #part{}) -> none | difference().
-between(Node, Part = #part{base = Base = #base{at = From = {_, Operation}, nodes = Nodes, recent = Recent}}) ->
-    case heal_peers:takes_differences(Node, Part) andalso Nodes of
-        #{Node := new} -> difference({Operation, []}, Base, Part);
-        #{Node := behind} -> difference(heal_recent:covered(announced(Node, Part), From, Recent), Base, Part);
+between(Node, Part) ->
+    case heal_peers:takes_differences(Node, Part) andalso {of_view(Node, Part), Part#part.base} of
+        false -> none;
+        {none, Base} -> of_base(Node, Base, Part);
+        {Difference, _} -> Difference
+    end.
+
+%% The node follows this view, and may lack entries that are remembered.
+of_view(Node, Part = #part{peers = Peers, recent = Recent}) ->
+    At = {View, _} = heal_state:at(Part),
+    case Peers of
+        #{Node := #peer{at = {View, Own}}} ->
+            case heal_recent:covered(Own, At, Recent) of
+                Covered = {Own, _} -> difference(Covered, At, heal_state:half(Part), Part);
+                _ -> none
+            end;
+        _ ->
+            none
+    end.
+
+%% The node may have what the primary had before the view.
+of_base(Node, #base{at = From = {_, Operation}, half = Half, nodes = Nodes, recent = Recent}, Part) ->
+    case Nodes of
+        #{Node := new} -> difference({Operation, []}, From, Half, Part);
+        #{Node := behind} -> difference(heal_recent:covered(announced(Node, Part), From, Recent), From, Half, Part);
         _ -> none
     end;
-between(_Node, _Part) ->
+of_base(_Node, none, _Part) ->
     none.
 
-difference({Since, Names}, #base{at = From, half = #half{names = Old, programs = Known}}, Part) ->
+difference({Since, Names}, From, #half{names = Old, programs = Known}, Part) ->
     #half{names = New, programs = Programs, latest = Latest} = heal_state:half(Part),
     {Put, Drop} = with_names(Names, heal_home:changes(Old, New), New),
     IsShort = 2 * (map_size(Put) + length(Drop)) =< map_size(New),

@@ -35,19 +35,15 @@ entries(Node, {View, Operation}, [Edit | Rest], By, Answer, Part = #part{replica
             Answered = case By of {Self, Number} -> entered(Number, {How, Edit}, Answer, Part, Next); _ -> Next end,
             entries(Node, {View, Operation + 1}, Rest, By, Answer, Answered);
         {{View, Own}, {error, 97}} when Part#part.gap =/= Own ->
-            heal_state:send(Node, {want, View}, Part#part{gap = Own});
+            heal_view:want(View, Part#part{gap = Own});
         _ ->
             Part
     end;
 entries(_Node, _At, [], _By, _Answer, Part) ->
     Part.
 
-%% Remembers an entry that is applied now.
-noted(already, _Edit, Applied, _Before) ->
-    Applied;
-noted(now, Edit, Applied = #part{recent = Recent}, Before) ->
-    #half{names = Names} = heal_state:half(Before),
-    Applied#part{recent = heal_recent:note(heal_state:at(Applied), Edit, Names, Recent)}.
+noted(already, _Edit, Applied, _Before) -> Applied;
+noted(now, Edit, Applied, Before) -> heal_difference:note(Edit, Applied, Before).
 
 entry(already, _Edit, _By, _Applied, Part) ->
     Part;

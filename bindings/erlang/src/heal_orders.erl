@@ -51,7 +51,8 @@ make(Call, Edit, Answer, Part = #part{replica = Replica}) ->
     case heal_replica:edit(Edit, Replica) of
         {ok, {At, Made}, Edited} ->
             {By, Numbered} = by(Call, Made, Part),
-            Claimed = claimed(Call, Made, heal_meeting:touched(Made, Numbered#part{replica = Edited})),
+            Noted = heal_difference:note(Made, Numbered#part{replica = Edited}, Part),
+            Claimed = claimed(Call, Made, heal_meeting:touched(Made, Noted)),
             %% The caller doesn't wait for what is sent.
             Answered = made(Call, By, Answer, applied(Made, By, Part, Claimed)),
             heal_view:broadcast({edit, At, [Made], By, Answer}, awaited(By, Made, Part), Answered);
@@ -113,7 +114,7 @@ make_all(Edits, Part) ->
     {View, Operation} = heal_state:at(Part),
     Step = fun(Edit, Sum = #part{replica = Replica}) ->
         {ok, _, Edited} = heal_replica:edit(Edit, Replica),
-        applied(Edit, none, Sum, heal_meeting:touched(Edit, Sum#part{replica = Edited}))
+        applied(Edit, none, Sum, heal_meeting:touched(Edit, heal_difference:note(Edit, Sum#part{replica = Edited}, Sum)))
     end,
     heal_view:broadcast({edit, {View, Operation + 1}, Edits, none, ok}, [], lists:foldl(Step, Part, Edits)).
 

@@ -122,7 +122,7 @@ taken(Part = #part{out = Out}) ->
 %% Takes the state of an earlier version over: the fields that it lacks are the last ones.
 -spec upgrade(Earlier :: part()) -> part().
 upgrade(Earlier) ->
-    Part = later(Earlier, record_info(size, part), [none, none, [], none, #{}, #{}, #{}, #{}, #{}, none, heal_recent:new(), 0]),
+    Part = later(Earlier, record_info(size, part), [none, none, [], none, #{}, #{}, #{}, #{}, #{}, none, heal_recent:new(), 0, 0]),
     #part{replica = Replica, waiting = Waiting, requested = Requested, unreleased = Unreleased, adopting = Adopting} = Part,
     #part{arriving = Arriving, leaving = Leaving, storing = Storing} = Part,
     Each = fun(_, Call) -> call(Call) end,

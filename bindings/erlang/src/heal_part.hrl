@@ -155,8 +155,9 @@
     differing = #{} :: #{node() => true},
     %% Of a primary, until its view is settled.
     base = none :: none | heal_difference:base(),
-    %% The latest entries that this node has applied.
+    %% The latest entries that this node has made or applied.
     recent = heal_recent:new() :: heal_recent:recent(),
-    %% Of a backup: when it may compare its registrations with its half again.
-    next_check = 0 :: integer()
+    %% Of a backup: when it may compare its registrations with its half again, and when it wants a snapshot again that hasn't arrived.
+    next_check = 0 :: integer(),
+    next_want = 0 :: integer()
 }).

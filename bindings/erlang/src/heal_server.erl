@@ -57,10 +57,8 @@
 -define(AGAIN, 1000).
 %% Milliseconds that entries which nobody waits for are kept to be sent together.
 -define(TOGETHER, 1).
-%% Milliseconds until a node whose connection takes messages again gets a snapshot, at least, and the names for which it waits one more: a
-%% snapshot may fill the connection again.
+%% Milliseconds until a node whose connection takes messages again gets a snapshot, at least: that may fill the connection again.
 -define(RESPITE, 100).
--define(NAMES_OF_RESPITE, 16).
 %% How many losers are notified, and names of a process that has ended released, before the next message is handled.
 -define(LOSERS, 200).
 -define(RELEASED, 200).
@@ -274,7 +272,7 @@ ended(Monitor, _Pid, State = #server{log = {_, Monitor}}) ->
 ended(_Monitor, Pid, State = #server{waiters = Waiters, part = Part, resting = Resting}) when is_map_key(Pid, Waiters) ->
     {Node, Rest} = maps:take(Pid, Waiters),
     Pause = make_ref(),
-    _ = erlang:send_after(max(?RESPITE, heal_part:count(Part) div ?NAMES_OF_RESPITE), self(), {?REGISTRY, rested, Node, Pause}),
+    _ = erlang:send_after(max(?RESPITE, heal_state:longer(heal_part:count(Part))), self(), {?REGISTRY, rested, Node, Pause}),
     event({drained, Node}, State#server{waiters = Rest, resting = Resting#{Node => Pause}});
 ended(Monitor, Pid, State = #server{reconnect = Reconnect, subscribers = Subscribers}) ->
     case heal_reconnect:attempted(Monitor, Reconnect) of

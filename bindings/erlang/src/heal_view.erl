@@ -8,7 +8,7 @@
 -include("heal_part.hrl").
 
 -export([resume/1, act/1, continue/1, is_settling/1, members/1, lead_alone/1, follow_merge/5, start/5]).
--export([heard/3, snapshot/3, difference/3, wanted/3, joined/3, join_again/2, settled/3, broadcast/3]).
+-export([heard/3, snapshot/3, difference/3, want/2, wanted/3, joined/3, join_again/2, settled/3, broadcast/3]).
 
 %% ---- Starting ----
 
@@ -171,15 +171,21 @@ broadcast(Entries = {edit, At, Edits, _By, _Answer}, Awaited, Part = #part{membe
         _ -> heal_state:add({post, Soon, {edit, At, Edits, none, ok}}, Sent)
     end.
 
-%% A node wants a snapshot of this view. It gets one once no exchange is open.
+%% A node wants a snapshot of this view. It gets one once no exchange is open and its connection has room.
 -spec wanted(node(), heal_replica:view(), #part{}) -> #part{}.
 wanted(Node, View, Part = #part{heal = Heal, members = Members, peers = Peers}) ->
     case heal_state:is_primary(Part) andalso heal_state:view(Part) =:= View andalso {Members, Peers} of
         {#{Node := Member}, #{Node := _}} ->
             Lagging = Part#part{members = Members#{Node := Member#member{is_lagging = true}}},
             heal_peers:heard_of(Node, heal_difference:wanted(Node, Lagging));
-        {_, #{Node := _}} when not is_record(Heal, open) -> regarded(Part, welcome(Node, heal_difference:wanted(Node, Part)));
-        _ -> Part
+        {_, #{Node := _}} when not is_record(Heal, open) ->
+            Wanted = heal_difference:wanted(Node, Part),
+            case has_room(Node, Wanted) of
+                true -> regarded(Part, welcome(Node, Wanted));
+                false -> Wanted
+            end;
+        _ ->
+            Part
     end.
 
 %% Makes a node a member, unless it is one, and sends it a snapshot.
@@ -342,8 +348,10 @@ missed(Part) ->
         _ -> none
     end.
 
-want(View = {{Primary, _}, _}, Part) ->
-    heal_state:send(Primary, {want, View}, Part).
+%% Has a primary send a snapshot of its view. With many names that takes a while.
+-spec want(heal_replica:view(), #part{}) -> #part{}.
+want(View = {{Primary, _}, _}, Part = #part{now = Now}) ->
+    heal_state:send(Primary, {want, View}, Part#part{next_want = Now + heal_state:longer(heal_state:count(Part))}).
 
 %% The smallest node that is left of the part leads it. The others wait for its snapshot.
 successor(Part = #part{node = Node, limbo = Limbo}) ->
@@ -359,13 +367,14 @@ successor(Part = #part{node = Node, limbo = Limbo}) ->
     end.
 
 %% The primary has made entries that this node lacks, hasn't heard that it follows, or lacks what its home has.
-caught_up(Part = #part{peers = Peers, checked = Checked}) ->
+caught_up(Part = #part{peers = Peers, checked = Checked, now = Now, next_want = Next}) ->
     View = {{Primary, _}, _} = heal_state:view(Part),
     {_, Operation} = heal_state:at(Part),
     #{Primary := #peer{seq = Seq, at = At = {_, Last}, is_settled = IsSettled}} = Peers,
     Noted = Part#part{checked = Seq},
     if
         Seq =:= Checked -> Part;
+        Last > Operation, Now < Next -> Noted;
         Last > Operation -> want(View, Noted);
         IsSettled -> rejoin(settled(Primary, At, Noted));
         true -> join_with(heal_home:differences(Noted), Noted)
@@ -478,7 +487,7 @@ taken(Snapshot, Plan, Continue, Part = #part{replica = Replica}) ->
     case heal_home:conflicts(Plan) of
         [] ->
             {ok, Following} = heal_replica:follow(Snapshot, Replica),
-            Moved = Part#part{replica = Following, members = #{}, settle_by = none, losers = [], limbo = none, base = none},
+            Moved = Part#part{replica = Following, members = #{}, settle_by = none, losers = [], limbo = none, base = none, next_want = 0},
             Swapped = Continue(heal_home:swap(Plan, Moved)),
             heal_peers:announce(join_with(heal_home:differences(Plan, Swapped), Swapped));
         _ ->

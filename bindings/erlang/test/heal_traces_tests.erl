@@ -197,17 +197,24 @@ started_registry_test() ->
     Healed = events([{a, {message, b, Body}} || {send, a, Body} <- Actions], fun none_lost/3, Asking#{b := Started}),
     ?assertEqual(position(a, Healed), position(b, Healed)).
 
-%% A node follows this view and is no member, and its connection is full: it gets no snapshot before it has room and a pause has passed.
+%% A node follows this view and is no member, and its connection is full. Once it has room it gets what differs, or a snapshot after a pause.
 full_connection_of_no_member_test() ->
-    #{a := Part} = Joined = connect(a, b, fun none_lost/3, start([{a, #{}}, {b, #{}}])),
-    Full = Joined#{a := Part#part{members = #{}, full = #{b => {refusing, 0, []}}}},
+    Joined = connect(a, b, fun none_lost/3, start([{a, #{}}, {b, #{}}])),
+    ?assertEqual({[difference], [difference]}, full_connection_of_no_member(Joined)),
+    %% It lacks an upload, so that it can't use what differs.
+    ?assertEqual({[], [snapshot]}, full_connection_of_no_member(event(a, upload(1), fun(a, b, _) -> true; (_, _, _) -> false end, Joined))).
+
+%% Returns what a sends b for it to follow before the pause has passed, and in all.
+full_connection_of_no_member(Parts = #{a := Part}) ->
+    Full = Parts#{a := Part#part{members = #{}, full = #{b => {refusing, 0, []}}}},
     put(done, []),
     Refused = event(a, {refused, b, [{snapshot, none}]}, fun none_lost/3, Full),
     Drained = event(a, {drained, b}, fun none_lost/3, event(a, tick, fun none_lost/3, Refused)),
-    ?assertEqual([], begun(a, b)),
+    Before = begun(a, b),
     Rested = event(a, {rested, b}, fun none_lost/3, Drained),
-    ?assertEqual([snapshot], begun(a, b)),
-    ?assertMatch(#part{members = #{b := #member{is_joined = true}}}, maps:get(a, Rested)).
+    ?assertMatch(#part{members = #{b := #member{is_joined = true}}}, maps:get(a, Rested)),
+    ?assertEqual(position(a, Rested), position(b, Rested)),
+    {Before, begun(a, b)}.
 
 %% What begins the view that an exchange has started is lost. The member hears of the view, and wants a snapshot.
 missed_snapshot_test() ->
@@ -278,6 +285,27 @@ last_entry(Node, Lacking) ->
     ?assertEqual([{pid, Node, 7}], [Pid || {<<"m7">>, #row{pid = Pid}} <- maps:to_list(names(c, Left))]),
     ?assertEqual(7, map_size(names(b, Left))),
     begun(b, c).
+
+%% A member that lacks the latest entries of its view gets what they changed, and a snapshot if one of them is an upload.
+lacking_member_test() ->
+    ?assertEqual([difference], lacking_member(registering(7, a))),
+    ?assertEqual([snapshot], lacking_member(upload(1))).
+
+%% Returns what a sends its member b, which has missed an entry and learns so by the next one.
+lacking_member(Missed) ->
+    Registered = lists:foldl(fun(N, Parts) -> event(b, registering(N, b), fun none_lost/3, Parts) end,
+                             connect(a, b, fun none_lost/3, start([{a, #{}}, {b, #{}}])), lists:seq(1, 6)),
+    Announced = event(b, tick, fun none_lost/3, Registered),
+    Lacking = event(a, Missed, fun(a, b, _) -> true; (_, _, _) -> false end, Announced),
+    ?assertEqual(1, operation(a, Lacking) - operation(b, Lacking)),
+    put(done, []),
+    Next = event(a, registering(8, a), fun none_lost/3, Lacking),
+    ?assertEqual(position(a, Next), position(b, Next)),
+    ?assertEqual(names(a, Next), names(b, Next)),
+    %% It is a member like any other then.
+    Last = event(a, registering(9, a), fun none_lost/3, Next),
+    ?assertEqual(position(a, Last), position(b, Last)),
+    begun(a, b).
 
 registering(N, Node) ->
     Name = <<"m", ($0 + N)>>,
@@ -525,6 +553,19 @@ follows_many_names_test() ->
     Answered = event_at(3, a, {message, b, Answer}, Heard),
     ?assertEqual(5001, Count(1 + 500 + 199, a, Answered)),
     ?assertEqual(5000, Count(1 + 500 + 200, a, Answered)).
+
+%% A node wants a snapshot again that hasn't arrived. The more names there are, the longer it waits for it.
+wants_again_test() ->
+    Joined = connect(a, b, fun none_lost/3, many_names(5000)),
+    {View, Operation} = position(b, Joined),
+    {here, Here = #{seq := Seq}} = hd([Body || {send, b, Body = {here, _}} <- done(a)]),
+    Wants = fun({Later, Now}, Parts) ->
+        put(done, []),
+        Next = event_at(Now, b, {message, a, {here, Here#{seq := Seq + Later, at := {View, Operation + 2}}}}, Parts),
+        {[want || {send, a, {want, _}} <- done(b)], Next}
+    end,
+    {Each, _} = lists:mapfoldl(Wants, Joined, [{10, 3}, {11, 102}, {12, 103}]),
+    ?assertEqual([[want], [], [want]], Each).
 
 %% A node joins again if its part lacks one of its registrations. The more names there are, the less often it looks.
 looks_for_lost_names_test() ->
