@@ -180,6 +180,7 @@ else
 fi
 if command -v python3 > /dev/null; then
     export HEAL_LIBRARY="$HEAL_OUT/libheal.so" PYTHONDONTWRITEBYTECODE=1
+    ./declarations.py
     (cd python && python3 -m unittest -q)
     c/nodes.py 30 "$work/node"
     cc -shared -fPIC -O1 -Wall -Wextra -Werror c/kill_at.c -o "$work/kill_at.so"

@@ -1,7 +1,7 @@
 /*
  * Two processes, each with one half of a cluster, heal a split: they exchange two messages each over pipes, and nothing else.
  * Prints the clashes and the one table that both halves have afterwards. The winner of one clash has died, so nobody keeps its
- * name: the half of the survivor registers it again.
+ * name: the half of the survivor registers it again. Both owners of another name have died.
  */
 #include "heal.h"
 
@@ -68,7 +68,11 @@ static void read_all(int from, void *data, size_t len)
 
     while (len > 0) {
         ssize_t got = read(from, at, len);
-        check("read", got > 0);
+        check("read", got >= 0);
+        if (got == 0) {
+            fprintf(stderr, "the other half has ended\n");
+            exit(1);
+        }
         at += got;
         len -= (size_t)got;
     }
@@ -118,11 +122,12 @@ static void live_apart(heal_side *side, uint32_t node)
     add_name(side, "cache", (heal_owner){node, 1}, 100 * node, NULL);
     add_name(side, "db", (heal_owner){node, 2}, 100 * node, later);
     add_name(side, "mail", (heal_owner){node, 3}, 100 * node, NULL);
+    add_name(side, "news", (heal_owner){node, 5}, 100 * node, NULL);
     if (node == 2)
         add_name(side, "web", (heal_owner){node, 4}, 100 * node, NULL);
 }
 
-/* Carries out exchange 1 with the half at the other end of the pipes. The owner of B's `mail` has died meanwhile. */
+/* Carries out exchange 1 with the half at the other end of the pipes. The owner of B's `mail` has died meanwhile, and both of `news`. */
 static void heal(heal_side *side, uint32_t half, struct link link, heal_outcome *outcome)
 {
     heal_bytes message = {0};
@@ -137,6 +142,7 @@ static void heal(heal_side *side, uint32_t half, struct link link, heal_outcome 
     must("heal_side_settle", heal_side_settle(side));
     if (half == HEAL_B)
         must("heal_side_withdraw", heal_side_withdraw(side, (const uint8_t *)"mail", 4));
+    must("heal_side_withdraw", heal_side_withdraw(side, (const uint8_t *)"news", 4));
     must("heal_side_close_list", heal_side_close_list(side, &message));
     send_message(link.to, &message);
     theirs = receive(link.from, &len);
@@ -170,7 +176,18 @@ static void print_clashes(const heal_outcome *outcome)
     }
 }
 
-/* Registers again what this half had in clashes whose winner was withdrawn by the other half. */
+/* Whether a half withdrew a name in the exchange. */
+static bool has_withdrawn(const heal_outcome *outcome, uint32_t half, const heal_name *name)
+{
+    heal_name found;
+
+    for (size_t i = 0; heal_outcome_withdrawn(outcome, half, i, &found) == 0; i++)
+        if (found.len == name->len && memcmp(found.bytes, name->bytes, found.len) == 0)
+            return true;
+    return false;
+}
+
+/* Registers again what this half had in clashes whose winner was withdrawn by the other half, and didn't withdraw itself. */
 static void register_survivors(heal_side *side, uint32_t half, const heal_outcome *outcome)
 {
     heal_clash clash;
@@ -182,7 +199,7 @@ static void register_survivors(heal_side *side, uint32_t half, const heal_outcom
         if (clash.keeps == clash.verdict)
             continue;
         bool is_first = clash.verdict == HEAL_SECOND;
-        if ((clash.first_half == half) != is_first)
+        if ((clash.first_half == half) != is_first || has_withdrawn(outcome, half, &clash.name))
             continue;
         must("heal_side_register", heal_side_register(side, clash.name.bytes, clash.name.len, is_first ? &clash.first : &clash.second));
     }

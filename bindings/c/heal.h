@@ -487,8 +487,8 @@ uint32_t heal_outcome_clash(const heal_outcome *outcome, size_t i, heal_clash *c
 
 /* Returns notice n, from 0, of clash i. Only verdicts of built-in resolvers have notices. Returns 92 for an index that is
    too big. A withdrawn registration still takes part in its clash, and may win. Then nobody keeps the name: `keeps` differs from
-   `verdict`, and the clash has no notices. The other owner is alive: register it again on its half, which is `first_half` if
-   the verdict is HEAL_SECOND, and the other half if it is HEAL_FIRST. */
+   `verdict`, and the clash has no notices. Unless the half of the other owner withdrew the name too, register that owner again on its
+   half, which is `first_half` if the verdict is HEAL_SECOND, and the other half if it is HEAL_FIRST. */
 uint32_t heal_outcome_notice(const heal_outcome *outcome, size_t i, size_t n, heal_notice *notice);
 
 void heal_outcome_free(heal_outcome *outcome);
@@ -569,7 +569,8 @@ uint32_t heal_replica_side(const heal_replica *replica, uint32_t id, heal_side *
 uint32_t heal_replica_change(heal_replica *replica, const heal_position *from, const heal_side *side);
 
 /* Reads what a log begins with, and nothing behind it. Returns 71 for bytes that begin with neither an entry nor a snapshot, 82 for
-   another version, and 84 for a header and a length that differ from their checksum: a changed length is no cut. */
+   another version, and 84 for a header and a length that differ from their checksum: a changed length is no cut. A header has 8 bytes,
+   and 24 with the length and the checksum: fewer bytes are HEAL_LOG_CUT, also if they begin no message. */
 uint32_t heal_log_front(const uint8_t *log, size_t len, heal_front *front);
 
 #ifdef __cplusplus

@@ -10,7 +10,8 @@
  *   L            leads: starts a view and a new log, and answers with the snapshot
  *   W NAME       looks the name up
  *
- * It may be killed at any moment: what it answered with 0 is in its log.
+ * It may be killed at any moment: what it answered with 0 is in its log. Only one process at a time may use the folder. A request that
+ * the end of the input cuts isn't carried out.
  */
 #include "heal.h"
 
@@ -67,6 +68,15 @@ static bool read_all(int from, void *data, size_t len)
         len -= (size_t)got;
     }
     return true;
+}
+
+/* Opens a file to read it, and returns -1 if there is none. A file that exists and can't be read is an error. */
+static int open_old(const char *name)
+{
+    int file = open(name, O_RDONLY);
+
+    check(name, file >= 0 || errno == ENOENT);
+    return file;
 }
 
 static void sync_folder(void)
@@ -128,7 +138,7 @@ static void start_log(const heal_replica *replica)
 static uint64_t next_incarnation(void)
 {
     uint64_t incarnation = 0;
-    int file = open("incarnation", O_RDONLY);
+    int file = open_old("incarnation");
 
     if (file >= 0) {
         check("read", read(file, &incarnation, sizeof incarnation) == sizeof incarnation);
@@ -167,7 +177,7 @@ static void restart(heal_replica *replica, uint32_t node)
 {
     heal_life life = {.incarnation = next_incarnation(), .node = node};
     struct stat found;
-    int file = open("log", O_RDONLY);
+    int file = open_old("log");
 
     must("heal_replica_start", heal_replica_start(&life, replica));
     if (file >= 0) {
@@ -254,20 +264,36 @@ static void obey(heal_replica *replica, char request, const uint8_t *bytes, size
     }
 }
 
+/* Reads the number of a node: decimal digits, and at most 32 bits. */
+static bool read_number(const char *text, uint32_t *number)
+{
+    char *end;
+    unsigned long long found;
+
+    errno = 0;
+    found = strtoull(text, &end, 10);
+    *number = (uint32_t)found;
+    return text[0] >= '0' && text[0] <= '9' && *end == '\0' && errno == 0 && found <= UINT32_MAX;
+}
+
 int main(int argc, char **argv)
 {
     heal_replica replica = {0};
     char request;
+    uint32_t node;
     uint64_t len;
 
-    check("usage: node FOLDER NUMBER", argc == 3 && chdir(argv[1]) == 0);
-    restart(&replica, (uint32_t)strtoul(argv[2], NULL, 10));
+    if (argc != 3 || !read_number(argv[2], &node)) {
+        fprintf(stderr, "usage: node FOLDER NUMBER\n");
+        return 1;
+    }
+    check(argv[1], chdir(argv[1]) == 0);
+    restart(&replica, node);
     while (read_all(STDIN_FILENO, &request, 1) && read_all(STDIN_FILENO, &len, sizeof len)) {
-        uint8_t *bytes = malloc(len + 1);
-        check("malloc", bytes != NULL);
-        if (!read_all(STDIN_FILENO, bytes, len))
-            return 0;
-        obey(&replica, request, bytes, len);
+        uint8_t *bytes = malloc(len);
+        check("malloc", bytes != NULL || len == 0);
+        if (read_all(STDIN_FILENO, bytes, len))
+            obey(&replica, request, bytes, len);
         free(bytes);
     }
     heal_replica_free(&replica);

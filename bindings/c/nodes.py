@@ -5,7 +5,7 @@ PROGRAM is the built node.c, or a program with the same requests, and its first 
 folders, and registers and unregisters names: on the primary, then on both backups, and only then an edit counts as acknowledged. At
 a random moment all three are killed (SIGKILL), or the primary alone, or the primary can't write any more: a file may not grow beyond
 a size, as on a full disk, and the node must end, also when it is started again before there is room. Then they start again, a node that
-was a backup leads, and every acknowledged edit must be there.
+was a backup leads, and every acknowledged edit must be there. Before the rounds, a node that can't read its files must end.
 """
 
 import os
@@ -67,13 +67,13 @@ class Node:
         resource.prlimit(self.process.pid, resource.RLIMIT_FSIZE, (size, size))
 
     def must_fail(self):
-        """Waits for a node that can't write: it must end with an error."""
+        """Waits for a node that can't start or write: it must end with an error."""
         try:
             if self.process.wait(timeout=30) > 0:
                 return
         except subprocess.TimeoutExpired:
             self.end()
-        sys.exit("nodes.py: a node that can't write went on, or ended without an error")
+        sys.exit("nodes.py: a node that can't start or write went on, or ended without an error")
 
     def end(self):
         """Kills the process, and returns what it wrote to standard error."""
@@ -145,8 +145,25 @@ def work(half, primary, backups, edits, stop):
         return edits
 
 
+def check_starts(program):
+    """Checks that a node ends with an error if its number isn't one, or if it can't read a file, and that it keeps such a file."""
+    with tempfile.TemporaryDirectory() as top:
+        for number, name in ("x", None), (0, "log"), (1, "incarnation"):
+            path = f"{top}/{number}/{name}"
+            if name:
+                # A link to itself can't be opened.
+                os.makedirs(f"{top}/{number}")
+                os.symlink(name, path)
+            node = Node(program, top, number)
+            node.must_fail()
+            node.end()
+            if name and not os.path.islink(path):
+                sys.exit(f"nodes.py: a node replaced the file {name}, which it can't read")
+
+
 def main():
     rounds, program = int(sys.argv[1]), sys.argv[2:]
+    check_starts(program)
     half, edits, cut = Half(random.Random()), 0, 0
     with tempfile.TemporaryDirectory() as top:
         nodes = [Node(program, top, number) for number in range(3)]

@@ -1,7 +1,7 @@
 #!/usr/bin/env python3
 """node.py FOLDER NUMBER: a node of a half, which keeps a log in the folder. bindings/c/node.c describes its requests.
 
-It may be killed at any moment: what it answered with 0 is in its log.
+It may be killed at any moment: what it answered with 0 is in its log. Only one process at a time may use the folder.
 """
 
 import os
@@ -17,6 +17,15 @@ def write_all(file, data):
     left = memoryview(data)
     while left:
         left = left[file.write(left):]
+
+
+def read_all(name):
+    """Returns the bytes of a file, or None if there is none. A file that exists and can't be read is an error."""
+    try:
+        with open(name, "rb") as file:
+            return file.read()
+    except FileNotFoundError:
+        return None
 
 
 class Disk:
@@ -39,18 +48,10 @@ class Disk:
 
     def next_incarnation(self):
         """Stores the next incarnation, and returns it."""
-        number = 1
-        if os.path.exists("incarnation"):
-            with open("incarnation", "rb") as file:
-                number = int(file.read()) + 1
+        last = read_all("incarnation")
+        number = 1 if last is None else int(last) + 1
         self.replace("incarnation", str(number).encode()).close()
         return number
-
-    def read_log(self):
-        if not os.path.exists("log"):
-            return b""
-        with open("log", "rb") as file:
-            return file.read()
 
     def start_log(self, replica):
         """Starts a log with a snapshot."""
@@ -66,7 +67,7 @@ class Disk:
 def restart(disk, number):
     """Starts a new life with what the log has."""
     replica = Replica(number, disk.next_incarnation())
-    for kind, message in messages(disk.read_log()):
+    for kind, message in messages(read_all("log") or b""):
         (replica.follow if kind is Kind.SNAPSHOT else replica.apply)(message)
     replica.lead()
     disk.start_log(replica)
@@ -96,13 +97,18 @@ def obey(disk, replica, request, body):
 
 
 def main():
+    if len(sys.argv) != 3:
+        sys.exit("usage: node.py FOLDER NUMBER")
     disk = Disk(sys.argv[1])
     replica = restart(disk, int(sys.argv[2]))
     requests, answers = sys.stdin.buffer, sys.stdout.buffer
     while len(head := requests.read(9)) == 9:
         request, size = head[:1], struct.unpack("=Q", head[1:])[0]
+        body = requests.read(size)
+        if len(body) < size:
+            return
         try:
-            number, answer = 0, obey(disk, replica, request, requests.read(size))
+            number, answer = 0, obey(disk, replica, request, body)
         except Refused as refused:
             number, answer = refused.number, b""
         answers.write(struct.pack("=LQ", number, len(answer)) + answer)

@@ -111,6 +111,14 @@ class Programs(unittest.TestCase):
             with self.subTest(name=name), Side("a") as side, self.assertRaises(TypeError):
                 side.whereis(name)
 
+    def test_objects_are_neither_copied_nor_pickled(self):
+        with Program(LATER_STAMP) as program, Side("a") as side:
+            for made in program, side:
+                for copied in copy.copy, copy.deepcopy, pickle.dumps:
+                    with self.subTest(made=made, copied=copied), self.assertRaisesRegex(TypeError, "copied or pickled"):
+                        copied(made)
+            self.assertEqual((program.judge(bytes(160)), side.rows()), (Ended(1, 5), []))
+
     def test_closed(self):
         program = Program(LATER_STAMP)
         program.close()
@@ -191,6 +199,9 @@ class Words(unittest.TestCase):
     def test_words(self):
         self.assertEqual(refusal_words(43), "the store is full: 256 programs")
         self.assertEqual(refusal_words(1000), "unknown refusal")
+        for number in -1, (1 << 32) + 43:
+            with self.assertRaises(OverflowError):
+                refusal_words(number)
 
 
 class Versions(unittest.TestCase):
@@ -273,6 +284,16 @@ class Sides(unittest.TestCase):
             self.assertEqual((clash.notices, a.whereis("db"), b.whereis("db")), ((), None, None))
             b.register("db", clash.second)
 
+    def test_the_half_of_the_first(self):
+        """The lesser owner is the first, whichever half registered it."""
+        lesser, greater = Registration(Owner(1, 9)), Registration(Owner(2, 1))
+        for half, of_a, of_b in ("a", lesser, greater), ("b", greater, lesser):
+            with self.subTest(half=half), Side("a") as a, Side("b") as b:
+                a.register("db", of_a)
+                b.register("db", of_b)
+                (clash,) = heal(a, b, 1)[0].clashes
+                self.assertEqual((clash.first_half, clash.first, clash.second), (half, lesser, greater))
+
     def test_notify_all(self):
         a, b = Side("a"), Side("b")
         with a, b:
@@ -354,6 +375,7 @@ class Sides(unittest.TestCase):
             a.close_list()
             self.assertEqual(a.state, package.State(3, 3, True, True, False, package.Missing.LIST))
             sent = b.close_list()
+            self.assertEqual(b.state, package.State(3, 3, False, True, False, package.Missing.OFFER))
             self.assertEqual(package.peek(sent), package.Head("b", 3, None))
             self.refused(71, package.peek, bytes(25))
             a.hear_list(sent)

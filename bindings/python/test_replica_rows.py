@@ -4,8 +4,8 @@ against a plain dictionary."""
 import random
 import unittest
 
-from heal import Owner, Program, Refused, Registration
-from heal.replica import Life, Position, Replica
+from heal import Owner, Program, Refused, Registration, peek
+from heal.replica import Life, Position, Replica, ReplicaState
 
 FIRST = bytes.fromhex("b7000000010000009500000000000000")
 LETTERS = "abcdef"
@@ -50,6 +50,20 @@ class Views(unittest.TestCase):
         self.assertEqual(replica.state.at, at(1, 1, 1))
         replica.lead()
         self.assertEqual((replica.state.at, serials(replica, "a")), (at(1, 2, 0), [7]))
+
+    def test_a_state_and_a_position_have_each_field(self):
+        with Replica(3, 7) as primary:
+            primary.lead()
+            primary.register("a", owned(1))
+            primary.begin(5)
+            self.assertEqual(primary.state, ReplicaState(at(3, 2, 2, 7), 1, 4096, 5, True))
+            for which in "ab":
+                with primary.side(which) as side:
+                    self.assertEqual(peek(side.begin(6, 0, 0)).side, which)
+            with primary.side("b") as side:
+                others = at(4, 2, 2, 7), at(3, 1, 2, 7), at(3, 2, 1, 7), at(3, 2, 2, 8)
+                self.assertEqual([refusal(primary.change, it, side) for it in others], [49] * 4)
+                primary.change(at(3, 2, 2, 7), side)
 
     def test_backups_refuse_what_is_not_next(self):
         primary, backup = pair(1, 2)

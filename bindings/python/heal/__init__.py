@@ -168,7 +168,7 @@ class Clash:
     word: int
     verdict: Verdict
     #: Who keeps the name: the verdict, or NEITHER if the winner was withdrawn. Then nobody is notified, and the half of the
-    #: other owner registers it again.
+    #: other owner registers it again, unless it withdrew the name too.
     keeps: Verdict
     #: The half that registered `first`.
     first_half: Literal["a", "b"]
@@ -437,6 +437,12 @@ def _number(value: int, bits: int) -> int:
     return value
 
 
+def _expect(kind: type, value: object) -> None:
+    """Rejects an object of another type: the library would read its handle as one of this type."""
+    if not isinstance(value, kind):
+        raise TypeError(f"a {kind.__name__} is required, not {type(value).__name__!r}")
+
+
 def _owner(owner: Owner) -> _Owner:
     return _Owner(_number(owner.node, 32), _number(owner.serial, 32))
 
@@ -482,7 +488,7 @@ def version() -> tuple[int, int, int]:
 def refusal_words(number: int) -> str:
     """Returns the words of a refusal."""
     words = (c_uint8 * 256)()
-    return bytes(words[: _LIBRARY.heal_refusal_words(number, words, len(words))]).decode("ascii")
+    return bytes(words[: _LIBRARY.heal_refusal_words(_number(number, 32), words, len(words))]).decode("ascii")
 
 
 def _slot_of(number: int, slot: int) -> int | None:
@@ -548,6 +554,10 @@ class _Owned:
         """Frees the object, after the call that another thread makes. Later calls raise `Refused` with number 91."""
         with self._lock:
             getattr(_LIBRARY, f"heal_{self._kind}_free")(byref(self._handle))
+
+    def __reduce__(self) -> str | tuple[Any, ...]:
+        """An object is neither copied nor pickled: the copy would free what the object holds."""
+        raise TypeError(f"a {type(self).__name__} can't be copied or pickled")
 
     def __enter__(self: _Self) -> _Self:
         return self

@@ -115,19 +115,29 @@ heal._declare(
 heal._declare_free("heal_replica_free")
 
 
+def _front(log: object, size: int) -> LogFront:
+    """Returns what a log of so many bytes begins with."""
+    found = _Front()
+    heal._call("heal_log_front", log, size, byref(found))
+    return LogFront(Kind(found.kind), found.size)
+
+
 def log_front(log: Buffer) -> LogFront:
     """Returns what a log begins with, without looking behind it."""
-    found = _Front()
-    heal._call("heal_log_front", *heal._in(log), byref(found))
-    return LogFront(Kind(found.kind), found.size)
+    return _front(*heal._in(log))
 
 
 def messages(log: Buffer) -> Iterator[tuple[Kind, bytes]]:
     """Yields the snapshots and entries of a log, up to the last whole one."""
-    rest = bytes(log)
-    while (front := log_front(rest)).kind in (Kind.ENTRY, Kind.SNAPSHOT):
-        yield front.kind, rest[: front.size]
-        rest = rest[front.size :]
+    whole = bytearray(memoryview(log))
+    at = 0
+    while at < len(whole):
+        # The rest of the log is read in its place: a copy for each message would take quadratic time.
+        front = _front(byref(c_uint8.from_buffer(whole, at)), len(whole) - at)
+        if front.kind not in (Kind.ENTRY, Kind.SNAPSHOT):
+            return
+        yield front.kind, bytes(whole[at : at + front.size])
+        at += front.size
 
 
 class Replica(heal._Owned):
@@ -169,6 +179,7 @@ class Replica(heal._Owned):
 
     def upload(self, program: Program) -> bytes:
         """Keeps a program for registrations, as the primary."""
+        heal._expect(Program, program)
         with program._lock:
             return self._made("upload", byref(program._handle))
 
@@ -230,6 +241,7 @@ class Replica(heal._Owned):
 
     def change(self, at: Position, side: Side) -> None:
         """Starts a view with what an exchange left in the side. `at` is the position after `begin`."""
+        heal._expect(Side, side)
         primary = _Life(heal._number(at.primary.incarnation, 64), heal._number(at.primary.node, 32))
         position = _Position(primary, heal._number(at.view, 64), heal._number(at.op, 64))
         with side._lock:

@@ -1,6 +1,6 @@
 //! A node of a half: `node FOLDER NUMBER`. It keeps a log in the folder, and obeys the requests that `bindings/c/node.c` describes.
 //!
-//! It may be killed at any moment: what it answered with 0 is in its log.
+//! It may be killed at any moment: what it answered with 0 is in its log. Only one process at a time may use the folder.
 use heal::{log_front, Life, LogFront, Owner, Refusal, Refused, Registration, Replica};
 use std::error::Error;
 use std::fs::{self, File};
@@ -19,11 +19,19 @@ fn replace(name: &str, bytes: &[u8]) -> io::Result<File> {
     Ok(file)
 }
 
+/// Returns the bytes of a file, or `None` if there is none. A file that exists and can't be read is an error.
+fn read_all(name: &str) -> io::Result<Option<Vec<u8>>> {
+    match fs::read(name) {
+        Err(error) if error.kind() == io::ErrorKind::NotFound => Ok(None),
+        read => read.map(Some),
+    }
+}
+
 /// Stores the next incarnation, and returns it.
 fn next_incarnation() -> Result<u64, Box<dyn Error>> {
-    let number = match fs::read_to_string("incarnation") {
-        Ok(text) => text.parse::<u64>()? + 1,
-        Err(_) => 1,
+    let number = match read_all("incarnation")? {
+        Some(last) => String::from_utf8(last)?.parse::<u64>()? + 1,
+        None => 1,
     };
     replace("incarnation", number.to_string().as_bytes())?;
     Ok(number)
@@ -52,7 +60,7 @@ impl Node {
     fn restart(node: u32) -> Result<Node, Box<dyn Error>> {
         let incarnation = next_incarnation()?;
         let mut replica = Replica::start(Life { node, incarnation })?;
-        read_log(&mut replica, &fs::read("log").unwrap_or_default())?;
+        read_log(&mut replica, &read_all("log")?.unwrap_or_default())?;
         replica.lead()?;
         let log = replace("log", &replica.snapshot()?)?;
         Ok(Node { replica, log })
@@ -112,9 +120,13 @@ fn next_request(input: &mut impl Read) -> Option<(u8, Vec<u8>)> {
 }
 
 fn main() -> Result<(), Box<dyn Error>> {
-    let words: Vec<String> = std::env::args().collect();
-    std::env::set_current_dir(&words[1])?;
-    let mut node = Node::restart(words[2].parse()?)?;
+    let words: Vec<String> = std::env::args().skip(1).collect();
+    let (folder, number) = match words.as_slice() {
+        [folder, number] => (folder, number),
+        _ => return Err("usage: node FOLDER NUMBER".into()),
+    };
+    std::env::set_current_dir(folder)?;
+    let mut node = Node::restart(number.parse()?)?;
     let (mut input, mut output) = (io::stdin().lock(), io::stdout().lock());
     while let Some((request, body)) = next_request(&mut input) {
         let (number, answer) = match node.obey(request, &body) {

@@ -109,7 +109,7 @@ pub struct Clash {
     pub word: u64,
     pub verdict: Verdict,
     /// Who keeps the name: the verdict, or `Neither` if the winner was withdrawn. Then there are no notices, and the half of the
-    /// other owner registers it again.
+    /// other owner registers it again, unless it withdrew the name too.
     pub keeps: Verdict,
     /// The half that registered `first`.
     pub first_half: SideId,

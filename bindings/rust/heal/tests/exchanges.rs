@@ -1,7 +1,7 @@
 //! Programs, refusals and whole exchanges through the C library.
 use heal::{
     record, version, words_of, Facts, Missing, Notice, Outcome, Owner, Program, Refused,
-    Registration, Resolver, Side, SideId, Verdict,
+    Registration, Resolver, Sandbox, Side, SideId, Verdict,
 };
 use std::time::{Duration, Instant};
 
@@ -43,14 +43,20 @@ fn split() -> Result<[Side; 2], Refused> {
     Ok(halves)
 }
 
-/// Heals two halves, of which A withdraws `mail`.
-fn heal([a, b]: &mut [Side; 2], number: u64) -> Result<[Outcome; 2], Refused> {
-    let (offer_a, offer_b) = (a.begin(number, 0, 10)?, b.begin(number, 0, 20)?);
+/// Heals two halves, each of which withdraws a name or none.
+fn heal(
+    [a, b]: &mut [Side; 2],
+    [number, seed]: [u64; 2],
+    gone: [Option<&str>; 2],
+) -> Result<[Outcome; 2], Refused> {
+    let (offer_a, offer_b) = (a.begin(number, seed, 10)?, b.begin(number, seed, 20)?);
     a.hear(&offer_b)?;
     b.hear(&offer_a)?;
     a.settle()?;
     b.settle()?;
-    a.withdraw(b"mail")?;
+    for (side, name) in [&mut *a, &mut *b].into_iter().zip(gone) {
+        name.map_or(Ok(()), |it| side.withdraw(it.as_bytes()))?;
+    }
     let (list_a, list_b) = (a.close_list()?, b.close_list()?);
     a.hear_list(&list_b)?;
     b.hear_list(&list_a)?;
@@ -60,7 +66,7 @@ fn heal([a, b]: &mut [Side; 2], number: u64) -> Result<[Outcome; 2], Refused> {
 #[test]
 fn both_halves_have_one_table() -> Result<(), Refused> {
     let mut halves = split()?;
-    let [outcome, same] = heal(&mut halves, 1)?;
+    let [outcome, same] = heal(&mut halves, [1, 0], [Some("mail"), None])?;
     assert_eq!(outcome, same);
     assert_eq!(outcome.withdrawn, [vec![b"mail".to_vec()], vec![]]);
     let [a, b] = &halves;
@@ -70,8 +76,9 @@ fn both_halves_have_one_table() -> Result<(), Refused> {
         a.whereis(b"db")?.map(|it| it.owner),
         Some(Owner { node: 2, serial: 2 })
     );
-    let [cache, db, _mail] = outcome.clashes.as_slice() else {
-        panic!("three clashes");
+    let (cache, db) = match outcome.clashes.as_slice() {
+        [cache, db, _mail] => (cache, db),
+        _ => panic!("three clashes"),
     };
     // A built-in resolver follows the lowest bit of the word, and the loser exits.
     let (kept, loser) = match cache.word % 2 {
@@ -86,14 +93,147 @@ fn both_halves_have_one_table() -> Result<(), Refused> {
     Ok(())
 }
 
+/// A registration each of whose fields differs from the others, and from those of other numbers.
+fn distinct(number: u8, resolver: Resolver) -> Registration {
+    let n = u64::from(number);
+    Registration {
+        owner: Owner::new(0x100 + u32::from(number), 0x200 + u32::from(number)),
+        stamp: 0x300 + n,
+        weight: 0x400 + n,
+        extra: [0; 16].map(|_: u8| number),
+        resolver,
+    }
+}
+
+/// The fields of a registration up to its resolver, as messages and records have them.
+fn fields(of: &Registration) -> Vec<u8> {
+    let numbers = [of.stamp.to_le_bytes(), of.weight.to_le_bytes()].concat();
+    let owner = [of.owner.node.to_le_bytes(), of.owner.serial.to_le_bytes()].concat();
+    [owner, numbers, of.extra.to_vec()].concat()
+}
+
+/// The four kinds of resolvers, for names `a` to `d` of a side that has the program.
+fn resolvers(side: &mut Side) -> Result<[Resolver; 4], Refused> {
+    let later = Resolver::Program(side.upload(&LATER_STAMP)?);
+    Ok([Resolver::Exit, Resolver::Notify, Resolver::NotifyAll, later])
+}
+
+#[test]
+fn registrations_have_each_field() -> Result<(), Refused> {
+    let mut side = Side::with_limit(SideId::B, 4)?;
+    let mut rows = Vec::new();
+    for (i, resolver) in (0..).zip(resolvers(&mut side)?) {
+        rows.push((vec![b'a' + i], distinct(i, resolver)));
+        side.register(&rows[usize::from(i)].0, rows[usize::from(i)].1)?;
+    }
+    assert_eq!(
+        (side.rows()?, side.live_rows()?),
+        (rows.clone(), rows.clone())
+    );
+    // The offer of docs/MESSAGES.md; its fourth row has the program with its code.
+    let mut offer = b"HEALXC\x01\x01\x01".to_vec();
+    offer.extend([5_u64, 6, 7].map(u64::to_le_bytes).concat());
+    offer.extend(4_u32.to_le_bytes());
+    for ((name, registration), kind) in rows.iter().zip([0, 1, 2, 4]) {
+        assert_eq!(side.whereis(name)?, Some(*registration));
+        offer.extend([&[1], &name[..], &fields(registration), &[kind]].concat());
+    }
+    offer.extend([&48_u32.to_le_bytes()[..], &LATER_STAMP].concat());
+    assert_eq!(side.begin(5, 6, 7)?, offer);
+    Ok(())
+}
+
+/// The registrations of a name in both halves, the lesser owner's first: it has the earlier stamp.
+fn both(name: u8, resolver: Resolver) -> [Registration; 2] {
+    let number = 2 * (name - b'a');
+    [number, number + 1].map(|it| distinct(it, resolver))
+}
+
+/// Two halves with the names `a` to `e`, of which A registered the first of `a`, `c` and `e`, and B that of `b` and `d`. A also has `f`.
+/// With the resolvers of these five names.
+fn clashing() -> Result<([Side; 2], Vec<Resolver>), Refused> {
+    let mut halves = [Side::new(SideId::A)?, Side::new(SideId::B)?];
+    resolvers(&mut halves[0])?;
+    let mut kinds = resolvers(&mut halves[1])?.to_vec();
+    kinds.push(Resolver::Exit);
+    for (name, kind) in (b'a'..).zip(&kinds) {
+        let [first, second] = both(name, *kind);
+        let of_first = usize::from(name - b'a') % 2;
+        halves[of_first].register(&[name], first)?;
+        halves[1 - of_first].register(&[name], second)?;
+    }
+    halves[0].register(b"f", owned(1, 1, 1))?;
+    Ok((halves, kinds))
+}
+
+#[test]
+fn clashes_have_each_field() -> Result<(), Refused> {
+    use Verdict::{First, Neither, Second};
+    let (mut halves, kinds) = clashing()?;
+    let [outcome, _] = heal(&mut halves, [3, 7], [Some("f"), Some("e")])?;
+    assert_eq!((outcome.number, outcome.merged), (3, 3));
+    assert_eq!(outcome.withdrawn, [[b"f".to_vec()], [b"e".to_vec()]]);
+    let owners = |name| both(name, kinds[usize::from(name - b'a')]).map(|it| it.owner);
+    let ([loser, _], [_, later], [x, y]) = (owners(b'a'), owners(b'b'), owners(b'c'));
+    let neither = vec![Notice::ConflictWith(x, y), Notice::ConflictWith(y, x)];
+    // A built-in resolver keeps the second at an odd word. B withdrew the winner of `e`.
+    let rows = [
+        (7, SideId::A, [Second, Second], vec![Notice::Exit(loser)]),
+        (8, SideId::B, [First, First], vec![Notice::Conflict(later)]),
+        (9, SideId::A, [Neither, Neither], neither),
+        (10, SideId::B, [Second, Second], vec![]),
+        (11, SideId::A, [Second, Neither], vec![]),
+    ];
+    assert_eq!(outcome.clashes.len(), rows.len());
+    for (((name, row), it), kind) in (b'a'..).zip(rows).zip(outcome.clashes).zip(kinds) {
+        assert_eq!(
+            (it.name, [it.first, it.second]),
+            (vec![name], both(name, kind))
+        );
+        assert_eq!(
+            (it.word, it.first_half, [it.verdict, it.keeps], it.notices),
+            row
+        );
+    }
+    Ok(())
+}
+
+#[test]
+fn a_record_has_each_field() -> Result<(), Refused> {
+    let both = [1, 2].map(|number| distinct(number, Resolver::Exit));
+    let facts = [(3, 4), (5, 6)].map(|(size, uptime)| Facts { size, uptime });
+    // The layout of resolvers/record.h.
+    let mut expected = [&2_u32.to_le_bytes()[..], &[0; 4], b"db", &[0; 30]].concat();
+    expected.extend(7_u64.to_le_bytes());
+    expected.extend([fields(&both[0]), fields(&both[1])].concat());
+    expected.extend([3_u64, 4, 5, 6].map(u64::to_le_bytes).concat());
+    assert_eq!(record(b"db", both, 7, facts)?.to_vec(), expected);
+    Ok(())
+}
+
+#[test]
+fn a_sandbox_runs_on_contexts_of_its_length() -> Result<(), Refused> {
+    // r0 = the last of eight bytes; exit
+    let code = [0x71, 0x10, 7, 0, 0, 0, 0, 0, 0x95, 0, 0, 0, 0, 0, 0, 0];
+    let mut sandbox = Sandbox::load(&code, 8)?;
+    let ended = sandbox.run(&[0, 0, 0, 0, 0, 0, 0, 42])?;
+    assert_eq!((ended.r0, ended.steps), (42, 2));
+    assert_eq!(
+        [0, 7, 9].map(|len| refused(sandbox.run(&vec![0; len]))),
+        [93; 3]
+    );
+    assert_eq!(refused(Sandbox::load(&code, 65_536)), 92);
+    Ok(())
+}
+
 #[test]
 fn programs_judge_records() -> Result<(), Refused> {
     let program = Program::load(&LATER_STAMP)?;
     let facts = [Facts { size: 1, uptime: 2 }; 2];
-    let later = record(b"db", [owned(1, 1, 5), owned(2, 1, 9)], 7, facts)?;
-    assert_eq!(program.judge(&later)?.r0, 2);
-    let earlier = record(b"db", [owned(1, 1, 9), owned(2, 1, 5)], 7, facts)?;
-    assert_eq!(program.judge(&earlier)?.r0, 1);
+    let later = program.judge(&record(b"db", [owned(1, 1, 5), owned(2, 1, 9)], 7, facts)?)?;
+    assert_eq!((later.r0, later.steps), (2, 6));
+    let earlier = program.judge(&record(b"db", [owned(1, 1, 9), owned(2, 1, 5)], 7, facts)?)?;
+    assert_eq!((earlier.r0, earlier.steps), (1, 5));
     assert_eq!(program.id()?, Side::new(SideId::A)?.upload(&LATER_STAMP)?);
     Ok(())
 }
@@ -185,7 +325,10 @@ fn a_side_states_what_it_knows() -> Result<(), Refused> {
     let open = of_b.open.expect("an open exchange");
     assert_eq!(of_b.id, SideId::B);
     assert!(!open.has_heard && !open.has_closed && !open.has_heard_list);
-    a.hear_list(&b.close_list()?)?;
+    let list = b.close_list()?;
+    let open = b.state()?.open.expect("an open exchange");
+    assert!(!open.has_heard && open.has_closed && !open.has_heard_list);
+    a.hear_list(&list)?;
     assert_eq!(missing(&a)?, None);
     a.finish()?;
     assert_eq!((a.state()?.latest, a.state()?.open), (Some(3), None));
