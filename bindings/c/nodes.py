@@ -5,7 +5,8 @@ PROGRAM is the built node.c, or a program with the same requests, and its first 
 folders, and registers and unregisters names: on the primary, then on both backups, and only then an edit counts as acknowledged. At
 a random moment all three are killed (SIGKILL), or the primary alone, or the primary can't write any more: a file may not grow beyond
 a size, as on a full disk, and the node must end, also when it is started again before there is room. Then they start again, a node that
-was a backup leads, and every acknowledged edit must be there. Before the rounds, a node that can't read its files must end.
+was a backup leads, and every acknowledged edit must be there. Before the rounds, a node that can't read its files must end, and one must
+drop a request that is cut.
 """
 
 import os
@@ -161,9 +162,20 @@ def check_starts(program):
                 sys.exit(f"nodes.py: a node replaced the file {name}, which it can't read")
 
 
+def check_cut(program):
+    """Checks that a node doesn't carry out a request that the end of the input cuts."""
+    request = b"R" + struct.pack("=Q", 4) + b"name"
+    with tempfile.TemporaryDirectory() as top:
+        for length in 8, 9, 12, 13:
+            ran = subprocess.run([*program, top, "1"], input=request[:length], stdout=subprocess.PIPE, timeout=60, check=True)
+            if bool(ran.stdout) != (length == len(request)):
+                sys.exit(f"nodes.py: a node answered {ran.stdout} to the first {length} bytes of a request of {len(request)}")
+
+
 def main():
     rounds, program = int(sys.argv[1]), sys.argv[2:]
     check_starts(program)
+    check_cut(program)
     half, edits, cut = Half(random.Random()), 0, 0
     with tempfile.TemporaryDirectory() as top:
         nodes = [Node(program, top, number) for number in range(3)]

@@ -1,11 +1,6 @@
 """Tests of replicas: entries, snapshots and logs, and random histories against a plain dictionary."""
 
-import os
 import random
-import struct
-import subprocess
-import sys
-import tempfile
 import time
 import unittest
 
@@ -167,14 +162,6 @@ class Replicas(unittest.TestCase):
                         replica.apply(entry)
                     except Refused as gap:
                         self.assertEqual(gap.number, 97)
-
-    def test_a_node_drops_a_request_that_is_cut(self):
-        node = os.path.join(os.path.dirname(os.path.abspath(__file__)), "node.py")
-        whole = b"R" + struct.pack("=Q", 4) + b"name"
-        with tempfile.TemporaryDirectory() as folder:
-            for length, answers in (8, False), (9, False), (12, False), (13, True):
-                ran = subprocess.run([sys.executable, node, folder, "1"], input=whole[:length], stdout=subprocess.PIPE, check=True)
-                self.assertEqual(ran.stdout[:4], bytes(4) if answers else b"")
 
     def test_the_words_of_a_changed_message(self):
         self.assertIn("checksum", refusal_words(84))

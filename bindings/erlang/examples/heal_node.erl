@@ -1,5 +1,6 @@
 %% A node of a half, which keeps a log in a folder: erl -noshell -pa ebin out -run heal_node main -extra FOLDER NUMBER.
-%% bindings/c/node.c describes its requests. It may be killed at any moment: what it answered with 0 is in its log.
+%% bindings/c/node.c describes its requests. It may be killed at any moment: what it answered with 0 is in its log. Only one process at a
+%% time may use the folder.
 -module(heal_node).
 
 -export([main/0]).
@@ -72,15 +73,29 @@ append(Log, Entry) ->
     ok = file:write(Log, Entry),
     ok = file:datasync(Log).
 
+%% A request that the end of the input cuts isn't carried out.
 serve(Node) ->
-    case file:read(standard_io, 9) of
-        {ok, <<Request, Size:64/native>>} ->
-            {ok, Body} = case Size of 0 -> {ok, <<>>}; _ -> file:read(standard_io, Size) end,
-            {Number, Answer, Next} = obey(Request, Body, Node),
-            ok = file:write(standard_io, <<Number:32/native, (byte_size(Answer)):64/native, Answer/binary>>),
-            serve(Next);
-        eof ->
+    case read(9) of
+        <<Request, Size:64/native>> ->
+            case read(Size) of
+                Body when byte_size(Body) =:= Size ->
+                    {Number, Answer, Next} = obey(Request, Body, Node),
+                    ok = file:write(standard_io, <<Number:32/native, (byte_size(Answer)):64/native, Answer/binary>>),
+                    serve(Next);
+                _Cut ->
+                    halt(0)
+            end;
+        _EndOrCut ->
             halt(0)
+    end.
+
+%% Returns this many bytes of the input, or fewer at its end.
+read(0) ->
+    <<>>;
+read(Size) ->
+    case file:read(standard_io, Size) of
+        {ok, Bytes} -> Bytes;
+        eof -> <<>>
     end.
 
 %% Carries a request out, and returns the number and the bytes of the answer.
