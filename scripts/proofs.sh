@@ -9,6 +9,10 @@ case "$*" in
     *) echo "usage: proofs.sh [--anew]" >&2; exit 2 ;;
 esac
 cd "$(dirname "$0")/.."
+# The `rt ci` of this kit keeps nothing, and takes no flag.
+case "$(rt version)" in
+    rattle-kit-13b*) set -- ;;
+esac
 copy=$(mktemp -d)
 trap 'rm -rf "$copy"' EXIT
 tar -cf - --exclude='crates/*/out' --exclude='crates/*/must-fail' crates crates.txt HANDLES | tar -xf - -C "$copy"
