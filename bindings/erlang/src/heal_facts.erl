@@ -8,8 +8,8 @@
 -behaviour(gen_server).
 
 -export([start_link/0, begin_call/3, end_call/3, drop_calls/2, calls/0]).
--export([add/3, drop/2, has/2, names_of/1, rows_of/1, drop_node/1]).
--export([node_up/3, node_down/1, nodes_down/0, outdate/0, number/1, check_numbers/0, answers/1]).
+-export([add/3, drop/2, has/2, is_latest/3, names_of/1, rows_of/1, drop_node/1]).
+-export([node_up/3, node_down/1, nodes_down/0, outdate/0, renamed/1, number/1, check_numbers/0, answers/1]).
 -export([keep_program/3, program/1, codes/0, find/2, is_seen/1]).
 -export([known/2, code/1, sees/1]).
 -export([init/1, handle_call/3, handle_cast/2]).
@@ -84,7 +84,7 @@ add(Name, Pid, Registration) ->
 -spec drop(term(), pid()) -> boolean().
 drop(Name, Pid) ->
     case ets:take(?KNOWN, {Name, Pid}) of
-        [_] -> count(node(Pid), -1), true;
+        [{_, Node, _}] -> count(Node, -1), true;
         [] -> false
     end.
 
@@ -95,6 +95,14 @@ count(Node, Change) ->
 -spec has(term(), pid()) -> boolean().
 has(Name, Pid) ->
     ets:member(?KNOWN, {Name, Pid}) orelse ets:member(?CALLS, {Name, Pid}).
+
+%% Is this registration later than the one that is noted for the owner, if there is one?
+-spec is_latest(term(), pid(), heal:registration()) -> boolean().
+is_latest(Name, Pid, #{owner := {_, Serial}}) ->
+    case ets:lookup(?KNOWN, {Name, Pid}) of
+        [{_, _, #{owner := {_, Noted}}}] -> Serial > Noted;
+        [] -> true
+    end.
 
 -spec names_of(node()) -> [{Name :: term(), pid()}].
 names_of(Node) ->
@@ -130,6 +138,20 @@ node_down(Node) ->
 outdate() ->
     [node_down(Node) || #met{node = Node} <- ets:tab2list(?NODES), Node =/= node()],
     ok.
+
+%% Notes that this node may have another name than before: distribution has started or stopped. Its registrations follow, with the number
+%% of that name.
+-spec renamed(Uptime :: non_neg_integer()) -> ok.
+renamed(Uptime) ->
+    Number = number(node()),
+    true = node_up(node(), Number, Uptime),
+    IsOwn = [{'=:=', {node, '$1'}, {node}}, {'=/=', '$2', {node}}],
+    lists:foreach(fun(Row) -> rename(Row, Number) end, ets:select(?KNOWN, [{{{'_', '$1'}, '$2', '_'}, IsOwn, ['$_']}])).
+
+rename({Key, Earlier, Registration = #{owner := {_, Serial}}}, Number) ->
+    ets:insert(?KNOWN, {Key, node(), Registration#{owner := {Number, Serial}}}),
+    count(Earlier, -1),
+    count(node(), 1).
 
 %% Returns the nodes that are gone, and for how many milliseconds.
 -spec nodes_down() -> [{node(), non_neg_integer()}].

@@ -11,7 +11,7 @@
 
 -include_lib("kernel/include/file.hrl").
 
--export([start/2, found/1, programs/2, number/2, file/1]).
+-export([start/2, start_again/2, found/1, programs/2, number/2, file/1]).
 -export([init/1, handle_continue/2, handle_call/3, handle_cast/2, handle_info/2]).
 -export_type([found/0, problem/0]).
 
@@ -49,15 +49,23 @@
 
 %% ---- The registry's calls ----
 
-%% Starts the process for a registry. `busy' if that of an earlier registry doesn't end.
+%% Starts the process for a registry. `busy' if that of an earlier registry doesn't end within a second.
 -spec start(Dir :: file:name_all(), Registry :: pid()) -> {ok, pid()} | busy.
 start(Dir, Registry) ->
+    start(Dir, Registry, ?ENDS).
+
+%% The same for a registry that has waited for the earlier process already.
+-spec start_again(Dir :: file:name_all(), Registry :: pid()) -> {ok, pid()} | busy.
+start_again(Dir, Registry) ->
+    start(Dir, Registry, 0).
+
+start(Dir, Registry, Wait) ->
     case gen_server:start({local, ?MODULE}, ?MODULE, {file(Dir), Registry}, []) of
         {ok, Log} ->
             {ok, Log};
         {error, {already_started, Earlier}} ->
             Monitor = monitor(process, Earlier),
-            receive {'DOWN', Monitor, _, _, _} -> start(Dir, Registry) after ?ENDS -> demonitor(Monitor, [flush]), busy end
+            receive {'DOWN', Monitor, _, _, _} -> start(Dir, Registry, Wait) after Wait -> demonitor(Monitor, [flush]), busy end
     end.
 
 %% Returns what the disk has at the start of a node; nothing if it doesn't answer.
@@ -179,10 +187,10 @@ content(Replica) ->
     Code = fun(Id) -> {ok, Code} = heal:code(Side, Id), Code end,
     {Ids, Code, case Latest of none -> 0; _ -> Latest end}.
 
-%% The file has what the replica has.
-written(Replica, Log) ->
+%% The file has what the replica has. A file that replaces it later is to have that number too.
+written(Replica, Log = #log{greatest = Greatest}) ->
     {Ids, Code, Number} = content(Replica),
-    Log#log{stored = maps:from_list([{Id, Code(Id)} || Id <- Ids]), number = Number}.
+    Log#log{stored = maps:from_list([{Id, Code(Id)} || Id <- Ids]), number = Number, greatest = max(Greatest, Number)}.
 
 append(Entries, Open = #{device := Device, size := Size, entries := Count}, Log) ->
     case is_open(Open, Log) of
@@ -255,7 +263,7 @@ replace(Replica, Log = #log{file = File}) ->
     ok = heal:replica_lead(Replica),
     {_, Refusal} = entries(Replica, Log),
     {ok, Snapshot} = heal:replica_snapshot(Replica),
-    New = filename:rootname(File) ++ ".new",
+    New = new(File),
     case file:open(New, [raw, binary, write]) of
         {ok, Device} ->
             Steps = [fun() -> file:write(Device, Snapshot) end, fun() -> file:sync(Device) end, fun() -> file:rename(New, File) end],
@@ -263,6 +271,10 @@ replace(Replica, Log = #log{file = File}) ->
         {error, Why} ->
             problem({write, Why}, Log)
     end.
+
+%% The folder of the setting may be a string or a binary.
+new(File) when is_binary(File) -> <<(filename:rootname(File))/binary, ".new">>;
+new(File) -> filename:rootname(File) ++ ".new".
 
 named(ok, Refusal, Device, Replica, Size, Log = #log{file = File}) ->
     sync_folder(filename:dirname(File)),

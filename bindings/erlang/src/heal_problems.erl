@@ -11,7 +11,7 @@
 
 -type problem() :: pos_integer() | heal_peers:refusal() | silent | dir.
 
-%% Logs what is new and clears what is over.
+%% Logs what is new, keeps the latest words and clears what is over.
 -spec report(heal_peers:problems()) -> ok.
 report(Problems) ->
     over(maps:keys(Problems)),
@@ -47,17 +47,16 @@ unwritable(replaced) -> "another node of this name has written it; start this re
 unwritable(ended) -> "the process that writes it has ended, and starts again";
 unwritable(Refusal) -> heal:refusal_words(Refusal).
 
-%% Logs a problem and sets its alarm, unless it is known.
+%% Logs a problem and sets its alarm, unless it is known. Its words may be others than before.
 -spec found(problem(), Words :: unicode:chardata()) -> ok.
 found(Problem, Words) ->
-    case all() of
-        #{Problem := _} ->
-            ok;
-        Known ->
-            logger:warning("heal_registry: ~ts (problem ~p)", [Words, Problem]),
-            alarm(fun() -> alarm_handler:set_alarm({{heal_registry, Problem}, unicode:characters_to_list(Words)}) end),
-            heal_table:keep(problems, Known#{Problem => unicode:characters_to_binary(Words)})
-    end.
+    Known = all(),
+    _ = is_map_key(Problem, Known) orelse new(Problem, Words),
+    heal_table:keep(problems, Known#{Problem => unicode:characters_to_binary(Words)}).
+
+new(Problem, Words) ->
+    logger:warning("heal_registry: ~ts (problem ~p)", [Words, Problem]),
+    alarm(fun() -> alarm_handler:set_alarm({{heal_registry, Problem}, unicode:characters_to_list(Words)}) end).
 
 %% Clears all problems but these.
 -spec over(Rest :: [problem()]) -> ok.

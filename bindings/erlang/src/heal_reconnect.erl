@@ -3,7 +3,7 @@
 %% A process makes each attempt, since it may take long.
 -module(heal_reconnect).
 
--export([start/2, attempt/1, attempted/2, expired/1, up/2, down/2]).
+-export([start/2, attempt/1, attempted/2, expired/1, up/2, down/3]).
 -export_type([state/0]).
 
 -define(INTERVAL, 10000).
@@ -88,10 +88,13 @@ expired(State) ->
 up(Node, State = #state{lost = Lost}) ->
     State#state{lost = maps:remove(Node, Lost)}.
 
-%% A node is lost.
--spec down(node(), state()) -> state().
-down(_Node, State = #state{interval = never}) ->
+%% A node is lost. A hidden one that the setting doesn't name, such as a remote shell, stays apart.
+-spec down(node(), visible | hidden, state()) -> state().
+down(_Node, _Type, State = #state{interval = never}) ->
     State;
-down(Node, State = #state{lost = Lost, setting = Setting}) ->
-    Left = case lists:member(Node, Setting) of true -> infinity; false -> ?INTERVALS end,
-    timed(State#state{lost = Lost#{Node => Left}}).
+down(Node, Type, State = #state{lost = Lost, setting = Setting}) ->
+    case lists:member(Node, Setting) of
+        true -> timed(State#state{lost = Lost#{Node => infinity}});
+        false when Type =:= hidden -> State;
+        false -> timed(State#state{lost = Lost#{Node => ?INTERVALS}})
+    end.

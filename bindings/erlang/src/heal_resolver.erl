@@ -193,10 +193,14 @@ handle_cast(_Message, State) ->
     {noreply, State}.
 
 %% @private
+handle_info({nodeup, Node}, State) when Node =:= node() ->
+    {noreply, renamed(nonode@nohost, State)};
 handle_info({nodeup, Node}, State) ->
     {noreply, meet(Node, State)};
-handle_info({nodedown, Node}, State) ->
+handle_info({nodedown, Node}, State = #state{peers = Peers}) when is_map_key(Node, Peers) ->
     {noreply, part(Node, State)};
+handle_info({nodedown, Node}, State) ->
+    {noreply, renamed(Node, State)};
 handle_info({?MODULE, Node, Message}, State = #state{peers = Peers}) when is_map_key(Node, Peers) ->
     heal_facts:answers(Node),
     {noreply, heard(Message, Node, State)};
@@ -260,11 +264,12 @@ sweep(State) ->
     [heal_facts:drop_node(Node) || {Node, Age} <- heal_facts:nodes_down(), Age > ?NODE_KEPT],
     lists:foldl(fun({Name, Pid}, Rest) -> forget(Name, Pid, Rest) end, Ended, Gone).
 
+%% A call that got no answer may have been made again, with other options.
 end_call({Name, Pid, Registration}, State) ->
-    case global:whereis_name(Name) of
-        Pid ->
+    case global:whereis_name(Name) =:= Pid andalso heal_facts:is_latest(Name, Pid, Registration) of
+        true ->
             registered(Name, Pid, Registration, State);
-        _ ->
+        false ->
             heal_facts:end_call(Name, Pid, Registration),
             unwatch(Name, Pid, State)
     end.
@@ -281,10 +286,16 @@ meet(Node, State = #state{peers = Peers}) ->
 
 part(Node, State = #state{peers = Peers}) ->
     heal_facts:node_down(Node),
-    case maps:take(Node, Peers) of
-        {{Sender, _}, Others} -> unlink(Sender), exit(Sender, kill), State#state{peers = Others};
-        error -> State
-    end.
+    {{Sender, _}, Others} = maps:take(Node, Peers),
+    unlink(Sender),
+    exit(Sender, kill),
+    State#state{peers = Others}.
+
+%% This node may have had that name until its distribution started or stopped.
+renamed(Earlier, State) ->
+    heal_facts:node_down(Earlier),
+    ok = heal_facts:renamed(heal_names:uptime()),
+    State.
 
 send_all(Message, State = #state{peers = Peers}) ->
     maps:foreach(fun(_, {Sender, _}) -> Sender ! {send, Message} end, Peers),

@@ -167,13 +167,11 @@ connected(State = #server{reconnect = Reconnect}) ->
 %% ---- The disk ----
 
 %% Starts the process that writes, unless that of an earlier registry still does.
-log(none) ->
-    none;
-log(Dir) ->
-    case heal_log:start(Dir, self()) of
-        {ok, Log} -> {Log, monitor(process, Log)};
-        busy -> erlang:send_after(?AGAIN, self(), {?REGISTRY, log}), none
-    end.
+log(none) -> none;
+log(Dir) -> logging(heal_log:start(Dir, self())).
+
+logging({ok, Log}) -> {Log, monitor(process, Log)};
+logging(busy) -> erlang:send_after(?AGAIN, self(), {?REGISTRY, log}), none.
 
 %% What a registry starts with: what it had before it failed, and what the disk has, as far as it answers.
 restored(none, none, Kept) ->
@@ -248,11 +246,14 @@ informed(tick, State = #server{part = Part}) ->
     _ = erlang:send_after(heal_part:tick(Part), self(), tick),
     Next = #server{part = Now, heap = Heap} = event(tick, State),
     Next#server{heap = heal_heap:tick(heal_part:is_idle(Now), heal_part:count(Now), Heap)};
+informed({nodeup, Node, _}, State) when Node =:= node() ->
+    logger:error("heal_registry: this node is ~ts now; restart the application, so that its registry joins others", [Node]),
+    State;
 informed({nodeup, Node, #{node_type := Type}}, State) ->
     %% Edits may wait for the node.
     up(Node, Type, release_rest(State));
-informed({nodedown, Node, _}, State) ->
-    down(Node, State);
+informed({nodedown, Node, #{node_type := Type}}, State) ->
+    down(Node, Type, State);
 informed({'DOWN', Monitor, process, Pid, _}, State) ->
     ended(Monitor, Pid, State);
 informed({timeout, _Timer, reconnect}, State = #server{reconnect = Reconnect}) ->
@@ -301,7 +302,8 @@ own({?REGISTRY, rested, Node}, State) ->
 own({?REGISTRY, disk, Log, Ids, Lacking, Problem}, State = #server{log = {Log, _}}) ->
     event({disk, Ids, Lacking, Problem}, State);
 own({?REGISTRY, log}, State = #server{dir = Dir, log = none}) ->
-    logged(heal_table:kept(programs, #{}), State#server{log = log(Dir)});
+    Next = logged(heal_table:kept(programs, #{}), State#server{log = logging(heal_log:start_again(Dir, self()))}),
+    kept(greatest, heal_table:kept(greatest, 0), Next);
 own({?REGISTRY, post}, State = #server{outbox = Outbox}) ->
     {StartTimer, Next} = heal_outbox:expired(Outbox),
     timed_post(StartTimer, State#server{outbox = Next});
@@ -396,12 +398,12 @@ relogged(State) ->
 up(Node, Type, State = #server{reconnect = Reconnect}) ->
     event({up, Node, Type}, watched(Node, State#server{reconnect = heal_reconnect:up(Node, Reconnect)})).
 
-down(Node, State = #server{watches = Watches, reconnect = Reconnect, outbox = Outbox}) ->
+down(Node, Type, State = #server{watches = Watches, reconnect = Reconnect, outbox = Outbox}) ->
     case Watches of
         #{Node := Watch} -> unlink(Watch), exit(Watch, kill);
         _ -> ok
     end,
-    event({down, Node}, empty(Node, State#server{watches = maps:remove(Node, Watches), reconnect = heal_reconnect:down(Node, Reconnect),
+    event({down, Node}, empty(Node, State#server{watches = maps:remove(Node, Watches), reconnect = heal_reconnect:down(Node, Type, Reconnect),
                                                  outbox = heal_outbox:forget(Node, Outbox)})).
 
 %% The next connection to a node isn't full.

@@ -22,7 +22,7 @@
 %% that is the name, and a home that is the node of the process, of which it has the incarnation.
 -record(entry, {
     name :: heal:name() | atom(),
-    pid :: pid() | {ended | restoring, pid()} | atom(),
+    pid :: pid() | {ended | restoring, pid() | atom()} | atom(),
     term :: same | {term, term()} | atom(),
     node :: 0..16#ffffffff | atom(),
     serial :: 0..16#ffffffff | atom(),

@@ -55,7 +55,8 @@ problem(It) ->
 disks_test_() ->
     {inparallel, 3, [{atom_to_list(Name), {timeout, 240, Test}} || {Name, Test} <- [
         {cluster, fun cluster/0}, {torn, fun torn/0}, {damaged, fun damaged/0}, {not_a_folder, fun not_a_folder/0},
-        {full, fun full/0}, {hanging, fun hanging/0}, {one_folder, fun one_folder/0}, {replaced, fun replaced/0}, {writer_ends, fun writer_ends/0},
+        {another_reason, fun another_reason/0}, {full, fun full/0}, {hanging, fun hanging/0}, {hanging_again, fun hanging_again/0},
+        {one_folder, fun one_folder/0}, {replaced, fun replaced/0}, {writer_ends, fun writer_ends/0}, {binary, fun binary/0},
         {bad_setting, fun bad_setting/0}, {numbers, fun numbers/0}]]}.
 
 %% All nodes of a cluster are killed at once, again and again, while callers upload on each of them.
@@ -177,6 +178,20 @@ not_a_folder() ->
     ?assertMatch({error, {not_stored, {_, not_a_log}}}, upload(B, 1)),
     heal_cluster:stop(B).
 
+%% The disk can't be written for another reason than before: status/0 has the latest one.
+another_reason() ->
+    Folder = folder(),
+    A = start(a, Folder),
+    ok = file:del_dir_r(Folder),
+    ok = file:write_file(Folder, <<"x">>),
+    ?assertMatch({error, {not_stored, {_, {create, _}}}}, upload(A, 1)),
+    ?assertMatch({_, _}, binary:match(map_get(dir, problem(A)), <<"its folder can't be created">>)),
+    ok = file:delete(Folder),
+    ok = filelib:ensure_path(file(Folder, A)),
+    ?assertMatch({error, {not_stored, {_, not_a_log}}}, upload(A, 2)),
+    ?assertMatch({_, _}, binary:match(map_get(dir, problem(A)), <<"it isn't a log">>)),
+    heal_cluster:stop(A).
+
 %% A disk that is full: the new file can't be written. The upload is refused, and no program is lost once there is room.
 full() ->
     Folder = folder(),
@@ -251,6 +266,17 @@ writer_ends() ->
     ?assertEqual([true, true], [knows(B, Id) || Id <- [One, Two]]),
     heal_cluster:stop(B).
 
+%% The folder is a binary.
+binary() ->
+    Folder = folder(),
+    A = start(a, list_to_binary(Folder)),
+    {ok, Id} = upload(A, 1),
+    ?assertEqual(#{}, problem(A)),
+    heal_cluster:kill_node(A),
+    B = again(A, Folder),
+    ?assert(knows(B, Id)),
+    heal_cluster:stop(B).
+
 bad_setting() ->
     A = heal_cluster:start(a),
     %% One follows the other, so that the table of one is being deleted when the next one starts.
@@ -284,6 +310,33 @@ hanging() ->
     ?assert(knows(Again, Id)),
     [heal_cluster:stop(It) || It <- [Again, B]].
 
+%% The disk hangs, and the registry starts again: the process that writes doesn't end, and no edit waits for it. Once it ends, uploads
+%% go on.
+hanging_again() ->
+    Folder = folder(),
+    A = start(a, Folder),
+    {ok, One} = upload(A, 1),
+    Writer = heal_cluster:call(A, erlang, whereis, [heal_log]),
+    ok = heal_cluster:call(A, sys, suspend, [heal_log]),
+    heal_cluster:kill_registry(A),
+    start_registry(A, Folder),
+    Slow = [Time || {Time, ok} <- edits(A, erlang:monotonic_time(millisecond) + 6000), Time > 800000],
+    ?assert(length(Slow) < 2),
+    heal_cluster:kill(A, Writer),
+    heal_cluster:eventually(fun() -> element(1, upload(A, 2)) =:= ok end),
+    {ok, Two} = upload(A, 2),
+    heal_cluster:kill_node(A),
+    B = again(A, Folder),
+    ?assertEqual([true, true], [knows(B, Id) || Id <- [One, Two]]),
+    heal_cluster:stop(B).
+
+%% Makes edits until this time. Returns how long each took.
+edits(It, Until) ->
+    case erlang:monotonic_time(millisecond) < Until of
+        true -> [timer:tc(fun() -> ok = call(It, unregister_name, [nobody]), timer:sleep(5) end) | edits(It, Until)];
+        false -> []
+    end.
+
 %% The greatest number of an exchange is on the disk before the other node hears it.
 numbers() ->
     Folder = folder(),
@@ -301,5 +354,14 @@ numbers() ->
     ?assertMatch([#{number := Number}, #{number := Number}], [heal_cluster:status(It) || It <- [C, D]]),
     heal_cluster:mesh([C, D]),
     heal_cluster:one_part([C, D]),
-    ?assert(maps:get(number, heal_cluster:status(C)) > Number),
-    [heal_cluster:stop(It) || It <- [C, D]].
+    Next = maps:get(number, heal_cluster:status(C)),
+    ?assert(Next > Number),
+    [heal_cluster:kill_node(It) || It <- [C, D]],
+    %% The file is moved away while the node runs: the next one has the number too.
+    E = again(A, Folder),
+    ok = file:rename(file(Folder, E), file(Folder, E) ++ ".away"),
+    {ok, _} = upload(E, 1),
+    heal_cluster:kill_node(E),
+    F = again(A, Folder),
+    ?assertMatch(#{number := Next}, heal_cluster:status(F)),
+    heal_cluster:stop(F).

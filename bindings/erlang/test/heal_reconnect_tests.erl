@@ -31,11 +31,19 @@ back_test() ->
 
 %% No node is tried without an interval.
 never_test() ->
-    State = heal_reconnect:down(?LOST, heal_reconnect:start(any, #{reconnect_interval => never})),
+    State = heal_reconnect:down(?LOST, visible, heal_reconnect:start(any, #{reconnect_interval => never})),
     ?assertEqual([], tried(3, State)).
 
+%% A hidden node, such as a remote shell, is tried only if the setting names it.
+hidden_test() ->
+    ?assertEqual([], tried(3, lost(any, hidden))),
+    ?assertEqual([1, 2, 3], tried(3, lost([node(), ?LOST], hidden))).
+
 lost(Nodes) ->
-    heal_reconnect:down(?LOST, heal_reconnect:start(Nodes, #{reconnect_interval => 1 bsl 31})).
+    lost(Nodes, visible).
+
+lost(Nodes, Type) ->
+    heal_reconnect:down(?LOST, Type, heal_reconnect:start(Nodes, #{reconnect_interval => 1 bsl 31})).
 
 %% Returns the intervals, up to this one, at which the node is tried.
 tried(Intervals, State) ->

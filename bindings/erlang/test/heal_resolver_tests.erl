@@ -3,7 +3,7 @@
 
 -include_lib("eunit/include/eunit.hrl").
 
--export([code/1, quiet/0, loud/1, catch_log/2, log/2]).
+-export([code/1, quiet/0, loud/1, catch_log/2, log/2, own_size/0]).
 
 -define(RESOLVERS, "../../resolvers").
 -define(REGISTER, {heal_resolver, register}).
@@ -78,7 +78,7 @@ alone_test_() ->
         end,
         [{timeout, 240, Test} || Test <- [fun registered_twice/0, fun forgotten/0, fun by_global/0, fun via/0, fun uploads/0,
                                           fun unknown_program/0, fun bad_calls/0, fun crash/0, fun many_ends/0,
-                                          fun no_answer/0, fun logged/0]]}.
+                                          fun no_answer/0, fun late_calls/0, fun logged/0]]}.
 
 owner() ->
     spawn(heal_cluster, serve, [[]]).
@@ -205,6 +205,21 @@ no_answer() ->
     sys:resume(heal_resolver),
     ?assertEqual(undefined, heal_resolver:whereis_name(no_answer)).
 
+%% A call whose caller doesn't end it counts after a while if the process has the name, but not if a later call has registered it.
+late_calls() ->
+    [Once, Again, Lost] = Pids = [owner(), owner(), owner()],
+    [{ok, _} = gen_server:call(heal_resolver, {remember, Pid, Pid, heal_names:options(#{weight => 1})}) || Pid <- Pids],
+    yes = global:register_name(Once, Once),
+    ok = heal_resolver:register(Again, Again, #{weight => 2}),
+    Rows = ets:tab2list(heal_resolver_calls),
+    true = ets:delete_all_objects(heal_resolver_calls),
+    true = ets:insert(heal_resolver_calls, [{Key, Registration, Since - 61000} || {Key, Registration, Since} <- Rows]),
+    heal_resolver ! sweep,
+    _ = sys:get_state(heal_resolver),
+    ?assertEqual([], heal_facts:calls()),
+    ?assertMatch([{ok, #{weight := 1}, _}, {ok, #{weight := 2}, _}, error], [heal_facts:known(Pid, Pid) || Pid <- Pids]),
+    [exit(Pid, kill) || Pid <- [Once, Again, Lost]].
+
 %% Verdicts and kills are logged as those of `global'.
 logged() ->
     Level = quiet(),
@@ -220,6 +235,54 @@ logged() ->
     ok = logger:remove_handler(?MODULE),
     ok = logger:set_handler_config(default, level, all),
     loud(Level).
+
+%% ---- A node whose name changes ----
+
+%% Distribution starts, stops and starts again while the application runs. Each time the node still has its registrations, with the number
+%% of its name, and another node receives them.
+renamed_test_() ->
+    Args = ["-setcookie", "heal_tests", "-pa", filename:absname("ebin"), filename:absname("out"), "-kernel", "logger_level", "critical"],
+    {setup,
+        fun() ->
+            Other = heal_cluster:start(a),
+            {ok, Peer, nonode@nohost} = peer:start(#{connection => standard_io, args => Args, env => [{"ERL_EPMD_ADDRESS", "127.0.0.1"}]}),
+            [Other, {Peer, nonode@nohost}]
+        end,
+        fun(Nodes) -> [heal_cluster:stop(It) || It <- Nodes] end,
+        fun([Other, It]) -> {timeout, 120, fun() -> renamed(It, Other) end} end}.
+
+renamed(It, Other) ->
+    [One, Two] = [list_to_atom(lists:concat([Letter, "_heal_", os:getpid(), "@127.0.0.1"])) || Letter <- [y, z]],
+    Numbers = #{nonode@nohost => 7, One => 8, Two => 9, heal_cluster:node_of(Other) => 10},
+    [begin
+         _ = heal_cluster:call(Each, application, load, [heal]),
+         ok = heal_cluster:call(Each, application, set_env, [heal, node_numbers, Numbers]),
+         {ok, _} = heal_cluster:call(Each, application, ensure_all_started, [heal])
+     end || Each <- [It, Other]],
+    [heal_cluster:own(It, ?REGISTER, Name, #{}) || Name <- [first, second, third]],
+    has_own(It, 3, 7),
+    [begin
+         {ok, _} = heal_cluster:call(It, net_kernel, start, [[Name, longnames]]),
+         has_own(It, 3, maps:get(Name, Numbers)),
+         ok = heal_cluster:call(It, net_kernel, stop, []),
+         has_own(It, 3, 7)
+     end || Name <- [One, Two, One]],
+    {ok, _} = heal_cluster:call(It, net_kernel, start, [[One, longnames]]),
+    [heal_cluster:kill(It, heal_cluster:call(It, global, whereis_name, [Name])) || Name <- [first, second]],
+    has_own(It, 1, 8),
+    true = heal_cluster:call(It, erlang, set_cookie, [heal_tests]),
+    true = heal_cluster:call(It, net_kernel, connect_node, [heal_cluster:node_of(Other)]),
+    heal_cluster:eventually(fun() -> [third] =:= [Name || {Name, _} <- heal_cluster:call(Other, heal_facts, names_of, [One])] end).
+
+%% Waits until a node has this many registrations of its processes, with this number.
+has_own(It, Count, Number) ->
+    Expected = {lists:duplicate(Count, Number), [Count]},
+    heal_cluster:eventually(fun() -> heal_cluster:call(It, ?MODULE, own_size, []) =:= Expected end).
+
+own_size() ->
+    Rows = heal_facts:rows_of(node()),
+    {[Number || {_, _, #{owner := {Number, _}}} <- Rows],
+     lists:usort([Size || {Name, Pid, _} <- Rows, {ok, _, #{size := Size}} <- [heal_facts:known(Name, Pid)]])}.
 
 %% ---- Two nodes ----
 
