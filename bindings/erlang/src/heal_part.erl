@@ -33,6 +33,8 @@
     edit_timeout := pos_integer(),
     exchange_timeout := pos_integer(),
     replica => heal_replica:replica(),
+    %% Whether the half of the replica is that of its position, for sure.
+    is_exact => boolean(),
     own => #{heal:name() => #row{}},
     programs => #{Id :: binary() => Code :: binary()},
     %% What is on the disk.
@@ -114,7 +116,7 @@ new(Settings = #{life := Life = {Node, _}}) ->
         unwritable = Unwritable
     },
     Up = fun({Other, Type}, Sum) -> heal_peers:link({up, Other, Type}, Sum) end,
-    taken(heal_view:resume(lists:foldl(Up, Part, maps:get(connected, Settings)))).
+    taken(heal_view:resume(maps:get(is_exact, Settings, true), lists:foldl(Up, Part, maps:get(connected, Settings)))).
 
 taken(Part = #part{out = Out}) ->
     {lists:reverse(Out), Part#part{out = []}}.

@@ -471,7 +471,14 @@ perform([], State) ->
     State;
 perform(Actions, State = #server{subscribers = Subscribers}) ->
     ok = heal_events:report(Actions, Subscribers),
-    timed(continued(Actions, positioned(acts(Actions, none, State)))).
+    IsChanging = lists:any(fun changes/1, Actions),
+    _ = IsChanging andalso heal_table:changing(State#server.operation),
+    timed(continued(Actions, positioned(IsChanging, acts(Actions, none, State)))).
+
+%% Returns whether an action writes rows of the half.
+changes({Kind, _, _}) -> Kind =:= rows;
+changes({Kind, _}) -> Kind =:= restoring;
+changes(_Action) -> false.
 
 %% A step may take a while, so nothing waits for it to be sent.
 continued(Actions, State) ->
@@ -485,9 +492,10 @@ step(Step = {continue, {prepare, _, _}}, State) -> event(Step, cleaned(State));
 step(Step, State) -> event(Step, State).
 
 %% Keeps the position of the replica after the rows that it has.
-positioned(State = #server{part = Part, view = View, operation = Last}) ->
+positioned(IsChanging, State = #server{part = Part, view = View, operation = Last}) ->
     case heal_part:position(Part) of
         {{View, Last}, _, _} ->
+            _ = IsChanging andalso heal_table:keep_operation(Last),
             State;
         {{View, Operation}, _, _} ->
             ok = heal_table:keep_operation(Operation),

@@ -1,19 +1,20 @@
 %% @private The ETS table of heal_registry: every process reads the names of its node there, and a registry that starts again finds
 %% what it had.
 %%
-%% heal_keeper owns the table. Rows are written before the position that has them, and before anybody else hears of them: a registry
-%% that is killed in between has a table that is ahead of its position, which it makes good like any other difference.
+%% heal_keeper owns the table. Rows are written before the position that has them, and before anybody else hears of them. Meanwhile the
+%% position is marked: a registry that is killed in between knows that its table is perhaps not the one of its position.
 -module(heal_table).
 
 -include("heal_replica.hrl").
 
 -export([create/0, give/1, bequeath/1, rows/2, restoring/1, hide/1, disown/1, disown/2, kept/2, keep/2, keep_own/1]).
--export([keep_position/3, keep_operation/1, keep_patience/1, patience/1, restore/1]).
+-export([changing/1, keep_position/3, keep_operation/1, keep_patience/1, patience/1, restore/1]).
 -export([is_running/0, find/2, names/0, names/1, count/0, info/2, row/1, is_restoring/1]).
 
 -define(ROWS, heal_registry).
-%% A counter: the operation of the replica's position, which each edit changes.
+%% A counter: the operation of the replica's position, which each edit changes, with a bit that is set while rows are written.
 -define(OPERATION, {?MODULE, operation}).
+-define(CHANGING, (1 bsl 63)).
 %% How long a caller waits for the registry. Each call reads it, so it isn't in the table, which the registry writes meanwhile.
 -define(PATIENCE, {?MODULE, call_timeout}).
 
@@ -198,15 +199,21 @@ restore(Life) ->
     case kept(view, none) of
         none -> Found;
         {View, Led, Latest} ->
-            At = {View, atomics:get(persistent_term:get(?OPERATION), 1)},
-            Found#{replica => heal_replica:resume(Life, At, max(Led, kept(led, Led)), half(Names, Latest))}
+            Operation = atomics:get(persistent_term:get(?OPERATION), 1),
+            At = {View, Operation band bnot ?CHANGING},
+            Found#{replica => heal_replica:resume(Life, At, max(Led, kept(led, Led)), half(Names, Latest)),
+                   is_exact => Operation band ?CHANGING =:= 0}
     end.
 
-%% Keeps the position of the replica, the number of its latest view, and that of the exchange before. A registry that is killed in
-%% between has an operation that is too small.
+%% Marks the position, of this operation: until the next one is kept, the table may be that of either, or something in between.
+-spec changing(Operation :: non_neg_integer()) -> ok.
+changing(Operation) ->
+    keep_operation(Operation bor ?CHANGING).
+
+%% Keeps the position of the replica, the number of its latest view, and that of the exchange before.
 -spec keep_position(heal_replica:position(), Led :: pos_integer(), Latest :: non_neg_integer()) -> ok.
 keep_position({View, Operation}, Led, Latest) ->
-    ok = keep_operation(0),
+    ok = changing(0),
     ok = keep(view, {View, Led, Latest}),
     keep_operation(Operation).
 

@@ -7,30 +7,34 @@
 
 -include("heal_part.hrl").
 
--export([resume/1, act/1, continue/1, is_settling/1, members/1, lead_alone/1, follow_merge/5, start/5]).
+-export([resume/2, act/1, continue/1, is_settling/1, members/1, lead_alone/1, follow_merge/5, start/5]).
 -export([heard/3, snapshot/3, difference/3, want/2, wanted/3, joined/3, join_again/2, settled/3, broadcast/3]).
 
 %% ---- Starting ----
 
-%% Goes on with the replica that this node had. A primary may have made an edit that nobody knows of, so it starts a view.
--spec resume(#part{}) -> #part{}.
-resume(Part = #part{replica = Replica}) ->
+%% Goes on with the replica that this node had. A primary may have made an edit that nobody knows of, so it starts a view. Where the half may
+%% be another one than that of the position, nothing is sent that differs from that one, and nothing such is taken.
+-spec resume(IsExact :: boolean(), #part{}) -> #part{}.
+resume(IsExact, Part = #part{replica = Replica}) ->
     Half = heal_state:half(Part),
     Homes = homes(Half, Part),
     %% It has announced the latest view that it was to lead, perhaps without a position in it.
     IsPrimary = heal_state:primary(Part) =:= heal_state:life(Part),
     case {IsPrimary, {heal_replica:position(Replica), heal_replica:led(Replica)}, heal_home:conflicts(Half, Part)} of
         {true, {{{_, 1}, 0}, 1}, _} -> heal_orders:make_each(heal_home:differences(Part), 0, Part);
-        {true, _, []} -> lead(heal_home:restrict([heal_state:life(Part) | lives(Homes)], Part), Homes, Part);
+        {true, _, []} -> exact(IsExact, lead(heal_home:restrict([heal_state:life(Part) | lives(Homes)], Part), Homes, Part));
         %% The notice of an exchange that has given a name away is lost with the registry: another exchange decides.
         {_, _, [_ | _]} -> lead_alone(Part);
         {false, _, []} ->
             {Primary, _} = heal_state:primary(Part),
-            case heal_peers:is_in_setting(Primary, Part) of
+            case IsExact andalso heal_peers:is_in_setting(Primary, Part) of
                 true -> heal_home:show_all(Part#part{limbo = heal_state:until_followed(Part)});
                 false -> lead_alone(Part)
             end
     end.
+
+exact(true, Part) -> Part;
+exact(false, Part) -> Part#part{base = none}.
 
 lives(Members) ->
     [Life || #member{life = Life} <- maps:values(Members)].

@@ -37,6 +37,7 @@ restarts_test_() ->
         {timeout, 120, fun other_nodes/0},
         heal_cluster:pair(#{}, fun half_written/2),
         heal_cluster:pair(#{}, fun restoring/2),
+        heal_cluster:pair(#{}, fun killed_while_writing/2),
         heal_cluster:halves(#{exchange_timeout => 1000}, fun during_exchange/2),
         heal_cluster:halves(#{exchange_timeout => 20000}, fun losers/2),
         heal_cluster:halves(#{exchange_timeout => 20000}, fun failed_leader/2),
@@ -153,6 +154,23 @@ restoring(A, B) ->
     heal_cluster:start_registry(It, [A, B], #{}),
     ?assertEqual([{one, Pid}], heal_cluster:alike(A, B)),
     ?assertEqual(1, Call(count, [])).
+
+%% A registry is killed after it has written rows, and before the position that has them. All nodes have one table again.
+killed_while_writing(A, B) ->
+    [killed_while_writing(It, A, B) || It <- [A, B, A]].
+
+killed_while_writing(It, A, B) ->
+    Before = heal_cluster:alike(A, B),
+    %% The last one is a name of the node whose registry is killed.
+    New = [{{name, length(Before) + N}, own(Of, {name, length(Before) + N}, #{})}
+           || {N, Of} <- lists:zip(lists:seq(1, 5), [A, B, A, B, It])],
+    Table = heal_cluster:alike(A, B),
+    ?assertEqual(lists:sort(New ++ Before), lists:sort(Table)),
+    #{view := {_, Operation}} = heal_cluster:status(It),
+    heal_cluster:kill_registry(It),
+    ok = heal_cluster:call(It, heal_table, changing, [Operation - 1]),
+    heal_cluster:start_registry(It, [A, B], #{}),
+    ?assertEqual(lists:sort(Table), lists:sort(heal_cluster:alike(A, B))).
 
 %% Makes the table of this node as if the part lacked a name, which this node restores.
 lack_here(Name) ->

@@ -103,6 +103,7 @@ start_registry(Name, Sim = #sim{nodes = Nodes, count = Count, now = Now, timeout
             Names = maps:filtermap(fun(_, {Row, How}) -> How =/= restoring andalso {true, Row} end, Table),
             Half = #half{names = Names, programs = #{}, latest = Latest},
             Common#{replica => heal_replica:resume(Life, At, max(Led, maps:get(led, Kept, Led)), Half), own => Own, programs => Programs,
+                    is_exact => maps:get(is_exact, Kept, true),
                     greatest => max(maps:get(greatest, Common, 0), maps:get(greatest, Kept, 0))};
         _ ->
             Common
@@ -226,7 +227,18 @@ handled(Name, Node = #node{part = Part, offset = Offset, rate = Rate}, Event, Si
         _ -> heal_sim_trace:trace("~p <- ~s", [Name, {short, Event}], Sim)
     end,
     {Actions, Next} = heal_part:handle(Event, Offset + trunc(Now * Rate), Part),
-    Acted = acted(Name, Actions, Traced#sim{nodes = Nodes#{Name := Node#node{part = Next}}}),
+    Running = Traced#sim{nodes = Nodes#{Name := Node#node{part = Next}}},
+    case [rows || {rows, _, _} <- Actions] =/= [] andalso crashes(?WRITES, Name, Running) of
+        true -> heal_sim_net:crash(Name, heal_sim_acts:actions(Name, Actions, Running));
+        false -> acted(Name, Actions, Part, Next, Running)
+    end.
+
+%% A registry may fail after it has written rows and sent messages, and before it has written the position.
+crashes(Rate, Name, Sim) ->
+    not Sim#sim.is_quiet andalso rand:uniform(Rate) =:= 1 andalso heal_sim_net:may_crash(Name, Sim).
+
+acted(Name, Actions, Part, Next, Running) ->
+    Acted = acted(Name, Actions, Running),
     Checked = case Next#part.replica =:= Part#part.replica of
         true -> Acted;
         false -> heal_sim_calls:check_position(Name, Acted)
@@ -238,7 +250,7 @@ handled(Name, Node = #node{part = Part, offset = Offset, rate = Rate}, Event, Si
 steps(_Name, [], Sim) ->
     Sim;
 steps(Name, [Step | Later], Sim) ->
-    case not Sim#sim.is_quiet andalso rand:uniform(?STEPS) =:= 1 andalso heal_sim_net:may_crash(Name, Sim) of
+    case crashes(?STEPS, Name, Sim) of
         true -> heal_sim_net:crash(Name, Sim);
         false -> steps(Name, Later, event(Name, Step, Sim))
     end.

@@ -11,8 +11,9 @@
 -define(PROMPT, 3000).
 %% How often to look whether the nodes are one part.
 -define(LOOK, 600).
-%% A registry fails after one step of this many.
+%% A registry fails after one step of this many, and between rows and their position in one of this many events.
 -define(STEPS, 20).
+-define(WRITES, 300).
 %% How many calls are made then.
 -define(CALM, 20).
 %% How many milliseconds a primary keeps entries that nobody waits for, and how long a node handles messages before it sends, at most.

@@ -26,15 +26,15 @@ action({reply, From, Answer}, Name, Sim) ->
     heal_sim_calls:reply(From, Answer, Name, Sim);
 action({rows, Put, Drop}, Name, Sim) ->
     Checked = lists:foldl(fun({_, Row}, Sum) -> seen(Row, Name, Sum) end, Sim, Put),
-    update(Name, fun(Node = #node{table = Table}) ->
+    update(Name, fun(Node = #node{table = Table, kept = Kept}) ->
         Rows = maps:from_list([{Key, {Row, shown}} || {Key, Row} <- Put]),
-        Node#node{table = maps:merge(maps:without(Drop, Table), Rows)}
+        Node#node{table = maps:merge(maps:without(Drop, Table), Rows), kept = Kept#{is_exact => false}}
     end, Checked);
 action({restoring, Rows}, Name, Sim) ->
     [_ | _] = Rows,
-    update(Name, fun(Node = #node{table = Table, own = Own}) ->
+    update(Name, fun(Node = #node{table = Table, own = Own, kept = Kept}) ->
         Node#node{table = maps:merge(Table, maps:from_list([{Term, {Row, restoring}} || {Term, Row} <- Rows])),
-                  own = lists:foldl(fun({Term, Row}, Sum) -> Sum#{Term := Row} end, Own, Rows)}
+                  own = lists:foldl(fun({Term, Row}, Sum) -> Sum#{Term := Row} end, Own, Rows), kept = Kept#{is_exact => false}}
     end, Sim);
 action({hide, Term}, Name, Sim) ->
     update(Name, fun(Node = #node{table = Table}) ->
@@ -117,7 +117,7 @@ notified(#row{pid = Pid, term = Term}, {{Kind, _}, _Rival}, Name, Sim = #sim{pro
     end.
 
 positioned(Name, Sim) ->
-    update(Name, fun(Node = #node{part = Part, kept = Kept}) -> Node#node{kept = Kept#{position => heal_part:position(Part)}} end, Sim).
+    update(Name, fun(Node = #node{part = Part, kept = Kept}) -> Node#node{kept = Kept#{position => heal_part:position(Part), is_exact => true}} end, Sim).
 
 update(Name, Change, Sim = #sim{nodes = Nodes}) ->
     #{Name := Node} = Nodes,
