@@ -109,10 +109,10 @@ name(Part) -> case heal_view:members(Part) of [_] -> apart; _ -> joined end.
 -spec message(node(), Body :: term(), #part{}) -> #part{}.
 message(Node, {ask, Reference, Members}, Part = #part{node = Self, peers = Peers}) when Node < Self ->
     Nodes = [Of || {{Of, _}, _} <- Members],
-    case Peers of
-        #{Node := _} -> asked(Node, Reference, Members, Nodes, Part);
-        %% It has heard of this node, and not the other way round.
-        _ -> heal_peers:hurry(Node, busy(Node, Reference, Nodes, Part))
+    case is_map_key(Node, Peers) andalso heal_peers:is_primary(map_get(Node, Peers)) of
+        true -> asked(Node, Reference, Members, Nodes, Part);
+        %% It has heard of this node, and not the other way round, or not that it leads a part now.
+        false -> heal_peers:hurry(Node, busy(Node, Reference, Nodes, Part))
     end;
 message(Node, {turn, Reference, Members}, Part = #part{heal = {asking, #asking{node = Node, reference = Reference}}}) ->
     engage(Node, Reference, Members, Part#part{heal = idle});

@@ -339,10 +339,20 @@ announced(Life = {Node, _}, Peers) ->
 %% isn't in the view. A registry that starts sends one when it hears from this node.
 -spec heard(node(), heal_peers:here(), #part{}) -> #part{}.
 heard(Node, Here, Part = #part{gap = Gap}) ->
-    Heard = heal_peers:here(Node, Here, Part),
+    Heard = prompted(Node, heal_peers:here(Node, Here, Part)),
     case missed(Heard) of
         View when View =:= none; View =:= Gap; map_get(is_first, Here) -> Heard;
         View -> want(View, Heard#part{gap = View})
+    end.
+
+%% A node follows this primary's view, and hasn't joined it: its message may be lost. It joins again when it hears that the view isn't
+%% settled.
+prompted(Node, Part = #part{members = Members, peers = Peers}) ->
+    case {heal_state:view(Part), Members, Peers} of
+        {View, #{Node := #member{is_joined = false, is_lagging = false}}, #{Node := #peer{at = {View, _}}}} ->
+            heal_peers:announce_to(Node, Part);
+        _ ->
+            Part
     end.
 
 %% The view whose snapshot this node has missed.

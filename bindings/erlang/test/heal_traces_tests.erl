@@ -190,6 +190,18 @@ members_change_test() ->
     ?assertEqual([a, b, c], Members(All)),
     ?assertEqual([a, b], Members(event(a, {down, c}, fun none_lost/3, All))).
 
+%% A query comes before the announcement that its node leads a part, which a full connection has refused. It is declined, and the node
+%% queries again.
+stale_query_test() ->
+    #{a := A, b := B} = Parts = connect(a, b, fun unasked/3, start([{a, #{}}, {b, #{}}])),
+    #part{heal = {asking, #asking{reference = Reference}}} = A,
+    #part{peers = Peers = #{a := Known}} = B,
+    put(done, []),
+    Healed = event(b, {message, a, {ask, Reference, [{{a, 1}, 1}]}}, fun none_lost/3,
+                   Parts#{b := B#part{peers = Peers#{a := Known#peer{at = {{{c, 1}, 1}, 0}}}}}),
+    ?assert(lists:member(busy, kinds(b, a))),
+    ?assertEqual(position(a, Healed), position(b, Healed)).
+
 %% A query finds no registry. The node is queried again when its registry announces that it has started.
 started_registry_test() ->
     Asking = connect(a, b, fun unasked/3, start([{a, #{}}, {b, #{}}])),
