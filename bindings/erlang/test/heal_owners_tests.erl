@@ -258,7 +258,7 @@ many_names_of_one(A, B) ->
 fits_test_() ->
     %% A node that has missed an entry learns so from the next announcement: the first pulse is to come later than the entries of the test.
     {inparallel, 3, [heal_cluster:halves(#{exchange_timeout => Timeout}, Test)
-     || {Timeout, Test} <- [{200, fun programs/2}, {200, fun too_many_names/2}, {60000, fun missed_entry/2}]]}.
+     || {Timeout, Test} <- [{200, fun programs/2}, {1000, fun too_many_names/2}, {60000, fun missed_entry/2}]]}.
 
 alarms(It) ->
     [Alarm || Alarm = {{heal_registry, _}, _} <- heal_cluster:call(It, alarm_handler, get_alarms, [])].
