@@ -70,7 +70,7 @@ static bool read_all(int from, void *data, size_t len)
     return true;
 }
 
-/* Opens a file to read it, and returns -1 if there is none. A file that exists and can't be read is an error. */
+/* Opens a file to read it, and returns -1 if it doesn't exist. A file that exists and can't be read is an error. */
 static int open_old(const char *name)
 {
     int file = open(name, O_RDONLY);

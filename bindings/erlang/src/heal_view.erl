@@ -12,8 +12,8 @@
 
 %% ---- Starting ----
 
-%% Goes on with the replica that this node had. A primary may have made an edit that nobody knows of, so it starts a view. Where the half may
-%% be another one than that of the position, nothing is sent that differs from that one, and nothing such is taken.
+%% Goes on with the replica that this node had. A primary may have made an edit that nobody knows of, so it starts a view. If the half may be
+%% that of another position, differences would be wrong: a primary sends snapshots, and another node leads a part of its own names.
 -spec resume(IsExact :: boolean(), #part{}) -> #part{}.
 resume(IsExact, Part = #part{replica = Replica}) ->
     Half = heal_state:half(Part),
@@ -33,6 +33,7 @@ resume(IsExact, Part = #part{replica = Replica}) ->
             end
     end.
 
+%% Keeps what differences are made from only if the half is that of the position.
 exact(true, Part) -> Part;
 exact(false, Part) -> Part#part{base = none}.
 
