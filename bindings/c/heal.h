@@ -365,7 +365,7 @@ uint32_t heal_side_program(const heal_side *side, size_t i, uint8_t id[32]);
    40 if the count of events is full, 41 for a program that isn't uploaded, 42 if the table has other code under its id. */
 uint32_t heal_side_register(heal_side *side, const uint8_t *name, size_t len, const heal_registration *registration);
 
-/* Unregisters a name on an idle side. Returns 31 for a name that isn't registered, 33, 40. */
+/* Unregisters a name on an idle side. Returns 31 for a name that isn't registered, 33, 40. Needs no memory. */
 uint32_t heal_side_unregister(heal_side *side, const uint8_t *name, size_t len);
 
 /* Looks a name up. Returns 31 for a name that isn't registered, or that the side withdrew in the open exchange. */

@@ -6,7 +6,7 @@
 
 -include("heal_part.hrl").
 
--export([claim/3, change/3, show/2, show_all/1, is_taken/3, disown/2, is_own/3, waiting/1, conflicts/2, is_conflict/3]).
+-export([claim/3, change/3, show/2, show_all/1, is_taken/3, disown/2, is_own/3, waiting/1, conflicts/2, is_conflict/3, keep_programs/1]).
 -export([plan/4, changes/2, is_current/2, losers/1, conflicts/1, swap/2, differences/1, differences/2, settle/1, restrict/2]).
 -export_type([changes/0, plan/0]).
 
@@ -207,10 +207,16 @@ conflicts(#plan{conflicts = Conflicts}) -> Conflicts.
 swap(Plan = #plan{lost = Lost, moved = Moved, losing = Losing, strange = Strange, lacking = Lacking, changes = {Put, _}}, Part) ->
     #half{names = Names, programs = Known} = heal_state:half(Part),
     All = maps:merge(Part#part.programs, Known),
-    Noted = heal_state:add({keep, programs, All}, lists:foldl(fun disown/2, Part#part{lost = Lost, programs = All}, Moved)),
+    Noted = keep_programs(lists:foldl(fun disown/2, Part#part{lost = Lost, programs = All}, Moved)),
     Restoring = lacked(Lacking, Names),
     Shown = heal_state:add({rows, Put, gone(Plan, maps:from_list(Restoring), Names)}, restoring(Restoring, kept(Losing, Noted))),
     lists:foldl(fun({Name, _}, Sum) -> heal_state:add({hide, Name}, Sum) end, Shown, Strange).
+
+%% Keeps the programs that this node relies on, and which of them the half has: the part may have no room for all.
+-spec keep_programs(#part{}) -> #part{}.
+keep_programs(Part = #part{programs = Programs}) ->
+    #half{programs = Known} = heal_state:half(Part),
+    heal_state:add({keep, known, maps:keys(Known)}, heal_state:add({keep, programs, Programs}, Part)).
 
 %% The names that leave the table: those that the half lacks now and nobody restores, and those that an exchange has taken from registrations
 %% which were to be restored.

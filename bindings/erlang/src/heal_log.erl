@@ -248,12 +248,28 @@ replayed(Replica, Log, At) ->
                 {ok, _} -> replayed(Replica, Rest, At + Size);
                 %% The disk hasn't written all of the last entry.
                 {{error, {84, _}}, <<>>} when At > 0 -> ok;
-                {{error, _}, _} when At > 0; Kind =:= snapshot -> {damaged, At};
+                {{error, _}, _} when At > 0 -> faulty(Replica, Log, At);
+                {{error, _}, _} when Kind =:= snapshot -> {damaged, At};
                 {{error, _}, _} -> not_a_log
             end;
         _ when At =:= 0 -> not_a_log;
-        _ -> {damaged, At}
+        _ -> faulty(Replica, Log, At)
     end.
+
+%% After a power cut some file systems leave zeros behind the part of an entry that they have written. Anything else is damage.
+faulty(Replica, Log, At) ->
+    case without_zeros(Log, byte_size(Log)) of
+        Log -> {damaged, At};
+        Written -> replayed(Replica, Written, At)
+    end.
+
+without_zeros(Log, Size) when Size > 0 ->
+    case binary:at(Log, Size - 1) of
+        0 -> without_zeros(Log, Size - 1);
+        _ -> binary:part(Log, 0, Size)
+    end;
+without_zeros(_Log, 0) ->
+    <<>>.
 
 replay(snapshot, Replica, Message) -> heal:replica_follow(Replica, Message);
 replay(entry, Replica, Message) -> heal:replica_apply(Replica, Message).

@@ -76,9 +76,9 @@ stamp(#{stamp := Stamp}) -> Stamp;
 stamp(_Options) -> erlang:system_time(millisecond).
 
 %% Returns whether these are some of the options of a registration.
--spec are_options(map()) -> boolean().
+-spec are_options(term()) -> boolean().
 are_options(Options) ->
-    lists:all(fun is_option/1, maps:to_list(Options)).
+    is_map(Options) andalso lists:all(fun is_option/1, maps:to_list(Options)).
 
 is_option({Key, Word}) when Key =:= stamp; Key =:= weight -> is_integer(Word) andalso Word >= 0 andalso Word < 1 bsl 64;
 is_option({extra, <<_:128>>}) -> true;

@@ -175,8 +175,7 @@ applied({change, Name, _}, By, _Before, Part) ->
         {false, _} -> Shown
     end;
 applied({upload, Id, Code}, _By, _Before, Part = #part{programs = Programs}) ->
-    Known = Programs#{Id => Code},
-    heal_state:add({keep, programs, Known}, Part#part{programs = Known}).
+    heal_home:keep_programs(Part#part{programs = Programs#{Id => Code}}).
 
 %% A primary remembers what it has unregistered or changed lately: a home that doesn't know so yet may want to restore it.
 note(Owner, Part = #part{dropped = Dropped, members = Members}) when Members =/= #{} ->

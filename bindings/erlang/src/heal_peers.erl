@@ -70,11 +70,15 @@ mark(Node, State, Part = #part{links = Links, awaited = Awaited}) ->
     end.
 
 %% Answers a node that is refused, so that it learns why, but not each of its messages.
-announce_once(Node, Refused, Part = #part{links = Links}) ->
+announce_once(Node, Refused = {refused, Why, _}, Part = #part{links = Links}) ->
     case Links of
         #{Node := #link{state = Refused}} -> mark(Node, Refused, Part);
-        _ -> announce_to(Node, forget(Node, mark(Node, Refused, Part)))
+        _ -> announce_to(Node, forget(Node, mark(Node, Refused, met(Node, Why, Part))))
     end.
+
+%% A node that runs a registry in this scope is to be connected again when it is lost. A hidden one stays apart.
+met(_Node, Why, Part) when Why =:= scope; Why =:= hidden -> Part;
+met(Node, _Why, Part) -> heal_state:add({keep, {met, Node}, true}, Part).
 
 await(Node, Part = #part{awaited = Awaited, now = Now}) ->
     Part#part{awaited = Awaited#{Node => Now + heal_state:patience(Part)}}.
@@ -157,13 +161,14 @@ answered(Node, #{is_first := true}, Part) -> announce_to(Node, Part);
 answered(_Node, _Here, Part) -> Part.
 
 fresh(Node, Here = #{life := Life, seq := Seq, number := Number, at := At}, none, Part = #part{peers = Peers}) ->
+    Met = met(Node, none, Part),
     case Peers of
         #{Node := Peer = #peer{life = Life}} ->
-            heard(Node, Here, Peer, Part);
+            heard(Node, Here, Peer, Met);
         _ ->
             %% It announces itself for the first time in this life.
             Peer = #peer{life = Life, seq = Seq, number = Number, at = At, heard = Part#part.now, met = Part#part.now},
-            heard(Node, Here, Peer, linked(Node, Part))
+            heard(Node, Here, Peer, linked(Node, Met))
     end;
 fresh(Node, _Here, {Why, Info}, Part) ->
     announce_once(Node, {refused, Why, Info}, Part).

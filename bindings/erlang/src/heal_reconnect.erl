@@ -1,9 +1,9 @@
-%% @private Connects the nodes of a registry's setting, and those that it was connected with, while they are apart.
+%% @private Connects the nodes of a registry's setting, and others that it has met, while they are apart.
 %%
 %% A process makes each attempt, since it may take long.
 -module(heal_reconnect).
 
--export([start/2, attempt/1, attempted/2, expired/1, up/2, down/3]).
+-export([start/3, attempt/1, forgotten/2, attempted/2, expired/1, up/2, down/3]).
 -export_type([state/0]).
 
 -define(INTERVAL, 10000).
@@ -27,9 +27,10 @@
 
 -opaque state() :: #state{}.
 
-%% Nodes that connect only when someone connects them stay apart, unless the option is given.
--spec start(any | [node()], heal_registry:options()) -> state().
-start(Nodes, Options) ->
+%% Begins with the nodes of the setting, and those that an earlier registry of this node has met. Nodes that connect only when someone
+%% connects them stay apart, unless the option is given.
+-spec start(any | [node()], Met :: [node()], heal_registry:options()) -> state().
+start(Nodes, Met, Options) ->
     Usual = case application:get_env(kernel, dist_auto_connect) of
         undefined -> application:get_env(heal, reconnect_interval, ?INTERVAL);
         {ok, _} -> never
@@ -41,8 +42,8 @@ start(Nodes, Options) ->
     end,
     Setting = case Nodes of any -> []; _ -> lists:usort(Nodes) -- [node()] end,
     Timeout = maps:get(edit_timeout, Options, application:get_env(heal, edit_timeout, ?EDIT_TIMEOUT)),
-    #state{interval = Interval, timeout = Timeout div 2, setting = Setting,
-           lost = maps:from_keys(Setting -- nodes(connected), infinity)}.
+    Lost = maps:merge(maps:from_keys(Met, ?INTERVALS), maps:from_keys(Setting, infinity)),
+    #state{interval = Interval, timeout = Timeout div 2, setting = Setting, lost = maps:without([node() | nodes(connected)], Lost)}.
 
 %% Tries to connect the nodes that are apart and returns them. The next attempt follows after the interval.
 -spec attempt(state()) -> {[node()], state()}.
@@ -59,6 +60,11 @@ is_due(Left) -> Left > ?INTERVALS - ?OFTEN orelse Left rem ?SELDOM =:= 0.
 less(_Node, 1) -> false;
 less(_Node, infinity) -> true;
 less(_Node, Left) -> {true, Left - 1}.
+
+%% Returns the nodes that aren't tried again after an attempt.
+-spec forgotten(Before :: state(), After :: state()) -> [node()].
+forgotten(#state{lost = Before}, #state{lost = After}) ->
+    maps:keys(maps:without(maps:keys(After), Before)).
 
 connect(Node, #state{timeout = Timeout}) ->
     {Attempt, Monitor} = spawn_monitor(fun() -> net_kernel:connect_node(Node) end),
@@ -88,13 +94,13 @@ expired(State) ->
 up(Node, State = #state{lost = Lost}) ->
     State#state{lost = maps:remove(Node, Lost)}.
 
-%% A node is lost. A hidden one that the setting doesn't name, such as a remote shell, stays apart.
--spec down(node(), visible | hidden, state()) -> state().
-down(_Node, _Type, State = #state{interval = never}) ->
+%% A node is lost. One that the setting doesn't name stays apart if the registry hasn't met it, as a remote shell.
+-spec down(node(), IsMet :: boolean(), state()) -> state().
+down(_Node, _IsMet, State = #state{interval = never}) ->
     State;
-down(Node, Type, State = #state{lost = Lost, setting = Setting}) ->
+down(Node, IsMet, State = #state{lost = Lost, setting = Setting}) ->
     case lists:member(Node, Setting) of
         true -> timed(State#state{lost = Lost#{Node => infinity}});
-        false when Type =:= hidden -> State;
-        false -> timed(State#state{lost = Lost#{Node => ?INTERVALS}})
+        false when IsMet -> timed(State#state{lost = Lost#{Node => ?INTERVALS}});
+        false -> State
     end.

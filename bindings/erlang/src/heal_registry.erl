@@ -66,9 +66,11 @@
 %% connects nodes that are apart every `reconnect_interval', unless that is `never'. Programs and the greatest number of an exchange
 %% are kept in the folder `dir', unless that is `none'. `send' replaces how messages are sent to other nodes, for tests.
 -spec start_link(options()) -> gen_server:start_ret().
-start_link(Options) ->
+start_link(Options = #{nodes := _}) ->
     ok = heal_keeper:hold(self()),
-    heal_server:start_link(self(), Options).
+    heal_server:start_link(self(), Options);
+start_link(Options) ->
+    error(badarg, [Options]).
 
 %% @doc Registers a name with the resolver of the application's configuration. Returns `no' if it can't be registered.
 -spec register_name(Name :: term(), pid()) -> yes | no.
@@ -108,15 +110,13 @@ other(Other, false, _Refused) -> {error, {same_digest, Other}}.
 %% @doc Changes the registration of a name: those of `stamp', `weight', `extra' and `resolver' that are given. Returns refusal 31 if
 %% nobody has the name, and 41 if the program is unknown. Raises `badarg' for an argument of another kind.
 -spec update(Name :: term(), Options :: map()) -> ok | {error, reason()}.
-update(Name, Options) when is_map(Options) ->
+update(Name, Options) ->
     _ = heal_names:are_options(Options) orelse error(badarg, [Name, Options]),
     Bytes = heal_names:name(Name),
     case is_other(Bytes, Name) of
         true -> {error, {?NO_SUCH_NAME, heal:refusal_words(?NO_SUCH_NAME)}};
         false -> updated(call({edit, {change, Bytes, any, Options}}))
-    end;
-update(Name, Options) ->
-    error(badarg, [Name, Options]).
+    end.
 
 updated({ok, _Owner}) -> ok;
 updated(Refused) -> Refused.
@@ -254,12 +254,16 @@ subscribe() ->
 %% {@link heal_events:event()}. A registry that is restarted has no subscribers.
 -spec subscribe(pid()) -> ok | {error, reason()}.
 subscribe(Pid) when is_pid(Pid) ->
-    call({subscribe, Pid}).
+    call({subscribe, Pid});
+subscribe(Other) ->
+    error(badarg, [Other]).
 
 %% @doc Ends a subscription.
 -spec unsubscribe(pid()) -> ok | {error, reason()}.
 unsubscribe(Pid) when is_pid(Pid) ->
-    call({unsubscribe, Pid}).
+    call({unsubscribe, Pid});
+unsubscribe(Other) ->
+    error(badarg, [Other]).
 
 %% Calls the registry. A registry that has failed is restarted soon.
 call(Request) ->

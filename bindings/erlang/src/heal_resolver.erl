@@ -116,8 +116,10 @@ send(Name, Message) ->
 
 %% @doc Returns the owner that keeps the name, or `none', and delivers the notices to those that lose it.
 -spec resolve(Name :: term(), pid(), pid()) -> pid() | none.
+resolve(Name, Pid1, Pid2) when is_pid(Pid1), is_pid(Pid2) ->
+    heal_verdict:resolve(Name, Pid1, Pid2);
 resolve(Name, Pid1, Pid2) ->
-    heal_verdict:resolve(Name, Pid1, Pid2).
+    error(badarg, [Name, Pid1, Pid2]).
 
 %% The registration is with the server of the process's node, which notices the end of the process.
 call(Node, Request) ->

@@ -90,8 +90,8 @@ init({Parent, Options = #{nodes := Nodes}}) ->
         start = Start,
         parent = Parent,
         nodes = Nodes,
-        send = maps:get(send, Options, fun heal_wire:send/2),
-        reconnect = heal_reconnect:start(Nodes, Options),
+        send = send(Options),
+        reconnect = heal_reconnect:start(Nodes, heal_table:met(), Options),
         heap = heal_heap:new(heal_part:count(Part)),
         dir = Dir,
         log = Log
@@ -129,7 +129,7 @@ settings(Life, Options = #{nodes := Nodes}) ->
     }.
 
 checked(any) -> any;
-checked(Nodes) when is_list(Nodes) ->
+checked(Nodes) when length(Nodes) > 0 ->
     case lists:member(node(), Nodes) andalso lists:all(fun is_atom/1, Nodes) of
         true -> lists:usort(Nodes);
         false -> error({bad_setting, nodes, Nodes})
@@ -150,6 +150,12 @@ dir(Options) ->
                 true when Dir =/= [], Dir =/= <<>> -> filename:absname(Dir);
                 _ -> error({bad_setting, dir, Dir})
             end
+    end.
+
+send(Options) ->
+    case maps:get(send, Options, fun heal_wire:send/2) of
+        Send when is_function(Send, 2) -> Send;
+        Value -> error({bad_setting, send, Value})
     end.
 
 setting(Key, Options, Usual) ->
@@ -252,12 +258,13 @@ informed({nodeup, Node, _}, State) when Node =:= node() ->
 informed({nodeup, Node, #{node_type := Type}}, State) ->
     %% Edits may wait for the node.
     up(Node, Type, release_rest(State));
-informed({nodedown, Node, #{node_type := Type}}, State) ->
-    down(Node, Type, State);
+informed({nodedown, Node, _}, State) ->
+    down(Node, State);
 informed({'DOWN', Monitor, process, Pid, _}, State) ->
     ended(Monitor, Pid, State);
 informed({timeout, _Timer, reconnect}, State = #server{reconnect = Reconnect}) ->
     {_Attempts, Next} = heal_reconnect:attempt(heal_reconnect:expired(Reconnect)),
+    [ok = heal_table:forget({met, Node}) || Node <- heal_reconnect:forgotten(Reconnect, Next)],
     State#server{reconnect = Next};
 informed({'ETS-TRANSFER', _, _, inherited}, State = #server{parent = Parent}) ->
     _ = is_process_alive(Parent) andalso heal_keeper:restart(Parent),
@@ -398,12 +405,13 @@ relogged(State) ->
 up(Node, Type, State = #server{reconnect = Reconnect}) ->
     event({up, Node, Type}, watched(Node, State#server{reconnect = heal_reconnect:up(Node, Reconnect)})).
 
-down(Node, Type, State = #server{watches = Watches, reconnect = Reconnect, outbox = Outbox}) ->
+down(Node, State = #server{watches = Watches, reconnect = Reconnect, outbox = Outbox}) ->
     case Watches of
         #{Node := Watch} -> unlink(Watch), exit(Watch, kill);
         _ -> ok
     end,
-    event({down, Node}, empty(Node, State#server{watches = maps:remove(Node, Watches), reconnect = heal_reconnect:down(Node, Type, Reconnect),
+    Lost = heal_reconnect:down(Node, heal_table:kept({met, Node}, false), Reconnect),
+    event({down, Node}, empty(Node, State#server{watches = maps:remove(Node, Watches), reconnect = Lost,
                                                  outbox = heal_outbox:forget(Node, Outbox)})).
 
 %% The next connection to a node isn't full.
@@ -475,7 +483,8 @@ perform(Actions, State = #server{subscribers = Subscribers}) ->
     _ = IsChanging andalso heal_table:changing(State#server.operation),
     timed(continued(Actions, positioned(IsChanging, acts(Actions, none, State)))).
 
-%% Returns whether an action writes rows of the half.
+%% Returns whether an action writes rows of the half, or which programs it has.
+changes({keep, Key, _}) -> Key =:= known;
 changes({Kind, _, _}) -> Kind =:= rows;
 changes({Kind, _}) -> Kind =:= restoring;
 changes(_Action) -> false.

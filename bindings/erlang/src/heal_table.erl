@@ -7,8 +7,8 @@
 
 -include("heal_replica.hrl").
 
--export([create/0, give/1, bequeath/1, rows/2, restoring/1, hide/1, disown/1, disown/2, kept/2, keep/2, keep_own/1]).
--export([changing/1, keep_position/3, keep_operation/1, keep_patience/1, patience/1, restore/1]).
+-export([create/0, give/1, bequeath/1, rows/2, restoring/1, hide/1, disown/1, disown/2, kept/2, keep/2, forget/1, keep_own/1]).
+-export([changing/1, keep_position/3, keep_operation/1, keep_patience/1, patience/1, restore/1, met/0]).
 -export([is_running/0, find/2, names/0, names/1, count/0, info/2, row/1, is_restoring/1]).
 
 -define(ROWS, heal_registry).
@@ -36,10 +36,11 @@
 
 -define(NOTHING, <<0:128>>).
 
-%% What else outlives the registry: its position, its programs, a registration that its node answers for and the table lacks.
--record(kept, {key :: key() | {own, atom()}, value :: term()}).
+%% What else outlives the registry: its position, its programs, a registration that its node answers for and the table lacks, a node that it
+%% has met.
+-record(kept, {key :: key() | {own | met, atom()}, value :: term() | '_'}).
 
--type key() :: atom() | {own, heal:name()}.
+-type key() :: atom() | {own, heal:name()} | {met, node()}.
 
 %% ---- What outlives the registry ----
 
@@ -158,6 +159,12 @@ keep(Key, Value) ->
     true = ets:insert(?ROWS, #kept{key = Key, value = Value}),
     ok.
 
+%% Keeps it no longer.
+-spec forget(key()) -> ok.
+forget(Key) ->
+    true = ets:delete(?ROWS, Key),
+    ok.
+
 %% Keeps registrations that this node answers for.
 -spec keep_own([{heal:name(), #row{}}]) -> ok.
 keep_own(Rows) ->
@@ -171,6 +178,11 @@ kept(Key, Usual) ->
         [#kept{value = Value}] -> Value;
         [] -> Usual
     end.
+
+%% Returns the nodes that the registry has met.
+-spec met() -> [node()].
+met() ->
+    ets:select(?ROWS, [{#kept{key = {met, '$1'}, value = '_'}, [], ['$1']}]).
 
 %% Keeps how many milliseconds a caller waits for the registry.
 -spec keep_patience(pos_integer()) -> ok.
@@ -234,7 +246,9 @@ own(Life, Entries, Names) ->
     maps:merge(Shown, maps:from_list([{Name, heal_row:upgrade(Name, Row)} || {Name, Row} <- Missing])).
 
 half(Names, Latest) ->
-    #half{names = Names, programs = kept(programs, #{}), latest = Latest}.
+    Programs = kept(programs, #{}),
+    %% An earlier version didn't keep which of them the half had.
+    #half{names = Names, programs = maps:with(kept(known, maps:keys(Programs)), Programs), latest = Latest}.
 
 %% ---- Readers ----
 

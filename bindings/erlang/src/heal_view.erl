@@ -259,8 +259,10 @@ lead(Half, Members, Part = #part{replica = Replica}) ->
             {heal_losers:losers(), heal_home:changes() | unknown}, #part{}) -> #part{}.
 start(Led, Members, Has, {Losers, Changes}, Part = #part{peers = Peers, links = Links}) ->
     Pending = maps:map(fun(Node, Member) -> Member#member{is_lagging = Node =/= Has} end, Members),
-    Next = Part#part{replica = Led, members = Pending, limbo = none, losers = Losers, dropped = #{}, since = 0,
-                     base = heal_difference:base(Members, Has, Part)},
+    %% A registry that fails before its position is kept leads no view of this number again: others may follow this one.
+    Numbered = heal_state:add({keep, led, heal_replica:led(Led)}, Part),
+    Next = Numbered#part{replica = Led, members = Pending, limbo = none, losers = Losers, dropped = #{}, since = 0,
+                         base = heal_difference:base(Members, Has, Part)},
     Moved = Next#part{settle_by = heal_state:until_followed(Next)},
     Plan = heal_home:plan(Losers, heal_state:half(Moved), Changes, Part),
     %% Callers read their own writes, so they are answered after the table has them.
@@ -340,11 +342,27 @@ announced(Life = {Node, _}, Peers) ->
 %% isn't in the view. A registry that starts sends one when it hears from this node.
 -spec heard(node(), heal_peers:here(), #part{}) -> #part{}.
 heard(Node, Here, Part = #part{gap = Gap}) ->
-    Heard = prompted(Node, heal_peers:here(Node, Here, Part)),
+    Heard = prompted(Node, started(Node, Here, heal_peers:here(Node, Here, Part))),
     case missed(Heard) of
         View when View =:= none; View =:= Gap; map_get(is_first, Here) -> Heard;
         View -> want(View, Heard#part{gap = View})
     end.
+
+%% A registry that starts has ignored the snapshot that was on its way to its node: it gets another one. If the node is a primary it follows
+%% none, and is no member any more.
+started(Node, #{is_first := true, seq := Seq}, Part = #part{members = Members, peers = Peers}) ->
+    case {Members, Peers} of
+        {#{Node := Member = #member{is_joined = false, was = Was}}, #{Node := Peer = #peer{seq = Seq, at = {Was, _}}}} ->
+            Next = case heal_peers:is_primary(Peer) of
+                true -> Member#member{was = none};
+                false -> Member#member{is_lagging = true}
+            end,
+            Part#part{members = Members#{Node := Next}};
+        _ ->
+            Part
+    end;
+started(_Node, _Here, Part) ->
+    Part.
 
 %% A node follows this primary's view, and hasn't joined it: its message may be lost. It joins again when it hears that the view isn't
 %% settled.

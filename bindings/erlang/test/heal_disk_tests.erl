@@ -101,17 +101,21 @@ acknowledged(Least, Ids) ->
         Ids
     end.
 
-%% A log that ends within an entry is read up to it, and goes on.
+%% A log that ends within an entry is read up to it, and goes on. So is one that ends in zeros, as a file system may leave them after a power
+%% cut.
 torn() ->
     Folder = folder(),
     A = start(a, Folder),
-    [{ok, One}, {ok, Two}] = [upload(A, N) || N <- [1, 2]],
+    {ok, One} = upload(A, 1),
+    Before = filelib:file_size(file(Folder, A)),
+    {ok, Two} = upload(A, 2),
     heal_cluster:kill_node(A),
     {ok, Log} = file:read_file(file(Folder, A)),
+    Size = byte_size(Log),
     [begin
-         ok = file:write_file(file(Folder, A), binary:part(Log, 0, byte_size(Log) - Cut)),
+         ok = file:write_file(file(Folder, A), <<(binary:part(Log, 0, Kept))/binary, 0:(8 * Zeros)>>),
          B = again(A, Folder),
-         ?assertEqual({true, false}, {knows(B, One), knows(B, Two)}),
+         ?assertEqual({true, Kept =:= Size}, {knows(B, One), knows(B, Two)}),
          ?assertEqual(#{}, problem(B)),
          ?assertMatch({ok, _}, upload(B, 3)),
          heal_cluster:kill_node(B),
@@ -119,7 +123,8 @@ torn() ->
          {ok, Three} = upload(C, 3),
          ?assertEqual({true, true}, {knows(C, One), knows(C, Three)}),
          heal_cluster:kill_node(C)
-     end || Cut <- [1, 8, 20]].
+     end || {Kept, Zeros} <- [{Size - 1, 0}, {Size - 8, 0}, {Size - 20, 0}, {Size - 8, 8}, {Size - 20, 4096}, {Before + 9, 4096}, {Before, 8},
+                              {Size, 4096}]].
 
 %% A file that is no log, or is damaged, stays as it is. The registry goes on without it until it is moved away.
 damaged() ->
@@ -150,7 +155,7 @@ damaged() ->
         heal_cluster:kill_node(C),
         C
     end, A, [{<<Front/binary, (Byte bxor 1), Rest/binary>>, [false, false]}, {<<"no log at all">>, [false, false]},
-             {<<Log/binary, "this isn't a message">>, [true, true]}]),
+             {<<Log/binary, "this isn't a message">>, [true, true]}, {<<Log/binary, "this isn't a message", 0:64>>, [true, true]}]),
     ?assertEqual(ok, file:write_file(File ++ ".away", <<>>)).
 
 %% The folder can't be made, or something else has the name of the file. A registry that starts has its names all the same.

@@ -121,7 +121,8 @@ settings_test_() ->
         A = heal_cluster:start(a),
         Start = fun(Options) -> heal_cluster:call(A, heal_disk_tests, start_here, [Options]) end,
         ?assertMatch({error, {{bad_setting, nodes, none}, _}}, Start(#{nodes => none})),
-        ?assertMatch({error, {{bad_setting, nodes, [b@c]}, _}}, Start(#{nodes => [b@c]})),
+        [?assertMatch({error, {{bad_setting, nodes, Nodes}, _}}, Start(#{nodes => Nodes})) || Nodes <- [[b@c], [], [b@c | x]]],
+        ?assertMatch({error, {{bad_setting, send, x}, _}}, Start(#{nodes => any, send => x})),
         Wrong = [{Key, Value} || Key <- [names, edit_timeout, exchange_timeout], Value <- [-1, 0, 1.5, x, "1"]] ++ [{names, 1048577}],
         _ = heal_cluster:call(A, application, load, [heal]),
         [?assertMatch({error, {{bad_setting, Key, Value}, _}}, Start(#{nodes => any, Key => Value}))
@@ -141,6 +142,23 @@ in_application(A, Key, Value, Start) ->
     ok = heal_cluster:call(A, application, set_env, [heal, Key, Value]),
     ?assertMatch({error, {{bad_setting, Key, Value}, _}}, Start(#{nodes => any})),
     ok = heal_cluster:call(A, application, set_env, [heal, Key, Usual]).
+
+%% ---- Arguments ----
+
+%% A call with an argument of another kind raises `badarg', also without a registry.
+bad_arguments_test_() ->
+    [{lists:flatten(io_lib:format("~p:~p ~0p", [Module, Function, Args])), ?_assertError(badarg, apply(Module, Function, Args))}
+     || {Module, Calls} <- [{heal_registry, registry_calls(self())}, {heal_resolver, resolver_calls(self())}], {Function, Args} <- Calls].
+
+registry_calls(Pid) ->
+    [{start_link, [x]}, {start_link, [#{}]}, {register, [x, none, #{}]}, {register, [x, Pid, []]}, {register, [x, Pid, #{weight => -1}]},
+     {register_name, [x, none]}, {update, [x, []]}, {update, [x, #{weight => x}]}, {set_resolver, [x, later]}, {upload, [x]},
+     {upload, [<<1:9>>]}, {names, [x]}, {subscribe, [x]}, {unsubscribe, [x]}].
+
+resolver_calls(Pid) ->
+    [{upload, [x]}, {upload, [<<1:9>>]}, {register, [x, none, #{}]}, {register, [x, Pid, []]}, {register, [x, Pid, #{stamp => -1}]},
+     {register_name, [x, none]}, {register_name, [x, none, #{}]}, {register_name, [x, Pid, []]}, {resolve, [x, none, Pid]},
+     {resolve, [x, Pid, none]}].
 
 %% ---- Not running ----
 

@@ -47,7 +47,8 @@ parts_test_() ->
         heal_cluster:cluster(3, #{}, fun not_transitive/1),
         heal_cluster:cluster(3, #{}, fun others_process/1),
         heal_cluster:cluster(3, #{}, fun three_way_clash/1),
-        {timeout, 240, fun by_themselves/0}
+        {timeout, 240, fun by_themselves/0},
+        {timeout, 240, fun met_again/0}
     ]}.
 
 %% What a node registers is in its own table when the call returns, and soon in that of every node.
@@ -312,4 +313,26 @@ by_themselves() ->
     Table = heal_cluster:one_part(Nodes),
     ?assertEqual([], Names -- Table),
     notified(Owners, maps:from_list(Table)),
+    [heal_cluster:stop(It) || It <- Nodes].
+
+%% A registry connects the node that it has met, also if it has failed meanwhile, and not the one that runs no registry.
+met_again() ->
+    Separate = ["-connect_all", "false", "-kernel", "prevent_overlapping_partitions", "false"],
+    Nodes = [A, B, C] = [heal_cluster:start(Letter, Separate) || Letter <- [a, b, c]],
+    Start = fun(It, Interval) -> heal_cluster:start_registry(It, any, #{reconnect_interval => Interval}) end,
+    ok = Start(A, 300),
+    ok = Start(B, never),
+    heal_cluster:mesh(Nodes),
+    heal_cluster:one_part([A, B]),
+    Cut = fun() -> [heal_cluster:call(A, erlang, disconnect_node, [heal_cluster:node_of(It)]) || It <- [B, C]] end,
+    Sees = fun() -> heal_cluster:call(A, erlang, nodes, []) end,
+    Back = fun() -> heal_cluster:eventually(fun() -> lists:member(heal_cluster:node_of(B), Sees()) end) end,
+    Cut(),
+    Back(),
+    heal_cluster:kill_registry(A),
+    Cut(),
+    ok = Start(A, 300),
+    Back(),
+    heal_cluster:one_part([A, B]),
+    ?assertEqual([heal_cluster:node_of(B)], Sees()),
     [heal_cluster:stop(It) || It <- Nodes].

@@ -19,6 +19,16 @@ any_test_() ->
         ?assert(lists:last(Tried) > ?WEEK - 60)
     end}.
 
+%% It is forgotten then.
+forgotten_test_() ->
+    {timeout, 120, fun() ->
+        Interval = fun(N, {Sum, State}) ->
+            {_, Next} = interval(N, {[], State}),
+            {Sum ++ [{N, Node} || Node <- heal_reconnect:forgotten(State, Next)], Next}
+        end,
+        ?assertMatch({[{?WEEK, ?LOST}], _}, lists:foldl(Interval, {[], lost(any)}, lists:seq(1, ?WEEK + 1)))
+    end}.
+
 %% A node of the setting is tried for ever.
 list_test_() ->
     {timeout, 120, fun() ->
@@ -31,19 +41,28 @@ back_test() ->
 
 %% No node is tried without an interval.
 never_test() ->
-    State = heal_reconnect:down(?LOST, visible, heal_reconnect:start(any, #{reconnect_interval => never})),
+    State = heal_reconnect:down(?LOST, true, heal_reconnect:start(any, [?LOST], #{reconnect_interval => never})),
     ?assertEqual([], tried(3, State)).
 
-%% A hidden node, such as a remote shell, is tried only if the setting names it.
-hidden_test() ->
-    ?assertEqual([], tried(3, lost(any, hidden))),
-    ?assertEqual([1, 2, 3], tried(3, lost([node(), ?LOST], hidden))).
+%% A node that the registry hasn't met, such as a remote shell, is tried only if the setting names it.
+unmet_test() ->
+    ?assertEqual([], tried(3, lost(any, false))),
+    ?assertEqual([1, 2, 3], tried(3, lost([node(), ?LOST], false))).
+
+%% A registry that starts again tries the nodes that it has met and isn't connected with. Nodes of the setting are tried for ever.
+met_test() ->
+    ?assertEqual([1, 2, 3], tried(3, started(any, [?LOST, node()]))),
+    ?assertEqual([1, 2, 3], tried(3, started([node(), ?LOST], [?LOST]))),
+    ?assertEqual(lists:seq(1, ?HOUR + 1), tried(?HOUR + 1, started([node(), ?LOST], [?LOST]))).
 
 lost(Nodes) ->
-    lost(Nodes, visible).
+    lost(Nodes, true).
 
-lost(Nodes, Type) ->
-    heal_reconnect:down(?LOST, Type, heal_reconnect:start(Nodes, #{reconnect_interval => 1 bsl 31})).
+lost(Nodes, IsMet) ->
+    heal_reconnect:down(?LOST, IsMet, started(Nodes, [])).
+
+started(Nodes, Met) ->
+    heal_reconnect:start(Nodes, Met, #{reconnect_interval => 1 bsl 31}).
 
 %% Returns the intervals, up to this one, at which the node is tried.
 tried(Intervals, State) ->

@@ -2,9 +2,10 @@
 %%
 %% Each node runs heal_part, as the server of heal_registry does. Time is virtual. Messages are delayed, and in most schedules also
 %% lost, repeated and reordered, also across a reconnection. Links are cut and restored one by one; nodes are killed and started
-%% again, one by one or all at once, hang and go on; registries crash and go on with what they kept; clocks differ, and timers fire
-%% early and late. In half of the schedules nodes have disks, which are slow and sometimes full. Callers on all nodes register, change,
-%% unregister and end processes of few names, so that most parts clash. A schedule follows from its seed alone.
+%% again, one by one or all at once, hang and go on; registries crash at any moment and go on with what they kept, or are stopped and
+%% start again; clocks differ, and timers fire early and late. In half of the schedules nodes have disks, which are slow and sometimes
+%% full. Callers on all nodes register, change, unregister and end processes of few names, so that most parts clash. A schedule follows
+%% from its seed alone.
 -module(heal_sim).
 
 -include("heal_sim.hrl").
@@ -93,7 +94,8 @@ start_node(Name, Sim = #sim{nodes = Nodes, now = Now}) ->
     start_registry(Name, Sim#sim{nodes = Nodes#{Name := New}, now = Now}).
 
 start_registry(Name, Sim = #sim{nodes = Nodes, count = Count, now = Now, timeouts = {Edit, Exchange}}) ->
-    #{Name := Node = #node{life = Life, offset = Offset, rate = Rate, table = Table, own = Own, kept = Kept}} = Nodes,
+    #{Name := Node = #node{life = Life, offset = Offset, rate = Rate, table = Table, kept = Kept}} = Nodes,
+    Own = owned(Life, Table, maps:get(own, Kept, #{})),
     Common = (heal_sim_disk:settings(Name, Sim))#{life => Life, number => erlang:phash2(Name, 1000), scope => sim, nodes => any, names => 4096,
                world => heal_sim_world, seq => Count * 1000, now => Offset + trunc(Now * Rate),
                connected => [{Other, visible} || Other <- connected(Name, Sim)], edit_timeout => Edit, exchange_timeout => Exchange},
@@ -101,7 +103,8 @@ start_registry(Name, Sim = #sim{nodes = Nodes, count = Count, now = Now, timeout
         #{position := {At, Led, Latest}} ->
             Programs = maps:merge(maps:get(programs, Common, #{}), maps:get(programs, Kept, #{})),
             Names = maps:filtermap(fun(_, {Row, How}) -> How =/= restoring andalso {true, Row} end, Table),
-            Half = #half{names = Names, programs = #{}, latest = Latest},
+            Known = maps:with(maps:get(known, Kept, []), maps:get(programs, Kept, #{})),
+            Half = #half{names = Names, programs = Known, latest = Latest},
             Common#{replica => heal_replica:resume(Life, At, max(Led, maps:get(led, Kept, Led)), Half), own => Own, programs => Programs,
                     is_exact => maps:get(is_exact, Kept, true),
                     greatest => max(maps:get(greatest, Common, 0), maps:get(greatest, Kept, 0))};
@@ -109,12 +112,17 @@ start_registry(Name, Sim = #sim{nodes = Nodes, count = Count, now = Now, timeout
             Common
     end,
     {Actions, Part} = heal_part:new(Settings),
-    Running = Sim#sim{nodes = Nodes#{Name := Node#node{part = Part, is_hung = false, backlog = [], outbox = heal_outbox:new()}}},
+    Running = Sim#sim{nodes = Nodes#{Name := Node#node{part = Part, own = Own, is_hung = false, backlog = [], outbox = heal_outbox:new()}}},
     Begun = heal_sim_disk:started(Name, acted(Name, Actions, mark_run(Name, Count, Running))),
     Ticking = heal_sim_trace:at(rand:uniform(100), {tick, Name, {Life, element(2, Life), Count}}, Begun),
     Dead = [{Term, heal_row:owner(Row)} || {Term, Row = #row{pid = Pid}} <- maps:to_list(Own),
                                            not heal_sim_world:is_alive(Pid)],
     lists:foldl(fun({Term, Owner}, Sum) -> event(Name, {died, Term, Owner}, Sum) end, Ticking, lists:sort(Dead)).
+
+%% The registrations that a registry which starts again answers for: those that its table shows, and those that it has kept.
+owned(Life, Table, Kept) ->
+    Shown = maps:from_list([{Term, Row} || {Term, {Row = #row{home = Home}, shown}} <- maps:to_list(Table), Home =:= Life]),
+    maps:merge(Shown, Kept).
 
 connected(Name, #sim{nodes = Nodes, links = Links}) ->
     [Other || Other <- lists:sort(maps:keys(Nodes)), Other =/= Name, is_map_key(heal_sim_net:pair(Name, Other), Links)].
@@ -183,7 +191,7 @@ step({up_again, Name}, Sim) ->
 step(fault, Sim = #sim{is_quiet = true}) ->
     Sim;
 step(fault, Sim) ->
-    heal_sim_trace:at(rand:uniform(1500), fault, heal_sim_net:fault(rand:uniform(13), Sim));
+    heal_sim_trace:at(rand:uniform(1500), fault, heal_sim_net:fault(rand:uniform(14), Sim));
 step(client, Sim = #sim{is_quiet = true}) ->
     Sim;
 step(client, Sim) ->
@@ -228,12 +236,12 @@ handled(Name, Node = #node{part = Part, offset = Offset, rate = Rate}, Event, Si
     end,
     {Actions, Next} = heal_part:handle(Event, Offset + trunc(Now * Rate), Part),
     Running = Traced#sim{nodes = Nodes#{Name := Node#node{part = Next}}},
-    case [rows || {rows, _, _} <- Actions] =/= [] andalso crashes(?WRITES, Name, Running) of
-        true -> heal_sim_net:crash(Name, heal_sim_acts:actions(Name, Actions, Running));
+    case Actions =/= [] andalso crashes(?WRITES, Name, Running) of
+        true -> heal_sim_net:crash(Name, heal_sim_acts:actions(Name, Actions, rand:uniform(length(Actions) + 1) - 1, Running));
         false -> acted(Name, Actions, Part, Next, Running)
     end.
 
-%% A registry may fail after it has written rows and sent messages, and before it has written the position.
+%% A registry may fail after any of its actions, before it has written the position.
 crashes(Rate, Name, Sim) ->
     not Sim#sim.is_quiet andalso rand:uniform(Rate) =:= 1 andalso heal_sim_net:may_crash(Name, Sim).
 

@@ -11,7 +11,7 @@
 -define(PROMPT, 3000).
 %% How often to look whether the nodes are one part.
 -define(LOOK, 600).
-%% A registry fails after one step of this many, and between rows and their position in one of this many events.
+%% A registry fails after one step of this many, and amid the actions of one of this many events.
 -define(STEPS, 20).
 -define(WRITES, 300).
 %% How many calls are made then.

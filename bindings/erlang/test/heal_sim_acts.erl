@@ -3,10 +3,21 @@
 
 -include("heal_sim.hrl").
 
--export([actions/3, drained/2, outbox/3, positioned/2, process/3, update/3]).
+-export([actions/3, actions/4, drained/2, outbox/3, positioned/2, process/3, update/3]).
 
 actions(Name, Actions, Sim) ->
-    lists:foldl(fun(Action, Sum) -> action(Action, Name, Sum) end, Sim, Actions).
+    actions(Name, Actions, length(Actions), Sim).
+
+%% Does this number of these actions. A registry marks its position before it writes rows.
+actions(Name, Actions, Count, Sim) ->
+    Marked = case lists:any(fun changes/1, Actions) of
+        true -> update(Name, fun(Node = #node{kept = Kept}) -> Node#node{kept = Kept#{is_exact => false}} end, Sim);
+        false -> Sim
+    end,
+    lists:foldl(fun(Action, Sum) -> action(Action, Name, Sum) end, Marked, lists:sublist(Actions, Count)).
+
+changes({keep, Key, _}) -> Key =:= known;
+changes(Action) -> lists:member(element(1, Action), [rows, restoring]).
 
 action({send, To, Body}, From, Sim = #sim{nodes = Nodes}) ->
     #{From := #node{outbox = Outbox}} = Nodes,
@@ -26,16 +37,14 @@ action({reply, From, Answer}, Name, Sim) ->
     heal_sim_calls:reply(From, Answer, Name, Sim);
 action({rows, Put, Drop}, Name, Sim) ->
     Checked = lists:foldl(fun({_, Row}, Sum) -> seen(Row, Name, Sum) end, Sim, Put),
-    update(Name, fun(Node = #node{table = Table, kept = Kept}) ->
+    update(Name, fun(Node = #node{table = Table}) ->
         Rows = maps:from_list([{Key, {Row, shown}} || {Key, Row} <- Put]),
-        Node#node{table = maps:merge(maps:without(Drop, Table), Rows), kept = Kept#{is_exact => false}}
+        Node#node{table = maps:merge(maps:without(Drop, Table), Rows)}
     end, Checked);
 action({restoring, Rows}, Name, Sim) ->
-    [_ | _] = Rows,
-    update(Name, fun(Node = #node{table = Table, own = Own, kept = Kept}) ->
-        Node#node{table = maps:merge(Table, maps:from_list([{Term, {Row, restoring}} || {Term, Row} <- Rows])),
-                  own = lists:foldl(fun({Term, Row}, Sum) -> Sum#{Term := Row} end, Own, Rows), kept = Kept#{is_exact => false}}
-    end, Sim);
+    update(Name, fun(Node = #node{table = Table}) ->
+        Node#node{table = maps:merge(Table, maps:from_list([{Term, {Row, restoring}} || {Term, Row} <- Rows]))}
+    end, action({keep_own, Rows}, Name, Sim));
 action({hide, Term}, Name, Sim) ->
     update(Name, fun(Node = #node{table = Table}) ->
         case Table of
@@ -52,9 +61,9 @@ action({own, Term, Row = #row{pid = Pid}}, Name, Sim) ->
     end;
 action({disown, Term, #row{pid = Pid}}, Name, Sim) ->
     Traced = heal_sim_trace:trace("~p disowns ~0p ~p", [Name, Term, Pid], Sim),
-    Rest = update(Name, fun(Node = #node{own = Own, table = Table}) ->
+    Rest = update(Name, fun(Node = #node{own = Own, table = Table, kept = Kept}) ->
         Rows = case Table of #{Term := {_, restoring}} -> maps:remove(Term, Table); _ -> Table end,
-        Node#node{own = maps:remove(Term, Own), table = Rows}
+        Node#node{own = maps:remove(Term, Own), table = Rows, kept = Kept#{own => maps:remove(Term, maps:get(own, Kept, #{}))}}
     end, Traced),
     %% A caller may have unregistered it: also one whose answer is still to come, or whose request a node that hung carries out late.
     case heal_sim_calls:is_unregistered(Term) of
@@ -66,8 +75,10 @@ action({lost, Losers}, Name, Sim) ->
     lists:foldl(fun({Term, Row, Loss}, Sum) -> notified(Row, Loss, Name, action({disown, Term, Row}, Name, Sum)) end, Sim, Losers);
 action({keep_own, Rows}, Name, Sim) ->
     [_ | _] = Rows,
-    Keep = fun({Term, Row}, Own) -> Own#{Term := Row} end,
-    update(Name, fun(Node = #node{own = Own}) -> Node#node{own = lists:foldl(Keep, Own, Rows)} end, Sim);
+    update(Name, fun(Node = #node{own = Own, kept = Kept}) ->
+        Changed = lists:foldl(fun({Term, Row}, Sum) -> Sum#{Term := Row} end, Own, Rows),
+        Node#node{own = Changed, kept = Kept#{own => maps:merge(maps:get(own, Kept, #{}), maps:from_list(Rows))}}
+    end, Sim);
 action({keep, Key, Value}, Name, Sim) ->
     heal_sim_disk:kept(Key, Value, Name, update(Name, fun(Node = #node{kept = Kept}) -> Node#node{kept = Kept#{Key => Value}} end, Sim));
 action({view, View, Members}, Name, Sim) ->
@@ -105,11 +116,11 @@ drained(Name, Sim = #sim{nodes = Nodes}) ->
         _ -> outbox(Name, drain, Sim)
     end.
 
-notified(#row{pid = Pid, term = Term}, {{Kind, _}, _Rival}, Name, Sim = #sim{processes = Processes}) ->
-    #{Pid := Process = #process{notices = Notices, node = On}} = Processes,
+notified(#row{pid = Pid, term = Term, home = {Home, _}}, {{Kind, _}, _Rival}, Name, Sim = #sim{processes = Processes}) ->
+    #{Pid := Process = #process{notices = Notices}} = Processes,
     Traced = heal_sim_trace:trace("~p notifies ~p of ~p by ~p", [Name, Pid, Term, Kind], Sim),
     Notices =:= 0 orelse heal_sim_trace:broken(one_notice, {Pid, Term}, Traced),
-    On =:= Name orelse heal_sim_trace:broken(notice_from_home, {Pid, Term, Name}, Traced),
+    Home =:= Name orelse heal_sim_trace:broken(notice_from_home, {Pid, Term, Name}, Traced),
     Told = Traced#sim{processes = Processes#{Pid := Process#process{notices = 1}}},
     case Kind of
         exit -> heal_sim_net:ended(Pid, Told);

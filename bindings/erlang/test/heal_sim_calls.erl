@@ -66,6 +66,7 @@ reply(From, Answer, Name, Sim = #sim{calls = Calls, now = Now, timeouts = {Edit,
     end.
 
 answered({upload, Id}, {ok, Id}, Name, Sim = #sim{uploads = Uploads}) ->
+    heal_sim_disk:has(Name, Id, Sim) orelse heal_sim_trace:broken(stored_before_answered, {Name, Id}, Sim),
     Sim#sim{uploads = [{Name, Id} | Uploads]};
 answered({upload, _Id}, {error, {_, _}}, _Name, Sim = #sim{is_calm = false}) ->
     Sim;
@@ -76,9 +77,9 @@ answered({register, Pid}, ok, Name, Sim = #sim{nodes = Nodes, processes = Proces
     #{Name := #node{table = Table}} = Nodes,
     case Table of
         #{Term := {#row{pid = Pid}, _}} -> ok;
-        %% Another caller may have unregistered it since, or the process's node has left the part.
+        %% Another caller may have unregistered it since, or the process's node has left the part, or was dropped and restores it.
         _ -> is_unregistered(Term) orelse not heal_sim_world:is_alive(Pid) orelse not are_together(Name, element(2, Pid), Sim)
-            orelse heal_sim_trace:broken(reads_its_writes, {Pid, Name, maps:get(Term, Table, none)}, Sim)
+            orelse is_restoring(Term, Pid, Sim) orelse heal_sim_trace:broken(reads_its_writes, {Pid, Name, maps:get(Term, Table, none)}, Sim)
     end,
     heal_sim_acts:process(Pid, fun(Process) -> Process#process{state = acknowledged} end, Sim);
 answered({register, Pid}, {error, {_, unknown}}, _Name, Sim) ->
@@ -118,6 +119,13 @@ answered({unregister, Term}, {error, {_, unknown}}, _Name, Sim) ->
 doubtful(Process = #process{until = none}) -> Process#process{until = doubtful};
 doubtful(Process) -> Process.
 
+is_restoring(Term, Pid = {pid, On, _}, #sim{nodes = Nodes}) ->
+    #{On := #node{table = Table}} = Nodes,
+    case Table of
+        #{Term := {#row{pid = Pid}, restoring}} -> true;
+        _ -> false
+    end.
+
 %% Do both nodes follow one view, and has its primary heard so of the second one?
 are_together(One, Other, #sim{nodes = Nodes}) ->
     case {Nodes, view_of(One, Nodes)} of
@@ -140,12 +148,12 @@ is_joined(none) -> false.
 each(Change, Sim = #sim{processes = Processes}) ->
     Sim#sim{processes = maps:map(Change, Processes)}.
 
-%% Two nodes that are at one position have one table.
+%% Two nodes that are at one position have one table and the same programs.
 check_position(Name, Sim = #sim{nodes = Nodes, positions = Positions}) ->
     #{Name := #node{part = #part{replica = Replica}}} = Nodes,
     At = heal_replica:position(Replica),
-    #half{names = Names} = heal_replica:half(Replica),
-    Hash = erlang:phash2(Names),
+    #half{names = Names, programs = Programs} = heal_replica:half(Replica),
+    Hash = erlang:phash2({Names, lists:sort(maps:keys(Programs))}),
     case Positions of
         #{At := Hash} -> Sim;
         #{At := _} -> heal_sim_trace:broken(one_table_at_a_position, {Name, At}, Sim);

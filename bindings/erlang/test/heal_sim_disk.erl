@@ -5,7 +5,7 @@
 
 -include("heal_sim.hrl").
 
--export([settings/2, started/2, kept/4, written/3]).
+-export([settings/2, started/2, kept/4, written/3, has/3]).
 
 %% What a registry that starts reads from the disk of its node.
 settings(_Name, #sim{has_disks = false}) ->
@@ -42,3 +42,10 @@ written(Name, Programs, Sim = #sim{nodes = Nodes}) ->
             Next = heal_sim_acts:update(Name, fun(Node) -> Node#node{disk = Disk#{programs => Both}} end, Sim),
             heal_sim:event(Name, {disk, maps:keys(Both), [], none}, Next)
     end.
+
+%% Returns whether the disk of a node has a program, if the nodes have disks.
+has(_Name, _Id, #sim{has_disks = false}) ->
+    true;
+has(Name, Id, #sim{nodes = Nodes}) ->
+    #{Name := #node{disk = Disk}} = Nodes,
+    is_map_key(Id, maps:get(programs, Disk, #{})).

@@ -100,15 +100,26 @@ cut(A, B, Sim = #sim{links = Links}) ->
     case maps:take({A, B}, Links) of
         {_, Rest} ->
             Cut = heal_sim_trace:trace("cut ~p ~p", [A, B], Sim#sim{links = Rest}),
-            announce(A, {down, B}, announce(B, {down, A}, Cut));
+            lost(A, B, lost(B, A, announce(A, {down, B}, announce(B, {down, A}, Cut))));
         error ->
             Sim
     end.
 
+%% A node that answers for processes of another one takes them for ended when the link to it is cut.
+lost(Name, On, Sim = #sim{nodes = Nodes}) ->
+    #{Name := #node{own = Own}} = Nodes,
+    Lose = fun({Term, Row}, Sum) -> announce(Name, On, {died, Term, heal_row:owner(Row)}, doubtful([Row], Sum)) end,
+    lists:foldl(Lose, Sim, lists:sort([Owned || Owned = {_, #row{pid = {pid, Of, _}}} <- maps:to_list(Own), Of =:= On])).
+
 %% A node learns of a link a while later, after the messages that arrived before.
-announce(Name, Event, Sim = #sim{now = Now, last = Last, nodes = Nodes}) ->
-    Other = element(2, Event),
-    Time = max(Now + rand:uniform(100), maps:get({Other, Name}, Last, 0)),
+announce(Name, Event, Sim) ->
+    announce(Name, element(2, Event), Event, Sim).
+
+announce(Name, Other, Event, Sim) ->
+    informed(Name, Other, Event, 100, Sim).
+
+informed(Name, Other, Event, Delay, Sim = #sim{now = Now, last = Last, nodes = Nodes}) ->
+    Time = max(Now + rand:uniform(Delay), maps:get({Other, Name}, Last, 0)),
     #{Name := #node{life = Life}} = Nodes,
     heal_sim_trace:at(Time - Now, {link, Name, Life, Event}, Sim#sim{last = Last#{{Other, Name} => Time}}).
 
@@ -149,22 +160,50 @@ fault(13, Sim) ->
         1 -> lists:foldl(fun(Name, Sum) -> heal_sim_trace:at(rand:uniform(3000), {up_again, Name}, kill(Name, Sum)) end, Sim, names(Sim));
         _ -> Sim
     end;
+fault(14, Sim) ->
+    Name = any(names(Sim)),
+    case may_crash(Name, Sim) of
+        true -> heal_sim_trace:at(rand:uniform(2000), {up_again, Name}, stop(Name, Sim));
+        false -> Sim
+    end;
 fault(12, Sim) ->
     lists:foldl(fun({A, B}, Sum) -> restore(A, B, Sum) end, Sim, heal_sim:pairs(names(Sim))).
 
 %% The node ends, and its processes with it.
-kill(Name, Sim = #sim{nodes = Nodes, processes = Processes}) ->
+kill(Name, Sim = #sim{nodes = Nodes}) ->
     case Nodes of
         #{Name := #node{part = none}} ->
             Sim;
-        #{Name := Node} ->
-            [heal_sim_world:end_process(Pid) || {Pid, #process{node = On}} <- maps:to_list(Processes), On =:= Name],
+        _ ->
             Others = [Other || Other <- names(Sim), Other =/= Name],
-            Killed = heal_sim_trace:trace("kill ~p", [Name], Sim#sim{nodes = Nodes#{Name := Node#node{part = none, life = dead, is_hung = false,
-                                                                                                                backlog = [], table = #{}, own = #{}, kept = #{}}}}),
+            Killed = heal_sim_trace:trace("kill ~p", [Name], gone(Name, Sim)),
             Cut = lists:foldl(fun(Other, Sum) -> {A, B} = pair(Name, Other), cut(A, B, Sum) end, Killed, Others),
-            forget_calls(Name, Cut#sim{uploads = [Upload || Upload = {On, _} <- Cut#sim.uploads, Cut#sim.has_disks orelse On =/= Name]})
+            all_ended(Name, forget_calls(Name, Cut))
     end.
+
+%% The registry is stopped, and its names and their processes end. Its connections stay.
+stop(Name, Sim) ->
+    Told = lists:foldl(fun(Other, Sum) -> informed(stopped, Name, Other, Sum) end, Sim, heal_sim:connected(Name, Sim)),
+    all_ended(Name, forget_calls(Name, heal_sim_trace:trace("stop ~p", [Name], gone(Name, Told)))).
+
+%% What a node has in its memory is gone, and with it the names of other nodes' processes that it answered for.
+gone(Name, Sim = #sim{nodes = Nodes, uploads = Uploads, has_disks = HasDisks}) ->
+    #{Name := Node = #node{own = Own}} = Nodes,
+    Gone = Node#node{part = none, life = dead, is_hung = false, backlog = [], table = #{}, own = #{}, kept = #{}},
+    Left = Sim#sim{nodes = Nodes#{Name := Gone}, uploads = [Upload || Upload = {On, _} <- Uploads, HasDisks orelse On =/= Name]},
+    doubtful([Row || Row = #row{pid = {pid, On, _}} <- maps:values(Own), On =/= Name], Left).
+
+%% The registrations of these rows may be gone, though their processes live.
+doubtful(Rows, Sim) ->
+    lists:foldl(fun(#row{pid = Pid}, Sum) -> heal_sim_acts:process(Pid, fun heal_sim_calls:doubtful/1, Sum) end, Sim, Rows).
+
+all_ended(Name, Sim = #sim{processes = Processes}) ->
+    Pids = [Pid || {Pid, #process{node = On}} <- lists:sort(maps:to_list(Processes)), On =:= Name, heal_sim_world:is_alive(Pid)],
+    lists:foldl(fun ended/2, Sim, Pids).
+
+%% A node that is connected learns that a registry has failed or was stopped, before it hears from the next one.
+informed(Kind, Name, Other, Sim) ->
+    informed(Other, Name, {Kind, Name}, ?BUSY, Sim).
 
 hang(Name, Sim = #sim{nodes = Nodes}) ->
     case Nodes of
@@ -184,25 +223,23 @@ resume(Name, Sim = #sim{nodes = Nodes}) ->
             Sim
     end.
 
-%% Returns whether a registry may fail. One that has never made an edit starts again at the same position: in a patient schedule a leader
-%% that counts on its merge would take it for one that is yet to follow.
-may_crash(Name, #sim{nodes = Nodes, is_patient = IsPatient}) ->
+%% Returns whether a registry may fail.
+may_crash(Name, #sim{nodes = Nodes}) ->
     case Nodes of
         #{Name := #node{part = none}} -> false;
         #{Name := #node{is_hung = true}} -> false;
-        #{Name := #node{part = Part}} -> not IsPatient orelse element(2, element(1, heal_state:at(Part))) > 1
+        _ -> true
     end.
 
 %% The registry ends between two events and starts again.
-crash(Name, Sim) ->
+crash(Name, Sim = #sim{nodes = Nodes}) ->
+    #{Name := #node{own = Before}} = Nodes,
     Crashed = forget_calls(Name, heal_sim_trace:trace("crash ~p", [Name], Sim)),
-    heal_sim:start_registry(Name, lists:foldl(fun(Other, Sum) -> failed(Name, Other, Sum) end, Crashed, heal_sim:connected(Name, Sim))).
-
-%% A node that is connected learns that a registry has failed, before it hears from the next one.
-failed(Name, Other, Sim = #sim{now = Now, last = Last, nodes = Nodes}) ->
-    Time = max(Now + rand:uniform(?BUSY), maps:get({Name, Other}, Last, 0)),
-    #{Other := #node{life = Life}} = Nodes,
-    heal_sim_trace:at(Time - Now, {link, Other, Life, {failed, Name}}, Sim#sim{last = Last#{{Name, Other} => Time}}).
+    Told = lists:foldl(fun(Other, Sum) -> informed(failed, Name, Other, Sum) end, Crashed, heal_sim:connected(Name, Sim)),
+    Started = heal_sim:start_registry(Name, Told),
+    #{Name := #node{own = After}} = Started#sim.nodes,
+    %% It may have failed while it unregistered a name.
+    doubtful([Row || {Term, Row} <- maps:to_list(maps:without(maps:keys(After), Before)), heal_sim_calls:is_unregistered(Term)], Started).
 
 %% The callers of a node or registry that ends receive no answer.
 forget_calls(Name, Sim = #sim{calls = Calls}) ->
@@ -211,9 +248,12 @@ forget_calls(Name, Sim = #sim{calls = Calls}) ->
     lists:foldl(fun({_, _, Call}, Sum) -> heal_sim_calls:answered(Call, {error, {ended, unknown}}, Name, Sum) end, Kept,
                 [Value || {_, Value} <- lists:sort(maps:to_list(Lost))]).
 
-ended(Pid = {pid, On, _}, Sim = #sim{nodes = Nodes}) ->
+%% A process ends, and the nodes that answer for its names know so.
+ended(Pid, Sim) ->
     heal_sim_world:end_process(Pid),
-    #{On := #node{own = Own}} = Nodes,
+    lists:foldl(fun(Name, Sum) -> ended(Name, Pid, Sum) end, heal_sim_trace:trace("ends ~p", [Pid], Sim), names(Sim)).
+
+ended(Name, Pid, Sim = #sim{nodes = Nodes}) ->
+    #{Name := #node{own = Own}} = Nodes,
     Watched = [{Term, heal_row:owner(Row)} || {Term, Row = #row{pid = Of}} <- maps:to_list(Own), Of =:= Pid],
-    lists:foldl(fun({Term, Owner}, Sum) -> heal_sim:event(On, {died, Term, Owner}, Sum) end,
-                heal_sim_trace:trace("ends ~p", [Pid], Sim), Watched).
+    lists:foldl(fun({Term, Owner}, Sum) -> heal_sim:event(Name, {died, Term, Owner}, Sum) end, Sim, Watched).

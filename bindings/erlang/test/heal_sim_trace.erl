@@ -14,7 +14,7 @@ about(Facts, #sim{processes = Processes}) when is_tuple(Facts), is_map_key(eleme
     #process{owner = Owner, node = Node} = map_get(element(1, Facts), Processes),
     Start = atom_to_list(Node),
     [lists:flatten(io_lib:format("~0p", [Word])) || Word <- [element(1, Facts), Owner], Word =/= none]
-        ++ [Start ++ " is in view", "kill " ++ Start, "crash " ++ Start, "hang " ++ Start, "wake " ++ Start, "start " ++ Start];
+        ++ [Start ++ " is in view"] ++ [Verb ++ Start || Verb <- ["kill ", "stop ", "crash ", "hang ", "wake ", "start "]];
 about(_Facts, _Sim) ->
     [].
 

@@ -339,6 +339,42 @@ refused_want_test() ->
     Drained = event(c, {drained, b}, fun none_lost/3, Refused),
     ?assertEqual(position(b, Drained), position(c, Drained)).
 
+%% The registry of a node fails while the snapshot of a new primary is on its way to it. The next one gets another snapshot when it starts.
+starts_before_its_snapshot_test() ->
+    Three = #{c := #part{replica = Replica}} = joined_three(),
+    Left = event(a, {down, b}, fun none_lost/3, event(b, {down, a}, fun(b, c, _) -> true; (_, _, _) -> false end, Three)),
+    ?assertMatch({{{b, 1}, 2}, _}, position(b, Left)),
+    Started = started(c, #{replica => Replica, connected => [{a, visible}, {b, visible}]}, Left),
+    ?assertEqual(position(b, Started), position(c, Started)),
+    ?assertMatch(#{b := #part{settle_by = none}}, Started).
+
+%% Starts the registry of a node again with these settings. The nodes hear what it sends.
+started(Node, More, Parts) ->
+    {Actions, Part} = heal_part:new(maps:merge((settings(Node))#{seq => 100}, More)),
+    events([{To, {message, Node, Body}} || {send, To, Body} <- Actions], fun none_lost/3, Parts#{Node := Part}).
+
+%% The registry of a node that leads a part without edits fails before it follows the merge: the leader doesn't wait for it, and the two
+%% exchange again.
+starts_before_it_follows_test() ->
+    Left = connect(a, b, fun(a, b, {finished, _, _}) -> true; (_, _, _) -> false end, start([{a, #{}}, {b, #{}}])),
+    ?assertMatch([{{{a, 1}, 2}, _}, {{{b, 1}, 1}, _}], [position(Node, Left) || Node <- [a, b]]),
+    Started = started(b, #{connected => [{a, visible}]}, Left),
+    ?assertEqual(position(a, Started), position(b, Started)).
+
+%% A registry fails after it has sent what begins its view, and before it has kept its position. It leads no view of that number again.
+fails_before_its_position_test() ->
+    Three = #{b := Part} = joined_three(),
+    {Actions, _} = heal_part:handle({down, a}, 2, Part),
+    ?assertMatch([_], [At || {send, c, {difference, {{_, _, At = {{{b, 1}, 2}, _}, _, _, _, _}, _}}} <- Actions]),
+    ok = heal_table:create(),
+    ok = heal_table:keep_position(position(b, Three), 1, 0),
+    IsBefore = fun(Action) -> element(1, Action) =/= send end,
+    [ok = heal_table:keep(Key, Value) || {keep, Key, Value} <- lists:takewhile(IsBefore, Actions)],
+    #{replica := Replica} = heal_table:restore({b, 1}),
+    true = ets:delete(heal_registry),
+    {_, Again} = heal_part:new((settings(b))#{replica => Replica, is_exact => false}),
+    ?assertMatch({{{b, 1}, 3}, _}, element(1, heal_part:position(Again))).
+
 %% Three nodes, whose primary is a.
 joined_three() ->
     Pair = connect(a, b, fun none_lost/3, start([{a, #{}}, {b, #{}}, {c, #{}}])),
@@ -620,3 +656,58 @@ refused_again_test() ->
     Full = event(c, {refused, b, [get(request)]}, fun none_lost/3, Left),
     _ = event_at(902, c, tick, Full),
     ?assertEqual([{reply, 7, {error, {timeout, unknown}}}], [Reply || Reply = {reply, 7, _} <- done(c)]).
+
+%% A caller waits until its program is on the disk. A report of an earlier write doesn't answer it.
+stored_before_answered_test() ->
+    Two = event(a, upload(2), fun none_lost/3, event(a, upload(1), fun none_lost/3, start([{a, #{disk => {[], none}}}]))),
+    Replies = fun(Ids, Lacking, Problem, Parts) ->
+        put(done, []),
+        Next = event(a, {disk, Ids, Lacking, Problem}, fun none_lost/3, Parts),
+        {[{N, Answer} || {reply, N, Answer} <- done(a)], Next}
+    end,
+    {First, One} = Replies([<<1:256>>], [], none, Two),
+    ?assertEqual([{1, {ok, <<1:256>>}}], First),
+    ?assertMatch({[{2, {ok, <<2:256>>}}], _}, Replies([<<1:256>>, <<2:256>>], [], none, One)),
+    ?assertMatch({[{2, {error, {not_stored, full}}}], _}, Replies([<<1:256>>], [<<2:256>>], full, One)).
+
+%% A node that has announced itself is to be connected again when it is lost, also if it is refused. One that runs no registry, is hidden, or
+%% belongs to another scope is not.
+met_test() ->
+    Met = fun(Event, More) ->
+        Parts = start([{a, #{}}, {b, More}]),
+        _ = event(a, Event, fun none_lost/3, event(b, {up, a, visible}, fun none_lost/3, Parts)),
+        lists:usort([Node || {keep, {met, Node}, true} <- done(a)])
+    end,
+    ?assertEqual([b], Met({up, b, visible}, #{})),
+    ?assertEqual([b], Met({up, b, visible}, #{number => erlang:phash2(a, 1000)})),
+    ?assertEqual([], Met({up, b, hidden}, #{})),
+    ?assertEqual([], Met({up, b, visible}, #{scope => other})),
+    ?assertEqual([], Met({up, c, visible}, #{})),
+    %% A node of another version is refused too.
+    _ = event(a, {version, c, 9}, fun none_lost/3, event(a, {up, c, visible}, fun none_lost/3, start([{a, #{}}]))),
+    ?assertMatch([_], [Node || {keep, {met, Node = c}, true} <- done(a)]).
+
+%% A registry that starts again knows whom it has met.
+keeps_met_test() ->
+    ok = heal_table:create(),
+    [ok = heal_table:keep(Key, true) || Key <- [{met, b}, {met, c}, {own, <<"d">>}]],
+    Met = heal_table:met(),
+    ok = heal_table:forget({met, b}),
+    Left = heal_table:met(),
+    true = ets:delete(heal_registry),
+    ?assertEqual({[b, c], [c]}, {lists:sort(Met), Left}).
+
+%% Two parts have more programs than there is room for. A registry that starts again has those in its half that the part has, and no others:
+%% the part could exchange with nobody.
+programs_without_room_test() ->
+    Programs = fun(From, To) -> maps:from_list([{<<N:256>>, <<N>>} || N <- lists:seq(From, To)]) end,
+    Healed = connect(a, b, fun none_lost/3, start([{a, #{programs => Programs(1, 200)}}, {b, #{programs => Programs(201, 400)}}])),
+    #part{programs = All} = maps:get(b, Healed),
+    Half = #half{programs = Known} = heal_state:half(maps:get(b, Healed)),
+    ?assertEqual({400, 256}, {map_size(All), map_size(Known)}),
+    ok = heal_table:create(),
+    [ok = heal_table:keep(Key, Value) || {keep, Key, Value} <- lists:reverse(done(b))],
+    ok = heal_table:keep_position(position(b, Healed), 1, Half#half.latest),
+    #{replica := Replica, programs := Kept} = heal_table:restore({b, 1}),
+    true = ets:delete(heal_registry),
+    ?assertEqual({All, Half}, {Kept, heal_replica:half(Replica)}).

@@ -80,11 +80,11 @@ abbrev pub unregistering : List ℕ → SideAndStore → Result Name ℕ
 unregistering bytes half = and_then (given_name bytes) (λ name. unregistering_name name half)
 
 abbrev pub UnregistersName : Name → SideAndStore → SideAndStore → ℕ → Type 0
-UnregistersName name old new = GivesDueOrRunsOut (unregistering_name name old)
+UnregistersName name old new = GivesDue (unregistering_name name old)
     (λ name. CarriesOut (Unregister name) old new) (Stays old new)
 
 abbrev pub Unregisters : List ℕ → SideAndStore → SideAndStore → ℕ → Type 0
-Unregisters bytes old new = GivesDueOrRunsOut (unregistering bytes old)
+Unregisters bytes old new = GivesDue (unregistering bytes old)
     (λ name. CarriesOut (Unregister name) old new) (Stays old new)
 
 -- ---- looking up

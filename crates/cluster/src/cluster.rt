@@ -24,7 +24,7 @@ impl Cluster {
     ghost use Rattle.std.specs.FinMap.{get};
     ghost use Rattle.partition_table.specs.Tables.{max_names, row_for};
     ghost use Rattle.exchange_law.specs.Calls as call;
-    ghost use Rattle.refusals.specs.Answers.{IsAnswered};
+    ghost use Rattle.refusals.specs.Answers.{IsAnswered, IsDecidedBy};
     ghost use Rattle.exchange_core.specs.Faults.{side_fault_number};
     ghost use Rattle.exchange_core.specs.Refusals as due;
     ghost use Rattle.cluster.specs.Clusters.{standing_of, cluster_of, new_cluster, at, is_full_at, IsCalled};
@@ -116,10 +116,10 @@ impl Cluster {
     /// Unregisters the name on an idle half, and returns its registration.
     ///
     /// Rejects with the least number that applies: 31 for a name that isn't registered, 33 for an open exchange, and 40
-    /// for a full journal. Returns 90 when out of memory.
+    /// for a full journal. Needs no memory.
     pub fn unregister(&mut self, id: SideId, name: &Name) -> Result<Registration, SideFault>
         ensures answer { let standing = at (cluster_of self.old) id in
-            IsAnswered side_fault_number (due.unregister_fault (is_full_at standing) standing.side name.now) result }
+            IsDecidedBy (due.unregister_fault (is_full_at standing) standing.side name.now) result }
         ensures given { IfOk result (λ registration. option_map (λ row. row.registration)
             (get (at (cluster_of self.old) id).side.table name.now) ≡ Some registration) }
         ensures done { OnOk result (IsCalled (cluster_of self.old) id

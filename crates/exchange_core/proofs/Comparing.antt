@@ -48,10 +48,10 @@ module _ (s : Inside) (has : HasCompared s) (x : Exchange) (opened : s.exchange 
 
   module _ (found : Compared) (is : s.compared ≡ Some found) where
     -- its marks are those of the two tables
-    pub marks_are : marks_of found ≡ marks_for s.id s.table.table x.uptime h.table h.uptime
+    pub marks_are : marks_of found ≡ marks_for s.id s.table x.uptime h.table h.uptime
     marks_are = some_inj (sym (ap (option_map marks_of) is) ∙ marks_kept)
 
     -- and it is one of these
-    pub compared_is : IsComparedFor s.id s.table.table x.uptime h.table h.uptime found
-    compared_is = by_parts s.id s.table.table x.uptime h.table h.uptime found
+    pub compared_is : IsComparedFor s.id s.table x.uptime h.table h.uptime found
+    compared_is = by_parts s.id s.table x.uptime h.table h.uptime found
         (some_inj (sym (ap (option_map (λ (found : Compared). arc_value found.clashes)) is) ∙ clashes_kept)) marks_are

@@ -1,4 +1,3 @@
-pub mod Holding
 pub mod Keeping
 pub mod Marked
 pub mod Pairing

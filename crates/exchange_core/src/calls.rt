@@ -131,7 +131,7 @@ impl Side {
     ///
     /// Returns 30 for a registered name, 32 if the table is full, 33 if an exchange is open, 40 if the journal is full,
     /// 41 if the store has no such program, and 42 if the table has other code under its id: the least that applies.
-    /// Returns 90 when out of memory.
+    /// Returns 90 when out of memory: it copies the table if others share its rows.
     pub fn register(
         &mut self,
         name: Name,
@@ -197,12 +197,9 @@ impl Side {
     /// Unregisters the name on an idle side, and returns its registration.
     ///
     /// Returns 31 for a name that isn't registered, 33 if an exchange is open, and 40 if the journal is full: the least
-    /// that applies. Returns 90 when out of memory: it copies the table if others still share it.
+    /// that applies. Needs no memory: it copies the table if others share its rows, but without memory for a copy marks the row.
     pub fn unregister(&mut self, name: &Name) -> Result<Registration, SideFault>
-        ensures answer { IsAnswered side_fault_number (due.unregister_fault (is_full self.old) (shown self.old) name.now) result }
-        // A refusal needs no memory.
-        ensures refused { due.unregister_fault (is_full self.old) (shown self.old) name.now ≢ None
-            → IsDecidedBy (due.unregister_fault (is_full self.old) (shown self.old) name.now) result }
+        ensures answer { IsDecidedBy (due.unregister_fault (is_full self.old) (shown self.old) name.now) result }
         ensures given { IfOk result (λ registration. option_map (λ row. row.registration)
             (get (shown self.old).table name.now) ≡ Some registration) }
         ensures done { OnOk result (IsDone self.old (call.Unregister name.now) self.new) }
@@ -211,7 +208,7 @@ impl Side {
         if let Some(fault) = self.state.unregister_fault(self.is_full(), name) {
             return Err(fault);
         }
-        let registration = self.state.unregister(name)?;
+        let registration = self.state.unregister(name);
         self.journal.push(Event::Unregister(*name));
         Ok(registration)
     }
@@ -356,7 +353,7 @@ impl Side {
     ///
     /// Returns 31 for a name that isn't in the side's table, 34 if no exchange is open, 40 if the journal is full, 47 for
     /// a name that is already withdrawn, and 48 if the list is closed: the least that applies. Returns 90 when out of
-    /// memory: it copies the table if others still share it, so that `abandon` needs no memory.
+    /// memory.
     pub fn withdraw(&mut self, name: &Name) -> Result<(), SideFault>
         ensures answer { IsAnswered side_fault_number (due.withdraw_fault (is_full self.old) (shown self.old) name.now) result }
         ensures done { OnOk result (IsDone self.old (call.Withdraw name.now) self.new) }
@@ -462,7 +459,8 @@ impl Side {
 
     /// Closes the exchange and keeps the table, without the withdrawn names.
     ///
-    /// Returns 34 if no exchange is open, and 40 if the journal is full: the least that applies. Allocates nothing.
+    /// Returns 34 if no exchange is open, and 40 if the journal is full: the least that applies. Needs no memory: takes the names
+    /// out as `unregister` does.
     pub fn abandon(&mut self) -> Result<(), SideFault>
         ensures answer { IsDecidedBy (due.abandon_fault (is_full self.old) (shown self.old)) result }
         ensures done { OnOk result (IsDone self.old call.Abandon self.new) }
@@ -477,8 +475,8 @@ impl Side {
     }
 
     /// Gives the open exchange up, if there is one, and renews the journal, also a full one. Afterwards the side is idle,
-    /// without the names that it withdrew, and its journal has at most two events more than the table has names. Allocates
-    /// nothing.
+    /// without the names that it withdrew, and its journal has at most two events more than the table has names. Needs no
+    /// memory.
     pub fn give_up(&mut self)
         ensures rested { shown self.new ≡ rested (shown self.old) }
         ensures limit { limit_of self.new ≡ limit_of self.old }

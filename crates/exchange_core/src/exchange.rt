@@ -70,13 +70,6 @@ impl Heard {
         &self.table
     }
 
-    // Adds an owner of the other side's table.
-    pub(crate) fn share_table(&self) -> Result<Arc<Table>, AllocError>
-        ensures { IfOk result (λ table. arc_value table ≡ self.now.table) }
-    {
-        self.table.clone()
-    }
-
     // The rulings, in the order of clashes.
     pub(crate) fn rulings(&self) -> &[Option<Judged>]
         ensures { result.now ≡ self.now.rulings }

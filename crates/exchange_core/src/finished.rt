@@ -5,7 +5,6 @@ ghost use Rattle.partition_table.specs.Tables.{has_first};
 ghost use Rattle.exchange_core.specs.Finished.{IsFinished, clashes_merged, finished_by};
 ghost use Rattle.exchange_core.specs.Codings.{names_of};
 
-use crate::held_table::HeldTable;
 use clash_record::{Name, SideId};
 use partition_table::{Judged, Table};
 use std::marker::Model;
@@ -21,7 +20,7 @@ pub struct Finished {
     pub(crate) id: SideId,
     pub(crate) number: u64,
     pub(crate) seed: u64,
-    pub(crate) own: HeldTable,
+    pub(crate) own: Table,
     pub(crate) own_uptime: u64,
     pub(crate) own_gone: Vec<Name>,
     pub(crate) other: Arc<Table>,
@@ -68,7 +67,7 @@ impl Finished {
         ensures { result.now ≡ self.now.a }
     {
         match self.id {
-            SideId::A => self.own.table(),
+            SideId::A => &self.own,
             SideId::B => &self.other,
         }
     }
@@ -79,7 +78,7 @@ impl Finished {
     {
         match self.id {
             SideId::A => &self.other,
-            SideId::B => self.own.table(),
+            SideId::B => &self.own,
         }
     }
 

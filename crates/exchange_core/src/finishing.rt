@@ -9,9 +9,8 @@ ghost use Rattle.clash_record.specs.Name.{Name};
 
 use crate::exchange::Exchange;
 use crate::finished::Finished;
-use crate::held_table::HeldTable;
 use crate::pairing::merge_own;
-use crate::state::State;
+use crate::state::{State, share};
 use builtin_resolvers::Verdict3;
 use clash_record::SideId;
 use partition_table::{AnsweredClashes, Compared, Judged, MergedTable, ParentTable, Table};
@@ -51,12 +50,12 @@ impl State {
         let Merged { rulings, table } = merge_exchange(
             alloc,
             self.id,
-            self.table.table(),
+            &self.table,
             exchange,
             compared,
         )?;
-        let mut held = hold(alloc, self.id, &mut self.table, exchange, table)?;
-        let table = held.share()?;
+        let mut held = hold(self.id, &mut self.table, exchange, table)?;
+        let table = share(alloc, &mut held)?;
         let Some(exchange) = self.exchange.take() else {
             unreachable!()
         };
@@ -69,41 +68,24 @@ impl State {
     }
 }
 
-// Holds the merged table: the side's own, the other's, or a new one.
+// Returns the merged table, which shares its rows with the side's own or with the other's if it is one of these.
 fn hold(
-    alloc: Global,
     id: SideId,
-    own: &mut HeldTable,
+    own: &mut Table,
     exchange: &Exchange,
     merged: MergedTable,
-) -> Result<HeldTable, AllocError>
+) -> Result<Table, AllocError>
     requires { IsTrue (is_some exchange.now.heard) }
-    ensures held { IfOk result (λ held. merged_in id own.old.table exchange.now merged ≡ Some held.table) }
-    ensures same { own.new.table ≡ own.old.table }
-    ensures alone { exchange.now.withdrawn ≢ [] → own.new ≡ own.old }
+    ensures held { IfOk result (λ held. merged_in id own.old exchange.now merged ≡ Some held) }
+    ensures same { own.new ≡ own.old }
 {
     let Some(heard) = &exchange.heard else {
         unreachable!()
     };
     match (merged, id) {
-        (MergedTable::New(table), _) => Ok(HeldTable::new(alloc, table)),
-        (MergedTable::A, SideId::A) | (MergedTable::B, SideId::B) => share_own(own, exchange),
-        (MergedTable::A, SideId::B) | (MergedTable::B, SideId::A) => {
-            Ok(HeldTable::shared(alloc, heard.share_table()?))
-        }
-    }
-}
-
-// Holds the side's table once more. After a withdrawal the side holds its table alone until the exchange is closed.
-fn share_own(own: &mut HeldTable, exchange: &Exchange) -> Result<HeldTable, AllocError>
-    ensures held { IfOk result (λ held. held.table ≡ own.old.table) }
-    ensures same { own.new.table ≡ own.old.table }
-    ensures alone { exchange.now.withdrawn ≢ [] → own.new ≡ own.old }
-{
-    if exchange.withdrawn().names().is_empty() {
-        own.share_held()
-    } else {
-        own.copy()
+        (MergedTable::New(table), _) => Ok(table),
+        (MergedTable::A, SideId::A) | (MergedTable::B, SideId::B) => own.share(),
+        (MergedTable::A, SideId::B) | (MergedTable::B, SideId::A) => heard.table().try_clone(),
     }
 }
 
@@ -144,17 +126,17 @@ fn merge_exchange(
 // The finished exchange of a side that had this table.
 fn finished_with(
     id: SideId,
-    own: HeldTable,
+    own: Table,
     exchange: Exchange,
     first_of_a: Vec<bool>,
     outcome: Outcome,
 ) -> Finished
-    requires ready { IsMergeable id own.table exchange }
-    requires marked { IsMarkedIn id own.table exchange first_of_a.items }
-    requires merged { IsMergeOf id own.table exchange outcome.rulings.items (arc_value outcome.table) }
+    requires ready { IsMergeable id own exchange }
+    requires marked { IsMarkedIn id own exchange first_of_a.items }
+    requires merged { IsMergeOf id own exchange outcome.rulings.items (arc_value outcome.table) }
     ensures { (heard : sides.Heard) (theirs : List Name) → exchange.heard ≡ Some heard
         → exchange.their_list ≡ Some theirs
-        → result ≡ finished_at id own.table exchange heard theirs outcome.rulings.items (arc_value outcome.table) }
+        → result ≡ finished_at id own exchange heard theirs outcome.rulings.items (arc_value outcome.table) }
 {
     let Outcome { rulings, table } = outcome;
     let (Some(heard), Some(other_gone)) = (exchange.heard, exchange.their_list) else {

@@ -7,7 +7,6 @@ mod fault;
 mod finished;
 mod finishing;
 mod halves;
-mod held_table;
 mod journal;
 mod limits;
 mod messages;

@@ -23,10 +23,10 @@ impl State {
     pub(crate) fn closed_register_fault(&self, limit: NameLimit, name: &Name) -> SideFault
         ensures { result ≡ closed_register_fault limit.names self.now name.now }
     {
-        if self.table.table().whereis(name).is_some() {
+        if self.table.whereis(name).is_some() {
             return SideFault::Table(TableFault::NameTaken);
         }
-        if self.table.table().len() >= limit.names() {
+        if self.table.len() >= limit.names() {
             return SideFault::Table(TableFault::Full);
         }
         if self.exchange.is_some() {
@@ -39,7 +39,7 @@ impl State {
     pub(crate) fn unregister_fault(&self, full: bool, name: &Name) -> Option<SideFault>
         ensures { result ≡ due.unregister_fault full self.now name.now }
     {
-        if self.table.table().whereis(name).is_none() {
+        if self.table.whereis(name).is_none() {
             return Some(SideFault::Table(TableFault::NoSuchName));
         }
         if self.exchange.is_some() {
@@ -90,7 +90,7 @@ impl State {
     fn has_too_many(&self, limit: NameLimit, other: &Table) -> bool
         ensures { result ≡ not (nat_le (due.union_for self.now.id self.now.table other.now) limit.names) }
     {
-        has_too_many(limit, self.table.table(), other)
+        has_too_many(limit, &self.table, other)
     }
 
     // Returns the refusal of the other side's first offer of the open number, before the tables are compared. Counts the names
@@ -172,7 +172,7 @@ impl State {
     pub(crate) fn withdraw_fault(&self, full: bool, name: &Name) -> Option<SideFault>
         ensures { result ≡ due.withdraw_fault full self.now name.now }
     {
-        if self.table.table().whereis(name).is_none() {
+        if self.table.whereis(name).is_none() {
             return Some(SideFault::Table(TableFault::NoSuchName));
         }
         let Some(exchange) = &self.exchange else {

@@ -17,9 +17,9 @@ impl State {
         ensures short { length (calls_of result.past.value) ≤ len self.now.table + 2 }
     {
         let mut journal = number_journal(self.latest);
-        let mut rows = self.table.table().rows();
+        let mut rows = self.table.rows();
         while let Some((name, registration)) = rows.next() {
-            let table = Snapshot::of(self.table.table());
+            let table = Snapshot::of(&self.table);
             journal.push(Event::Register(*name, *registration, table));
         }
         journal

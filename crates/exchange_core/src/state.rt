@@ -5,7 +5,7 @@ ghost use Rattle.std.specs.FinMap.{get};
 ghost use Rattle.partition_table.specs.Tables.{agrees_with, row_for, rows_of};
 ghost use Rattle.refusals.specs.Answers.{IsAnswered};
 ghost use Rattle.partition_table.specs.Faults as table;
-ghost use Rattle.exchange_law.specs.Sides.{new_side, rested, withdrawn_by, shown_table, heard_clashes};
+ghost use Rattle.exchange_law.specs.Sides.{without, new_side, rested, withdrawn_by, shown_table, heard_clashes};
 ghost use Rattle.exchange_law.specs.Lists.{AreNamesOf};
 ghost use Rattle.exchange_core.specs.Rows.{rows_left};
 ghost use Rattle.std.specs.Option.{option_map, option_map_or};
@@ -21,7 +21,6 @@ ghost use Rattle.exchange_core.specs.model.Pairing.{fit_fault_for};
 
 use crate::exchange::{Exchange, Heard};
 use crate::fault::{MissingPart, SideFault};
-use crate::held_table::HeldTable;
 use crate::messages::{Offer, Withdrawals};
 use crate::pairing::compare;
 use crate::shown_rows::ShownRows;
@@ -36,7 +35,7 @@ use upload_store::UploadStore;
 #[derive(Debug, Drop)]
 pub(crate) struct State {
     pub(crate) id: SideId,
-    pub(crate) table: HeldTable,
+    pub(crate) table: Table,
     pub(crate) exchange: Option<Exchange>,
     pub(crate) compared: Option<Compared>,
     pub(crate) latest: Option<u64>,
@@ -65,7 +64,7 @@ impl State {
     {
         State {
             id,
-            table: HeldTable::new(alloc, Table::new(alloc)),
+            table: Table::new(alloc),
             exchange: None,
             compared: None,
             latest: None,
@@ -83,7 +82,7 @@ impl State {
     pub(crate) fn table(&self) -> &Table
         ensures { result.now ≡ self.now.table }
     {
-        self.table.table()
+        &self.table
     }
 
     // Checks whether an exchange is open.
@@ -153,12 +152,12 @@ impl State {
             ≡ option_map (λ row. row.registration) (get (shown_table self.now) name.now) }
     {
         let Some(exchange) = &self.exchange else {
-            return self.table.table().whereis(name);
+            return self.table.whereis(name);
         };
         if exchange.has_withdrawn(name) {
             return None;
         }
-        self.table.table().whereis(name)
+        self.table.whereis(name)
     }
 
     // The rows of the table, without the names that were withdrawn.
@@ -167,12 +166,12 @@ impl State {
     {
         let Some(exchange) = &self.exchange else {
             return ShownRows {
-                rows: self.table.table().rows(),
+                rows: self.table.rows(),
                 withdrawn: None,
             };
         };
         ShownRows {
-            rows: self.table.table().rows(),
+            rows: self.table.rows(),
             withdrawn: Some(exchange.withdrawn()),
         }
     }
@@ -193,22 +192,17 @@ impl State {
         ensures unchanged { OnErr result (self.new ≡ self.old) }
     {
         self.table
-            .register(is_known, limit, name, registration, store)
+            .register_known(is_known, limit, name, registration, store)
     }
 
     // Takes the name out.
-    pub(crate) fn unregister(&mut self, name: &Name) -> Result<Registration, AllocError>
+    pub(crate) fn unregister(&mut self, name: &Name) -> Registration
         requires { IsTrue (is_some (sides.unregister self.old name.now)) }
-        ensures given { IfOk result (λ registration. option_map (λ row. row.registration) (get self.old.table name.now)
-            ≡ Some registration) }
-        ensures done { OnOk result (sides.unregister self.old name.now ≡ Some self.new) }
-        ensures unchanged { OnErr result (self.new ≡ self.old) }
+        ensures given { option_map (λ row. row.registration) (get self.old.table name.now) ≡ Some result }
+        ensures done { sides.unregister self.old name.now ≡ Some self.new }
     {
-        let mut table = self.table.take()?;
-        let taken_out = table.unregister(name);
-        self.table.put(table);
-        match taken_out {
-            Ok(registration) => Ok(registration),
+        match self.table.unregister(name) {
+            Ok(registration) => registration,
             Err(_) => unreachable!(),
         }
     }
@@ -226,7 +220,7 @@ impl State {
         ensures offer { IfOk result (λ offer. offer ≡ offer_of self.old number seed uptime) }
         ensures unchanged { OnErr result (self.new ≡ self.old) }
     {
-        let table = self.table.share()?;
+        let table = share(alloc, &mut self.table)?;
         self.exchange = Some(Exchange::new(alloc, number, seed, uptime));
         self.compared = None;
         self.latest = Some(number);
@@ -280,7 +274,7 @@ impl State {
             unreachable!()
         };
         let own = HalfTable {
-            table: self.table.table(),
+            table: &self.table,
             uptime: exchange.uptime(),
         };
         let other = HalfTable {
@@ -325,13 +319,12 @@ impl State {
         exchange.put(k, judged);
     }
 
-    // Withdraws the name. Copies the table if others read it, so that `abandon` needs no memory.
+    // Withdraws the name.
     pub(crate) fn withdraw(&mut self, name: &Name) -> Result<(), AllocError>
         requires { IsTrue (is_some (sides.withdraw self.old name.now)) }
         ensures done { OnOk result (sides.withdraw self.old name.now ≡ Some self.new) }
         ensures unchanged { OnErr result (self.new ≡ self.old) }
     {
-        self.table.make_own()?;
         let Some(exchange) = &mut self.exchange else {
             unreachable!()
         };
@@ -350,7 +343,7 @@ impl State {
             unreachable!()
         };
         // For the proof: the table has at most 1,048,576 names.
-        self.table.table().len();
+        self.table.len();
         let names = exchange.copy_names(alloc)?;
         let number = exchange.number();
         exchange.close();
@@ -373,7 +366,7 @@ impl State {
         Ok(())
     }
 
-    // Closes the exchange, and takes out the names that were withdrawn. Allocates nothing.
+    // Closes the exchange, and takes out the names that were withdrawn. Needs no memory.
     pub(crate) fn abandon(&mut self)
         requires { IsTrue (is_some (sides.abandon self.old)) }
         ensures { sides.abandon self.old ≡ Some self.new }
@@ -381,21 +374,38 @@ impl State {
         let Some(exchange) = &self.exchange else {
             unreachable!()
         };
-        let gone = exchange.withdrawn().names();
-        if !gone.is_empty() {
-            self.table.take_out(gone);
-        }
+        take_out(&mut self.table, exchange.withdrawn().names());
         self.exchange = None;
         self.compared = None;
     }
 
-    // Closes the exchange as `abandon` does, if one is open. Allocates nothing.
+    // Closes the exchange as `abandon` does, if one is open. Needs no memory.
     pub(crate) fn rest(&mut self)
         ensures { self.new ≡ rested self.old }
     {
         if self.exchange.is_some() {
             self.abandon();
         }
+    }
+}
+
+// Returns a table that shares its rows with this one, and that several owners can read.
+pub(crate) fn share(alloc: Global, table: &mut Table) -> Result<Arc<Table>, AllocError>
+    ensures shared { IfOk result (λ shared. arc_value shared ≡ table.old) }
+    ensures same { table.new ≡ table.old }
+{
+    match Arc::new(alloc, table.share()?) {
+        Ok(shared) => Ok(shared),
+        Err(_) => Err(AllocError),
+    }
+}
+
+// Takes these names out of the table. Needs no memory.
+fn take_out(table: &mut Table, names: &[Name])
+    ensures { table.new ≡ without names.now table.old }
+{
+    for name in names {
+        let _ = table.unregister(name);
     }
 }
 

@@ -7,7 +7,6 @@ ghost use Rattle.exchange_core.specs.declared.fault.SideFault.TheVariants as of;
 ghost use Rattle.exchange_core.specs.Shown.{shown, calls, limit_of};
 
 use crate::fault::SideFault;
-use crate::held_table::HeldTable;
 use crate::side::Side;
 use crate::state::State;
 use clash_record::SideId;
@@ -36,7 +35,7 @@ impl Side {
         }
         let state = State {
             id,
-            table: HeldTable::new(alloc, table),
+            table,
             exchange: None,
             compared: None,
             latest,

@@ -126,6 +126,10 @@ either : {X : Type 0} (r : Result X ℕ) {D : X → Type 0} {S : Type 0} → Giv
 either (Ok x) h = ⊎_elim (λ h. inl (x, h.1)) (λ h. let e = h.0 in absurd (cc)) h
 either (Err m) h = inr h.1
 
+either_due : {X : Type 0} (r : Result X ℕ) {D : X → Type 0} {S : Type 0} → GivesDue r D S 0 → ((x : X) × D x) ⊎ S
+either_due (Ok x) h = inl (x, h.1)
+either_due (Err m) h = inr h.1
+
 -- ---- the processes as halves of acts
 
 pub record Like (p : Processes) : Type 0 where
@@ -378,7 +382,7 @@ step p after id l (call.registers new name registration r e) = subst Like (sym e
     (either (registering name registration (process_half p id)) r))
 step p after id l (call.unregisters new name r e) = subst Like (sym e)
     (⊎_elim (λ d. like_quiet l id new (Happens (Does id (Unregister d.0))) (does l id new (Unregister d.0) d.1))
-    (stays l id new) (either (unregistering name (process_half p id)) r))
+    (stays l id new) (either_due (unregistering name (process_half p id)) r))
 step p after id l (call.begins new number seed uptime before bytes r e) = subst Like (sym e)
     (let d = done _ _ _ r in began l id new number seed uptime bytes d.0 d.1)
 step p after id l (call.hears new bytes sent r e) = subst Like (sym e)

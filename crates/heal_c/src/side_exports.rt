@@ -156,7 +156,7 @@ pub extern "C" fn heal_side_register(
 /// Unregisters a name on an idle side.
 ///
 /// Returns 91 for an empty handle, and 44 for an invalid name; then 31 for a name that isn't registered, 33 if an
-/// exchange is open, and 40 if the journal is full. Returns 90 when out of memory.
+/// exchange is open, and 40 if the journal is full. Needs no memory.
 #[unsafe(no_mangle)]
 pub extern "C" fn heal_side_unregister(side: &mut HealSide, name: &[u8]) -> u32
     ensures { OnHandle side.old.half side.new.half (Unregisters name.now) (Unit {0}) result }

@@ -37,6 +37,7 @@ pub(crate) enum Step {
     Withdraw,
     CloseList,
     Finish,
+    Abandon,
 }
 
 /// The steps of an exchange that finishes.
@@ -144,6 +145,7 @@ impl Exchange {
             Step::Withdraw => Ok(self.side.withdraw(&numbered_name(b'n', 0)?)?),
             Step::CloseList => self.close_list(alloc),
             Step::Finish => self.finish(alloc),
+            Step::Abandon => Ok(self.side.abandon()?),
         }
     }
 

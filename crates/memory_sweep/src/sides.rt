@@ -34,10 +34,11 @@ impl Call<Exchange> for SideCall {
 
 /// The calls of a side.
 #[rattlefmt::skip]
-const CALLS: [Row; 10] = [
+const CALLS: [Row; 11] = [
     ("Side::register of a built-in", Step::RegisterBuiltin, &[]),
     ("Side::register of a program", Step::RegisterProgram, &[]),
     ("Side::unregister", Step::Unregister, &[]),
+    ("Side::unregister next to an offer", Step::Unregister, &[Step::Begin, Step::Abandon]),
     ("Side::begin", Step::Begin, &[]),
     ("Side::hear", Step::Hear, &[Step::Begin]),
     ("Side::hear_list", Step::HearList, &[Step::Begin]),

@@ -106,6 +106,7 @@ enum TableCallKind {
     RegisterBuiltin,
     RegisterProgram,
     TryClone,
+    Share,
     Clashes,
 }
 
@@ -116,6 +117,7 @@ impl Call<Tabled> for TableCall {
             TableCallKind::RegisterBuiltin => "Table::register of a built-in",
             TableCallKind::RegisterProgram => "Table::register of a program",
             TableCallKind::TryClone => "Table::try_clone",
+            TableCallKind::Share => "Table::share",
             TableCallKind::Clashes => "clashes",
         }
     }
@@ -135,6 +137,7 @@ impl Call<Tabled> for TableCall {
                 )?;
             }
             TableCallKind::TryClone => tabled.given = Some(tabled.table.try_clone()?),
+            TableCallKind::Share => tabled.given = Some(tabled.table.share()?),
             TableCallKind::Clashes => {
                 tabled.clashes = Some(clashes(alloc, &tabled.table, 0, &tabled.other, 0)?);
             }
@@ -160,7 +163,11 @@ pub(crate) fn sweep_tables(rt: &HostRuntime) -> Result<(), Fault> {
         sweep_kinds(
             rt,
             names,
-            &[TableCallKind::TryClone, TableCallKind::Clashes],
+            &[
+                TableCallKind::TryClone,
+                TableCallKind::Share,
+                TableCallKind::Clashes,
+            ],
         )?;
         sweep_merging(rt, names)?;
     }

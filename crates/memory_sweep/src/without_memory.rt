@@ -12,7 +12,7 @@ use exchange_core::Side;
 use fixtures::{BY_WORD, numbered_name, numbered_table, registration, stored};
 use interpreter::{Ended, run};
 use judge_pool::judge;
-use partition_table::{ClashList, Table, Verdict};
+use partition_table::{ClashList, Table, TableFault, Verdict};
 use questions::judge_one;
 use upload_store::UploadStore;
 use verdict_board::{Draw, open};
@@ -34,6 +34,7 @@ fn make_calls(rt: &HostRuntime, list: &ClashList) -> Result<(), Fault> {
         .and(verdicts(&mut calls, list))
         .and(stores(&mut calls))
         .and(tables(&mut calls))
+        .and(shared_tables(&mut calls))
         .and(sides(&mut calls))
         .and(draws(&mut calls, list))
         .and(gathers(&mut calls, list))
@@ -128,11 +129,63 @@ fn calls_of_table(
     calls.refuse("Table::whereis");
     calls.gave(table.whereis(&first).copied(), Some(registration));
     calls.refuse("Table::rows");
-    calls.gave(table.rows().count(), 12);
+    calls.gave(
+        table.rows().nth(11).is_some() && table.rows().nth(12).is_none(),
+        true,
+    );
     calls.refuse("Table::unregister");
     calls.gave(table.unregister(&first), Ok(registration));
     calls.refuse("Table::len");
     calls.gave(table.len(), 11);
+}
+
+fn shared_tables(calls: &mut Starved<'_>) -> Result<(), Fault> {
+    let alloc = calls.alloc();
+    let names = [numbered_name(b'n', 0)?, numbered_name(b'n', 2)?];
+    let (store, program) = stored(alloc, &BY_WORD)?;
+    let resolver = ResolverId::Program(program);
+    let mut table = numbered_table(alloc, 12, 1, resolver, &store)?;
+    let other = table.share()?;
+    calls_of_shared(
+        calls,
+        &mut table,
+        &other,
+        names,
+        registration(1, 1, resolver),
+    );
+    Ok(())
+}
+
+// Both tables have the same 12 names with this registration. One of them drops the first and the third.
+fn calls_of_shared(
+    calls: &mut Starved<'_>,
+    table: &mut Table,
+    other: &Table,
+    names: [Name; 2],
+    registration: Registration,
+) {
+    let [first, third] = names;
+    calls.refuse("Table::unregister of shared rows");
+    calls.gave(table.unregister(&third), Ok(registration));
+    calls.refuse("Table::unregister of a dropped row");
+    calls.gave(table.unregister(&third), Err(TableFault::NoSuchName));
+    calls.refuse("Table::unregister of shared rows of which one is dropped");
+    calls.gave(table.unregister(&first), Ok(registration));
+    calls.refuse("a table that dropped shared rows");
+    let are_ten = table.rows().nth(9).is_some() && table.rows().nth(10).is_none();
+    let ten_come_after = table.rows_after(&first).nth(9).is_some()
+        && table.rows_after(&first).nth(10).is_none();
+    calls.gave((table.len(), are_ten, ten_come_after), (10, true, true));
+    calls.refuse("Table::whereis of dropped rows");
+    calls.gave(
+        table.whereis(&first).is_none() && table.whereis(&third).is_none(),
+        true,
+    );
+    calls.refuse("the table that shares the rows");
+    calls.gave(
+        (other.len(), other.whereis(&third).copied()),
+        (12, Some(registration)),
+    );
 }
 
 fn sides(calls: &mut Starved<'_>) -> Result<(), Fault> {

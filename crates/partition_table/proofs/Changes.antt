@@ -4,7 +4,6 @@ use Rattle.std.proofs.lemmas.List.{reverse-append}
 use Rattle.std.specs.Option.{option_map}
 use Rattle.std.specs.Ordering.{eq_by_cmp}
 use Rattle.std.specs.Cmp.{Equal-is, eq_by_cmp_equiv, tied_itself}
-use Rattle.std.specs.BTreeMap.{BTreeMap, Updates}
 use Rattle.std.specs.FinMap.{get, insert, remove, len, get-insert, get-remove, len-insert, len-remove}
 use Rattle.instruction_set.specs.declared.insn.Insn.{Insn}
 use Rattle.clash_record.specs.declared.registrations.ProgramId.{ProgramId}
@@ -19,7 +18,7 @@ use Rattle.partition_table.specs.declared.programs.Kept.{Kept}
 use Rattle.partition_table.specs.Tables.{Row, Table, IsCodeOf, most_names, program_of, code_for, row_for, same_id}
 use Rattle.partition_table.specs.model.Keeping.{IsNamed, IsHeld, IsKept, kept_code, rows_kept, rows_naming, is_of, with_code, has_room_for}
 use Rattle.partition_table.specs.Views.{table_by}
-use Rattle.upload_store.specs.laws.Mapped.{made_inserted, made_removed}
+use Rattle.upload_store.specs.laws.Mapped.{ChangesAt, made_inserted, made_removed}
 use Rattle.partition_table.proofs.Maps.{made_alike, get-insert_same, remove_insert}
 use Rattle.partition_table.proofs.Counts.{naming_more, few_naming}
 use Rattle.partition_table.proofs.Held.{IsLookedUp, get_row, same_id_is, same_id_from, named_program}
@@ -133,11 +132,10 @@ module _ (programs : Programs) (table : Table) (held : IsHeld programs table) (l
       ∙ ap (insert table name) own_row
 
   -- the entries with one more make the table with the row
-  pub made_more : (m n : BTreeMap Name Registration) → table_by programs m.entries ≡ table
-      → Updates name_cmp m n name (Some row.registration) → table_by after n.entries ≡ insert table name row
-  made_more m n made updates =
-      made_inserted names_total (row_for after) names_exact m n name row.registration updates
-      ∙ made_before m.entries made
+  pub made_more : (es fs : List (Name × Registration)) → table_by programs es ≡ table
+      → ChangesAt name_cmp es fs name (Some row.registration) → table_by after fs ≡ insert table name row
+  made_more es fs made changes =
+      made_inserted names_total (row_for after) names_exact es fs name row.registration changes ∙ made_before es made
 
   -- so do rows of which this is the last
   pub made_pushed : (rows pushed : List (Name × Registration)) → table_by programs (reverse rows) ≡ table
@@ -169,13 +167,13 @@ module _ (kept : List (ProgramId × Kept)) (table : Table) (held : IsHeld (progr
       })
 
   -- a row that is taken out again leaves the table
-  pub made_back : (m lent n : BTreeMap Name Registration) → table_by (programs_by kept_code kept) m.entries ≡ table
-      → Updates name_cmp m lent name (Some row.registration) → Updates name_cmp lent n name None
-      → table_by (programs_by kept_code kept) n.entries ≡ table
-  made_back m lent n made insertion removal =
+  pub made_back : (es lent fs : List (Name × Registration)) → table_by (programs_by kept_code kept) es ≡ table
+      → ChangesAt name_cmp es lent name (Some row.registration) → ChangesAt name_cmp lent fs name None
+      → table_by (programs_by kept_code kept) fs ≡ table
+  made_back es lent fs made insertion removal =
       let read = row_for (programs_by kept_code kept) in
-      made_removed names_total read names_exact lent n name removal
-      ∙ ap (λ t. remove t name) (made_inserted names_total read names_exact m lent name row.registration insertion
+      made_removed names_total read names_exact lent fs name removal
+      ∙ ap (λ t. remove t name) (made_inserted names_total read names_exact es lent name row.registration insertion
       ∙ ap (λ t. insert t name (read row.registration)) made)
       ∙ remove_insert names_total names_exact table name (read row.registration) new
 

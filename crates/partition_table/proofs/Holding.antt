@@ -8,7 +8,7 @@ use Rattle.std.specs.Bool.{IsTrue}
 use Rattle.std.specs.List.{AllZip}
 use Rattle.std.specs.Map.{lookup}
 use Rattle.std.specs.BTreeMap.{BTreeMap, is_at, Updates, WritesThrough}
-use Rattle.std.specs.FinMap.{get, insert, remove}
+use Rattle.std.specs.FinMap.{get, insert, remove, from_entries}
 use Rattle.std.specs.Cmp.Lexicographic.{pointwise}
 use Rattle.instruction_set.specs.declared.insn.Insn.{Insn}
 use Rattle.instruction_set.specs.contracts.insn.InsnPartialEq.TheImpl as insn_eq
@@ -19,8 +19,10 @@ use Rattle.clash_record.specs.Orders.{id_cmp}
 use Rattle.clash_record.specs.laws.Orders.{ids_total, ids_exact}
 use Rattle.upload_store.specs.Programs.{Programs, programs_by}
 use Rattle.partition_table.specs.declared.programs.Kept.{Kept}
-use Rattle.partition_table.specs.model.Keeping.{kept_code, rows_kept, is_of, last_of, without_code, has_room_for}
-use Rattle.partition_table.specs.Views.{mapped}
+use Rattle.clash_record.specs.declared.registrations.Registration.{Registration}
+use Rattle.clash_record.specs.Name.{Name}
+use Rattle.partition_table.specs.model.Keeping.{IsHeld, IsKept, kept_code, rows_kept, rows_naming, is_of, last_of, without_code, has_room_for}
+use Rattle.partition_table.specs.Views.{mapped, table_by}
 use Rattle.upload_store.specs.laws.Mapped.{get-mapped, made_inserted, made_removed}
 use Rattle.partition_table.proofs.Maps.{insert_again, remove_absent}
 
@@ -124,7 +126,7 @@ module _ (m n : BTreeMap ProgramId Kept) (id : ProgramId) (kept w : Kept)
   pub same_programs : kept_code w ≡ kept_code kept
       → programs_by kept_code n.entries ≡ programs_by kept_code m.entries
   same_programs same =
-      made_inserted ids_total kept_code ids_exact m n id w updates
+      made_inserted ids_total kept_code ids_exact m.entries n.entries id w updates.0
       ∙ insert_again ids_total ids_exact (programs_by kept_code m.entries) id (kept_code w)
       (get_code kept_code m.entries id ∙ ap (option_map kept_code) found ∙ ap Some (sym same))
 
@@ -158,7 +160,7 @@ module _ (m lent n : BTreeMap ProgramId Kept) (id : ProgramId) (w : Kept) (same 
   pub held_newly : (c : List Insn) → kept_code w ≡ c
       → programs_by kept_code n.entries ≡ insert (programs_by kept_code m.entries) id c
   held_newly c is =
-      made_inserted ids_total kept_code ids_exact lent n id w updates
+      made_inserted ids_total kept_code ids_exact lent.entries n.entries id w updates.0
       ∙ ap (λ m. insert (programs_by kept_code m.entries) id (kept_code w)) same
       ∙ ap (insert (programs_by kept_code m.entries) id) is
 
@@ -197,7 +199,7 @@ module _ (m lent n : BTreeMap ProgramId Kept) (id : ProgramId) (kept : Kept)
   pub last_left : programs_by kept_code n.entries
       ≡ without_code (last_of m.entries (Program id)) (programs_by kept_code m.entries)
   last_left =
-      made_removed ids_total kept_code ids_exact lent n id updates
+      made_removed ids_total kept_code ids_exact lent.entries n.entries id updates.0
       ∙ ap (λ programs. remove programs id) (same_programs m lent id kept kept found writes refl)
       ∙ last m.entries id (programs_by kept_code m.entries)
       (omega (arith, one, rows_found m lent id kept kept found writes))
@@ -233,3 +235,22 @@ rows_cloned (e ∷ es) (f ∷ fs) h id =
         ≡ option_map_or (λ (kept : Kept). kept.rows) (cond b (Some e.1) (lookup (is_at (id_cmp id)) es)) 0
     by true rest = h.0.1.1
     by false rest = rest
+
+-- copies of the programs and of the rows make the table again
+module _ (es fs : List (ProgramId × Kept)) (cloned : IsKeptClone es fs) (rows copy : List (Name × Registration))
+    (same : copy ≡ rows) where
+  programs_cloned : programs_by kept_code fs ≡ programs_by kept_code es
+  programs_cloned = ap from_entries (shared_clone kept_code es fs (codes_cloned es fs cloned))
+
+  pub table_cloned : table_by (programs_by kept_code fs) copy ≡ table_by (programs_by kept_code es) rows
+  table_cloned = ap (λ p. table_by p copy) programs_cloned ∙ ap (table_by (programs_by kept_code es)) same
+
+  pub kept_cloned : IsKept es (table_by (programs_by kept_code es) rows)
+      → IsKept fs (table_by (programs_by kept_code fs) copy)
+  kept_cloned kept = record {
+    held =
+        subst (λ p. IsHeld p (table_by (programs_by kept_code fs) copy)) (sym programs_cloned)
+        (subst (IsHeld (programs_by kept_code es)) (sym table_cloned) kept.held);
+    counted = λ id.
+        rows_cloned es fs cloned id ∙ kept.counted id ∙ ap (λ t. rows_naming t id) (sym table_cloned);
+  }

@@ -3,8 +3,10 @@ pub mod Agreeing
 pub mod Building
 pub mod Changes
 pub mod Coded
+pub mod Copied
 pub mod Counts
 pub mod EitherWay
+pub mod Dropped
 pub mod Equal
 pub mod Held
 pub mod Holding

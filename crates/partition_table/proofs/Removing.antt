@@ -1,7 +1,6 @@
 -- A table that loses a row, and its program where no other row names it.
 use Rattle.std.proofs.Common.{◌≡◌, ◌+◌, ◌-◌, ◌<◌, Bool, true, false, nat_le, if◌then◌else◌, Some, None, List, refl, ap, sym, subst, ◌∙◌, arith}
 use Rattle.std.proofs.lemmas.Bool.{leb-true, leb-false}
-use Rattle.std.specs.BTreeMap.{BTreeMap, Updates}
 use Rattle.std.specs.FinMap.{get, remove}
 use Rattle.clash_record.specs.declared.registrations.ProgramId.{ProgramId}
 use Rattle.clash_record.specs.declared.registrations.ResolverId.{ResolverId}
@@ -15,17 +14,16 @@ use Rattle.partition_table.specs.declared.programs.Kept.{Kept}
 use Rattle.partition_table.specs.Tables.{Row, Table, program_of, row_for, same_id}
 use Rattle.partition_table.specs.model.Keeping.{IsNamed, IsHeld, IsKept, kept_code, rows_kept, rows_naming, is_of, last_of, without_code}
 use Rattle.partition_table.specs.Views.{table_by}
-use Rattle.upload_store.specs.laws.Mapped.{made_removed}
+use Rattle.upload_store.specs.laws.Mapped.{ChangesAt, made_removed}
 use Rattle.partition_table.proofs.Held.{IsLookedUp, same_id_from}
 use Rattle.partition_table.proofs.Changes.{held_less, held_released, made_released}
 use Rattle.partition_table.proofs.Counts.{naming_less, named_by_count, unnamed_by_count}
 
 -- entries less one make the table without the row
-pub made_less : (programs : Programs) (table : Table) (name : Name) (m n : BTreeMap Name Registration)
-    → table_by programs m.entries ≡ table → Updates name_cmp m n name None
-    → table_by programs n.entries ≡ remove table name
-made_less programs table name m n made updates =
-    made_removed names_total (row_for programs) names_exact m n name updates ∙ ap (λ t. remove t name) made
+pub made_less : (programs : Programs) (table : Table) (name : Name) (es fs : List (Name × Registration))
+    → table_by programs es ≡ table → ChangesAt name_cmp es fs name None → table_by programs fs ≡ remove table name
+made_less programs table name es fs made changes =
+    made_removed names_total (row_for programs) names_exact es fs name changes ∙ ap (λ t. remove t name) made
 
 module _ (kept : List (ProgramId × Kept)) (table : Table)
     (held : IsHeld (programs_by kept_code kept) table) (looked : IsLookedUp (programs_by kept_code kept) table)

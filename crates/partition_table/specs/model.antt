@@ -1,7 +1,10 @@
+pub mod After
 pub mod Agreeing
 pub mod Coding
+pub mod Dropping
 pub mod Judging
 pub mod Keeping
 pub mod Listing
 pub mod Merging
+pub mod Storing
 pub mod Walking

@@ -82,12 +82,12 @@ impl<'a> KeptRows<'a> {
     {
         let KeptRows { rows, programs } = self;
         let rows = copied(alloc, rows)?;
-        Ok(Table::of_parts(rows, programs))
+        Ok(Table::of_parts(alloc, rows, programs))
     }
 }
 
 // Copies the rows into a map. The last row of a name counts.
-fn copied(
+pub(crate) fn copied(
     alloc: Global,
     rows: Vec<(&Name, &Registration)>,
 ) -> Result<BTreeMap<Name, Registration>, AllocError>

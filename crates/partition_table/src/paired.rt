@@ -6,7 +6,8 @@ ghost use Rattle.std.specs.Option.{option_map};
 ghost use Rattle.partition_table.specs.Tables.{IsTable, rows_of};
 ghost use Rattle.partition_table.specs.model.Walking.{drop_before, drop_through, first_at, rows_ahead, pairs_left, IsPaired};
 
-use crate::table::{Rows, Table};
+use crate::rows::Rows;
+use crate::table::Table;
 use clash_record::{Name, Registration};
 use std::cmp::Ordering;
 

@@ -20,27 +20,22 @@ use crate::limit::NameLimit;
 use crate::programs::{
     Kept, copy_others, find_program, has_room, hold_program, programs_agree, release_program,
 };
+use crate::row_store::RowStore;
+use crate::rows::{Rows, RowsAfter};
 use clash_record::{Name, ProgramId, Registration, ResolverId};
 use std::alloc::{AllocError, Global};
-use std::collections::{BTreeMap, btree_map};
+use std::collections::BTreeMap;
 use std::marker::Model;
-use std::ops::Bound;
 use std::sync::Arc;
 use upload_store::UploadStore;
 use verifier::Verified;
-
-/// Iterates over the rows of a table in the order of names.
-pub type Rows<'a> = btree_map::Iter<'a, Name, Registration>;
-
-/// Iterates over the rows of a table that come after a name, in the order of names.
-pub type RowsAfter<'a> = btree_map::Range<'a, Name, Registration>;
 
 /// At most 1,048,576 names with their registrations, and the programs that the registrations name.
 ///
 /// Contracts see it as a finite map from names to rows: a registration with the code of its program.
 #[derive(Debug)]
 pub struct Table {
-    rows: BTreeMap<Name, Registration>,
+    rows: RowStore,
     programs: BTreeMap<ProgramId, Kept>,
 }
 
@@ -64,10 +59,10 @@ impl Model for Table {
 
     ghost coded = { coded_table };
 
-    ghost view = { λ t. table_by (programs_by kept_code t.programs.entries) t.rows.entries };
+    ghost view = { λ t. table_by (programs_by kept_code t.programs.entries) t.rows };
 
     ghost invariant = { λ t. IsKept t.programs.entries
-        (table_by (programs_by kept_code t.programs.entries) t.rows.entries) };
+        (table_by (programs_by kept_code t.programs.entries) t.rows) };
 }
 
 impl Table {
@@ -76,7 +71,7 @@ impl Table {
         ensures { result ≡ map.empty }
     {
         Table {
-            rows: BTreeMap::new(alloc),
+            rows: RowStore::new(alloc, BTreeMap::new(alloc)),
             programs: BTreeMap::new(alloc),
         }
     }
@@ -114,11 +109,11 @@ impl Table {
 
     /// Iterates over the rows whose names are above this one, in the order of names. Allocates nothing.
     ///
-    /// Finds the first of them in logarithmic time.
+    /// Finds the first of them in logarithmic time. A table that marked rows (`unregister`) looks at each row before it.
     pub fn rows_after(&self, name: &Name) -> RowsAfter<'_>
         ensures { result ≡ rows_above name.now self.now }
     {
-        self.rows.range((Bound::Excluded(*name), Bound::Unbounded))
+        self.rows.after(name)
     }
 
     /// Registers the name in a table of at most 4,096 names. See `register_within`.
@@ -140,7 +135,7 @@ impl Table {
     ///
     /// Refusals, the least first: 30 if the name is registered, 32 if the table has `limit` names or more, 41 if the store
     /// lacks the program, 42 if the table keeps other code under its id. Returns 90 when out of memory: it allocates the
-    /// row, the program's id and one more owner of the program.
+    /// row, the program's id and one more owner of the program, and copies the rows if other tables share them.
     pub fn register_within(
         &mut self,
         limit: NameLimit,
@@ -184,7 +179,10 @@ impl Table {
         self.keep(name, registration, program)
     }
 
-    /// Unregisters the name and returns its registration, or 31 if it isn't registered. Allocates nothing.
+    /// Unregisters the name and returns its registration, or 31 if it isn't registered.
+    ///
+    /// Needs no memory: copies the rows if other tables share them, but without memory for a copy marks the row. Then the table finds a
+    /// name by looking at each row, until it gets a new row or shares its rows.
     pub fn unregister(&mut self, name: &Name) -> Result<Registration, TableFault>
         ensures answer { result ≡ unregister_answer (map.get self.old name.now) }
         ensures unregistered { self.new ≡ map.remove self.old name.now }
@@ -197,12 +195,24 @@ impl Table {
         Ok(registration)
     }
 
-    /// Copies the table. Allocates the rows and one more owner of each program.
+    /// Returns a table that holds the same, and shares the rows of this one until one of the two changes. Copies no row, unless some are
+    /// marked (`unregister`). Allocates one more owner of each program, and a byte for each row.
+    pub fn share(&mut self) -> Result<Table, AllocError>
+        ensures shared { IfOk result (λ table. table ≡ self.old) }
+        ensures same { self.new ≡ self.old }
+    {
+        let programs = self.programs.clone()?;
+        let rows = self.rows.share()?;
+        Ok(Table { rows, programs })
+    }
+
+    /// Copies the table, or shares its rows if other tables share them already. Allocates the rows, or a byte for each, and one more owner
+    /// of each program.
     pub fn try_clone(&self) -> Result<Table, AllocError>
         ensures { IfOk result (λ table. table ≡ self.now) }
     {
         Ok(Table {
-            rows: self.rows.clone()?,
+            rows: self.rows.try_clone()?,
             programs: self.programs.clone()?,
         })
     }
@@ -263,18 +273,20 @@ impl Table {
         ensures { IfOk result (λ table. table
             ≡ table_by (programs_by kept_code programs.entries) (reverse rows.items)) }
     {
-        let rows = map_of(alloc, rows)?;
+        let rows = RowStore::new(alloc, map_of(alloc, rows)?);
         Ok(Table { rows, programs })
     }
 
     // Returns the table with these rows and programs.
     pub(crate) fn of_parts(
+        alloc: Global,
         rows: BTreeMap<Name, Registration>,
         programs: BTreeMap<ProgramId, Kept>,
     ) -> Table
         requires { IsKept programs.entries (table_by (programs_by kept_code programs.entries) rows.entries) }
         ensures { result ≡ table_by (programs_by kept_code programs.entries) rows.entries }
     {
+        let rows = RowStore::new(alloc, rows);
         Table { rows, programs }
     }
 
@@ -306,34 +318,12 @@ impl Table {
             record { registration = registration; code = option_map (λ p. arc_value p.now) program.entry }) }
         ensures unchanged { OnErr result (self.new ≡ self.old) }
     {
-        insert_new(&mut self.rows, name, registration)?;
+        self.rows.insert_new(name, registration)?;
         if let Err(refused) = hold_program(&mut self.programs, registration.resolver, program) {
             self.rows.remove(&name);
             return Err(refused.into());
         }
         Ok(())
-    }
-}
-
-// Inserts the row, or returns 30 if the name is registered. Walks the tree once for a new name.
-fn insert_new(
-    rows: &mut BTreeMap<Name, Registration>,
-    name: Name,
-    registration: Registration,
-) -> Result<(), TableFault>
-    ensures answer { IsAnswered table_fault_number
-        (if is_some (get name_cmp rows.old name) then Some NameTaken else None) result }
-    ensures inserted { OnOk result (Updates name_cmp rows.old rows.new name (Some registration)) }
-    ensures unchanged { OnErr result ((q : Name) → get name_cmp rows.new q ≡ get name_cmp rows.old q) }
-{
-    match rows.insert(name, registration) {
-        Ok(None) => Ok(()),
-        Ok(Some(before)) => {
-            // Restores the old row. Needs no memory: the name is in the tree.
-            let _ = rows.insert(name, before);
-            Err(TableFault::NameTaken)
-        }
-        Err(_) => Err(TableFault::OutOfMemory),
     }
 }
 

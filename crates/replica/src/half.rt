@@ -119,7 +119,7 @@ impl Half {
         self.latest
     }
 
-    // Returns the half after an exchange. Copies the table and the store.
+    // Returns the half after an exchange. Copies the store and, unless its rows are shared already, the table.
     pub(crate) fn changed(&self, table: &Table, latest: Option<u64>) -> Result<Half, AllocError>
         ensures { IfOk result (λ half. half ≡ changed self.now table.now latest) }
     {

@@ -148,7 +148,7 @@ impl Replica {
     ///
     /// `from` is the position of the edit `Begin` that recorded the exchange's number. Returns 49 if the replica isn't there any more,
     /// so that no edit made since is lost, and 99 if no view number is left: the first of these. Returns 90 when out of
-    /// memory: it copies the table and the store.
+    /// memory: it copies the store and, unless its rows are shared already, the table.
     pub fn change(
         &mut self,
         alloc: Global,
@@ -275,7 +275,8 @@ impl Replica {
     /// Returns an idle side with the half's table, its limit and its greatest number, for an exchange with the other half.
     ///
     /// Edit `Begin` with the number of the exchange before the side begins it, so that the backups have the number.
-    /// `change` takes what the exchange leaves, and the position that the replica has after that edit. Copies the table.
+    /// `change` takes what the exchange leaves, and the position that the replica has after that edit. Copies the
+    /// table, unless its rows are shared already.
     ///
     /// Returns 32 if the table has more names than the limit. Returns 90 when out of memory.
     pub fn side(&self, alloc: Global, id: SideId) -> Result<Side, ReplicaFault>

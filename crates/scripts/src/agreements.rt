@@ -2,7 +2,7 @@
 ghost use Rattle.std.specs.Prelude.{◌≡◌, OnOk, OnErr, IfOk, Some};
 ghost use Rattle.std.specs.Option.{option_map};
 ghost use Rattle.std.specs.FinMap.{get};
-ghost use Rattle.refusals.specs.Answers.{IsAnswered};
+ghost use Rattle.refusals.specs.Answers.{IsAnswered, IsDecidedBy};
 ghost use Rattle.partition_table.specs.Tables.{row_for};
 ghost use Rattle.exchange_law.specs.Calls as call;
 ghost use Rattle.exchange_core.specs.Faults.{side_fault_number};
@@ -77,7 +77,7 @@ impl Agreements {
     ) -> Result<Registration, SideFault>
         requires { AreAgreed (cluster_of cluster.old) store.now self.old }
         ensures answer { let standing = at (cluster_of cluster.old) id in
-            IsAnswered side_fault_number (due.unregister_fault (is_full_at standing) standing.side name.now) result }
+            IsDecidedBy (due.unregister_fault (is_full_at standing) standing.side name.now) result }
         ensures done { OnOk result (IsCalled (cluster_of cluster.old) id
             (call.Unregister name.now) (cluster_of cluster.new)) }
         ensures untouched { OnErr result (cluster_of cluster.new ≡ cluster_of cluster.old) }

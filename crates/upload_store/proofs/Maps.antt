@@ -80,7 +80,7 @@ module _ {X : Type 0} (code_of : X → List Insn) (m n : BTreeMap ProgramId X) (
   -- entries that differ at one id make maps that differ there
   pub map_inserted : Updates id_cmp m n id (Some x)
       → programs_by code_of n.entries ≡ insert (programs_by code_of m.entries) id (code_of x)
-  map_inserted updates = made_inserted ids_total code_of ids_exact m n id x updates
+  map_inserted updates = made_inserted ids_total code_of ids_exact m.entries n.entries id x updates.0
 
   -- entries remain a store, even if a new program runs out of memory
   pub still_kept : {E : Type 0} → AreKept code_of m.entries → IsProgram id (code_of x)
@@ -109,7 +109,7 @@ module _ {X : Type 0} (code_of : X → List Insn) (m n : BTreeMap ProgramId X) (
 module _ {X : Type 0} (code_of : X → List Insn) (m n : BTreeMap ProgramId X) (id : ProgramId)
     (updates : Updates id_cmp m n id None) where
   pub map_removed : programs_by code_of n.entries ≡ remove (programs_by code_of m.entries) id
-  map_removed = made_removed ids_total code_of ids_exact m n id updates
+  map_removed = made_removed ids_total code_of ids_exact m.entries n.entries id updates.0
 
   one_less : IsStore (programs_by code_of m.entries) → IsStore (remove (programs_by code_of m.entries) id)
   one_less store = record {

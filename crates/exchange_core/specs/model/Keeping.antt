@@ -1,5 +1,5 @@
 -- The comparison of the two tables of an open exchange that a side's state keeps.
-use Rattle.std.specs.Prelude.{◌≡◌, ◌≢◌, ℕ, Bool, true, List, [], Option, length, map}
+use Rattle.std.specs.Prelude.{◌≡◌, ℕ, Bool, List, Option, length, map}
 use Rattle.std.specs.Option.{option_map, option_and_then}
 use Rattle.std.specs.Arc.{arc_value}
 use Rattle.std.specs.FinMap.{keys}
@@ -8,7 +8,7 @@ use Rattle.clash_record.specs.declared.side_id.SideId.TheVariants.{A, B}
 use Rattle.partition_table.specs.declared.clashing.Compared.{Compared}
 use Rattle.partition_table.specs.Tables.{Table, clashes, has_first, names_without}
 use Rattle.exchange_core.specs.declared.state.State.TheInside.{Inside}
-use Rattle.exchange_law.specs.Sides.{Side, Exchange, Heard, Offer, heard_clashes, withdrawn_by}
+use Rattle.exchange_law.specs.Sides.{Side, Exchange, Heard, Offer, heard_clashes}
 use Rattle.exchange_core.specs.Views.{state_seen}
 
 -- whether the first table has the first registration of each clash, and how many names each table has alone
@@ -41,8 +41,7 @@ abbrev pub marks_offered : Side → Offer → Option Marks
 marks_offered side offer =
     option_map (λ exchange. marks_for side.id side.table exchange.uptime offer.table offer.uptime) side.exchange
 
--- what is kept was found by comparing the two tables of the open exchange; a side that withdrew a name holds its table alone
+-- what is kept was found by comparing the two tables of the open exchange
 pub record HasCompared (s : Inside) : Type 0 where
   pub clashes : option_map (λ (found : Compared). arc_value found.clashes) s.compared ≡ heard_clashes (state_seen s)
   pub marks : option_map marks_of s.compared ≡ heard_marks (state_seen s)
-  pub alone : withdrawn_by (state_seen s) ≢ [] → s.table.alone ≡ true

@@ -11,7 +11,7 @@ use Rattle.std.specs.declared.cmp.Ordering.TheVariants.{Less}
 use Rattle.std.specs.Ordering.{eq_by_cmp, is_lt}
 use Rattle.std.specs.Cmp.{IsTotalOrder, eq_by_cmp_equiv}
 use Rattle.std.specs.Map.{lookup, keys_of}
-use Rattle.std.specs.BTreeMap.{BTreeMap, is_at, Updates}
+use Rattle.std.specs.BTreeMap.{is_at}
 use Rattle.std.specs.FinMap.{IsAntisymmetric, get, insert, remove, len, entries, from_entries, from_sorted, len-entries, get-from_entries, get-from_sorted, entries-from_sorted, get-insert, get-remove, same_map}
 use Rattle.std.specs.FinMap.Entries.{find, is_sorted, below_all}
 use Rattle.upload_store.specs.Programs.{mapped}
@@ -27,6 +27,11 @@ pub cond_map : {X Y : Type 0} (f : X → Y) (b : Bool) (x : X) (o : Option X) (p
     → cond b (Some (f x)) p ≡ option_map f (cond b (Some x) o)
 cond_map f true x o p h = refl
 cond_map f false x o p h = h
+
+-- the entries have this value at the key, or none, and at each other key what they had
+abbrev pub ChangesAt : {K X : Type 0} → (K → K → Ordering) → List (K × X) → List (K × X) → K → Option X → Type 0
+ChangesAt {K} R before after k w =
+    (q : K) → lookup (is_at (R q)) after ≡ cond (is_at (R k) q) w (lookup (is_at (R q)) before)
 
 length-mapped : {K X Y : Type 0} (f : X → Y) (es : List (K × X)) → length (mapped f es) ≡ length es
 length-mapped f [] = refl
@@ -69,32 +74,32 @@ module _ {K X Y : Type 0} {R : K → K → Ordering} (o : IsTotalOrder R) (f : X
     len-mapped es h =
         len-entries (from_entries (mapped f es)) ∙ ap length (entries-mapped es h) ∙ length-mapped f es
 
-    pub made_inserted : (m n : BTreeMap K X) (k : K) (x : X) → Updates R m n k (Some x)
-        → from_entries {R = R} (mapped f n.entries) ≡ insert (from_entries (mapped f m.entries)) k (f x)
-    made_inserted m n k x updates = same_map o exact _ _ (λ q.
-        get-mapped n.entries q ∙ ap (option_map f) (updates.0 q)
-        ∙ sym (cond_map f (is_at (R k) q) x (lookup (is_at (R q)) m.entries)
-        (get (from_entries {R = R} (mapped f m.entries)) q) (get-mapped m.entries q))
-        ∙ ap (λ b. cond b (Some (f x)) (get (from_entries {R = R} (mapped f m.entries)) q))
+    pub made_inserted : (before after : List (K × X)) (k : K) (x : X) → ChangesAt R before after k (Some x)
+        → from_entries {R = R} (mapped f after) ≡ insert (from_entries (mapped f before)) k (f x)
+    made_inserted before after k x changes = same_map o exact _ _ (λ q.
+        get-mapped after q ∙ ap (option_map f) (changes q)
+        ∙ sym (cond_map f (is_at (R k) q) x (lookup (is_at (R q)) before)
+        (get (from_entries {R = R} (mapped f before)) q) (get-mapped before q))
+        ∙ ap (λ b. cond b (Some (f x)) (get (from_entries {R = R} (mapped f before)) q))
         ((eq_by_cmp_equiv o).symm k q)
-        ∙ sym (get-insert o (from_entries (mapped f m.entries)) k (f x) q))
+        ∙ sym (get-insert o (from_entries (mapped f before)) k (f x) q))
 
     -- entries that have the same at each key make one map
-    pub made_same : (m n : BTreeMap K X)
-        → ((q : K) → lookup (is_at (R q)) n.entries ≡ lookup (is_at (R q)) m.entries)
-        → from_entries {R = R} (mapped f n.entries) ≡ from_entries (mapped f m.entries)
-    made_same m n same = same_map o exact _ _ (λ q.
-        get-mapped n.entries q ∙ ap (option_map f) (same q) ∙ sym (get-mapped m.entries q))
+    pub made_same : (before after : List (K × X))
+        → ((q : K) → lookup (is_at (R q)) after ≡ lookup (is_at (R q)) before)
+        → from_entries {R = R} (mapped f after) ≡ from_entries (mapped f before)
+    made_same before after same = same_map o exact _ _ (λ q.
+        get-mapped after q ∙ ap (option_map f) (same q) ∙ sym (get-mapped before q))
 
     none_map : (b : Bool) (p : Option X) → option_map f (cond b None p) ≡ cond b None (option_map f p)
     none_map true p = refl
     none_map false p = refl
 
-    pub made_removed : (m n : BTreeMap K X) (k : K) → Updates R m n k None
-        → from_entries {R = R} (mapped f n.entries) ≡ remove (from_entries (mapped f m.entries)) k
-    made_removed m n k updates = same_map o exact _ _ (λ q.
-        get-mapped n.entries q ∙ ap (option_map f) (updates.0 q)
-        ∙ none_map (is_at (R k) q) (lookup (is_at (R q)) m.entries)
-        ∙ ap (cond (is_at (R k) q) None) (sym (get-mapped m.entries q))
-        ∙ ap (λ b. cond b None (get (from_entries {R = R} (mapped f m.entries)) q)) ((eq_by_cmp_equiv o).symm k q)
-        ∙ sym (get-remove o (from_entries (mapped f m.entries)) k q))
+    pub made_removed : (before after : List (K × X)) (k : K) → ChangesAt R before after k None
+        → from_entries {R = R} (mapped f after) ≡ remove (from_entries (mapped f before)) k
+    made_removed before after k changes = same_map o exact _ _ (λ q.
+        get-mapped after q ∙ ap (option_map f) (changes q)
+        ∙ none_map (is_at (R k) q) (lookup (is_at (R q)) before)
+        ∙ ap (cond (is_at (R k) q) None) (sym (get-mapped before q))
+        ∙ ap (λ b. cond b None (get (from_entries {R = R} (mapped f before)) q)) ((eq_by_cmp_equiv o).symm k q)
+        ∙ sym (get-remove o (from_entries (mapped f before)) k q))

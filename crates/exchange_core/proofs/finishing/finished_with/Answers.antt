@@ -14,16 +14,16 @@ use Rattle.exchange_core.proofs.finishing.finished_with.Goals as goal
 pub invariant_of-result : goal.invariant_of-result
 invariant_of-result c =
     let rulings = c.args.outcome.rulings.items in
-    let ready = subst (λ (x : Exchange). IsMergeable c.args.id c.args.own.table x) (sym c.exchange.view_is)
+    let ready = subst (λ (x : Exchange). IsMergeable c.args.id c.args.own x) (sym c.exchange.view_is)
     c.requires.ready in
     let merged =
-    subst (λ (x : Exchange). IsMergeOf c.args.id c.args.own.table x rulings (arc_value c.args.outcome.table)) (sym c.exchange.view_is)
+    subst (λ (x : Exchange). IsMergeOf c.args.id c.args.own x rulings (arc_value c.args.outcome.table)) (sym c.exchange.view_is)
     c.requires.merged in
     let marked =
-    subst (λ (x : Exchange). IsMarkedIn c.args.id c.args.own.table x c.args.first_of_a.items) (sym c.exchange.view_is)
+    subst (λ (x : Exchange). IsMarkedIn c.args.id c.args.own x c.args.first_of_a.items) (sym c.exchange.view_is)
     c.requires.marked in
     let made : Table × (ℕ × List Name) → Finished = λ p. finished_by c.args.id c.exchange.inside.number c.exchange.inside.seed
-    (record { table = c.args.own.table; uptime = c.exchange.inside.uptime; gone = p.1.1 })
+    (record { table = c.args.own; uptime = c.exchange.inside.uptime; gone = p.1.1 })
     (record { table = p.0; uptime = p.1.0; gone = names_of c.in-Some-Some.other_gone }) rulings (arc_value c.args.outcome.table) in
     let parts : ◌≡◌ {A = Table × (ℕ × List Name)} _ _ = λ i. (
       sym c.into_table-other.ensures.table i,
@@ -36,5 +36,5 @@ invariant_of-result c =
       marked = subst (λ (p : Table × (ℕ × List Name)). c.args.first_of_a.items ≡ map (has_first (made p).a) (clashes_merged (made p)))
           parts
           (marked c.in-Some-Some.heard c.in-Some-Some.is-0
-          ∙ marked_so c.args.id c.args.own.table (the_view c.exchange.inside) c.in-Some-Some.heard (names_of c.in-Some-Some.other_gone) rulings (arc_value c.args.outcome.table));
+          ∙ marked_so c.args.id c.args.own (the_view c.exchange.inside) c.in-Some-Some.heard (names_of c.in-Some-Some.other_gone) rulings (arc_value c.args.outcome.table));
     }

@@ -8,6 +8,6 @@ use Rattle.partition_table.proofs.programs.keep_copy.Goals as goal
 
 pub returns : goal.returns
 returns c =
-    made_inserted ids_total kept_code ids_exact c.args.programs.now c.insert.new.self c.args.id.now c.in_ok-copy.copy
-    c.in_ok-insert.ensures.updates
+    made_inserted ids_total kept_code ids_exact c.args.programs.now.entries c.insert.new.self.entries c.args.id.now c.in_ok-copy.copy
+    c.in_ok-insert.ensures.updates.0
     ∙ ap (insert (programs_by kept_code c.args.programs.now.entries) c.args.id.now) c.in_ok-copy.ensures.cases.0

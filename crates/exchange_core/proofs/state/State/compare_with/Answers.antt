@@ -12,7 +12,5 @@ returns-clause-answer c =
     let other = c.args.offer.now.table in
     subst (λ (s : Side). IsAnswered table_fault_number (fit_fault_for limit s.id s.table other) c.compare.result)
     c.self.view_is
-    (subst (λ (t : Table). IsAnswered table_fault_number (fit_fault_for limit c.self.inside.id t other) c.compare.result)
-    c.table.ensures
-    (subst (λ (t : Table). IsAnswered table_fault_number (fit_fault_for limit c.self.inside.id c.table.result.now t)
-    c.compare.result) c.table-2.ensures c.compare.ensures.answer))
+    (subst (λ (t : Table). IsAnswered table_fault_number (fit_fault_for limit c.self.inside.id c.self.inside.table t)
+    c.compare.result) c.table.ensures c.compare.ensures.answer)

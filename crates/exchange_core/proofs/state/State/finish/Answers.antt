@@ -5,9 +5,7 @@ use Rattle.exchange_law.specs.Sides.{Exchange, Side, finish}
 use Rattle.exchange_core.specs.Finished.{finished_at, finished_from}
 use Rattle.exchange_core.specs.Views.{state_seen}
 use Rattle.exchange_core.specs.model.Finishing.{IsMergeable, IsMergeOf, merged_in}
-use Rattle.exchange_core.specs.model.Holding.{Holding}
 use Rattle.exchange_core.specs.model.Keeping.{Marks, marks_for}
-use Rattle.exchange_core.specs.model.Pairing.{IsComparedFor}
 use Rattle.exchange_law.specs.laws.Carried.{some_inj}
 use Rattle.exchange_core.proofs.Comparing.{compared_is, compared_there, marks_are}
 use Rattle.exchange_core.proofs.Ending.{finishes, gives}
@@ -17,27 +15,27 @@ use Rattle.exchange_core.proofs.state.State.finish.Goals as goal
 opened : (c : After-replace-own) → c.self.inside.exchange ≡ Some c.in-Some-take.exchange
 opened c = sym c.take.ensures.value ∙ c.in-Some-take.is
 
-ready : (c : After-replace-own) → IsMergeable c.self.inside.id c.self.inside.table.table c.in-Some-take.exchange
+ready : (c : After-replace-own) → IsMergeable c.self.inside.id c.self.inside.table c.in-Some-take.exchange
 ready c =
     subst (λ (s : Side). (x : Exchange) → s.exchange ≡ Some x → IsMergeable s.id s.table x) (sym c.self.view_is)
     c.requires.ready c.in-Some-take.exchange (opened c)
 
 -- the merge is shared
 made : (c : After-replace-own) →
-    IsMergeOf c.self.inside.id c.self.inside.table.table c.in-Some-take.exchange c.in_ok-rulings.field-0.rulings.items
+    IsMergeOf c.self.inside.id c.self.inside.table c.in-Some-take.exchange c.in_ok-rulings.field-0.rulings.items
     (arc_value c.in_ok-table.table)
 made c =
     let same : c.in-Some.exchange ≡ c.in-Some-take.exchange = some_inj (sym c.in-Some.is ∙ opened c) in
     let table = arc_value c.in_ok-table.table in
-    subst (λ (p : Table × Exchange). merged_in c.self.inside.id p.0 p.1 c.in_ok-rulings.field-0.table ≡ Some table
-    → IsMergeOf c.self.inside.id p.0 p.1 c.in_ok-rulings.field-0.rulings.items table)
-    (λ i. (c.table.ensures i, same i)) (c.in_ok-rulings.ensures table)
-    (ap (λ (x : Exchange). merged_in c.self.inside.id c.self.inside.table.table x c.in_ok-rulings.field-0.table) (sym same)
+    subst (λ (x : Exchange). merged_in c.self.inside.id c.self.inside.table x c.in_ok-rulings.field-0.table ≡ Some table
+    → IsMergeOf c.self.inside.id c.self.inside.table x c.in_ok-rulings.field-0.rulings.items table)
+    same (c.in_ok-rulings.ensures table)
+    (ap (λ (x : Exchange). merged_in c.self.inside.id c.self.inside.table x c.in_ok-rulings.field-0.table) (sym same)
     ∙ c.in_ok-held.ensures.held ∙ ap Some (sym c.in_ok-table.ensures.shared))
 
 -- the own table stays
-owned : (c : After-replace-own) → c.replace-own.result.table ≡ c.self.inside.table.table
-owned c = ap (λ (h : Holding). h.table) c.replace-own.ensures.value ∙ c.hold.ensures.same
+owned : (c : After-replace-own) → c.replace-own.result ≡ c.self.inside.table
+owned c = c.replace-own.ensures.value ∙ c.hold.ensures.same
 
 -- once the side can finish, it compared the two tables
 pub unreachable-requires-in_default-compared : goal.unreachable-requires-in_default-compared
@@ -48,10 +46,8 @@ unreachable-requires-in_default-compared c =
 
 pub merge_exchange-requires-clause-compared : goal.merge_exchange-requires-clause-compared
 merge_exchange-requires-clause-compared c = λ heard is.
-    subst (λ (t : Table). IsComparedFor c.self.inside.id t c.in-Some.exchange.uptime heard.table heard.uptime
-    c.in-Some-compared.compared) (sym c.table.ensures)
-    (compared_is c.self.inside c.self.invariant c.in-Some.exchange c.in-Some.is heard is c.in-Some-compared.compared
-    c.in-Some-compared.is)
+    compared_is c.self.inside c.self.invariant c.in-Some.exchange c.in-Some.is heard is c.in-Some-compared.compared
+    c.in-Some-compared.is
 
 pub hold-requires : goal.hold-requires
 hold-requires c =
@@ -70,9 +66,8 @@ finished_with-requires-clause-marked c = λ heard is.
 
 pub merge_exchange-requires-clause-ready : goal.merge_exchange-requires-clause-ready
 merge_exchange-requires-clause-ready c =
-    subst (λ (t : Table). IsMergeable c.self.inside.id t c.in-Some.exchange) (sym c.table.ensures)
-    (subst (λ (s : Side). (x : Exchange) → s.exchange ≡ Some x → IsMergeable s.id s.table x) (sym c.self.view_is)
-    c.requires.ready c.in-Some.exchange c.in-Some.is)
+    subst (λ (s : Side). (x : Exchange) → s.exchange ≡ Some x → IsMergeable s.id s.table x) (sym c.self.view_is)
+    c.requires.ready c.in-Some.exchange c.in-Some.is
 
 pub finished_with-requires-clause-ready : goal.finished_with-requires-clause-ready
 finished_with-requires-clause-ready c =
@@ -89,7 +84,7 @@ returns-clause-done c =
     let b = c.before.before.before in
     let m = ready b in
     let merged = made b m.heard m.theirs m.was_heard m.list_heard in
-    let table = ap (λ (h : Holding). h.table) c.replace-own.ensures.after ∙ (c.in_ok-table.ensures.same ∙ (sym c.in_ok-table.ensures.shared ∙ merged.1)) in
+    let table = c.replace-own.ensures.after ∙ (c.in_ok-table.ensures.same ∙ (sym c.in_ok-table.ensures.shared ∙ merged.1)) in
     ap finish (sym c.self.view_is)
     ∙ (finishes (state_seen c.self.inside) c.in-Some-take.exchange m (opened b)
     ∙ (λ i. Some (record {

@@ -13,21 +13,21 @@ pub loop-name-init : goal.loop-name-init
 loop-name-init c =
     begun_calls c.args.self.now (calls_of c.number_journal-journal.result.past.value) c.rows-rows.result c.requires
     (c.number_journal-journal.ensures ∙ ap (λ (s : Side). number_calls s.latest) c.self.view_is)
-    (c.rows-rows.ensures.rows ∙ ap rows_of c.table.ensures ∙ ap (λ (s : Side). rows_of s.table) c.self.view_is)
+    (c.rows-rows.ensures.rows ∙ ap (λ (s : Side). rows_of s.table) c.self.view_is)
 
 pub push-requires : goal.push-requires
 push-requires c =
-    let kept = subst (λ (t : Table). IsTable t) (c.table.ensures ∙ ap (λ (s : Side). s.table) c.self.view_is) c.rows-rows.ensures.kept in
+    let kept = subst (λ (t : Table). IsTable t) (ap (λ (s : Side). s.table) c.self.view_is) c.rows-rows.ensures.kept in
     renewing_room c.args.self.now (calls_of c.loop-name.journal.past.value) c.loop-name.rows c.next.new.self _ kept
     c.loop-name.invariant c.in-Some.ensures.steps
 
 pub loop-name-preserved : goal.loop-name-preserved
 loop-name-preserved c =
-    let kept = subst (λ (t : Table). IsTable t) (c.table.ensures ∙ ap (λ (s : Side). s.table) c.self.view_is) c.rows-rows.ensures.kept in
+    let kept = subst (λ (t : Table). IsTable t) (ap (λ (s : Side). s.table) c.self.view_is) c.rows-rows.ensures.kept in
     let name = c.in-Some.name.now in
     let registration = c.in-Some.registration.now in
     let same : c.of-table.result.value ≡ c.args.self.now.table =
-    c.of-table.ensures ∙ c.table-in-Some.ensures ∙ ap (λ (s : Side). s.table) c.self.view_is in
+    c.of-table.ensures ∙ ap (λ (s : Side). s.table) c.self.view_is in
     renewing_on c.args.self.now c.requires kept (calls_of c.loop-name.journal.past.value)
     (calls_of c.push.new.self.past.value) c.loop-name.rows c.next.new.self name registration c.loop-name.invariant
     c.in-Some.ensures.steps

@@ -1,5 +1,4 @@
 use Rattle.std.proofs.Common.{◌≡◌, not, nat_le, subst}
-use Rattle.partition_table.specs.Tables.{Table}
 use Rattle.exchange_core.specs.Refusals.{union_for}
 use Rattle.exchange_law.specs.Sides.{Side}
 use Rattle.exchange_core.proofs.state.State.has_too_many.Goals as goal
@@ -8,6 +7,4 @@ pub returns : goal.returns
 returns c =
     subst (λ (s : Side). c.has_too_many.result ≡ not (nat_le (union_for s.id s.table c.args.other.now) c.args.limit.names))
     c.self.view_is
-    (subst (λ (t : Table). c.has_too_many.result
-    ≡ not (nat_le (union_for c.self.inside.id t c.args.other.now) c.args.limit.names)) c.table.ensures
-    (c.has_too_many.ensures c.self.inside.id))
+    (c.has_too_many.ensures c.self.inside.id)

@@ -10,15 +10,15 @@ use Rattle.exchange_core.proofs.state.State.rows.Goals as goal
 pub returns-in_default : goal.returns-in_default
 returns-in_default c =
     let side = state_seen c.self.inside in
-    ap (not_withdrawn []) (c.rows.ensures.rows ∙ ap rows_of c.table.ensures)
-    ∙ (all_shown (rows_of c.self.inside.table.table)
+    ap (not_withdrawn []) c.rows.ensures.rows
+    ∙ (all_shown (rows_of c.self.inside.table)
     ∙ (sym (ap rows_of (shown_idle side c.in_default.is)) ∙ ap (λ (s : Side). rows_of (shown_table s)) c.self.view_is))
 
 pub returns : goal.returns
 returns c =
     let side = state_seen c.self.inside in
-    ap (not_withdrawn c.withdrawn.result.now) (c.rows-2.ensures.rows ∙ ap rows_of c.table-2.ensures)
-    ∙ (ap (λ (names : List Name). not_withdrawn names (rows_of c.self.inside.table.table)) c.withdrawn.ensures
-    ∙ (sym (rows_without c.in-Some.exchange.withdrawn c.self.inside.table.table)
+    ap (not_withdrawn c.withdrawn.result.now) c.rows-2.ensures.rows
+    ∙ (ap (λ (names : List Name). not_withdrawn names (rows_of c.self.inside.table)) c.withdrawn.ensures
+    ∙ (sym (rows_without c.in-Some.exchange.withdrawn c.self.inside.table)
     ∙ (sym (ap rows_of (shown_open side c.in-Some.exchange c.in-Some.is))
     ∙ ap (λ (s : Side). rows_of (shown_table s)) c.self.view_is)))

@@ -11,7 +11,6 @@ pub returns-in_default : goal.returns-in_default
 returns-in_default c =
     let name = c.args.name.now in
     c.whereis.ensures
-    ∙ ap (λ (t : Table). option_map (λ (row : Row). row.registration) (get t name)) c.table.ensures
     ∙ sym (ap (option_map (λ (row : Row). row.registration))
     (ap (λ (s : Side). get (shown_table s) name) (sym c.self.view_is)
     ∙ ap (λ (t : Table). get t name) (shown_idle (state_seen c.self.inside) c.in_default.is)))
@@ -22,16 +21,15 @@ returns-then-has_withdrawn c =
     sym (ap (option_map (λ (row : Row). row.registration))
     (ap (λ (s : Side). get (shown_table s) name) (sym c.self.view_is)
     ∙ (ap (λ (t : Table). get t name) (shown_open (state_seen c.self.inside) c.in-Some.exchange c.in-Some.is)
-    ∙ gone c.in-Some.exchange.withdrawn c.self.inside.table.table name (sym c.has_withdrawn.ensures
+    ∙ gone c.in-Some.exchange.withdrawn c.self.inside.table name (sym c.has_withdrawn.ensures
     ∙ c.if-has_withdrawn.true))))
 
 pub returns : goal.returns
 returns c =
     let name = c.args.name.now in
     c.whereis-2.ensures
-    ∙ ap (λ (t : Table). option_map (λ (row : Row). row.registration) (get t name)) c.table-2.ensures
     ∙ sym (ap (option_map (λ (row : Row). row.registration))
     (ap (λ (s : Side). get (shown_table s) name) (sym c.self.view_is)
     ∙ (ap (λ (t : Table). get t name) (shown_open (state_seen c.self.inside) c.in-Some.exchange c.in-Some.is)
-    ∙ still_there c.in-Some.exchange.withdrawn c.self.inside.table.table name (sym c.has_withdrawn.ensures
+    ∙ still_there c.in-Some.exchange.withdrawn c.self.inside.table name (sym c.has_withdrawn.ensures
     ∙ c.if-has_withdrawn.false))))

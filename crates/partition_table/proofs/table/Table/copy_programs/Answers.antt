@@ -11,7 +11,7 @@ use Rattle.partition_table.proofs.table.Table.copy_programs.Goals as goal
 pub returns : goal.returns
 returns c =
     let entries = c.self.inside.programs.entries in
-    let held = held_now (programs_by kept_code entries) c.self.inside.rows.entries c.args.self.now c.self.view_is
+    let held = held_now (programs_by kept_code entries) c.self.inside.rows c.args.self.now c.self.view_is
     c.self.invariant.held in
     let same : programs_by kept_code c.in_ok-programs.programs.entries ≡ programs_by kept_code entries =
     ap from_entries (shared_clone kept_code entries c.in_ok-programs.programs.entries

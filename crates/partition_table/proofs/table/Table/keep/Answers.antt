@@ -19,17 +19,17 @@ use Rattle.partition_table.proofs.table.Table.keep.Goals as goal
 pub hold_program-requires-clause-room : goal.hold_program-requires-clause-room
 hold_program-requires-clause-room c =
     let programs = programs_by kept_code c.self.inside.programs.entries in
-    let held = held_now programs c.self.inside.rows.entries c.args.self.now c.self.view_is c.self.invariant.held in
+    let held = held_now programs c.self.inside.rows c.args.self.now c.self.view_is c.self.invariant.held in
     room_from_agrees programs c.args.self.now held.0 held.1
     record { registration = c.args.registration; code = option_map (λ p. arc_value p.now) c.args.program }
     c.requires.agrees
 
 pub hold_program-requires-clause-few : goal.hold_program-requires-clause-few
 hold_program-requires-clause-few c =
-    let new = new_name (programs_by kept_code c.self.inside.programs.entries) c.self.inside.rows.entries c.args.self.now
+    let new = new_name (programs_by kept_code c.self.inside.programs.entries) c.self.inside.rows c.args.self.now
     c.self.view_is c.args.name c.in_ok-insert_new.ensures.answer in
     let programs = programs_by kept_code c.self.inside.programs.entries in
-    let held = held_now programs c.self.inside.rows.entries c.args.self.now c.self.view_is c.self.invariant.held in
+    let held = held_now programs c.self.inside.rows c.args.self.now c.self.view_is c.self.invariant.held in
     few_kept c.self.inside.programs.entries c.args.self.now held.0 held.1
     (λ id. c.self.invariant.counted id ∙ ap (λ t. rows_naming t id) c.self.view_is)
     c.args.name record { registration = c.args.registration; code = option_map (λ p. arc_value p.now) c.args.program }
@@ -37,11 +37,11 @@ hold_program-requires-clause-few c =
 
 -- if the row isn't inserted, the table is unchanged
 table_same : (c : After-from_residual) → table_by (programs_by kept_code c.self.inside.programs.entries)
-    c.insert_new.new.rows.entries
+    c.insert_new.new.self
     ≡ c.args.self.now
 table_same c =
     made_same names_total (row_for (programs_by kept_code c.self.inside.programs.entries)) names_exact
-    c.self.inside.rows c.insert_new.new.rows c.in_err-insert_new.ensures.unchanged
+    c.self.inside.rows c.insert_new.new.self c.in_err-insert_new.ensures.unchanged
     ∙ c.self.view_is
 
 pub invariant_of-self : goal.invariant_of-self
@@ -50,7 +50,7 @@ invariant_of-self c =
 
 pub returns-in_err-insert_new-clause-answer : goal.returns-in_err-insert_new-clause-answer
 returns-in_err-insert_new-clause-answer c =
-    let named = has_name (programs_by kept_code c.self.inside.programs.entries) c.self.inside.rows.entries
+    let named = has_name (programs_by kept_code c.self.inside.programs.entries) c.self.inside.rows
     c.args.self.now c.self.view_is c.args.name in
     handed_on _ c.from_residual.result c.in_err-insert_new.field-0.0 c.from_residual.ensures.1
     (subst (λ b. IsAnswered {A = Unit {0}} table_fault_number (taken_if b) (Err c.in_err-insert_new.field-0.0)) named
@@ -61,20 +61,20 @@ returns-in_err-insert_new-clause-unchanged c = if_err c.from_residual.result (ta
 
 -- if the program can't be kept, the table is unchanged
 table_back : (c : After-into) → table_by (programs_by kept_code c.hold_program.new.programs.entries)
-    c.remove.new.self.entries
+    c.remove.new.self
     ≡ c.args.self.now
 table_back c =
-    let new = new_name (programs_by kept_code c.self.inside.programs.entries) c.self.inside.rows.entries c.args.self.now
+    let new = new_name (programs_by kept_code c.self.inside.programs.entries) c.self.inside.rows c.args.self.now
     c.self.view_is c.args.name c.in_ok-insert_new.ensures.answer in
     let entries = c.self.inside.programs.entries in
-    let held = held_now (programs_by kept_code entries) c.self.inside.rows.entries c.args.self.now c.self.view_is
+    let held = held_now (programs_by kept_code entries) c.self.inside.rows c.args.self.now c.self.view_is
     c.self.invariant.held in
-    ap (λ es. table_by (programs_by kept_code es) c.remove.new.self.entries) c.in-Err.ensures.unchanged
+    ap (λ es. table_by (programs_by kept_code es) c.remove.new.self) c.in-Err.ensures.unchanged
     ∙ made_back entries c.args.self.now held.0 held.1
     (λ id. c.self.invariant.counted id ∙ ap (λ t. rows_naming t id) c.self.view_is)
     c.args.name record { registration = c.args.registration; code = option_map (λ p. arc_value p.now) c.args.program }
-    new c.requires.room c.self.inside.rows c.insert_new.new.rows c.remove.new.self c.self.view_is
-    c.in_ok-insert_new.ensures.inserted c.remove.ensures.updates
+    new c.requires.room c.self.inside.rows c.insert_new.new.self c.remove.new.self c.self.view_is
+    c.in_ok-insert_new.ensures.inserted c.remove.ensures.changes
 
 pub invariant_of-self-in-Err : goal.invariant_of-self-in-Err
 invariant_of-self-in-Err c =
@@ -89,27 +89,27 @@ returns-in-Err-clause-unchanged c = table_back c
 row : In_default → Row
 row c = record { registration = c.args.registration; code = option_map (λ p. arc_value p.now) c.args.program }
 
-made : (c : In_default) → table_by (programs_by kept_code c.hold_program.new.programs.entries) c.insert_new.new.rows.entries
+made : (c : In_default) → table_by (programs_by kept_code c.hold_program.new.programs.entries) c.insert_new.new.self
     ≡ insert c.args.self.now c.args.name (row c)
 unfolding row
 made c =
-    let new = new_name (programs_by kept_code c.self.inside.programs.entries) c.self.inside.rows.entries c.args.self.now
+    let new = new_name (programs_by kept_code c.self.inside.programs.entries) c.self.inside.rows c.args.self.now
     c.self.view_is c.args.name c.in_ok-insert_new.ensures.answer in
     let programs = programs_by kept_code c.self.inside.programs.entries in
-    let held = held_now programs c.self.inside.rows.entries c.args.self.now c.self.view_is c.self.invariant.held in
+    let held = held_now programs c.self.inside.rows c.args.self.now c.self.view_is c.self.invariant.held in
     let room = room_from_agrees programs c.args.self.now held.0 held.1 (row c) c.requires.agrees in
-    ap (λ p. table_by p c.insert_new.new.rows.entries) c.in_default.ensures.held
+    ap (λ p. table_by p c.insert_new.new.self) c.in_default.ensures.held
     ∙ made_more programs c.args.self.now held.0 held.1 c.args.name (row c) new c.requires.room
     c.requires.coded room
-    c.self.inside.rows c.insert_new.new.rows c.self.view_is c.in_ok-insert_new.ensures.inserted
+    c.self.inside.rows c.insert_new.new.self c.self.view_is c.in_ok-insert_new.ensures.inserted
 
 pub invariant_of-self-in_default : goal.invariant_of-self-in_default
 unfolding row
 invariant_of-self-in_default c =
-    let new = new_name (programs_by kept_code c.self.inside.programs.entries) c.self.inside.rows.entries c.args.self.now
+    let new = new_name (programs_by kept_code c.self.inside.programs.entries) c.self.inside.rows c.args.self.now
     c.self.view_is c.args.name c.in_ok-insert_new.ensures.answer in
     let programs = programs_by kept_code c.self.inside.programs.entries in
-    let held = held_now programs c.self.inside.rows.entries c.args.self.now c.self.view_is c.self.invariant.held in
+    let held = held_now programs c.self.inside.rows c.args.self.now c.self.view_is c.self.invariant.held in
     let room = room_from_agrees programs c.args.self.now held.0 held.1 (row c) c.requires.agrees in
     kept_more c.self.inside.programs.entries c.args.self.now held.0 held.1
     (λ id. c.self.invariant.counted id ∙ ap (λ t. rows_naming t id) c.self.view_is)
@@ -122,6 +122,6 @@ returns-clause-kept c = made c
 
 pub returns-clause-answer : goal.returns-clause-answer
 returns-clause-answer c =
-    let named = has_name (programs_by kept_code c.self.inside.programs.entries) c.self.inside.rows.entries
+    let named = has_name (programs_by kept_code c.self.inside.programs.entries) c.self.inside.rows
     c.args.self.now c.self.view_is c.args.name in
     ap taken_if (sym named) ∙ c.in_ok-insert_new.ensures.answer

@@ -10,11 +10,11 @@ use Rattle.partition_table.proofs.table.Table.len.Goals as goal
 pub returns-clause-count : goal.returns-clause-count
 returns-clause-count c =
     let programs = programs_by kept_code c.self.inside.programs.entries in
-    c.len.ensures.len ∙ sym (count_of programs c.self.inside.rows.entries c.len.ensures.ordered) ∙ ap len c.self.view_is
+    c.len.ensures.len ∙ sym (count_of programs c.self.inside.rows c.len.ensures.ordered) ∙ ap len c.self.view_is
 
 pub returns-clause-kept : goal.returns-clause-kept
 returns-clause-kept c =
     let programs = programs_by kept_code c.self.inside.programs.entries in
-    let rows = c.self.inside.rows.entries in
+    let rows = c.self.inside.rows in
     subst IsTable c.self.view_is
     (is_table programs (table_by programs rows) c.self.invariant.held (looked_up programs rows))

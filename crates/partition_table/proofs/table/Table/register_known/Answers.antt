@@ -13,7 +13,7 @@ use Rattle.partition_table.proofs.table.Table.register_known.Goals as goal
 pub has_room-requires-clause-known : goal.has_room-requires-clause-known
 has_room-requires-clause-known c = λ known.
     let programs = programs_by kept_code c.self.inside.programs.entries in
-    let held = held_now programs c.self.inside.rows.entries c.args.self.now c.self.view_is c.self.invariant.held in
+    let held = held_now programs c.self.inside.rows c.args.self.now c.self.view_is c.self.invariant.held in
     room_from_agrees programs c.args.self.now held.0 held.1 record {
       registration = c.args.registration;
       code = option_map (λ p. arc_value p.now) c.in-Ok.program;
@@ -27,7 +27,7 @@ has_room-requires-clause-known c = λ known.
 pub returns-then-len-names-clause-answer : goal.returns-then-len-names-clause-answer
 returns-then-len-names-clause-answer c =
     let programs = programs_by kept_code c.self.inside.programs.entries in
-    let count = c.len.ensures.len ∙ sym (count_of programs c.self.inside.rows.entries c.len.ensures.ordered)
+    let count = c.len.ensures.len ∙ sym (count_of programs c.self.inside.rows c.len.ensures.ordered)
     ∙ ap len c.self.view_is in
     inl (refused_first c.args.limit.names c.args.self.now c.args.name c.args.registration c.args.store.now Full c.refusal.result
     c.refusal.ensures (λ a.
@@ -37,8 +37,8 @@ returns-then-len-names-clause-answer c =
 pub returns-in-Err-clause-answer : goal.returns-in-Err-clause-answer
 returns-in-Err-clause-answer c =
     let programs = programs_by kept_code c.self.inside.programs.entries in
-    let held = held_now programs c.self.inside.rows.entries c.args.self.now c.self.view_is c.self.invariant.held in
-    let count = c.len.ensures.len ∙ sym (count_of programs c.self.inside.rows.entries c.len.ensures.ordered)
+    let held = held_now programs c.self.inside.rows c.args.self.now c.self.view_is c.self.invariant.held in
+    let count = c.len.ensures.len ∙ sym (count_of programs c.self.inside.rows c.len.ensures.ordered)
     ∙ ap len c.self.view_is in
     let place : len c.args.self.now < c.args.limit.names = omega (arith, count, c.if-len-names.false, c.names.ensures) in
     inl (refused_first c.args.limit.names c.args.self.now c.args.name c.args.registration c.args.store.now c.in-Err.fault
@@ -49,8 +49,8 @@ returns-in-Err-clause-answer c =
 pub returns-then-not-has_room-clause-answer : goal.returns-then-not-has_room-clause-answer
 returns-then-not-has_room-clause-answer c =
     let programs = programs_by kept_code c.self.inside.programs.entries in
-    let held = held_now programs c.self.inside.rows.entries c.args.self.now c.self.view_is c.self.invariant.held in
-    let count = c.len.ensures.len ∙ sym (count_of programs c.self.inside.rows.entries c.len.ensures.ordered)
+    let held = held_now programs c.self.inside.rows c.args.self.now c.self.view_is c.self.invariant.held in
+    let count = c.len.ensures.len ∙ sym (count_of programs c.self.inside.rows c.len.ensures.ordered)
     ∙ ap len c.self.view_is in
     let place : len c.args.self.now < c.args.limit.names = omega (arith, count, c.if-len-names.false, c.names.ensures) in
     inl (refused_first c.args.limit.names c.args.self.now c.args.name c.args.registration c.args.store.now OtherCode
@@ -68,15 +68,15 @@ returns-then-not-has_room-clause-answer c =
 pub keep-requires-clause-room : goal.keep-requires-clause-room
 keep-requires-clause-room c =
     let programs = programs_by kept_code c.self.inside.programs.entries in
-    let held = held_now programs c.self.inside.rows.entries c.args.self.now c.self.view_is c.self.invariant.held in
-    let count = c.len.ensures.len ∙ sym (count_of programs c.self.inside.rows.entries c.len.ensures.ordered)
+    let held = held_now programs c.self.inside.rows c.args.self.now c.self.view_is c.self.invariant.held in
+    let count = c.len.ensures.len ∙ sym (count_of programs c.self.inside.rows c.len.ensures.ordered)
     ∙ ap len c.self.view_is in
     omega (arith, count, c.if-len-names.false, c.names.ensures, c.args.limit.few)
 
 pub keep-requires-clause-agrees : goal.keep-requires-clause-agrees
 keep-requires-clause-agrees c =
     let programs = programs_by kept_code c.self.inside.programs.entries in
-    let held = held_now programs c.self.inside.rows.entries c.args.self.now c.self.view_is c.self.invariant.held in
+    let held = held_now programs c.self.inside.rows c.args.self.now c.self.view_is c.self.invariant.held in
     agrees_when programs c.args.self.now held.0 held.1 c.args.registration
     (option_map (λ p. arc_value p.now) c.in-Ok.program)
     c.has_room.result c.has_room.ensures c.if-not-has_room.false
@@ -84,8 +84,8 @@ keep-requires-clause-agrees c =
 pub returns-clause-answer : goal.returns-clause-answer
 returns-clause-answer c =
     let programs = programs_by kept_code c.self.inside.programs.entries in
-    let held = held_now programs c.self.inside.rows.entries c.args.self.now c.self.view_is c.self.invariant.held in
-    let count = c.len.ensures.len ∙ sym (count_of programs c.self.inside.rows.entries c.len.ensures.ordered)
+    let held = held_now programs c.self.inside.rows c.args.self.now c.self.view_is c.self.invariant.held in
+    let count = c.len.ensures.len ∙ sym (count_of programs c.self.inside.rows c.len.ensures.ordered)
     ∙ ap len c.self.view_is in
     let place : len c.args.self.now < c.args.limit.names = omega (arith, count, c.if-len-names.false, c.names.ensures) in
     answered c.args.limit.names c.args.self.now c.args.name c.args.registration c.args.store.now place

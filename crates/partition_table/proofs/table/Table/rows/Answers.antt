@@ -9,12 +9,12 @@ use Rattle.partition_table.proofs.table.Table.rows.Goals as goal
 pub returns-clause-rows : goal.returns-clause-rows
 returns-clause-rows c =
     c.iter.ensures.rest
-    ∙ rows_made (programs_by kept_code c.self.inside.programs.entries) c.self.inside.rows.entries c.iter.ensures.ordered
+    ∙ rows_made (programs_by kept_code c.self.inside.programs.entries) c.self.inside.rows c.iter.ensures.ordered
     ∙ ap rows_of c.self.view_is
 
 pub returns-clause-kept : goal.returns-clause-kept
 returns-clause-kept c =
     let programs = programs_by kept_code c.self.inside.programs.entries in
-    let rows = c.self.inside.rows.entries in
+    let rows = c.self.inside.rows in
     subst IsTable c.self.view_is
     (is_table programs (table_by programs rows) c.self.invariant.held (looked_up programs rows))

@@ -1,5 +1,4 @@
 use Rattle.std.proofs.Common.{filter, ap, ◌∙◌}
-use Rattle.std.proofs.Math.Bool.{and-true}
 use Rattle.std.specs.Ordering.{is_lt}
 use Rattle.clash_record.specs.Orders.{name_cmp}
 use Rattle.partition_table.specs.Tables.{rows_above}
@@ -10,8 +9,7 @@ use Rattle.partition_table.proofs.table.Table.rows_after.Goals as goal
 
 pub returns : goal.returns
 returns c =
-    c.range.ensures.between tt
-    ∙ (λ i. filter (λ row. and-true (is_lt (name_cmp c.args.name.now row.0)) i) c.self.inside.rows.entries)
+    c.after.ensures.rest
     ∙ ap (filter (λ row. is_lt (name_cmp c.args.name.now row.0)))
-    (rows_made (programs_by kept_code c.self.inside.programs.entries) c.self.inside.rows.entries c.range.ensures.ordered)
+    (rows_made (programs_by kept_code c.self.inside.programs.entries) c.self.inside.rows c.after.ensures.ordered)
     ∙ ap (rows_above c.args.name.now) c.self.view_is

@@ -17,7 +17,7 @@ use Rattle.partition_table.proofs.table.Table.unregister.Goals as goal
 absent : (c : In_default) → get c.args.self.now c.args.name.now ≡ None
 absent c =
     let programs = programs_by kept_code c.self.inside.programs.entries in
-    ap (λ t. get t c.args.name.now) (sym c.self.view_is) ∙ get_row programs c.self.inside.rows.entries c.args.name.now
+    ap (λ t. get t c.args.name.now) (sym c.self.view_is) ∙ get_row programs c.self.inside.rows c.args.name.now
     ∙ ap (option_map (row_for programs)) (sym c.in_default.ensures.value)
 
 pub returns-in_default-clause-answer : goal.returns-in_default-clause-answer
@@ -33,20 +33,20 @@ there : (c : After-release_program) → get c.args.self.now c.args.name.now
     ≡ Some (row_for (programs_by kept_code c.self.inside.programs.entries) c.in-Some.registration)
 there c =
     let programs = programs_by kept_code c.self.inside.programs.entries in
-    ap (λ t. get t c.args.name.now) (sym c.self.view_is) ∙ get_row programs c.self.inside.rows.entries c.args.name.now
+    ap (λ t. get t c.args.name.now) (sym c.self.view_is) ∙ get_row programs c.self.inside.rows c.args.name.now
     ∙ ap (option_map (row_for programs)) (sym c.in-Some.ensures.value)
 
 left : (c : After-release_program) → let after = c.release_program.new.programs.entries in
-    IsKept after (table_by (programs_by kept_code after) c.remove.new.self.entries)
-    × (table_by (programs_by kept_code after) c.remove.new.self.entries ≡ remove c.args.self.now c.args.name.now)
+    IsKept after (table_by (programs_by kept_code after) c.remove.new.self)
+    × (table_by (programs_by kept_code after) c.remove.new.self ≡ remove c.args.self.now c.args.name.now)
 left c =
     let programs = programs_by kept_code c.self.inside.programs.entries in
-    let held = held_now programs c.self.inside.rows.entries c.args.self.now c.self.view_is c.self.invariant.held in
+    let held = held_now programs c.self.inside.rows c.args.self.now c.self.view_is c.self.invariant.held in
     left_kept c.self.inside.programs.entries c.args.self.now held.0 held.1
     (λ id. c.self.invariant.counted id ∙ ap (λ t. rows_naming t id) c.self.view_is)
-    c.args.name.now (row_for programs c.in-Some.registration) (there c) c.remove.new.self.entries
+    c.args.name.now (row_for programs c.in-Some.registration) (there c) c.remove.new.self
     (made_less programs c.args.self.now c.args.name.now c.self.inside.rows c.remove.new.self c.self.view_is
-    c.in-Some.ensures.updates)
+    c.in-Some.ensures.changes)
     c.release_program.new.programs.entries c.release_program.ensures.left c.release_program.ensures.counted
 
 pub invariant_of-self-2 : goal.invariant_of-self-2

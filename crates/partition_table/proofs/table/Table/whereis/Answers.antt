@@ -5,5 +5,5 @@ use Rattle.partition_table.proofs.table.Table.whereis.Goals as goal
 
 pub returns : goal.returns
 returns c =
-    registration_lent (programs_by kept_code c.self.inside.programs.entries) c.self.inside.rows.entries c.args.self.now
+    registration_lent (programs_by kept_code c.self.inside.programs.entries) c.self.inside.rows c.args.self.now
     c.self.view_is c.args.name.now c.get.result c.get.ensures.value

@@ -5,10 +5,10 @@ use Rattle.partition_table.specs.Tables.{rows_of}
 use Rattle.exchange_law.specs.Sides.{shown_table}
 use Rattle.exchange_core.specs.Rows.{rows_left}
 use Rattle.script_text.specs.Printed.{row_line}
-use Rattle.cluster.specs.Clusters.{at, cluster_of}
+use Rattle.cluster.specs.Clusters.{Standing, at, cluster_of}
 use Rattle.scripts.specs.Machines.{shown_resolver}
 use Rattle.scripts.specs.Replies.{shown_row}
-use Rattle.scripts.proofs.Rows.{one_more, all_sent}
+use Rattle.scripts.proofs.Rows.{nothing_sent, one_more, all_sent}
 use Rattle.scripts.proofs.machine.Machine.print_rows.Goals as goal
 
 pub loop-name-preserved : goal.loop-name-preserved
@@ -36,3 +36,11 @@ returns g c = λ start before h.
     subst (λ told. Sends start (contents c.send_after.new.writer) told c.send_after.result)
     (append_assoc before (flat_map text all) (codes "end\n"))
     (c.send_after.ensures start (before ++ flat_map text all) (rows start before h))
+
+pub loop-name-init : goal.loop-name-init
+loop-name-init g c =
+    let all = rows_of (shown_table (at (cluster_of c.args.self.now.cluster) c.args.side).side) in
+    nothing_sent (shown_row c.args.self.now.labels.items) all (rows_left c.into_iter-name-iterator.result) c.args.sent
+    (g.W.Write.contents c.args.writer.now)
+    (ap rows_left c.into_iter-name-iterator.ensures.into_iter_gives ∙ c.rows-name-items.ensures
+    ∙ ap (λ (standing : Standing). rows_of (shown_table standing.side)) c.side.ensures)

@@ -3,7 +3,7 @@ use Rattle.std.specs.BTreeMap.{get}
 use Rattle.clash_record.specs.Orders.{name_cmp}
 use Rattle.clash_record.specs.laws.Orders.{names_exact}
 use Rattle.partition_table.proofs.Maps.{put_back, succeeds_there}
-use Rattle.partition_table.proofs.table.insert_new.Goals as goal
+use Rattle.partition_table.proofs.row_store.insert_new.Goals as goal
 
 pub returns-in-Ok-Some-clause-unchanged : goal.returns-in-Ok-Some-clause-unchanged
 returns-in-Ok-Some-clause-unchanged c =

@@ -1,0 +1,264 @@
+//! The rows that a table keeps, in a map of its own or in one that other tables read too.
+ghost use Rattle.std.specs.Prelude.{◌≡◌, IfOk, IfSome, IfNone, OnOk, OnErr, Some, None, if◌then◌else◌, is_some, length};
+ghost use Rattle.std.specs.Option.{option_copied};
+ghost use Rattle.std.specs.Prelude as prelude;
+ghost use Rattle.std.specs.Ordering.{is_lt};
+ghost use Rattle.std.specs.List.Sorted.{IsStrictlySortedBy};
+ghost use Rattle.std.specs.Map.{keys_of, lookup};
+ghost use Rattle.std.specs.BTreeMap.{Updates, get, is_at};
+ghost use Rattle.clash_record.specs.Orders.{name_cmp};
+ghost use Rattle.clash_record.specs.Name.{Name};
+ghost use Rattle.partition_table.specs.Faults.{table_fault_number};
+ghost use Rattle.partition_table.specs.declared.fault.TableFault.TheVariants.{NameTaken};
+ghost use Rattle.refusals.specs.Answers.{IsAnswered};
+ghost use Rattle.upload_store.specs.laws.Mapped.{ChangesAt};
+
+use crate::fault::TableFault;
+use crate::rows::{Rows, RowsAfter};
+use crate::shared_rows::SharedRows;
+use clash_record::{Name, Registration};
+use std::alloc::{AllocError, Global};
+use std::collections::BTreeMap;
+use std::marker::Model;
+use std::mem;
+use std::ops::Bound;
+
+#[derive(Debug, Drop)]
+pub(crate) enum Stored {
+    Own(BTreeMap<Name, Registration>),
+    Shared(SharedRows),
+}
+
+// The rows of a table. Contracts see them as a list in the order of names.
+//
+// Tables share a map until one of them gets a row or loses one, and then that one copies the map. A loss needs no memory: without
+// enough for a copy, the table marks the row.
+#[derive(Drop)]
+#[derive_where(Debug)]
+pub(crate) struct RowStore {
+    #[derive_where(skip)]
+    alloc: Global,
+    stored: Stored,
+}
+
+impl Model for RowStore {
+    ghost use Rattle.std.specs.Prelude.{List};
+    ghost use Rattle.std.specs.Coded.{coded×, coded_list};
+    ghost use Rattle.clash_record.specs.declared.registrations.Registration.{Registration};
+    ghost use Rattle.clash_record.specs.laws.Codings.{coded_name, coded_registration};
+    ghost use Rattle.clash_record.specs.Name.{Name};
+    ghost use Rattle.partition_table.specs.model.Storing.{rows_stored, IsStored};
+
+    ghost Value = { List (Name × Registration) };
+
+    ghost coded = { coded_list (coded× coded_name coded_registration) };
+
+    ghost view = { λ s. rows_stored s.stored };
+
+    ghost invariant = { λ s. IsStored s.stored };
+}
+
+impl RowStore {
+    // Stores the rows of a map.
+    pub(crate) fn new(alloc: Global, map: BTreeMap<Name, Registration>) -> RowStore
+        ensures { result ≡ map.entries }
+    {
+        RowStore {
+            alloc,
+            stored: Stored::Own(map),
+        }
+    }
+
+    // Returns the number of rows.
+    pub(crate) fn len(&self) -> usize
+        ensures len { result ≡ length self.now }
+        ensures ordered { IsStrictlySortedBy name_cmp (keys_of self.now) }
+    {
+        match &self.stored {
+            Stored::Own(map) => map.len(),
+            Stored::Shared(shared) => shared.len(),
+        }
+    }
+
+    // Returns the registration of the name, if any.
+    pub(crate) fn get(&self, name: &Name) -> Option<&Registration>
+        ensures value { option_copied result ≡ lookup (is_at (name_cmp name.now)) self.now }
+    {
+        match self.whole_map() {
+            Some(map) => map.get(name),
+            None => self.iter().find(name),
+        }
+    }
+
+    // Returns the map, unless rows of it are dropped.
+    #[inline]
+    fn whole_map(&self) -> Option<&BTreeMap<Name, Registration>>
+        ensures { IfSome result (λ map. map.now.entries ≡ self.now) }
+    {
+        match &self.stored {
+            Stored::Own(map) => Some(map),
+            Stored::Shared(shared) => shared.whole_map(),
+        }
+    }
+
+    // Checks whether the name has a row.
+    pub(crate) fn contains_key(&self, name: &Name) -> bool
+        ensures { result ≡ is_some (lookup (is_at (name_cmp name.now)) self.now) }
+    {
+        self.get(name).is_some()
+    }
+
+    // Iterates over the rows in the order of names.
+    pub(crate) fn iter(&self) -> Rows<'_>
+        ensures rest { result ≡ self.now }
+        ensures ordered { IsStrictlySortedBy name_cmp (keys_of self.now) }
+    {
+        match &self.stored {
+            Stored::Own(map) => Rows::new(map.iter(), &[]),
+            Stored::Shared(shared) => shared.iter(),
+        }
+    }
+
+    // Iterates over the rows whose names are above this one, in the order of names.
+    pub(crate) fn after(&self, name: &Name) -> RowsAfter<'_>
+        ensures rest { result ≡ prelude.filter (λ row. is_lt (name_cmp name.now row.0)) self.now }
+        ensures ordered { IsStrictlySortedBy name_cmp (keys_of self.now) }
+    {
+        match self.whole_map() {
+            Some(map) => RowsAfter::found(map.range((Bound::Excluded(*name), Bound::Unbounded))),
+            None => RowsAfter::sought(self.iter(), *name),
+        }
+    }
+
+    // Inserts the row, or returns 30 if the name is registered. Copies the map if other tables read it.
+    pub(crate) fn insert_new(
+        &mut self,
+        name: Name,
+        registration: Registration,
+    ) -> Result<(), TableFault>
+        ensures answer { IsAnswered table_fault_number
+            (if is_some (lookup (is_at (name_cmp name)) self.old) then Some NameTaken else None) result }
+        ensures inserted { OnOk result (ChangesAt name_cmp self.old self.new name (Some registration)) }
+        ensures unchanged { OnErr result ((q : Name) → lookup (is_at (name_cmp q)) self.new ≡ lookup (is_at (name_cmp q)) self.old) }
+    {
+        if let Stored::Own(map) = &mut self.stored {
+            return insert_new(map, name, registration);
+        }
+        let mut map = self.take()?;
+        let result = insert_new(&mut map, name, registration);
+        self.stored = Stored::Own(map);
+        result
+    }
+
+    // Removes the row of the name, and returns its registration. Copies the map if other tables read it and there is memory for a copy.
+    pub(crate) fn remove(&mut self, name: &Name) -> Option<Registration>
+        ensures value { result ≡ lookup (is_at (name_cmp name.now)) self.old }
+        ensures changes { ChangesAt name_cmp self.old self.new name.now None }
+        ensures unchanged { IfNone result (self.new ≡ self.old) }
+    {
+        if let Stored::Own(map) = &mut self.stored {
+            return map.remove(name);
+        }
+        if self.get(name).is_some() {
+            self.unshare();
+        }
+        match &mut self.stored {
+            Stored::Own(map) => map.remove(name),
+            Stored::Shared(shared) => shared.remove(name),
+        }
+    }
+
+    // Moves the rows into a map that no other table reads, if there is memory for it.
+    fn unshare(&mut self)
+        ensures { self.new ≡ self.old }
+    {
+        if let Ok(map) = self.take() {
+            self.stored = Stored::Own(map);
+        }
+    }
+
+    // Shares the map with one more table. Copies the rows if some are dropped.
+    pub(crate) fn share(&mut self) -> Result<RowStore, AllocError>
+        ensures shared { IfOk result (λ rows. rows ≡ self.old) }
+        ensures same { self.new ≡ self.old }
+    {
+        let is_whole = match &self.stored {
+            Stored::Own(_) => false,
+            Stored::Shared(shared) => shared.whole_map().is_some(),
+        };
+        if !is_whole {
+            self.make_shared()?;
+        }
+        self.try_clone()
+    }
+
+    // Moves the rows into a map that several tables can read.
+    fn make_shared(&mut self) -> Result<(), AllocError>
+        ensures { self.new ≡ self.old }
+    {
+        let map = self.take()?;
+        match SharedRows::of_map(self.alloc, map) {
+            Ok(shared) => {
+                self.stored = Stored::Shared(shared);
+                Ok(())
+            }
+            Err(map) => {
+                self.stored = Stored::Own(map);
+                Err(AllocError)
+            }
+        }
+    }
+
+    // Copies the rows, or shares the map if it is shared already.
+    pub(crate) fn try_clone(&self) -> Result<RowStore, AllocError>
+        ensures { IfOk result (λ rows. rows ≡ self.now) }
+    {
+        let stored = match &self.stored {
+            Stored::Own(map) => Stored::Own(map.clone()?),
+            Stored::Shared(shared) => shared.try_clone(self.alloc)?,
+        };
+        Ok(RowStore {
+            alloc: self.alloc,
+            stored,
+        })
+    }
+
+    // Takes the rows out, in a map that no other table reads. Copies them if other tables read them.
+    fn take(&mut self) -> Result<BTreeMap<Name, Registration>, AllocError>
+        ensures taken { IfOk result (λ map. map.entries ≡ self.old) }
+        ensures unchanged { OnErr result (self.new ≡ self.old) }
+    {
+        match mem::replace(&mut self.stored, Stored::Own(BTreeMap::new(self.alloc))) {
+            Stored::Own(map) => Ok(map),
+            Stored::Shared(shared) => match shared.into_map(self.alloc) {
+                Ok(map) => Ok(map),
+                Err(shared) => {
+                    self.stored = Stored::Shared(shared);
+                    Err(AllocError)
+                }
+            },
+        }
+    }
+}
+
+// Inserts the row, or returns 30 if the name is registered. Walks the tree once for a new name.
+fn insert_new(
+    rows: &mut BTreeMap<Name, Registration>,
+    name: Name,
+    registration: Registration,
+) -> Result<(), TableFault>
+    ensures answer { IsAnswered table_fault_number
+        (if is_some (get name_cmp rows.old name) then Some NameTaken else None) result }
+    ensures inserted { OnOk result (Updates name_cmp rows.old rows.new name (Some registration)) }
+    ensures unchanged { OnErr result ((q : Name) → get name_cmp rows.new q ≡ get name_cmp rows.old q) }
+{
+    match rows.insert(name, registration) {
+        Ok(None) => Ok(()),
+        Ok(Some(before)) => {
+            // Restores the old row. Needs no memory: the name is in the tree.
+            let _ = rows.insert(name, before);
+            Err(TableFault::NameTaken)
+        }
+        Err(_) => Err(TableFault::OutOfMemory),
+    }
+}
