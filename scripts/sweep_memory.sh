@@ -88,14 +88,12 @@ is_right_script() {
 # ones it does without. A call is wrong if it reports a fault, if it was refused though no request was, if it answers though a
 # request was refused, if its last window refused a request, if it allocates and shouldn't, and if it should and was never
 # refused. A merge, and so a finish, collects its rows into a map: if the room for all rows is refused, it allocates row by row. A list
-# of clashes that can't be cut to its length keeps its room. Unregistering copies shared rows if it can, and succeeds without: so
-# its sweep ends after four answers, before it has refused each request alone. On what this
-# sweep makes hearing a list needs no memory: it adds an owner.
+# of clashes that can't be cut to its length keeps its room. Unregistering copies shared rows if it can, and succeeds without. On what
+# this sweep makes hearing a list needs no memory: it adds an owner.
 read_sweep() {
     awk -v asks_again='^(merge|clashes|Side::(hear|take|finish|unregister next to an offer))$' \
         -v needs_none='^Side::(unregister|unregister next to an offer|hear_list)$' \
-        -v tries='^Table::unregister of shared rows' \
-        -v does_without='^Side::unregister next to an offer$' '
+        -v tries='^Table::unregister of shared rows' '
         function fault(what) { print call ": " what > "/dev/stderr"; faults++ }
         /^call / { call = substr($0, 6); if (!(call in runs)) order[++calls] = call; runs[call]++ }
         /^refuse / { every = $2 == "all"; number = $2; made = -1 }
@@ -107,7 +105,7 @@ read_sweep() {
         /^answered$/ && !every && denied > 0 && call !~ asks_again { fault("answered, though request " number " was refused") }
         /^answered$/ && every && made > 0 && call !~ tries { fault("takes memory") }
         /^answered$/ { if (made > most[call]) most[call] = made; if (every) takes_none[call] = 1 }
-        /^right$/ && !every && denied > 0 && call !~ does_without { fault("the sweep ended at a refused request") }
+        /^right$/ && !every && denied > 0 { fault("the sweep ended at a refused request") }
         /^right$/ { rights[call]++ }
         /^wrong: / { fault(substr($0, 8) ", at request " number) }
         END {

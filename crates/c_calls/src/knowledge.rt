@@ -15,7 +15,7 @@ use crate::codes::{HealName, HealRow, name_code, name_of, row_code, side_code};
 use crate::half::Half;
 use clash_record::{Name, Registration};
 use exchange_core::{MissingPart, ShownRows, Side};
-use partition_table::RowsAfter;
+use partition_table::Rows;
 
 /// What a side knows. Flags are 0 or 1. `number` is that of the open exchange, and `latest` the greatest that the side began; both
 /// are 0 if there is none. `missing` is 0 for nothing, 1 for the other's offer, 2 for the ruling of `missing_clash`, 3 for the
@@ -166,7 +166,7 @@ fn nth_live(rows: ShownRows<'_>, i: usize) -> Option<(&Name, &Registration)>
 }
 
 // Returns the first of these rows whose name the side shows.
-fn first_live<'a>(side: &Side, rows: RowsAfter<'a>) -> Option<(&'a Name, &'a Registration)>
+fn first_live<'a>(side: &Side, rows: Rows<'a>) -> Option<(&'a Name, &'a Registration)>
     ensures { option_map deref_pair result ≡ find (λ row. is_live (shown side.now) row.0) rows.entry }
 {
     let mut rest = rows;

@@ -20,6 +20,9 @@ use partition_table::{NameLimit, Table};
 use std::alloc::{AllocError, Global};
 use std::collections::BTreeSet;
 
+// Bytes for each row that are reserved before rows are written: a name of 22 bytes, and a built-in resolver.
+const USUAL_ROW: usize = 64;
+
 /// Encodes a table as the last part of an offer. Fails only when out of memory.
 pub fn encode_table(alloc: Global, table: &Table) -> Result<Vec<u8>, AllocError>
     ensures { IfOk result (λ bytes. SpellsTable bytes.items table.now) }
@@ -38,7 +41,9 @@ pub fn push_table(alloc: Global, out: &mut Vec<u8>, table: &Table) -> Result<(),
     // After a failure, the old bytes are still at the front.
     ensures front { OnErr result (BeginsWith out.new.items out.old.items) }
 {
-    push_u32(out, table.len() as u32)?;
+    let count = table.len();
+    out.reserve(count.saturating_mul(USUAL_ROW))?;
+    push_u32(out, count as u32)?;
     push_rows(alloc, out, table)
 }
 

@@ -9,7 +9,7 @@
 //! | run one half | `Side`, `Offer`, `Withdrawals`, `ListFault`, `Finished`, `Judged`, `SideFault`, `history_theorem`, `two_halves_theorem` | `exchange_core` |
 //! | send messages | `encode_offer`, `decode_offer`, `encode_withdrawals`, `decode_withdrawals`, `peek`, `MessageFault` | `exchange_codec` |
 //! | judge clashes | `clashes`, `Clash`, `ClashList`, `word`, `Verdict`, `Ruling` | `partition_table` |
-//! | build and merge tables | `Table`, `TableBuilder`, `NameLimit`, `Agreement`, `Rows`, `RowsAfter`, `fit`, `fit_within`, `merge`, `TableFault` | `partition_table` |
+//! | build and merge tables | `Table`, `TableBuilder`, `NameLimit`, `Agreement`, `Rows`, `fit`, `fit_within`, `merge`, `TableFault` | `partition_table` |
 //! | keep uploaded programs | `UploadStore`, `Uploaded`, `UploadFault` | `upload_store` |
 //! | name and register | `name`, `Name`, `Owner`, `Registration`, `Terms`, `ResolverId`, `SideId`, `Withdrawal` | `clash_record` |
 //! | notify owners | `notices`, `Notice`, `Notices`, `Verdict3`, `decide` | `builtin_resolvers` |
@@ -46,8 +46,8 @@ pub use exchange_core::{
 pub use judge_pool::{Gate, MAX_WORKERS, OpenGate, Workers};
 pub use partition_table::{
     Agreement, AnsweredClashes, Clash, ClashList, Compared, HalfTable, MAX_NAMES, MergedTable,
-    NameLimit, ParentTable, Rows, RowsAfter, Ruling, Table, TableBuilder, TableFault, Verdict,
-    clashes, compare_within, fit, fit_within, merge, merge_compared, word,
+    NameLimit, ParentTable, Rows, Ruling, Table, TableBuilder, TableFault, Verdict, clashes,
+    compare_within, fit, fit_within, merge, merge_compared, word,
 };
 pub use refusals::{
     Numbered, NumberedRefusal, OUT_OF_MEMORY, Place, REFUSALS, refusal_of, words_of,

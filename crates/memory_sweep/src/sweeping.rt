@@ -9,9 +9,9 @@ use std::alloc::Global;
 /// More requests than any of the calls makes.
 const MOST_REQUESTS: u32 = 200;
 
-/// The windows in a row in which a call must answer before its sweep ends. A call that only reserves room ahead of need
-/// answers although a request is refused, and requests again.
-const ANSWERED_WINDOWS: u32 = 4;
+/// The windows in a row in which a call must answer before its sweep ends: more than the requests that a call makes which
+/// answers although one is refused.
+const ANSWERED_WINDOWS: u32 = 8;
 
 /// What a call is made on, with the answers that it gave.
 pub(crate) trait Subject: Drop {

@@ -1,20 +1,23 @@
 -- Rows that a table has dropped.
-use Rattle.std.proofs.Common.{◌≡◌, ℕ, zero, suc, ◌+◌, ◌-◌, ◌<◌, ◌≤◌, Bool, true, false, not, ◌&&◌, cond, Some, None, List, [], ◌∷◌, ◌++◌, length, slice_set, refl, ap, sym, ◌∙◌, arith}
+use Rattle.std.proofs.Common.{◌≡◌, ℕ, zero, suc, ◌+◌, ◌-◌, ◌<◌, ◌≤◌, Bool, true, false, not, ◌&&◌, cond, Some, None, List, [], ◌∷◌, ◌++◌, length, filter, slice_set, refl, ap, sym, ◌∙◌, arith}
+use Rattle.std.proofs.Math.Bool.{and-true}
 use Rattle.std.proofs.lemmas.Map.{lookup-remove_entry}
 use Rattle.std.proofs.lemmas.Map.Keys.{IsDistinct-from_sorted}
 use Rattle.std.specs.List.{AllByRecursion}
+use Rattle.std.specs.Ordering.{is_lt}
 use Rattle.std.specs.List.Sorted.{IsStrictlySortedBy}
 use Rattle.std.specs.Option.{option_map}
 use Rattle.std.specs.Cmp.{Equal-is, eq_by_cmp_equiv}
 use Rattle.std.specs.Map.{keys_of, lookup, remove_entry}
 use Rattle.std.specs.BTreeMap.{is_at}
-use Rattle.std.specs.declared.cmp.Ordering.TheVariants.{Less}
+use Rattle.std.specs.declared.cmp.Ordering.{Ordering}
+use Rattle.std.specs.declared.cmp.Ordering.TheVariants.{Less, Equal, Greater}
 use Rattle.clash_record.specs.declared.registrations.Registration.{Registration}
 use Rattle.clash_record.specs.Orders.{name_cmp}
 use Rattle.clash_record.specs.laws.Orders.{names_total, names_exact}
 use Rattle.clash_record.specs.Name.{Name}
 use Rattle.upload_store.specs.laws.Mapped.{ChangesAt}
-use Rattle.partition_table.specs.model.Dropping.{undropped}
+use Rattle.partition_table.specs.model.Dropping.{marks_above, undropped}
 use Rattle.partition_table.specs.model.Storing.{count_set, place_from, marked}
 
 abbrev Rows : Type 0
@@ -25,13 +28,6 @@ pub no_rows : (marks : List Bool) (rows : Rows) → rows ≡ [] → undropped ma
 no_rows marks (row ∷ rows) none = absurd (cc)
 no_rows [] [] none = refl
 no_rows (mark ∷ marks) [] none = refl
-
--- where no mark is set, all are left
-pub all_left : (marks : List Bool) (rows : Rows) → count_set marks ≡ 0 → undropped marks rows ≡ rows
-all_left [] rows none = refl
-all_left (mark ∷ marks) [] none = refl
-all_left (true ∷ marks) (row ∷ rows) none = absurd (omega (arith, none))
-all_left (false ∷ marks) (row ∷ rows) none = ap (λ left. row ∷ left) (all_left marks rows none)
 
 pub few_set : (marks : List Bool) → count_set marks ≤ length marks
 few_set [] = omega arith
@@ -64,6 +60,18 @@ left_sorted (mark ∷ marks) [] sorted = sorted
 left_sorted (true ∷ marks) (row ∷ rows) sorted = left_sorted marks rows sorted.1
 left_sorted (false ∷ marks) (row ∷ rows) sorted = (all_below row.0 marks rows sorted.0, left_sorted marks rows sorted.1)
 
+-- at most all are left
+pub at_most_all : (marks : List Bool) (rows : Rows) → length (undropped marks rows) ≤ length rows
+at_most_all [] rows = omega arith
+at_most_all (mark ∷ marks) [] = omega arith
+at_most_all (true ∷ marks) (row ∷ rows) = omega (arith, at_most_all marks rows)
+at_most_all (false ∷ marks) (row ∷ rows) = omega (arith, at_most_all marks rows)
+
+-- a test that all pass leaves all
+pub all_pass : (rows : Rows) → filter (λ row. true) rows ≡ rows
+all_pass [] = refl
+all_pass (row ∷ rows) = ap (λ rest. row ∷ rest) (all_pass rows)
+
 -- the row that is found is the one that a look-up finds
 pub found_at : (i : ℕ) (test : Name → Bool) (marks : List Bool) (rows : Rows)
     → option_map (λ found. found.1) (place_from i test marks rows) ≡ lookup test (undropped marks rows)
@@ -84,6 +92,70 @@ found_at i test (false ∷ marks) (row ∷ rows) = by (test row.0) (found_at (i 
         ≡ cond b (Some row.1) (lookup test (undropped marks rows))
     by true ih = refl
     by false ih = ih
+
+-- ---- the rows after a name
+
+module _ (name : Name) where
+  abbrev is_after : Name × Registration → Bool
+  is_after row = is_lt (name_cmp name row.0)
+
+  -- the rows of a range of which only the lower end is given
+  pub from_name : (rows : Rows) → filter (λ row. is_after row && true) rows ≡ filter is_after rows
+  from_name rows = λ i. filter (λ row. and-true (is_after row) i) rows
+
+  -- rows after one that comes after the name come after it too
+  all_after : (other : Name) (rows : Rows) → name_cmp name other ≡ Less
+      → AllByRecursion (λ next. name_cmp other next ≡ Less) (keys_of rows) → filter is_after rows ≡ rows
+  all_after other [] before all = refl
+  all_after other (row ∷ rows) before all =
+      ap (λ b. cond b (row ∷ filter is_after rows) (filter is_after rows))
+      (ap is_lt (names_total.trans name other row.0 before all.0))
+      ∙ ap (λ rest. row ∷ rest) (all_after other rows before all.1)
+
+  -- those of the rows after the name that are left are those of the rows left that come after it
+  pub left_after : (marks : List Bool) (rows : Rows) → IsStrictlySortedBy name_cmp (keys_of rows)
+      → undropped (marks_above name marks rows) (filter is_after rows) ≡ filter is_after (undropped marks rows)
+  unfolding IsStrictlySortedBy
+  left_after [] rows sorted = refl
+  left_after (mark ∷ marks) [] sorted = refl
+  left_after (mark ∷ marks) (row ∷ rows) sorted = by (name_cmp name row.0) refl mark (left_after marks rows sorted.1)
+    where
+      Step : Ordering → Bool → Type 0
+      Step order mark =
+          undropped (cond (is_lt order) (mark ∷ marks) (marks_above name marks rows))
+          (cond (is_lt order) (row ∷ filter is_after rows) (filter is_after rows))
+          ≡ filter is_after (undropped (mark ∷ marks) (row ∷ rows))
+
+      kept : (order : Ordering) → name_cmp name row.0 ≡ order
+          → filter is_after (row ∷ undropped marks rows)
+          ≡ cond (is_lt order) (row ∷ filter is_after (undropped marks rows)) (filter is_after (undropped marks rows))
+      kept order is =
+          ap (λ b. cond b (row ∷ filter is_after (undropped marks rows)) (filter is_after (undropped marks rows))) (ap is_lt is)
+
+      rest : name_cmp name row.0 ≡ Less → undropped marks (filter is_after rows) ≡ filter is_after (undropped marks rows)
+      rest is =
+          ap (undropped marks) (all_after row.0 rows is sorted.0)
+          ∙ sym (all_after row.0 (undropped marks rows) is (all_below row.0 marks rows sorted.0))
+
+      by : (order : Ordering) → name_cmp name row.0 ≡ order → (mark : Bool)
+          → undropped (marks_above name marks rows) (filter is_after rows) ≡ filter is_after (undropped marks rows)
+          → Step order mark
+      by Less is true later = rest is
+      by Less is false later = ap (λ left. row ∷ left) (rest is) ∙ sym (kept Less is)
+      by Equal is true later = later
+      by Equal is false later = later ∙ sym (kept Equal is)
+      by Greater is true later = later
+      by Greater is false later = later ∙ sym (kept Greater is)
+
+-- where a row comes after the name, all marks from there on are those of rows after it
+pub marks_here : (name : Name) (marks : List Bool) (row : Name × Registration) (rows : Rows)
+    → is_lt (name_cmp name row.0) ≡ true → marks_above name marks (row ∷ rows) ≡ marks
+marks_here name [] row rows is = refl
+marks_here name (mark ∷ marks) row rows is = ap (λ b. cond b (mark ∷ marks) (marks_above name marks rows)) is
+
+pub marks_end : (name : Name) (marks : List Bool) → marks_above name marks [] ≡ marks
+marks_end name [] = refl
+marks_end name (mark ∷ marks) = refl
 
 -- where no row is found, none is removed
 pub none_removed : (test : Name → Bool) (rows : Rows) → lookup test rows ≡ None → remove_entry test rows ≡ rows

@@ -1,4 +1,3 @@
-pub mod After
 pub mod Agreeing
 pub mod Coding
 pub mod Dropping

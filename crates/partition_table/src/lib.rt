@@ -38,6 +38,6 @@ pub use judging::{round_of, word};
 pub use laws::{clashes_theorem, fit_theorem, merge_theorem};
 pub use limit::{MAX_NAMES, NameLimit};
 pub use merging::{AnsweredClashes, MergedTable, ParentTable, merge, merge_compared};
-pub use rows::{Rows, RowsAfter};
+pub use rows::Rows;
 pub use table::Table;
 pub use verdict::{Ruling, Verdict};

@@ -1,5 +1,5 @@
 //! The rows that a table keeps, in a map of its own or in one that other tables read too.
-ghost use Rattle.std.specs.Prelude.{◌≡◌, IfOk, IfSome, IfNone, OnOk, OnErr, Some, None, if◌then◌else◌, is_some, length};
+ghost use Rattle.std.specs.Prelude.{◌≡◌, ◌<◌, ◌^◌, IfOk, IfNone, OnOk, OnErr, Some, None, if◌then◌else◌, is_some, length};
 ghost use Rattle.std.specs.Option.{option_copied};
 ghost use Rattle.std.specs.Prelude as prelude;
 ghost use Rattle.std.specs.Ordering.{is_lt};
@@ -10,18 +10,18 @@ ghost use Rattle.clash_record.specs.Orders.{name_cmp};
 ghost use Rattle.clash_record.specs.Name.{Name};
 ghost use Rattle.partition_table.specs.Faults.{table_fault_number};
 ghost use Rattle.partition_table.specs.declared.fault.TableFault.TheVariants.{NameTaken};
+ghost use Rattle.partition_table.specs.model.Dropping.{undropped};
 ghost use Rattle.refusals.specs.Answers.{IsAnswered};
 ghost use Rattle.upload_store.specs.laws.Mapped.{ChangesAt};
 
 use crate::fault::TableFault;
-use crate::rows::{Rows, RowsAfter};
+use crate::rows::Rows;
 use crate::shared_rows::SharedRows;
 use clash_record::{Name, Registration};
 use std::alloc::{AllocError, Global};
 use std::collections::BTreeMap;
 use std::marker::Model;
 use std::mem;
-use std::ops::Bound;
 
 #[derive(Debug, Drop)]
 pub(crate) enum Stored {
@@ -84,20 +84,21 @@ impl RowStore {
     pub(crate) fn get(&self, name: &Name) -> Option<&Registration>
         ensures value { option_copied result ≡ lookup (is_at (name_cmp name.now)) self.now }
     {
-        match self.whole_map() {
-            Some(map) => map.get(name),
-            None => self.iter().find(name),
+        let (map, marks) = self.parts();
+        if marks.is_empty() {
+            return map.get(name);
         }
+        Rows::new(map, marks).find(name)
     }
 
-    // Returns the map, unless rows of it are dropped.
+    // Returns the map with the rows, and whether this table has dropped each of the first of them.
     #[inline]
-    fn whole_map(&self) -> Option<&BTreeMap<Name, Registration>>
-        ensures { IfSome result (λ map. map.now.entries ≡ self.now) }
+    fn parts(&self) -> (&BTreeMap<Name, Registration>, &[bool])
+        ensures { undropped result.1.now result.0.now.entries ≡ self.now }
     {
         match &self.stored {
-            Stored::Own(map) => Some(map),
-            Stored::Shared(shared) => shared.whole_map(),
+            Stored::Own(map) => (map, &[]),
+            Stored::Shared(shared) => shared.parts(),
         }
     }
 
@@ -112,22 +113,20 @@ impl RowStore {
     pub(crate) fn iter(&self) -> Rows<'_>
         ensures rest { result ≡ self.now }
         ensures ordered { IsStrictlySortedBy name_cmp (keys_of self.now) }
+        ensures fits { length result < 2 ^ 63 }
     {
-        match &self.stored {
-            Stored::Own(map) => Rows::new(map.iter(), &[]),
-            Stored::Shared(shared) => shared.iter(),
-        }
+        let (map, marks) = self.parts();
+        Rows::new(map, marks)
     }
 
     // Iterates over the rows whose names are above this one, in the order of names.
-    pub(crate) fn after(&self, name: &Name) -> RowsAfter<'_>
+    pub(crate) fn after(&self, name: &Name) -> Rows<'_>
         ensures rest { result ≡ prelude.filter (λ row. is_lt (name_cmp name.now row.0)) self.now }
         ensures ordered { IsStrictlySortedBy name_cmp (keys_of self.now) }
+        ensures fits { length result < 2 ^ 63 }
     {
-        match self.whole_map() {
-            Some(map) => RowsAfter::found(map.range((Bound::Excluded(*name), Bound::Unbounded))),
-            None => RowsAfter::sought(self.iter(), *name),
-        }
+        let (map, marks) = self.parts();
+        Rows::after(map, marks, name)
     }
 
     // Inserts the row, or returns 30 if the name is registered. Copies the map if other tables read it.
@@ -177,16 +176,13 @@ impl RowStore {
         }
     }
 
-    // Shares the map with one more table. Copies the rows if some are dropped.
+    // Shares the map with one more table. Copies the rows if some are marked.
     pub(crate) fn share(&mut self) -> Result<RowStore, AllocError>
         ensures shared { IfOk result (λ rows. rows ≡ self.old) }
         ensures same { self.new ≡ self.old }
     {
-        let is_whole = match &self.stored {
-            Stored::Own(_) => false,
-            Stored::Shared(shared) => shared.whole_map().is_some(),
-        };
-        if !is_whole {
+        let is_shared = matches!(self.stored, Stored::Shared(_));
+        if !is_shared || !self.parts().1.is_empty() {
             self.make_shared()?;
         }
         self.try_clone()

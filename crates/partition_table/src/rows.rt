@@ -1,22 +1,23 @@
-//! Iterators over the rows of a table.
-ghost use Rattle.std.specs.Prelude.{◌≡◌, filter};
+//! An iterator over rows of a table.
+ghost use Rattle.std.specs.Prelude.{◌≡◌, ◌<◌, ◌^◌, length, filter};
+ghost use Rattle.std.specs.List.Sorted.{IsStrictlySortedBy};
 ghost use Rattle.std.specs.Ordering.{is_lt};
 ghost use Rattle.std.specs.Map.Iter.{TakesFirst, deref_pair};
 ghost use Rattle.std.specs.Option.{option_copied};
-ghost use Rattle.std.specs.Map.{lookup};
+ghost use Rattle.std.specs.Map.{keys_of, lookup};
 ghost use Rattle.std.specs.BTreeMap.{is_at};
 ghost use Rattle.clash_record.specs.Orders.{name_cmp};
-ghost use Rattle.partition_table.specs.model.Dropping.{undropped};
-ghost use Rattle.partition_table.specs.model.After.{rows_sought};
+ghost use Rattle.partition_table.specs.model.Dropping.{marks_above, undropped};
 
 use clash_record::{Name, Registration};
-use std::collections::btree_map;
+use std::collections::{BTreeMap, btree_map};
 use std::marker::Model;
+use std::ops::Bound;
 
-/// Iterates over the rows of a table in the order of names. Contracts see it as the rows that are left.
+/// Iterates over rows of a table in the order of names. Contracts see it as the rows that are left.
 #[derive(Debug, Drop)]
 pub struct Rows<'a> {
-    rows: btree_map::Iter<'a, Name, Registration>,
+    rows: btree_map::Range<'a, Name, Registration>,
     // Whether the table has dropped each of the first of these rows.
     marks: &'a [bool],
 }
@@ -33,11 +34,32 @@ impl<'a> Model for Rows<'a> {
 }
 
 impl<'a> Rows<'a> {
-    // Iterates over the rows of a map that aren't marked.
-    pub(crate) fn new(rows: btree_map::Iter<'a, Name, Registration>, marks: &'a [bool]) -> Rows<'a>
-        ensures { result ≡ undropped marks.entry.now rows.entry }
+    // Iterates over those rows of a map that aren't marked.
+    pub(crate) fn new(map: &'a BTreeMap<Name, Registration>, marks: &'a [bool]) -> Rows<'a>
+        ensures rest { result ≡ undropped marks.entry.now map.entry.now.entries }
+        ensures ordered { IsStrictlySortedBy name_cmp (keys_of (undropped marks.entry.now map.entry.now.entries)) }
+        ensures fits { length result < 2 ^ 63 }
     {
-        Rows { rows, marks }
+        Rows {
+            rows: map.range(..),
+            marks,
+        }
+    }
+
+    // Iterates over those rows of a map after the name that aren't marked.
+    pub(crate) fn after(
+        map: &'a BTreeMap<Name, Registration>,
+        marks: &'a [bool],
+        name: &Name,
+    ) -> Rows<'a>
+        ensures rest { result ≡ filter (λ row. is_lt (name_cmp name.now row.0)) (undropped marks.entry.now map.entry.now.entries) }
+        ensures ordered { IsStrictlySortedBy name_cmp (keys_of (undropped marks.entry.now map.entry.now.entries)) }
+        ensures fits { length result < 2 ^ 63 }
+    {
+        Rows {
+            rows: map.range((Bound::Excluded(*name), Bound::Unbounded)),
+            marks: marks_after(map, marks, name),
+        }
     }
 
     // Returns the next row, and passes over those that are marked.
@@ -90,86 +112,22 @@ impl<'a> Iterator for Rows<'a> {
     }
 }
 
-/// Iterates over the rows of a table that come after a name, in the order of names. Contracts see it as the rows that are left.
-#[derive(Debug, Drop)]
-pub struct RowsAfter<'a> {
-    left: Left<'a>,
-}
-
-// The rows that are left: those of a map, or those after a name.
-#[derive(Debug, Drop)]
-pub(crate) enum Left<'a> {
-    Found(btree_map::Range<'a, Name, Registration>),
-    Sought(Sought<'a>),
-}
-
-// Rows of which those after the name are left.
-#[derive(Debug, Drop)]
-pub(crate) struct Sought<'a> {
-    rows: Rows<'a>,
-    name: Name,
-}
-
-impl<'a> Model for RowsAfter<'a> {
-    ghost use Rattle.std.specs.Prelude.{List};
-    ghost use Rattle.clash_record.specs.declared.registrations.Registration.{Registration};
-    ghost use Rattle.clash_record.specs.Name.{Name};
-    ghost use Rattle.partition_table.specs.model.After.{rows_left_after};
-
-    ghost Value = { List (Name × Registration) };
-
-    ghost view = { λ r. rows_left_after r.left };
-}
-
-impl<'a> RowsAfter<'a> {
-    // Iterates over these rows.
-    pub(crate) fn found(rows: btree_map::Range<'a, Name, Registration>) -> RowsAfter<'a>
-        ensures { result ≡ rows.entry }
-    {
-        RowsAfter {
-            left: Left::Found(rows),
-        }
+// Returns the marks of the rows after the name. Looks at each row before it that has one.
+fn marks_after<'a>(map: &BTreeMap<Name, Registration>, marks: &'a [bool], name: &Name) -> &'a [bool]
+    ensures { result.now ≡ marks_above name.now marks.entry.now map.now.entries }
+{
+    let mut left = marks;
+    if left.is_empty() {
+        return left;
     }
-
-    // Iterates over those of the rows that come after the name. Passes over the others one by one.
-    pub(crate) fn sought(rows: Rows<'a>, name: Name) -> RowsAfter<'a>
-        ensures { result ≡ filter (λ row. is_lt (name_cmp name row.0)) rows.entry }
-    {
-        RowsAfter {
-            left: Left::Sought(Sought { rows, name }),
+    for (ahead, _) in map.iter() {
+        if name.cmp(ahead).is_lt() {
+            return left;
         }
+        let Some((_, rest)) = left.split_first() else {
+            return left;
+        };
+        left = rest;
     }
-}
-
-impl<'a> Iterator for RowsAfter<'a> {
-    type Item = (&'a Name, &'a Registration);
-
-    ghost use Rattle.std.specs.Prelude.{length};
-    ghost use Rattle.std.specs.Iterator.{at_most};
-    ghost use Rattle.std.specs.Map.Iter.{TakesFirst, deref_pair};
-
-    ghost next_gives = { TakesFirst deref_pair };
-
-    ghost remaining = { λ left. at_most (length left) };
-
-    fn next(&mut self) -> Option<(&'a Name, &'a Registration)> {
-        match &mut self.left {
-            Left::Found(rows) => rows.next(),
-            Left::Sought(sought) => sought.next_after(),
-        }
-    }
-}
-
-impl<'a> Sought<'a> {
-    // Returns the next row that comes after the name.
-    fn next_after(&mut self) -> Option<(&'a Name, &'a Registration)>
-        ensures { TakesFirst deref_pair (rows_sought self.old) result (rows_sought self.new) }
-    {
-        while let Some((ahead, registration)) = self.rows.next() {
-            if self.name.cmp(ahead).is_lt() {
-                return Some((ahead, registration));
-            }
-        }
-        None
-    }
+    left
 }

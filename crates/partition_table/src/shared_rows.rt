@@ -1,11 +1,12 @@
 //! Rows that several tables read, of which each may drop some.
-ghost use Rattle.std.specs.Prelude.{◌≡◌, ◌<◌, ◌≤◌, ◌+◌, None, IfOk, IfErr, IfSome, IfNone, length, vec_len, vec_capacity};
+ghost use Rattle.std.specs.Prelude.{◌≡◌, ◌<◌, ◌≤◌, ◌+◌, [], None, IfOk, IfErr, IfNone, length, vec_len, vec_capacity};
 ghost use Rattle.std.specs.List.Sorted.{IsStrictlySortedBy};
 ghost use Rattle.std.specs.Arc.{arc_value};
 ghost use Rattle.std.specs.Map.{keys_of, lookup};
 ghost use Rattle.std.specs.BTreeMap.{is_at};
 ghost use Rattle.clash_record.specs.Orders.{name_cmp};
 ghost use Rattle.upload_store.specs.laws.Mapped.{ChangesAt};
+ghost use Rattle.partition_table.specs.model.Dropping.{undropped};
 ghost use Rattle.partition_table.specs.model.Storing.{IsShared, IsStored, rows_shared, rows_stored, place_from, marked};
 
 use crate::kept_rows::copied;
@@ -49,10 +50,9 @@ impl SharedRows {
         }
     }
 
-    // Lets one more table read the map. Requires that no row is dropped.
+    // Lets one more table read the map. Requires that no row is marked.
     fn another(&self, alloc: Global) -> Result<SharedRows, AllocError>
-        requires valid { IsShared self.now }
-        requires whole { self.now.dropped ≡ 0 }
+        requires { self.now.marks.items ≡ [] }
         ensures rows { IfOk result (λ shared. rows_shared shared ≡ rows_shared self.now) }
         ensures valid { IfOk result IsShared }
     {
@@ -64,17 +64,12 @@ impl SharedRows {
         })
     }
 
-    // Returns the map, unless rows of it are dropped.
+    // Returns the map with the rows, and whether this table has dropped each of the first of them.
     #[inline]
-    pub(crate) fn whole_map(&self) -> Option<&BTreeMap<Name, Registration>>
-        requires { IsShared self.now }
-        ensures { IfSome result (λ map. map.now.entries ≡ rows_shared self.now) }
+    pub(crate) fn parts(&self) -> (&BTreeMap<Name, Registration>, &[bool])
+        ensures { undropped result.1.now result.0.now.entries ≡ rows_shared self.now }
     {
-        if self.dropped == 0 {
-            Some(&self.map)
-        } else {
-            None
-        }
+        (&self.map, &self.marks)
     }
 
     // Returns the number of rows that are left.
@@ -91,7 +86,7 @@ impl SharedRows {
         ensures rest { result ≡ rows_shared self.now }
         ensures ordered { IsStrictlySortedBy name_cmp (keys_of (rows_shared self.now)) }
     {
-        Rows::new(self.map.iter(), &self.marks)
+        Rows::new(&self.map, &self.marks)
     }
 
     // Shares the map once more, or copies the rows that are left.
@@ -100,7 +95,7 @@ impl SharedRows {
         ensures rows { IfOk result (λ stored. rows_stored stored ≡ rows_shared self.now) }
         ensures valid { IfOk result IsStored }
     {
-        if self.dropped == 0 {
+        if self.marks.is_empty() {
             return Ok(Stored::Shared(self.another(alloc)?));
         }
         Ok(Stored::Own(copied_in_order(alloc, self.iter(), self.len())?))
@@ -112,7 +107,7 @@ impl SharedRows {
         ensures map { IfOk result (λ map. map.entries ≡ rows_shared self) }
         ensures back { IfErr result (λ shared. shared ≡ self) }
     {
-        if self.dropped == 0 {
+        if self.marks.is_empty() {
             return self.into_whole_map(alloc);
         }
         match copied_in_order(alloc, self.iter(), self.len()) {
@@ -121,10 +116,9 @@ impl SharedRows {
         }
     }
 
-    // Makes a map of the rows, of which none is dropped.
+    // Makes a map of the rows, of which none is marked.
     fn into_whole_map(self, alloc: Global) -> Result<BTreeMap<Name, Registration>, SharedRows>
-        requires valid { IsShared self }
-        requires whole { self.dropped ≡ 0 }
+        requires { self.marks.items ≡ [] }
         ensures map { IfOk result (λ map. map.entries ≡ rows_shared self) }
         ensures back { IfErr result (λ shared. shared ≡ self) }
     {
@@ -135,7 +129,7 @@ impl SharedRows {
         } = self;
         match Arc::try_unwrap(map) {
             Ok(map) => Ok(map),
-            Err(map) => match copied_in_order(alloc, Rows::new(map.iter(), &[]), map.len()) {
+            Err(map) => match copied_in_order(alloc, Rows::new(&map, &[]), map.len()) {
                 Ok(copy) => Ok(copy),
                 Err(_) => Err(SharedRows {
                     map,

@@ -1,5 +1,5 @@
 //! Tables.
-ghost use Rattle.std.specs.Prelude.{◌≡◌, ◌<◌, if◌then◌else◌, is_some, Some, None, Ok, Err, IfOk, OnOk, OnErr, IfSome, IsTrue, ◌↔◌, reverse};
+ghost use Rattle.std.specs.Prelude.{◌≡◌, ◌<◌, ◌^◌, length, if◌then◌else◌, is_some, Some, None, Ok, Err, IfOk, OnOk, OnErr, IfSome, IsTrue, ◌↔◌, reverse};
 ghost use Rattle.std.specs.Option.{option_map};
 ghost use Rattle.std.specs.Arc.{arc_value};
 ghost use Rattle.std.specs.FinMap as map;
@@ -21,7 +21,7 @@ use crate::programs::{
     Kept, copy_others, find_program, has_room, hold_program, programs_agree, release_program,
 };
 use crate::row_store::RowStore;
-use crate::rows::{Rows, RowsAfter};
+use crate::rows::Rows;
 use clash_record::{Name, ProgramId, Registration, ResolverId};
 use std::alloc::{AllocError, Global};
 use std::collections::BTreeMap;
@@ -102,6 +102,7 @@ impl Table {
     /// Iterates over the names and their registrations in the order of names. Allocates nothing.
     pub fn rows(&self) -> Rows<'_>
         ensures rows { result ≡ rows_of self.now }
+        ensures fits { length result < 2 ^ 63 }
         ensures kept { IsTable self.now }
     {
         self.rows.iter()
@@ -110,8 +111,9 @@ impl Table {
     /// Iterates over the rows whose names are above this one, in the order of names. Allocates nothing.
     ///
     /// Finds the first of them in logarithmic time. A table that marked rows (`unregister`) looks at each row before it.
-    pub fn rows_after(&self, name: &Name) -> RowsAfter<'_>
-        ensures { result ≡ rows_above name.now self.now }
+    pub fn rows_after(&self, name: &Name) -> Rows<'_>
+        ensures rows { result ≡ rows_above name.now self.now }
+        ensures fits { length result < 2 ^ 63 }
     {
         self.rows.after(name)
     }

@@ -7,8 +7,8 @@ use Rattle.upload_store.specs.Programs.{programs_by}
 use Rattle.partition_table.proofs.Held.{rows_made}
 use Rattle.partition_table.proofs.table.Table.rows_after.Goals as goal
 
-pub returns : goal.returns
-returns c =
+pub returns-clause-rows : goal.returns-clause-rows
+returns-clause-rows c =
     c.after.ensures.rest
     ∙ ap (filter (λ row. is_lt (name_cmp c.args.name.now row.0)))
     (rows_made (programs_by kept_code c.self.inside.programs.entries) c.self.inside.rows c.after.ensures.ordered)
