@@ -4,9 +4,11 @@
 -include("heal_replica.hrl").
 
 -export([add/2, remove/2, gone/3, report/2]).
+-export([relay/2, relaying/1]).
 -export_type([subscribers/0, event/0]).
 
--type subscribers() :: #{pid() => reference()}.
+%% A subscriber on another node has a process here that sends it its events: sending waits for a node that reads slowly.
+-type subscribers() :: #{pid() => Monitor :: reference() | {Relay :: pid(), Monitor :: reference()}}.
 -type event() ::
     {registered, Name :: term(), pid()}
     | {unregistered, Name :: term(), pid()}
@@ -19,22 +21,34 @@
 %% Adds a subscriber, unless it is one.
 -spec add(pid(), subscribers()) -> subscribers().
 add(Pid, Subscribers) when is_map_key(Pid, Subscribers) -> Subscribers;
-add(Pid, Subscribers) -> Subscribers#{Pid => monitor(process, Pid)}.
+add(Pid, Subscribers) when node(Pid) =:= node() -> Subscribers#{Pid => monitor(process, Pid)};
+add(Pid, Subscribers) -> Subscribers#{Pid => spawn_monitor(?MODULE, relay, [self(), Pid])}.
 
 %% Removes a subscriber.
 -spec remove(pid(), subscribers()) -> subscribers().
 remove(Pid, Subscribers) ->
     case maps:take(Pid, Subscribers) of
+        {{Relay, Monitor}, Rest} -> demonitor(Monitor, [flush]), Relay ! stop, Rest;
         {Monitor, Rest} -> demonitor(Monitor, [flush]), Rest;
         error -> Subscribers
     end.
 
-%% A subscriber has ended.
+%% A process that is monitored has ended. If it is a subscriber, or sends one its events, that one is removed.
 -spec gone(Monitor :: reference(), pid(), subscribers()) -> subscribers().
 gone(Monitor, Pid, Subscribers) ->
-    case Subscribers of
-        #{Pid := Monitor} -> maps:remove(Pid, Subscribers);
-        _ -> Subscribers
+    maps:filter(fun(_, Known) -> Known =/= Monitor andalso Known =/= {Pid, Monitor} end, Subscribers).
+
+%% @private Sends a subscriber on another node its events, until it or the registry ends.
+relay(Registry, Pid) ->
+    _ = [monitor(process, Of) || Of <- [Registry, Pid]],
+    relaying(Pid).
+
+%% @private
+relaying(Pid) ->
+    receive
+        {'DOWN', _, process, _, _} -> ok;
+        stop -> ok;
+        Event -> _ = erlang:send(Pid, Event, [noconnect]), ?MODULE:relaying(Pid)
     end.
 
 %% Sends the events of these actions, which aren't carried out yet.
@@ -43,8 +57,11 @@ report(_Actions, Subscribers) when Subscribers =:= #{} ->
     ok;
 report(Actions, Subscribers) ->
     Events = lists:uniq(lists:append([events(Action) || Action <- Actions])),
-    [Pid ! {heal_registry, Event} || Event <- Events, Pid <- maps:keys(Subscribers)],
+    [Pid ! {heal_registry, Event} || Event <- Events, Pid <- receivers(Subscribers)],
     ok.
+
+receivers(Subscribers) ->
+    [case Known of {Relay, _} -> Relay; _ -> Pid end || {Pid, Known} <- maps:to_list(Subscribers)].
 
 events({rows, Put, Drop}) ->
     [Event || Name <- Drop, Event <- unregistered(Name)]

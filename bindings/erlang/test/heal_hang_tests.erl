@@ -72,9 +72,11 @@ leader_hangs(A, B) ->
     ?assertEqual([{five, Five}, {one, One}], [Entry || Entry = {Name, _} <- Table, lists:member(Name, [one, five])]),
     ?assert(is_map_key(two, maps:from_list(Table))).
 
-%% The other node hangs: the leader's edits go on, also when the connection takes no more messages. Those are 240,000 for all nodes.
+%% The other node hangs: the leader's edits go on, also when the connection takes no more messages. Those are 240,000 for all nodes, and as
+%% many for a subscriber there.
 other_hangs(A, B) ->
     One = own(A, one),
+    ?assertEqual(ok, heal_cluster:call(A, heal_registry, subscribe, [pid_on(B)])),
     Churn = frozen(B, fun() -> within(40, fun() -> heal_cluster:call(A, ?MODULE, churn_here, [busy, 120000]) end) end),
     ?assertEqual([ok], Churn),
     Two = own(A, two),

@@ -138,17 +138,20 @@ any_term(Nodes = [A, B, C]) ->
     Of = case Loser of OnA -> A; OnC -> C end,
     heal_cluster:eventually(fun() -> heal_cluster:mail(Of, Loser) =:= [{global_name_conflict, {pool, 1}}] end).
 
-%% A subscriber receives what its node learns.
+%% A subscriber receives what the node learns that it subscribes to, also one on another node, until the two lose each other.
 subscribed([A, B]) ->
     Subscriber = pid_on(A),
-    ?assertEqual(ok, call(A, subscribe, [Subscriber])),
+    Remote = pid_on(B),
+    [?assertEqual(ok, call(A, subscribe, [Pid])) || Pid <- [Subscriber, Remote]],
     OnB = own(B, one),
     OnA = own(A, two),
     ok = call(B, unregister_name, [one]),
     heal_cluster:kill(A, OnA),
     Mail = fun() -> [Event || {heal_registry, Event} <- heal_cluster:mail(A, Subscriber)] end,
     Expected = [{registered, one, OnB}, {registered, two, OnA}, {unregistered, one, OnB}, {unregistered, two, OnA}],
-    heal_cluster:eventually(fun() -> case lists:sort(Mail()) of Expected -> true; Other -> Other end end),
+    Receives = fun(Mailbox) -> fun() -> case lists:sort(Mailbox()) of Expected -> true; Other -> Other end end end,
+    heal_cluster:eventually(Receives(Mail)),
+    heal_cluster:eventually(Receives(fun() -> [Event || {heal_registry, Event} <- heal_cluster:mail(B, Remote)] end)),
     heal_cluster:split(A, B),
     [ClashA, ClashB] = [own(It, db) || It <- [A, B]],
     heal_cluster:connect(A, B),
