@@ -43,12 +43,14 @@ relay(Registry, Pid) ->
     _ = [monitor(process, Of) || Of <- [Registry, Pid]],
     relaying(Pid).
 
-%% @private
+%% @private A process that hibernates outlives the code that it began with.
 relaying(Pid) ->
     receive
         {'DOWN', _, process, _, _} -> ok;
         stop -> ok;
-        Event -> _ = erlang:send(Pid, Event, [noconnect]), ?MODULE:relaying(Pid)
+        Event -> _ = erlang:send(Pid, Event, [noconnect]), relaying(Pid)
+    after 0 ->
+        erlang:hibernate(?MODULE, relaying, [Pid])
     end.
 
 %% Sends the events of these actions, which aren't carried out yet.
