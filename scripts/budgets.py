@@ -3,8 +3,9 @@
 
 Counts, by callgrind, the instructions of `heal judge` for each resolver of resolvers/ on the record of crates/heal_main/args,
 of `heal run` with one worker on a script in which 1,024 names clash and on one in which a program of 1,024 instructions judges 256
-clashes, and of each call of a side with 1,024 and 2,048 names (bindings/c/cost.c). Fails if a count is more than 3 percent above its budget, and reports each that is as far below. --write
-writes the counts down. Needs the proved program, libheal (HEAL_OUT names its folder), a C compiler and valgrind.
+clashes, and of each call of a side with 1,024 and 2,048 names (bindings/c/cost.c). Fails if a count is more than 3 percent and 500
+instructions above its budget, and reports each that is as far below. --write writes the counts down. Needs the proved program,
+libheal (HEAL_OUT names its folder), a C compiler and valgrind.
 """
 
 import glob
@@ -27,6 +28,8 @@ LONG_CLASHES = 256
 LONG_CODE = "b700000000000000" + 1022 * "0700000001000000" + "9500000000000000"
 NAMES = [1024, 2048]
 PART = 0.03
+# A call of the C library's allocator takes a few hundred instructions more or less, by the blocks that it tries.
+SLACK = 500
 
 
 def instructions(work, *words):
@@ -87,6 +90,11 @@ def budgets():
     return {name: int(count) for name, count in rows}
 
 
+def slack(budget):
+    """How far a count may be from its budget."""
+    return max(SLACK, PART * budget)
+
+
 def main():
     given = option("budgets.py [--write]", "--write")
     found = counts()
@@ -97,10 +105,9 @@ def main():
     agreed = budgets()
     if agreed.keys() != found.keys():
         sys.exit(f"budgets.py: bench/budgets has {sorted(agreed)}, and these were counted: {sorted(found)}")
-    over = [f"{name}: {count}, budget {agreed[name]}" for name, count in found.items()
-            if count > agreed[name] * (1 + PART)]
+    over = [f"{name}: {count}, budget {agreed[name]}" for name, count in found.items() if count - agreed[name] > slack(agreed[name])]
     for name, count in found.items():
-        if count < agreed[name] * (1 - PART):
+        if agreed[name] - count > slack(agreed[name]):
             print(f"{name}: {count}, below the budget of {agreed[name]}; write it down by budgets.py --write")
     if over:
         sys.exit("budgets.py: over the budget: " + "; ".join(over))
