@@ -1,10 +1,12 @@
 -- Facts about bytes up to a line feed, and from it on.
-use Rattle.std.proofs.Common.{◌≡◌, ◌≢◌, ◌≤◌, ◌<◌, ◌+◌, ◌-◌, ◌==◌, ◌||◌, ℕ, Bool, true, false, if◌then◌else◌, List, [], ◌∷◌, ◌++◌, length, take, drop, get_or, Option, Some, None, refl, sym, ap, ◌∙◌, subst, arith, length-append, length-drop, take-append-drop, append_assoc, append-nil}
+use Rattle.std.proofs.Common.{◌≡◌, ◌≢◌, ◌≤◌, ◌<◌, ◌+◌, ◌-◌, ◌==◌, ℕ, zero, suc, Bool, true, false, if◌then◌else◌, List, [], ◌∷◌, ◌++◌, length, take, drop, get_or, Option, Some, None, refl, sym, ap, ◌∙◌, subst, arith, length-append, append_assoc, append-nil}
 use Rattle.std.proofs.lemmas.Bool.{eqb-false, eqb-true}
 use Rattle.std.proofs.lemmas.List.Elements.{All-nil, All-cons}
-use Rattle.std.proofs.lemmas.List.{drop-take, drop-drop, length-take, take_more}
+use Rattle.std.proofs.lemmas.List.{drop-take, drop-drop, length-take}
 use Rattle.std.proofs.Math.Seq.{take-append_seam, drop-append_seam}
 use Rattle.std.specs.Io.KnownBytes.{Consumes}
+use Rattle.std.specs.Option.{unwrap_or}
+use Rattle.memchr.specs.Find.{IsFirstByte, Nowhere, Passes, is_byte}
 use Rattle.std.proofs.KnownBytes.{Consumes-trans}
 use Rattle.script_text.specs.Lines.{HasNoEnd}
 use Rattle.script_text.specs.Reading.{left}
@@ -114,36 +116,30 @@ line_gone a text bs rest byte remaining gone e =
     (Consumes-trans a (left (from_feed bs) remaining) (left rest remaining) text (byte ∷ []) gone
     (byte_taken (from_feed bs) rest byte remaining e))
 
--- ---- texts without a line feed
+-- ---- where the first line feed stands
 
-no_feed_if : (t : Bool) (b : ℕ) (bs : List ℕ) → before_if t b (before_feed bs) ≡ b ∷ bs → (t ≡ false) × (before_feed bs ≡ bs)
-no_feed_if true b bs e = absurd (cc)
-no_feed_if false b bs e = (refl, cc)
+pub no_feed : (bs : List ℕ) → Nowhere (Passes (is_byte 10) bs) 0 (length bs) → length bs ≡ length (before_feed bs)
+no_feed [] none = refl
+no_feed (b ∷ bs) none = by (b == 10) refl (no_feed bs (λ j low high. none (suc j) (omega arith) (omega (arith, high))))
+  where
+    by : (t : Bool) → b == 10 ≡ t → length bs ≡ length (before_feed bs) → suc (length bs) ≡ length (before_if t b (before_feed bs))
+    by true e later = absurd (none 0 (omega arith) (omega arith) e)
+    by false e later = ap suc later
 
--- what follows a text without a line feed
-pub before_more : (text more : List ℕ) → before_feed text ≡ text → before_feed (text ++ more) ≡ text ++ before_feed more
-before_more [] more e = refl
-before_more (b ∷ bs) more e =
-    let h = no_feed_if (b == 10) b bs e in
-    ap (λ t. before_if t b (before_feed (bs ++ more))) h.0 ∙ ap (λ (l : List ℕ). b ∷ l) (before_more bs more h.1)
+pub feed_at : (bs : List ℕ) (k : ℕ) → k < length bs → Nowhere (Passes (is_byte 10) bs) 0 k → Passes (is_byte 10) bs k
+    → k ≡ length (before_feed bs)
+feed_at [] k below none here = absurd (omega (arith, below))
+feed_at (b ∷ bs) zero below none here = sym (ap (λ t. length (before_if t b (before_feed bs))) here)
+feed_at (b ∷ bs) (suc k) below none here =
+    by (b == 10) refl
+    (feed_at bs k (omega (arith, below)) (λ j low high. none (suc j) (omega arith) (omega (arith, high))) here)
+  where
+    by : (t : Bool) → b == 10 ≡ t → k ≡ length (before_feed bs) → suc k ≡ length (before_if t b (before_feed bs))
+    by true e later = absurd (none 0 (omega arith) (omega arith) e)
+    by false e later = ap suc later
 
--- a block without a line feed, from a place on
-pub block_gone : (n at : ℕ) (bs : List ℕ) → at + n ≤ length bs → before_feed (take n (drop at bs)) ≡ take n (drop at bs)
-    → length (before_feed (drop at bs)) ≡ n + length (before_feed (drop (at + n) bs))
-block_gone n at bs fits h =
-    let block = take n (drop at bs) in
-    let more = drop n (drop at bs) in
-    let whole = ap (λ (l : List ℕ). length (before_feed l)) (sym (take-append-drop n (drop at bs))) in
-    let parts = ap (λ (l : List ℕ). length l) (before_more block more h) in
-    let later = ap (λ (l : List ℕ). length (before_feed l)) (drop-drop n at bs) in
-    omega (arith, whole, parts, later, length-append block (before_feed more), length-take n (drop at bs), length-drop at bs)
-
--- one more byte, which is no line feed
-pub no_feed_more : (i : ℕ) (bs : List ℕ) (found : Bool) → i < length bs
-    → (found ≡ false → before_feed (take i bs) ≡ take i bs) → found || (get_or bs i 0 == 10) ≡ false
-    → before_feed (take (i + 1) bs) ≡ take (i + 1) bs
-no_feed_more i bs true lt h e = absurd (cc)
-no_feed_more i bs false lt h e =
-    let b = get_or bs i 0 in
-    let one : before_feed (b ∷ []) ≡ b ∷ [] = ap (λ t. before_if t b []) e in
-    rw (take_more bs i 0 lt) (before_more (take i bs) (b ∷ []) (h refl) ∙ ap (λ (l : List ℕ). take i bs ++ l) one)
+-- the first line feed, or the end
+pub first_feed : (bs : List ℕ) (r : Option ℕ) (n : ℕ) → n ≡ length bs → IsFirstByte (is_byte 10) bs r
+    → unwrap_or r n ≡ length (before_feed bs)
+first_feed bs None n len none = len ∙ no_feed bs none
+first_feed bs (Some k) n len found = feed_at bs k found.0.high found.0.before found.1

@@ -6,6 +6,7 @@ ghost use Rattle.script_text.specs.Lines.{line_limit, script_line};
 ghost use Rattle.script_text.specs.Reading.{left, HasNothingLeft, FailsInLine, FindsLine, seen_line};
 ghost use Rattle.script_text.specs.model.Feeds.{before_feed, from_feed};
 
+use memchr::memchr;
 use std::alloc::{AllocError, Global};
 use std::io;
 use std::io::{ErrorKind, Read};
@@ -16,9 +17,6 @@ pub const LINE_LIMIT: usize = 20_000;
 
 // The size of a read in bytes.
 const PIECE: usize = 4096;
-
-// The number of bytes that are searched for a line feed at once.
-const BLOCK: usize = 16;
 
 /// The bytes that were read and not yet used. Contracts see it as the list of these bytes.
 #[derive(Debug)]
@@ -249,39 +247,11 @@ fn take_part(line: &mut LineBuffer, is_long: bool, part: &[u8]) -> bool
     false
 }
 
-// Returns the number of bytes before the first line feed, or of all bytes without one. Skips whole blocks first.
+// Returns the number of bytes before the first line feed, or of all bytes without one.
 fn text_len(bytes: &[u8]) -> usize
     ensures { result ≡ length (before_feed bytes.now) }
 {
-    let mut at = 0;
-    while bytes.len() - at >= BLOCK && !has_feed(&bytes[at..at + BLOCK]) {
-        at += BLOCK;
-    }
-    at + len_before_feed(&bytes[at..])
-}
-
-// Checks whether there is a line feed. Reads all bytes, so that many are tested at once.
-fn has_feed(bytes: &[u8]) -> bool
-    ensures { result ≡ false → before_feed bytes.now ≡ bytes.now }
-{
-    let mut found = false;
-    for byte in bytes {
-        found |= *byte == b'\n';
-    }
-    found
-}
-
-// Like `text_len`, byte by byte.
-fn len_before_feed(bytes: &[u8]) -> usize
-    ensures len { result ≡ length (before_feed bytes.now) }
-    ensures bound { result ≤ length bytes.now }
-{
-    for (at, byte) in bytes.iter().enumerate() {
-        if *byte == b'\n' {
-            return at;
-        }
-    }
-    bytes.len()
+    memchr(b'\n', bytes).unwrap_or(bytes.len())
 }
 
 /// Finds the next line, and leaves its bytes in `line` unless it is too long. Allocates nothing.
