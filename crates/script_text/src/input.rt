@@ -64,7 +64,7 @@ impl ReadBuffer {
     pub fn has_line(&self) -> bool
         ensures { IsTrue result ↔ Contains self.now 10 }
     {
-        self.bytes[self.start..self.end].contains(&b'\n')
+        memchr(b'\n', &self.bytes[self.start..self.end]).is_some()
     }
 
     // Reads once into an empty buffer.
