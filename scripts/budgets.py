@@ -60,7 +60,7 @@ def of_sides(work):
     """The name and the count of each call of a side."""
     program = os.path.join(work, "cost")
     library = os.path.join(os.environ.get("HEAL_OUT", os.path.join(C, "out")), "libheal.a")
-    # By default the first call of a function of the C library also finds it, so that it counts for whichever call of a side is first.
+    # Otherwise the dynamic linker looks a function of the C library up at its first call, and that call's count includes it.
     words = ["cc", "-std=c11", "-O1", "-Wl,-z,now", f"-I{C}", os.path.join(C, "cost.c"), library, "-lpthread", "-o", program]
     subprocess.run(words, check=True)
     found = {names: cost.instructions(program, names, work) for names in NAMES}
