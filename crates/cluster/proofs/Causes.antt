@@ -1,6 +1,7 @@
 -- The cause of each refusal.
 use Rattle.std.proofs.Common.{◌≡◌, ◌⊎◌, inl, inr, ℕ, Bool, true, false, not, ◌&&◌, ◌==◌, nat_le, if◌then◌else◌, List, [], ◌∷◌, ◌++◌, Option, Some, None, is_some, is_none, true≢false, eq-eqb, refl, sym, ap, ◌∙◌, subst, append_assoc, arith}
 use Rattle.std.specs.Option.{option_map_or}
+use Rattle.std.specs.List.{list_all}
 use Rattle.std.specs.FinMap.{contains_key}
 use Rattle.std.specs.Prelude.{IfErr, OnOk, OnErr}
 use Rattle.std.specs.Result.{IsErr, IsErrAnd}
@@ -30,10 +31,10 @@ use Rattle.exchange_core.specs.Shown.{shown, IsDone, IsUntouched}
 use Rattle.exchange_law.specs.laws.Carried.{when, when_some, goes}
 use Rattle.exchange_core.specs.Refusals as due
 use Rattle.cluster.specs.Clusters.{Cluster, at}
-use Rattle.cluster.specs.Healing.{Plan, IsNew, HasHeld, FitsIn, BothFit, are_held_after, gone_of_side}
+use Rattle.cluster.specs.Healing.{Plan, IsNew, FitsIn, gone_of_side, other}
 use Rattle.cluster.specs.declared.fault.HealFault.{HealFault}
-use Rattle.cluster.specs.Causes.{BothNew, BothHeld, IsSideCause, IsCause}
-use Rattle.cluster.specs.model.Stages.{other, IsRested, offer_in, no_ruling, IsTrying, IsUnlisted, IsUnheard, IsRefusalOf}
+use Rattle.cluster.specs.Causes.{BothNew, HasNames, BothHave, are_new_after, NamesOnce, BothOnce, BothHaveRoom, Agree, IsSideCause, IsCause}
+use Rattle.cluster.specs.model.Stages.{IsRested, offer_in, no_ruling, IsTrying, IsUnlisted, IsUnheard, IsRefusalOf}
 use Rattle.cluster.proofs.Held.{left_holds, right_holds}
 use Rattle.cluster.proofs.Answered.{was_ok, by_answer}
 
@@ -43,20 +44,24 @@ some_is {X} {x} {y} e = cc
 eq_self : (n : ℕ) → (n == n) ≡ true
 eq_self n = eq-eqb n n refl
 
--- the next name is in the table, and none before it
-next_held : (table : Table) (before names : List Name) (name : Name) (rest : List Name) →
-    are_held_after table before (names ++ name ∷ rest) ≡ true →
-    contains_key table name && not (is_in name (before ++ names)) ≡ true
-next_held table before [] name rest held =
-    ap (λ l. contains_key table name && not (is_in name l)) (append_none before) ∙ left_holds _ _ held
+-- the next name passes the test that all pass
+next_passes : (test : Name → Bool) (names : List Name) (name : Name) (rest : List Name) →
+    list_all test (names ++ name ∷ rest) ≡ true → test name ≡ true
+next_passes test [] name rest all = left_holds (test name) _ all
+next_passes test (first ∷ names) name rest all = next_passes test names name rest (right_holds (test first) _ all)
+
+-- the next name isn't among those before it
+next_is_new : (before names : List Name) (name : Name) (rest : List Name) →
+    are_new_after before (names ++ name ∷ rest) ≡ true → not (is_in name (before ++ names)) ≡ true
+next_is_new before [] name rest once =
+    ap (λ l. not (is_in name l)) (append_none before) ∙ left_holds (not (is_in name before)) _ once
   where
     append_none : (xs : List Name) → xs ++ [] ≡ xs
     append_none [] = refl
     append_none (x ∷ xs) = ap (λ (l : List Name). x ∷ l) (append_none xs)
-next_held table before (first ∷ names) name rest held =
-    ap (λ l. contains_key table name && not (is_in name l)) (sym (append_assoc before (first ∷ []) names))
-    ∙ next_held table (before ++ first ∷ []) names name rest
-    (right_holds (contains_key table first && not (is_in first before)) _ held)
+next_is_new before (first ∷ names) name rest once =
+    ap (λ l. not (is_in name l)) (sym (append_assoc before (first ∷ []) names))
+    ∙ next_is_new (before ++ first ∷ []) names name rest (right_holds (not (is_in first before)) _ once)
 
 module _ (plan : Plan) (was : Cluster) where
   -- out of memory
@@ -97,9 +102,13 @@ module _ (plan : Plan) (was : Cluster) where
   new_at A new = new.0
   new_at B new = new.1
 
-  held_by : (id : SideId) → BothHeld plan was → HasHeld was id plan.gone
-  held_by A held = held.0
-  held_by B held = held.1
+  has_by : (id : SideId) → BothHave plan was → HasNames plan was id
+  has_by A have = have.0
+  has_by B have = have.1
+
+  once_by : (id : SideId) → BothOnce plan → NamesOnce plan id
+  once_by A once = once.0
+  once_by B once = once.1
 
   -- ---- of begin
 
@@ -194,12 +203,12 @@ module _ (plan : Plan) (was : Cluster) where
   agree_of A = refl
   agree_of B = refl
 
-  no_room : (id : SideId) → nat_le (union_len table_a table_b) (at was id).limit ≡ false → ¬ BothFit was
-  no_room A e fit = true≢false (sym (left_holds _ _ fit.0) ∙ e)
-  no_room B e fit = true≢false (sym (left_holds _ _ fit.1) ∙ e)
+  no_room : (id : SideId) → nat_le (union_len table_a table_b) (at was id).limit ≡ false → ¬ BothHaveRoom was
+  no_room A e room = true≢false (sym room.0 ∙ e)
+  no_room B e room = true≢false (sym room.1 ∙ e)
 
-  no_code : tables_agree table_a table_b ≡ false → ¬ BothFit was
-  no_code e fit = true≢false (sym (right_holds (nat_le (union_len table_a table_b) was.a.limit) _ fit.0) ∙ e)
+  no_code : tables_agree table_a table_b ≡ false → ¬ Agree was
+  no_code e agree = true≢false (sym agree ∙ e)
 
   not_own : (id : SideId) → is_side id (other id) ≡ false
   not_own A = refl
@@ -334,11 +343,16 @@ module _ (plan : Plan) (was : Cluster) where
     withdraw_cause name rest next unlisted fault e =
         by_table (contains_key side.table name) refl e
       where
-        further : BothHeld plan was → contains_key side.table name && not (is_in name t.exchange.withdrawn) ≡ true
-        further held =
-            (λ i. contains_key (t.table i) name && not (is_in name (t.under_way.withdrawn i)))
-            ∙ next_held (shown_table (at was id).side) [] names name rest
-            (subst (λ l. are_held_after (shown_table (at was id).side) [] l ≡ true) next (held_by id held))
+        is_there : BothHave plan was → contains_key side.table name ≡ true
+        is_there have =
+            (λ i. contains_key (t.table i) name)
+            ∙ next_passes (contains_key (shown_table (at was id).side)) names name rest
+            (subst (λ l. list_all (contains_key (shown_table (at was id).side)) l ≡ true) next (has_by id have))
+
+        is_new : BothOnce plan → not (is_in name t.exchange.withdrawn) ≡ true
+        is_new once =
+            (λ i. not (is_in name (t.under_way.withdrawn i)))
+            ∙ next_is_new [] names name rest (subst (λ l. are_new_after [] l ≡ true) next (once_by id once))
 
         by_list : (full again closed : Bool) → is_in name t.exchange.withdrawn ≡ again → closed ≡ false →
             (if full then Some of.JournalFull
@@ -346,7 +360,7 @@ module _ (plan : Plan) (was : Cluster) where
             IsSideCause plan was fault
         by_list true again closed a c e = subst (IsSideCause plan was) (some_is e) tt
         by_list false true closed a c e = subst (IsSideCause plan was) (some_is e)
-            (λ held. true≢false (sym (right_holds (contains_key side.table name) _ (further held)) ∙ ap not a))
+            (λ once. true≢false (sym (is_new once) ∙ ap not a))
         by_list false false true a c e = absurd (cc)
         by_list false false false a c e = absurd (cc)
 
@@ -355,7 +369,7 @@ module _ (plan : Plan) (was : Cluster) where
             else option_map_or (due.withdraw_fault_in full name) side.exchange (Some of.NotHealing)) ≡ Some fault →
             IsSideCause plan was fault
         by_table false h e = subst (IsSideCause plan was) (some_is e)
-            (λ held. true≢false (sym (left_holds _ _ (further held)) ∙ h))
+            (λ have. true≢false (sym (is_there have) ∙ h))
         by_table true h e = by_list full (is_in name t.exchange.withdrawn) t.exchange.closed refl unlisted
             (sym (ap (λ (o : Option Exchange). option_map_or (due.withdraw_fault_in full name) o (Some of.NotHealing))
             t.opened) ∙ e)

@@ -20,10 +20,12 @@ use Rattle.exchange_core.specs.Refusals as due
 use Rattle.exchange_core.specs.Shown.{shown, IsDone, IsUntouched}
 use Rattle.cluster.specs.Clusters.{Cluster, at}
 use Rattle.cluster.specs.Healing.{Plan, BothFit}
-use Rattle.cluster.specs.Causes.{BothNew, IsSideCause, IsCause, IsEarly, ShowAsBefore}
+use Rattle.cluster.specs.Causes.{BothNew, BothHaveRoom, Agree, IsSideCause, IsCause, IsEarly, ShowAsBefore}
 use Rattle.cluster.specs.declared.fault.HealFault.{HealFault}
 use Rattle.cluster.specs.declared.fault.HealFault.TheVariants.{Side as OfSide, Meet, OutOfMemory}
 use Rattle.cluster.specs.model.Stages.{IsRested, AreSides, AreRested, no_ruling, IsTrying, AreTrying}
+use Rattle.partition_table.specs.Tables.{union_len}
+use Rattle.cluster.proofs.Held.{left_holds, right_holds}
 use Rattle.cluster.proofs.Answered.{pair, by_answer}
 use Rattle.cluster.proofs.Steps.{begun}
 
@@ -98,11 +100,19 @@ early_is P stale many code of.Withdrawn early = absurd early
 early_is P stale many code of.ListClosed early = absurd early
 early_is P stale many code of.OutOfMemory early = absurd early
 
+have_room : (was : Cluster) → BothFit was → BothHaveRoom was
+have_room was fit = (left_holds _ _ fit.0, left_holds _ _ fit.1)
+
+agree : (was : Cluster) → BothFit was → Agree was
+agree was fit =
+    right_holds (nat_le (union_len (shown_table was.a.side) (shown_table was.b.side)) was.a.limit) _ fit.0
+
 -- where the number is new and the tables fit, no refusal is early
 not_early : (plan : Plan) (was : Cluster) → BothNew plan was → BothFit was → (fault : HealFault) →
     IsCause plan was fault → ¬ IsEarly fault
 not_early plan was new fit (OfSide fault) cause early =
-    early_is (λ f. ¬ IsSideCause plan was f) (λ c. c new) (λ c. c fit) (λ c. c fit) fault early cause
+    early_is (λ f. ¬ IsSideCause plan was f) (λ c. c new) (λ c. c (have_room was fit)) (λ c. c (agree was fit)) fault early
+    cause
 not_early plan was new fit (Meet fault) cause early = early
 not_early plan was new fit OutOfMemory cause early = early
 

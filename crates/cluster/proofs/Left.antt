@@ -26,9 +26,12 @@ module _ (plan : Plan) (was : Cluster) (id : SideId) (same : (at was id).side.id
     is_open = t.opened;
     number = t.under_way.number;
     seed = t.under_way.seed;
+    uptime = t.under_way.uptime;
     withdrawn = t.under_way.withdrawn;
+    heard = λ heard is. let h = t.under_way.heard heard is in (h.table, h.uptime);
+    their_list = t.under_way.their_list;
     table = t.table;
-    id = t.same_id ∙ sym same;
+    same_id = t.same_id ∙ sym same;
     latest = t.latest;
   }
 
@@ -79,7 +82,7 @@ module _ (plan : Plan) (was : Cluster) (id : SideId) (same : (at was id).side.id
       o.is_open
       ∙ (λ i. without (o.withdrawn i) (o.table i)) in
       let is : rested side ≡ idle_after n side.latest =
-      λ i. record { id = (o.id ∙ same) i; table = shows i; exchange = None; latest = side.latest } in
+      λ i. record { id = (o.same_id ∙ same) i; table = shows i; exchange = None; latest = side.latest } in
       as_before side.latest held is (inr (o.latest, is_new))
   left_abandoned n side (untouched none e) =
       let is : rested side ≡ idle_after 0 (at was id).side.latest =

@@ -12,10 +12,10 @@ use Rattle.exchange_law.specs.Sides.{Offer, Withdrawals, Heard, Exchange, Side, 
 use Rattle.exchange_law.specs.Worlds.{offer_of, list_of}
 use Rattle.exchange_core.specs.Finished.{Finished, IsFinished, Half, finished_by, finished_in, finished_of, finished_from, all_held}
 use Rattle.cluster.specs.Clusters.{Cluster, at}
-use Rattle.cluster.specs.Healing.{Plan, gone_of_side, finished_as, idle_side}
+use Rattle.cluster.specs.Healing.{Plan, gone_of_side, finished_as, idle_side, other, uptime_of}
 use Rattle.verdict_board.specs.Boards.{Pass}
 use Rattle.registry_lock.specs.Meeting.{AgreesWith}
-use Rattle.cluster.specs.model.Stages.{other, uptime_of, IsRested, offer_in, seen_by, HasHeard, IsUnderWay, IsTrying, HasFinished}
+use Rattle.cluster.specs.model.Stages.{IsRested, offer_in, seen_by, HasHeard, IsUnderWay, IsTrying, HasFinished}
 use Rattle.exchange_law.specs.laws.Carried.{some_inj, when, unless, when_some, goes, found}
 use Rattle.exchange_law.specs.laws.Kept.{none_held, one_more_ruling}
 use Rattle.cluster.proofs.Held.{one_held}

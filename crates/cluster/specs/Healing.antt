@@ -9,7 +9,7 @@ use Rattle.clash_record.specs.declared.side_id.SideId.{SideId}
 use Rattle.clash_record.specs.declared.side_id.SideId.TheVariants.{A, B}
 use Rattle.partition_table.specs.Tables.{Table, Gone, is_in, fit_within}
 use Rattle.partition_table.specs.declared.judged.Judged.{Judged}
-use Rattle.exchange_law.specs.Sides.{Side, Exchange, is_above, is_side, shown_table, without}
+use Rattle.exchange_law.specs.Sides.{Side, Exchange, Heard, is_above, is_side, shown_table, without}
 use Rattle.exchange_core.specs.Finished.{Finished, IsFinished, clashes_merged}
 use Rattle.cluster.specs.Clusters.{Standing, Cluster, Extends, at, half_full}
 use Rattle.cluster.specs.Healings.{Healing}
@@ -25,6 +25,14 @@ pub record Plan : Type 0 where
 abbrev pub plan_of : code.Plan → Plan
 plan_of plan =
     record { number = plan.number; seed = plan.seed; uptimes = plan.uptimes; gone = plan.gone.now }
+
+abbrev pub other : SideId → SideId
+other A = B
+other B = A
+
+abbrev pub uptime_of : SideId → Uptimes → ℕ
+uptime_of A uptimes = uptimes.a
+uptime_of B uptimes = uptimes.b
 
 -- the withdrawn names of one side
 abbrev pub gone_of_side : SideId → List Withdrawal → List Name
@@ -113,15 +121,20 @@ abbrev pub IsLatest : Plan → Cluster → SideId → Side → Type 0
 IsLatest plan old id new =
     (new.latest ≡ (at old id).side.latest) ⊎ ((new.latest ≡ Some plan.number) × IsNew plan old id)
 
--- the planned exchange is open, of the table that the side showed, and the side withdrew these names
-pub record IsOpen (plan : Plan) (old new : Side) (names : List Name) : Type 0 where
+-- The planned exchange is open, of the table that the side showed, and the side withdrew these names. What it has heard is
+-- the table that the other half showed, its uptime, and the names that this was to withdraw
+pub record IsOpen (plan : Plan) (old : Cluster) (id : SideId) (new : Side) (names : List Name) : Type 0 where
   pub exchange : Exchange
   pub is_open : new.exchange ≡ Some exchange
   pub number : exchange.number ≡ plan.number
   pub seed : exchange.seed ≡ plan.seed
+  pub uptime : exchange.uptime ≡ uptime_of id plan.uptimes
   pub withdrawn : exchange.withdrawn ≡ names
-  pub table : new.table ≡ shown_table old
-  pub id : new.id ≡ old.id
+  pub heard : (heard : Heard) → exchange.heard ≡ Some heard →
+      (heard.table ≡ shown_table (at old (other id)).side) × (heard.uptime ≡ uptime_of (other id) plan.uptimes)
+  pub their_list : (theirs : List Name) → exchange.their_list ≡ Some theirs → theirs ≡ gone_of_side (other id) plan.gone
+  pub table : new.table ≡ shown_table (at old id).side
+  pub same_id : new.id ≡ (at old id).side.id
   pub latest : new.latest ≡ Some plan.number
 
 -- A side after an exchange that failed once the first `count` planned names were withdrawn, each held before: idle with
@@ -132,7 +145,7 @@ pub data IsLeft (plan : Plan) (old : Cluster) (id : SideId) (count : ℕ) (new :
       new ≡ idle_side id (without (gone_of_side id (take count plan.gone)) (shown_table (at old id).side)) latest →
       IsLatest plan old id new → IsLeft plan old id count new
   left_open : IsNew plan old id → HasHeld old id (take count plan.gone) →
-      IsOpen plan (at old id).side new (gone_of_side id (take count plan.gone)) → IsLeft plan old id count new
+      IsOpen plan old id new (gone_of_side id (take count plan.gone)) → IsLeft plan old id count new
   untouched : count ≡ 0 → new ≡ (at old id).side → IsLeft plan old id count new
 
 -- a side that finished the exchange, for which all planned names were withdrawn: idle with a lawful merge

@@ -413,6 +413,7 @@ step p after id l (call.renews new r e) = subst Like (sym e)
     (like_same l id new (renewed _ _ _ r))
 step p after id l (call.gives_up new r e) = subst Like (sym e)
     (gave_up l id new r.1.state)
+step p after id l (call.refused new s e) = subst Like (sym e) (stays l id new s)
 
 -- no element
 none : {X : Type 0} (xs : List X) (which : ℕ) (x : X) → xs ≡ [] → slice_get xs which ≡ Some x → ⊥

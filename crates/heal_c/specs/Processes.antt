@@ -9,7 +9,7 @@ use Rattle.c_calls.specs.Halves.{SideAndStore}
 use Rattle.c_calls.specs.declared.outcome.Outcome.{Outcome}
 use Rattle.c_calls.specs.Exchanges.{BeginsExchange, Hears, Settles, Withdraws, Closes, HearsList, Finishes, Abandons}
 use Rattle.c_calls.specs.Kept.{Forgets}
-use Rattle.c_calls.specs.Sides.{IsNewHalf, IsUpload, Registers, Unregisters, Renews, GivesUp}
+use Rattle.c_calls.specs.Sides.{IsNewHalf, IsUpload, Registers, Unregisters, Renews, GivesUp, Stays}
 
 -- the halves; the bytes of all offers and lists that calls returned; and all outcomes. The latest stand first
 pub record Processes : Type 0 where
@@ -30,8 +30,9 @@ with_half p B half = record p { b = half }
 abbrev pub WasReturned : List (List ℕ) → List ℕ → Type 0
 WasReturned all bytes = (which : ℕ) × (slice_get all which ≡ Some bytes)
 
--- one process made a call that returned 0, as the contract of the call describes it. A message that a half hears is one
--- that a call returned, at any time and any number of times. A refused call changes nothing
+-- one process made a call, as the contract of the call describes it: one that returned 0, or a refused one, which leaves
+-- the state, the journal and the programs of the half. A message that a half hears is one that a call returned, at any
+-- time and any number of times
 pub data IsCall (p : Processes) (id : SideId) (after : Processes) : Type 0 where
   uploads : (new : SideAndStore) (code id' id'' : List ℕ) (slot : ℕ) →
       IsUpload code (process_half p id) new id' id'' 0 slot → after ≡ with_half p id new → IsCall p id after
@@ -59,6 +60,7 @@ pub data IsCall (p : Processes) (id : SideId) (after : Processes) : Type 0 where
   abandons : (new : SideAndStore) → Abandons (process_half p id) new 0 → after ≡ with_half p id new → IsCall p id after
   renews : (new : SideAndStore) → Renews (process_half p id) new 0 → after ≡ with_half p id new → IsCall p id after
   gives_up : (new : SideAndStore) → GivesUp (process_half p id) new 0 → after ≡ with_half p id new → IsCall p id after
+  refused : (new : SideAndStore) → Stays (process_half p id) new → after ≡ with_half p id new → IsCall p id after
 
 -- two new halves, one of each side
 pub record AreNew (p : Processes) : Type 0 where

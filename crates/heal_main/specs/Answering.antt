@@ -7,7 +7,7 @@ use Rattle.command_line.specs.Asked.{AskedTask, Asks, asked_task}
 use Rattle.heal_main.specs.Obeying.{Obeys}
 
 -- the task of the words is carried out; or they have none, with status 1; or memory ran out, with status 3. In the last
--- two cases nothing is written, and standard error has a text for the user
+-- two cases nothing is written
 pub data AnswersWords (words : List (List ℕ)) (old new told_old told_new : Option (List ℕ)) (status : ℕ) : Type 0 where
   carried_out : (task : Task) → Asks words (asked_task task) → Obeys task old new told_old told_new status
       → AnswersWords words old new told_old told_new status

@@ -1,5 +1,5 @@
 -- A replica: what it keeps, and what each of its calls leaves.
-use Rattle.std.specs.Prelude.{ℕ, suc, Bool, not, ◌==◌, nat_lt, nat_le, if◌then◌else◌, Option, Some, None}
+use Rattle.std.specs.Prelude.{ℕ, suc, Bool, not, ◌==◌, nat_lt, nat_le, if◌then◌else◌, Option, Some, None, Result, Ok, Err}
 use Rattle.partition_table.specs.Tables.{Table}
 use Rattle.replica_law.specs.declared.position.Life.{Life}
 use Rattle.replica_law.specs.declared.position.View.{View}
@@ -7,6 +7,8 @@ use Rattle.replica_law.specs.declared.position.Position.{Position}
 use Rattle.replica_law.specs.Groups.{Entry, Snapshot, same_view, same_position, place, next}
 use Rattle.replica.specs.declared.fault.ReplicaFault.{ReplicaFault}
 use Rattle.replica.specs.declared.fault.ReplicaFault.TheVariants.{NotPrimary, OtherView, Gap, OwnView, Exhausted, Moved}
+use Rattle.replica.specs.declared.replica.Applied.{Applied}
+use Rattle.replica.specs.declared.replica.Applied.TheVariants.{Already}
 use Rattle.replica.specs.Halves.{HalfState, Edit, first_half, edit_fault, edited}
 
 pub record Replica : Type 0 where
@@ -67,6 +69,12 @@ make_fault r edit =
     if not (is_primary r) then Some NotPrimary
     else (if not (nat_lt r.at.op max_number) then Some Exhausted else edit_fault r.half edit)
 
+-- those of them that come before the half is looked at, and need no memory
+abbrev pub early_make_fault : Replica → Option ReplicaFault
+early_make_fault r =
+    if not (is_primary r) then Some NotPrimary
+    else (if not (nat_lt r.at.op max_number) then Some Exhausted else None)
+
 -- a replica takes no snapshot of the latest view that it started
 abbrev pub follow_fault : Replica → Snapshot HalfState → Option ReplicaFault
 follow_fault r snapshot = if same_view snapshot.at.view (own_view r) then Some OwnView else None
@@ -84,6 +92,13 @@ apply_fault r entry =
     if not (same_view entry.at.view r.at.view) then Some OtherView
     else (if is_repeated r entry then None
     else (if is_next r entry then edit_fault r.half entry.edit else Some Gap))
+
+-- the answer to an entry whose edit isn't carried out, which needs no memory
+abbrev pub early_answer : Replica → Entry Edit → Option (Result Applied ReplicaFault)
+early_answer r entry =
+    if not (same_view entry.at.view r.at.view) then Some (Err OtherView)
+    else (if is_repeated r entry then Some (Ok Already)
+    else (if is_next r entry then None else Some (Err Gap)))
 
 abbrev pub applied : Replica → Entry Edit → Replica
 applied r entry = if is_repeated r entry then r else moved r (next r.at) (edited r.half entry.edit)

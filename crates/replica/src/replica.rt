@@ -1,5 +1,5 @@
 //! Replicas and their calls.
-ghost use Rattle.std.specs.Prelude.{◌≡◌, ◌<◌, ◌≤◌, ◌+◌, if◌then◌else◌, nat_le, Some, None, IfOk, OnOk, OnErr, length};
+ghost use Rattle.std.specs.Prelude.{◌≡◌, ◌<◌, ◌≤◌, ◌+◌, if◌then◌else◌, nat_le, Some, None, Err, false, IfOk, IfSome, OnOk, OnErr, length};
 ghost use Rattle.std.specs.FinMap.{len};
 ghost use Rattle.refusals.specs.Answers.{IsAnswered, IsDecidedBy};
 ghost use Rattle.exchange_core.specs.Shown.{shown, calls, limit_of};
@@ -8,8 +8,8 @@ ghost use Rattle.replica.specs.declared.fault.ReplicaFault.TheVariants as of;
 ghost use Rattle.replica.specs.declared.replica.Applied.TheVariants.{Already, Now};
 ghost use Rattle.replica.specs.Faults.{replica_fault_number};
 ghost use Rattle.replica.specs.Replicas as spec;
-ghost use Rattle.replica.specs.Replicas.{new_replica, moved, own_view, entry_made, snapshot_of, lead_fault, change_fault, make_fault, follow_fault, apply_fault, is_repeated, left_by, Lead, Change, Make, Follow, Apply};
-ghost use Rattle.replica_law.specs.Groups.{next};
+ghost use Rattle.replica.specs.Replicas.{new_replica, moved, own_view, entry_made, snapshot_of, lead_fault, change_fault, make_fault, early_make_fault, follow_fault, apply_fault, early_answer, is_repeated, left_by, Lead, Change, Make, Follow, Apply};
+ghost use Rattle.replica_law.specs.Groups.{next, same_position};
 ghost use Rattle.replica.specs.Halves.{edit_fault, edited};
 ghost use Rattle.replica.specs.Messages.{entry_seen};
 
@@ -157,6 +157,7 @@ impl Replica {
         latest: Option<u64>,
     ) -> Result<View, ReplicaFault>
         ensures answer { IsAnswered replica_fault_number (change_fault self.old from) result }
+        ensures moved { same_position self.old.at from ≡ false → result ≡ Err of.Moved }
         ensures view { IfOk result (λ view. view ≡ own_view self.new) }
         ensures done { OnOk result (self.new ≡ left_by self.old (Change from table.now latest)) }
         ensures unchanged { OnErr result (self.new ≡ self.old) }
@@ -189,6 +190,7 @@ impl Replica {
     // Carries an edit out as the primary, and returns the position of its entry.
     fn make(&mut self, edit: &Edit) -> Result<Position, ReplicaFault>
         ensures answer { IsAnswered replica_fault_number (make_fault self.old edit.now) result }
+        ensures early { IfSome (early_make_fault self.old) (λ fault. result ≡ Err fault) }
         ensures position { IfOk result (λ at. at ≡ next self.old.at) }
         ensures done { OnOk result (self.new ≡ left_by self.old (Make edit.now)) }
         ensures unchanged { OnErr result (self.new ≡ self.old) }
@@ -211,6 +213,8 @@ impl Replica {
     /// copies the half if a snapshot shares it.
     pub fn edit(&mut self, edit: Edit) -> Result<Entry, ReplicaFault>
         ensures answer { IsAnswered replica_fault_number (make_fault self.old edit) result }
+        // 95 and 99 come also when out of memory.
+        ensures early { IfSome (early_make_fault self.old) (λ fault. result ≡ Err fault) }
         ensures entry { IfOk result (λ entry. entry_seen entry ≡ entry_made self.old edit) }
         ensures done { OnOk result (self.new ≡ left_by self.old (Make edit)) }
         ensures unchanged { OnErr result (self.new ≡ self.old) }
@@ -237,6 +241,7 @@ impl Replica {
     /// owner.
     pub fn follow(&mut self, snapshot: &Snapshot) -> Result<(), ReplicaFault>
         ensures answer { IsAnswered replica_fault_number (follow_fault self.old snapshot.now) result }
+        ensures own_view { IfSome (follow_fault self.old snapshot.now) (λ fault. result ≡ Err fault) }
         ensures done { OnOk result (self.new ≡ left_by self.old (Follow snapshot.now)) }
         ensures unchanged { OnErr result (self.new ≡ self.old) }
     {
@@ -255,6 +260,8 @@ impl Replica {
     /// snapshot shares it.
     pub fn apply(&mut self, entry: &Entry) -> Result<Applied, ReplicaFault>
         ensures answer { IsAnswered replica_fault_number (apply_fault self.old (entry_seen entry.now)) result }
+        // 96, 97 and `Already` come also when out of memory.
+        ensures early { IfSome (early_answer self.old (entry_seen entry.now)) (λ answer. result ≡ answer) }
         ensures how { IfOk result (λ applied. applied ≡ (if is_repeated self.old (entry_seen entry.now) then Already else Now)) }
         ensures done { OnOk result (self.new ≡ left_by self.old (Apply (entry_seen entry.now))) }
         ensures unchanged { OnErr result (self.new ≡ self.old) }

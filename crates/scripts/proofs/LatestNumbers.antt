@@ -11,7 +11,7 @@ use Rattle.exchange_law.specs.Sides.{Side}
 use Rattle.clash_record.specs.declared.registrations.ResolverId.{ResolverId}
 use Rattle.clash_record.specs.declared.registrations.Terms.{Terms}
 use Rattle.script_text.specs.declared.fault.LineFault.{LineFault}
-use Rattle.script_text.specs.Asking.{Asked, Upload, Register, Unregister, Whereis, Show, Heal, asked_of}
+use Rattle.script_text.specs.Asking.{Asked, Upload, Register, Unregister, Whereis, Show, Heal, asked_of, takes_memory}
 use Rattle.script_text.specs.Lines.{Line, Short, Long}
 use Rattle.scripts.specs.declared.reply.Reply.{Reply}
 use Rattle.scripts.specs.Machines.{ScriptMachine, resolver_named}
@@ -85,20 +85,21 @@ answered old (Unregister id name) (Heals healing) new h = absurd h
 answered old (Whereis id name) (Heals healing) new h = absurd h
 answered old (Show id) (Heals healing) new h = absurd h
 
-text_answered : (old : ScriptMachine) (asked : Result (Option Asked) LineFault) (answer : Answer) (new : ScriptMachine)
-    → AnswersText old asked answer new → new.latest ≤ old.latest + 1
-text_answered old (Ok (Some asked)) answer new h = answered old asked answer new h
-text_answered old (Ok None) (Says reply) new h = stays old new h.1
-text_answered old (Ok None) (Shows labels rows) new h = absurd h
-text_answered old (Ok None) (Heals healing) new h = absurd h
-text_answered old (Err fault) (Says reply) new (inl h) = stays old new h.1
-text_answered old (Err fault) (Says reply) new (inr h) = stays old new h.1
-text_answered old (Err fault) (Shows labels rows) new h = absurd h
-text_answered old (Err fault) (Heals healing) new h = absurd h
+text_answered : (old : ScriptMachine) (takes : Bool) (asked : Result (Option Asked) LineFault) (answer : Answer)
+    (new : ScriptMachine) → AnswersText old takes asked answer new → new.latest ≤ old.latest + 1
+text_answered old takes (Ok (Some asked)) answer new h = answered old asked answer new h
+text_answered old takes (Ok None) (Says reply) new h = stays old new h.1
+text_answered old takes (Ok None) (Shows labels rows) new h = absurd h
+text_answered old takes (Ok None) (Heals healing) new h = absurd h
+text_answered old true (Err fault) (Says reply) new (inl h) = stays old new h.1
+text_answered old true (Err fault) (Says reply) new (inr h) = stays old new h.1
+text_answered old false (Err fault) (Says reply) new h = stays old new h.1
+text_answered old takes (Err fault) (Shows labels rows) new h = absurd h
+text_answered old takes (Err fault) (Heals healing) new h = absurd h
 
 line_answered : (old : ScriptMachine) (line : Line) (answer : Answer) (new : ScriptMachine) → AnswersLine old line answer new
     → new.latest ≤ old.latest + 1
-line_answered old (Short text) answer new h = text_answered old (asked_of text) answer new h
+line_answered old (Short text) answer new h = text_answered old (takes_memory text) (asked_of text) answer new h
 line_answered old Long (Says reply) new h = stays old new h.1
 line_answered old Long (Shows labels rows) new h = absurd h
 line_answered old Long (Heals healing) new h = absurd h

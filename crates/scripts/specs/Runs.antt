@@ -59,7 +59,7 @@ ending_status Starved answers = 3
 ending_status ReadFailed answers = 3
 ending_status Stopped answers = 3
 
--- all of it was written, or a beginning of it where the writer failed
+-- all of it was written; or the status is 3, and a beginning of it was written
 abbrev pub Writes : Ending → List Answer → Option (List ℕ) → Option (List ℕ) → ℕ → Type 0
 Writes ending answers old new status =
     ((ending ≢ Stopped) × Appends old new (ending_text ending answers) × (status ≡ ending_status ending answers))

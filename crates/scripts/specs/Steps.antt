@@ -30,7 +30,7 @@ use Rattle.clash_record.specs.declared.halves.Uptimes.{Uptimes}
 use Rattle.clash_record.specs.declared.halves.Withdrawal.{Withdrawal}
 use Rattle.script_text.specs.declared.fault.LineFault.{LineFault}
 use Rattle.script_text.specs.Faults.{script_fault_number}
-use Rattle.script_text.specs.Asking.{Asked, Upload, Register, Unregister, Whereis, Show, Heal, asked_of}
+use Rattle.script_text.specs.Asking.{Asked, Upload, Register, Unregister, Whereis, Show, Heal, asked_of, takes_memory}
 use Rattle.script_text.specs.Lines.{Line, Short, Long}
 use Rattle.cluster.specs.Causes.{IsCause, IsEarly, ShowAsBefore}
 use Rattle.cluster.specs.Clusters.{AreFresh, at, with_standing, is_full_at}
@@ -204,18 +204,23 @@ Answers old (Heal seed uptimes gone) (Heals healing) new =
     HealsAs (plan_for old seed uptimes gone) old healing new
 Answers old asked answer new = ⊥
 
+-- an invalid line is refused for its fault, also when out of memory, unless its words take memory
+abbrev pub RefusesText : Bool → LineFault → ScriptMachine → Reply → ScriptMachine → Type 0
+RefusesText takes fault old reply new =
+    let Due = Refuses (script_fault_number fault) None old in
+    MatchBool takes (UnlessMemory Due old reply new) (Due reply new)
+
 -- a blank line and a comment have an empty answer, also when out of memory
-abbrev pub AnswersText : ScriptMachine → Result (Option Asked) LineFault → Answer → ScriptMachine → Type 0
-AnswersText old (Ok (Some asked)) answer new = Answers old asked answer new
-AnswersText old (Ok None) (Says reply) new = (reply ≡ Silent) × (new ≡ old)
-AnswersText old (Ok None) answer new = ⊥
-AnswersText old (Err fault) (Says reply) new =
-    UnlessMemory (Refuses (script_fault_number fault) None old) old reply new
-AnswersText old (Err fault) answer new = ⊥
+abbrev pub AnswersText : ScriptMachine → Bool → Result (Option Asked) LineFault → Answer → ScriptMachine → Type 0
+AnswersText old takes (Ok (Some asked)) answer new = Answers old asked answer new
+AnswersText old takes (Ok None) (Says reply) new = (reply ≡ Silent) × (new ≡ old)
+AnswersText old takes (Ok None) answer new = ⊥
+AnswersText old takes (Err fault) (Says reply) new = RefusesText takes fault old reply new
+AnswersText old takes (Err fault) answer new = ⊥
 
 -- a line has this answer, and leaves new. A line that is too long is refused for any contents
 abbrev pub AnswersLine : ScriptMachine → Line → Answer → ScriptMachine → Type 0
-AnswersLine old (Short text) answer new = AnswersText old (asked_of text) answer new
+AnswersLine old (Short text) answer new = AnswersText old (takes_memory text) (asked_of text) answer new
 AnswersLine old Long (Says reply) new = Refuses 54 None old reply new
 AnswersLine old Long answer new = ⊥
 

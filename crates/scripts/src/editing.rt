@@ -35,10 +35,9 @@ impl Machine {
 
     /// Unregisters a name from a side.
     ///
-    /// Returns the refusals of the side, and 90 when out of memory. A refusal changes nothing.
+    /// Returns the refusals of the side. A refusal changes nothing. Needs no memory.
     pub fn unregister(&mut self, side: SideId, name: &Name) -> Reply
-        ensures { UnlessMemory (UnregisterStep (machine_of self.old) side name.now) (machine_of self.old) result
-            (machine_of self.new) }
+        ensures { UnregisterStep (machine_of self.old) side name.now result (machine_of self.new) }
     {
         let answer = self
             .agreements

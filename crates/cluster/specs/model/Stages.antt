@@ -20,18 +20,10 @@ use Rattle.cluster.specs.declared.fault.HealFault.{HealFault}
 use Rattle.cluster.specs.declared.fault.HealFault.TheVariants.{Side as OfSide}
 use Rattle.cluster.specs.declared.halves.Halves as halves
 use Rattle.cluster.specs.Clusters.{Cluster, Extends, at, standing_of}
-use Rattle.cluster.specs.Healing.{Plan, HaveGrown, IsNew, HasHeld, gone_of_side, AreHeld, finished_as, idle_side}
+use Rattle.cluster.specs.Healing.{Plan, HaveGrown, IsNew, HasHeld, gone_of_side, AreHeld, finished_as, idle_side, other, uptime_of}
 
 abbrev pub halves_of : halves.Halves → Cluster
 halves_of halves = record { a = standing_of halves.a; b = standing_of halves.b }
-
-abbrev pub other : SideId → SideId
-other A = B
-other B = A
-
-abbrev pub uptime_of : SideId → Uptimes → ℕ
-uptime_of A uptimes = uptimes.a
-uptime_of B uptimes = uptimes.b
 
 -- they are sides A and B
 pub record AreSides (halves : Cluster) : Type 0 where

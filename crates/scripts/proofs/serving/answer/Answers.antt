@@ -1,8 +1,8 @@
-use Rattle.std.proofs.Common.{◌≡◌, ◌∙◌, ap, sym, subst, Result, Option, Ok, Err, None}
+use Rattle.std.proofs.Common.{◌≡◌, ◌∙◌, ap, sym, subst, false, Result, Option, Ok, Err, None}
 use Rattle.std.specs.Option.{option_map}
 use Rattle.script_text.specs.declared.command.Command.{Command}
 use Rattle.script_text.specs.declared.fault.LineFault.{LineFault}
-use Rattle.script_text.specs.Asking.{Asked, asked_of}
+use Rattle.script_text.specs.Asking.{Asked, asked_of, takes_memory}
 use Rattle.script_text.specs.Commands.{IsRight, asked, right_option}
 use Rattle.scripts.specs.declared.reply.Reply.TheVariants.{Silent}
 use Rattle.scripts.specs.Machines.{machine_of}
@@ -19,10 +19,12 @@ returns-in-Err g c =
     let right =
     subst (λ (r : Result (Option Command) LineFault). IsRight (right_option r) (asked_of c.args.line.now))
     c.in-Err.is c.command_of.ensures.asked in
+    let exact = subst (λ (r : Result (Option Command) LineFault). takes_memory c.args.line.now ≡ false
+    → right_option r ≡ asked_of c.args.line.now) c.in-Err.is c.command_of.ensures.exact in
     let some = not_silent c.command_of.result c.in-Err.fault (asked_of c.args.line.now) c.in-Err.is
     c.command_of.ensures.silent in
     said _ _ _ _ c.refused.result c.say.result
-    (fault_told (machine_of c.args.machine.now) c.args.line.now c.in-Err.fault c.refused.result some right
+    (fault_told (machine_of c.args.machine.now) c.args.line.now c.in-Err.fault c.refused.result some right exact
     c.refused.ensures)
     c.say.ensures.sends c.say.ensures.status
 

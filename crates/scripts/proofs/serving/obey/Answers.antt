@@ -21,7 +21,7 @@ pub returns-in-Unregister : goal.returns-in-Unregister
 returns-in-Unregister g c =
     said _ _ _ _ c.unregister.result c.say-in-Unregister.result
     (subst (λ (command : Command). Answers (machine_of c.args.machine.now) (asked command) (Says c.unregister.result)
-    (machine_of c.unregister.new.self)) (sym c.in-Unregister.is) c.unregister.ensures)
+    (machine_of c.unregister.new.self)) (sym c.in-Unregister.is) (inl c.unregister.ensures))
     c.say-in-Unregister.ensures.sends c.say-in-Unregister.ensures.status
 
 pub returns-in-Whereis : goal.returns-in-Whereis
