@@ -3,8 +3,8 @@
 
 -include("heal_replica.hrl").
 
--export([add/2, remove/2, gone/3, report/2]).
--export([relay/2, relaying/1]).
+-export([add/2, remove/2, gone/3, lost/2, due/2, send/2]).
+-export([relay/2, relaying/1, sending/2]).
 -export_type([subscribers/0, event/0]).
 
 %% A subscriber on another node has a process here that sends it its events: sending waits for a node that reads slowly.
@@ -18,8 +18,13 @@
     | {part, Primary :: node(), [node()]}.
 %% `conflict' is on the node of the loser, `healed' on the two nodes that exchanged.
 
-%% Adds a subscriber, unless it is one.
+%% How many events wait for a connection at most, and the milliseconds until another attempt to send the first of them.
+-define(MOST, 10000).
+-define(PAUSE, 10).
+
+%% Adds a subscriber, unless it is one. A version before had no process for one on another node.
 -spec add(pid(), subscribers()) -> subscribers().
+add(Pid, Subscribers) when node(Pid) =/= node(), is_reference(map_get(Pid, Subscribers)) -> add(Pid, remove(Pid, Subscribers));
 add(Pid, Subscribers) when is_map_key(Pid, Subscribers) -> Subscribers;
 add(Pid, Subscribers) when node(Pid) =:= node() -> Subscribers#{Pid => monitor(process, Pid)};
 add(Pid, Subscribers) -> Subscribers#{Pid => spawn_monitor(?MODULE, relay, [self(), Pid])}.
@@ -28,7 +33,7 @@ add(Pid, Subscribers) -> Subscribers#{Pid => spawn_monitor(?MODULE, relay, [self
 -spec remove(pid(), subscribers()) -> subscribers().
 remove(Pid, Subscribers) ->
     case maps:take(Pid, Subscribers) of
-        {{Relay, Monitor}, Rest} -> demonitor(Monitor, [flush]), Relay ! stop, Rest;
+        {{Relay, Monitor}, Rest} -> demonitor(Monitor, [flush]), exit(Relay, kill), Rest;
         {Monitor, Rest} -> demonitor(Monitor, [flush]), Rest;
         error -> Subscribers
     end.
@@ -38,7 +43,12 @@ remove(Pid, Subscribers) ->
 gone(Monitor, Pid, Subscribers) ->
     maps:filter(fun(_, Known) -> Known =/= Monitor andalso Known =/= {Pid, Monitor} end, Subscribers).
 
-%% @private Sends a subscriber on another node its events, until it or the registry ends.
+%% A node is lost, and with it the subscriptions of its processes.
+-spec lost(node(), subscribers()) -> subscribers().
+lost(Node, Subscribers) ->
+    lists:foldl(fun remove/2, Subscribers, [Pid || Pid <- maps:keys(Subscribers), node(Pid) =:= Node]).
+
+%% @private Sends a subscriber on another node its events, until it or the registry ends, or too many events wait.
 relay(Registry, Pid) ->
     _ = [monitor(process, Of) || Of <- [Registry, Pid]],
     relaying(Pid).
@@ -47,19 +57,41 @@ relay(Registry, Pid) ->
 relaying(Pid) ->
     receive
         {'DOWN', _, process, _, _} -> ok;
-        stop -> ok;
-        Event -> _ = erlang:send(Pid, Event, [noconnect]), relaying(Pid)
+        Event -> sending(Event, Pid)
     after 0 ->
         erlang:hibernate(?MODULE, relaying, [Pid])
     end.
 
-%% Sends the events of these actions, which aren't carried out yet.
--spec report([heal_part:action()], subscribers()) -> ok.
-report(_Actions, Subscribers) when Subscribers =:= #{} ->
+%% @private Sends an event once the connection takes it.
+sending(Event, Pid) ->
+    case erlang:send(Pid, Event, [noconnect, nosuspend]) of
+        nosuspend -> waiting(Event, Pid, process_info(self(), message_queue_len));
+        _ -> relaying(Pid)
+    end.
+
+%% A subscriber that lacks too many events gets none of them: it subscribes again. The process that tells it so runs no code of this module.
+waiting(_Event, Pid, {message_queue_len, Count}) when Count > ?MOST ->
+    _ = spawn(erlang, send, [Pid, {heal_registry, unsubscribed}, [noconnect]]),
     ok;
-report(Actions, Subscribers) ->
-    Events = lists:uniq(lists:append([events(Action) || Action <- Actions])),
-    [Pid ! {heal_registry, Event} || Event <- Events, Pid <- receivers(Subscribers)],
+waiting(Event, Pid, _Few) ->
+    receive
+        {'DOWN', _, process, _, _} -> ok
+    after ?PAUSE ->
+        ?MODULE:sending(Event, Pid)
+    end.
+
+%% Returns the events of an action that isn't carried out yet, if somebody subscribes to them.
+-spec due(heal_part:action(), subscribers()) -> [event()].
+due(_Action, Subscribers) when Subscribers =:= #{} -> [];
+due(Action, _Subscribers) -> events(Action).
+
+%% Sends the subscribers these events.
+-spec send([event()], subscribers()) -> ok.
+send([], _Subscribers) ->
+    ok;
+send(Events, Subscribers) ->
+    Receivers = receivers(Subscribers),
+    [Pid ! {heal_registry, Event} || Event <- Events, Pid <- Receivers],
     ok.
 
 receivers(Subscribers) ->

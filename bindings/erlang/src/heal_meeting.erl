@@ -17,6 +17,8 @@
                     Lacking :: [heal:name()], Withdrawn :: [heal:name()]}.
 
 -define(MAX_PROGRAMS, 256).
+%% The refusal of a program that there is no room for.
+-define(STORE_FULL, 43).
 
 %% ---- Who exchanges ----
 
@@ -355,9 +357,23 @@ finish({List, Withdrawn}, Open = #open{handle = Handle, own = Own, others = Othe
     %% Besides the names that clash, only those of one side alone and those that are withdrawn may change.
     Gone = [Name || Name <- Withdrawn ++ Open#open.withdrawn, is_map_key(Name, Own)],
     case World:finish(List, Gone ++ heal_processes:alone(Others, Own), Handle) of
-        {ok, Judged, Rows, Lacking} when Side =:= a -> lead(Open, {Judged, Rows, Lacking, Withdrawn}, Part);
-        {ok, Judged, Rows, Lacking} -> keep(Open, merge({Judged, Rows, Lacking, Withdrawn}, Open, Part), Part);
+        {ok, Judged, Rows, Lacking} -> decided(Side, {Judged, Rows, Lacking, Withdrawn}, Open, Part);
         {error, Refusal} -> refused(Refusal, Part)
+    end.
+
+decided(Side, Outcome, Open, Part) ->
+    case {has_room(Outcome, Open, Part), Side} of
+        {false, _} -> refused(?STORE_FULL, Part);
+        {true, a} -> lead(Open, Outcome, Part);
+        {true, b} -> keep(Open, merge(Outcome, Open, Part), Part)
+    end.
+
+%% Returns whether there is room for all programs that rows of the merge name. Most often there is room for those of both parts.
+has_room(Outcome, Open = #open{programs = Theirs}, Part) ->
+    #half{programs = Ours} = heal_state:half(Part),
+    map_size(maps:merge(Theirs, Ours)) =< ?MAX_PROGRAMS orelse begin
+        {#half{names = Names}, _, _, _} = merge(Outcome, Open, Part),
+        map_size(named(Names)) =< ?MAX_PROGRAMS
     end.
 
 %% A node that fails after this starts another view.
@@ -371,10 +387,10 @@ lead(#open{node = Node, number = Number, from = From}, Outcome, Part = #part{rep
             refused(Refusal, Part)
     end.
 
-%% The other node keeps the merge until it hears of the leader's view, with what it changes on this node.
+%% The other node keeps the merge until it hears of the leader's view, with what it changes on this node and what is reported of it.
 keep(Open, {Half, Losers, Changes, Facts}, Part) ->
     Plan = heal_home:plan(Losers, Half, Changes, Part),
-    heal_state:add({healed, Facts}, Part#part{heal = extended(Open#open{stage = {done, Half, Plan}}, Part)}).
+    Part#part{heal = extended(Open#open{handle = {healed, Facts}, stage = {done, Half, Plan}}, Part)}.
 
 %% The merge, its losers, how its rows differ, and what is reported of it.
 merge({{Clashes, Losses, Rulings}, Rows, Lacking, Withdrawn}, Open, Part = #part{world = World}) ->
@@ -390,26 +406,37 @@ facts(Clashes, #half{names = Names}, #open{node = Node, number = Number, begun =
 merged(Gained, Lacking, Open, Part) ->
     #open{number = Number, side = Side, own = Own, others = Others, programs = Theirs} = Open,
     #half{names = Names, programs = Ours} = heal_state:half(Part),
-    Programs = case Side of a -> united(Ours, Theirs); b -> united(Theirs, Ours) end,
     Rows = heal_processes:rows(Others, Gained),
     Merge = maps:merge(maps:without(Lacking, Own), maps:from_list(Rows)),
+    Programs = case Side of a -> united(Ours, Theirs, Merge); b -> united(Theirs, Ours, Merge) end,
     Changes = case Names of
         Own -> {Rows, [Name || Name <- Lacking, is_map_key(Name, Own)]};
         _WithClaimed -> unknown
     end,
     {#half{names = Merge, programs = Programs, latest = Number}, Changes}.
 
-%% The programs of the leader, and as many of the other part as there is room for.
-united(OfA, OfB) ->
-    More = lists:sort(maps:to_list(maps:without(maps:keys(OfA), OfB))),
-    maps:merge(OfA, maps:from_list(lists:sublist(More, ?MAX_PROGRAMS - map_size(OfA)))).
+%% The programs of both parts. If there isn't room for all: those that rows name, then the leader's, and then those of the other part.
+united(OfA, OfB, Names) ->
+    All = maps:merge(OfB, OfA),
+    case map_size(All) =< ?MAX_PROGRAMS of
+        true -> All;
+        false ->
+            Named = named(Names),
+            Rank = fun(Id) -> {not is_map_key(Id, Named), not is_map_key(Id, OfA), Id} end,
+            Ranked = lists:sort([{Rank(Id), Id} || Id <- maps:keys(All)]),
+            maps:with([Id || {_, Id} <- lists:sublist(Ranked, ?MAX_PROGRAMS)], All)
+    end.
+
+%% The programs that rows name.
+named(Names) ->
+    maps:from_keys([Id || Row <- maps:values(Names), {program, Id} <- [heal_row:resolver(Row)]], named).
 
 %% The leader starts the view with the merge.
 led(Outcome, Open = #open{node = Node, from = From}, Part = #part{replica = Replica}) ->
     {Half, Losers, Changes, Facts} = merge(Outcome, Open, Part),
     {ok, Led} = heal_replica:change(From, Half, Replica),
-    Healed = heal_state:add({healed, Facts}, succeeded(Node, Part)),
-    heal_view:start(Led, united_members(Node, Open, Part), Node, {Losers, Changes}, Healed).
+    Started = heal_view:start(Led, united_members(Node, Open, Part), Node, {Losers, Changes}, succeeded(Node, Part)),
+    heal_state:add({healed, Facts}, Started).
 
 %% The members of the new view are those of both parts.
 united_members(Node, #open{members = Theirs}, Part = #part{members = Members, peers = Peers, node = Self}) ->
@@ -428,9 +455,14 @@ succeeded(Node, Part = #part{peers = Peers}) ->
         _ -> Part#part{heal = idle}
     end.
 
-%% The leader starts its view with the merge.
-follow(View, #open{node = Node, stage = {done, Half, Plan}}, Part) ->
-    heal_view:follow_merge(View, Half, Plan, Node, succeeded(Node, Part)).
+%% The leader starts its view with the merge. This node doesn't follow if that gives one of its names to another process.
+follow(View, #open{node = Node, handle = Handle, stage = {done, Half, Plan}}, Part) ->
+    Followed = heal_view:follow_merge(View, Half, Plan, Node, succeeded(Node, Part)),
+    case {heal_state:view(Followed), Handle} of
+        {View, {healed, _}} -> heal_state:add(Handle, Followed);
+        %% Or the version before has reported it.
+        _ -> Followed
+    end.
 
 %% Withdraws a name of this node in the open exchange, while its list isn't closed.
 -spec withdraw(heal:name(), #part{}) -> #part{}.

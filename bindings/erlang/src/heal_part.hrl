@@ -57,6 +57,7 @@
     number :: pos_integer(),
     side :: a | b,
     from :: heal_replica:position(),
+    %% The side of libheal, and once it is done what is reported of it.
     handle :: term(),
     %% The rows that this side offered, and those of the other side.
     own = #{} :: #{heal:name() => #row{}},

@@ -231,7 +231,7 @@ info(Name) ->
     names := non_neg_integer(),
     problems := #{heal_problems:problem() => Words :: binary()},
     atom() => term()
-}.
+} | {error, reason()}.
 status() ->
     counted(call(status)).
 

@@ -376,9 +376,11 @@ timed(State = #server{part = Part, heap = Heap}) ->
 code_change(_Version, State, _Extra) ->
     Lacks = record_info(size, server) - tuple_size(State),
     Later = lists:nthtail(8 - Lacks, [none, none, heal_outbox:new(), [], #{}, [], #{}, []]),
-    Server = #server{part = Part} = list_to_tuple(tuple_to_list(State) ++ Later),
+    Server = #server{part = Part, subscribers = Subscribers} = list_to_tuple(tuple_to_list(State) ++ Later),
     Monitors = element(#server.watched, State),
-    {ok, relogged(rewatched(Monitors, element(#server.heap, State), Server#server{part = heal_part:upgrade(Part)}))}.
+    Relayed = lists:foldl(fun heal_events:add/2, Subscribers, maps:keys(Subscribers)),
+    Upgraded = Server#server{part = heal_part:upgrade(Part), subscribers = Relayed},
+    {ok, relogged(rewatched(Monitors, element(#server.heap, State), Upgraded))}.
 
 %% A version before had a monitor for each name, and a map of the owners instead of the heap.
 rewatched(Monitors, Owners, State = #server{part = Part}) when is_map(Owners) ->
@@ -405,14 +407,15 @@ relogged(State) ->
 up(Node, Type, State = #server{reconnect = Reconnect}) ->
     event({up, Node, Type}, watched(Node, State#server{reconnect = heal_reconnect:up(Node, Reconnect)})).
 
-down(Node, State = #server{watches = Watches, reconnect = Reconnect, outbox = Outbox}) ->
+down(Node, State = #server{watches = Watches, reconnect = Reconnect, outbox = Outbox, subscribers = Subscribers}) ->
     case Watches of
         #{Node := Watch} -> unlink(Watch), exit(Watch, kill);
         _ -> ok
     end,
     Lost = heal_reconnect:down(Node, heal_table:kept({met, Node}, false), Reconnect),
     event({down, Node}, empty(Node, State#server{watches = maps:remove(Node, Watches), reconnect = Lost,
-                                                 outbox = heal_outbox:forget(Node, Outbox)})).
+                                                 outbox = heal_outbox:forget(Node, Outbox),
+                                                 subscribers = heal_events:lost(Node, Subscribers)})).
 
 %% The next connection to a node isn't full.
 empty(Node, State = #server{refused = Refused, waiters = Waiters, resting = Resting}) ->
@@ -477,8 +480,7 @@ event(Event, State = #server{part = Part, start = Start}) ->
 
 perform([], State) ->
     State;
-perform(Actions, State = #server{subscribers = Subscribers}) ->
-    ok = heal_events:report(Actions, Subscribers),
+perform(Actions, State) ->
     IsChanging = lists:any(fun changes/1, Actions),
     _ = IsChanging andalso heal_table:changing(State#server.operation),
     timed(continued(Actions, positioned(IsChanging, acts(Actions, none, State)))).
@@ -529,11 +531,17 @@ acts([{send, Node, Body} | Rest], Last, State = #server{outbox = Outbox}) ->
             {Made, Sent} = sent([{Node, Body}], Last, Flushed),
             acts(Rest, Made, Sent)
     end;
-acts([{again, Node, Bodies} | Rest], Last, State) ->
-    {_, Sent} = sent([{Node, Body} || Body <- Bodies], none, State),
+acts([{again, Node, Bodies} | Rest], Last, State = #server{refused = Refused}) ->
+    %% What the connection has refused since goes after them.
+    {Since, Others} = lists:partition(fun({Of, _}) -> Of =:= Node end, Refused),
+    {_, Sent} = sent([{Node, Body} || Body <- Bodies] ++ lists:reverse(Since), none, State#server{refused = Others}),
     acts(Rest, Last, Sent);
-acts([Action | Rest], Last, State) ->
-    acts(Rest, Last, act(Action, State)).
+acts([Action | Rest], Last, State = #server{subscribers = Subscribers}) ->
+    %% Who hears of a change finds it in the table.
+    Events = heal_events:due(Action, Subscribers),
+    Next = act(Action, State),
+    ok = heal_events:send(Events, Subscribers),
+    acts(Rest, Last, Next).
 
 %% Sends what waits.
 drained(State = #server{outbox = Outbox}) ->

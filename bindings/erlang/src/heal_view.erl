@@ -66,7 +66,7 @@ act(Part) ->
 regarded(#part{members = Before}, Part = #part{members = Members}) ->
     case maps:keys(Before) =:= maps:keys(Members) of
         true -> Part;
-        false -> heal_peers:announce(Part)
+        false -> viewed(heal_peers:announce(Part))
     end.
 
 %% Returns the nodes of this node's part, as far as it knows.
@@ -342,10 +342,17 @@ announced(Life = {Node, _}, Peers) ->
 %% isn't in the view. A registry that starts sends one when it hears from this node.
 -spec heard(node(), heal_peers:here(), #part{}) -> #part{}.
 heard(Node, Here, Part = #part{gap = Gap}) ->
-    Heard = prompted(Node, started(Node, Here, heal_peers:here(Node, Here, Part))),
+    Heard = regarded_by(Part, prompted(Node, started(Node, Here, heal_peers:here(Node, Here, Part)))),
     case missed(Heard) of
         View when View =:= none; View =:= Gap; map_get(is_first, Here) -> Heard;
         View -> want(View, Heard#part{gap = View})
+    end.
+
+%% The primary of this node has announced other members.
+regarded_by(Before, Part) ->
+    case heal_state:is_primary(Part) orelse members(Before) =:= members(Part) of
+        true -> Part;
+        false -> viewed(Part)
     end.
 
 %% A registry that starts has ignored the snapshot that was on its way to its node: it gets another one. If the node is a primary it follows

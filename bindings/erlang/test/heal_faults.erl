@@ -9,7 +9,8 @@
 %% `none'; `twice': every message is sent twice; `{hold, Kind}': messages of this kind wait for release/0; `{hold_from, Kind}':
 %% those that follow wait too, as on a slow connection;
 %% `{lose, Kind}'; `{halt, Kind, before | later}': the node ends when it sends this kind; `{replace, Kind, Body}': this body is
-%% sent; `{replace_edit, Edit}': this edit is requested; `{full, Kind}': the connection takes no message of this kind.
+%% sent; `{replace_edit, Edit}': this edit is requested; `{full, Kind}': the connection takes no message of this kind, and with `full'
+%% none at all.
 plan(Plan) ->
     persistent_term:put(?MODULE, Plan).
 
@@ -36,7 +37,9 @@ act(hold_all, _Kind, Node, Message) ->
     persistent_term:put({?MODULE, held}, held() ++ [{Node, Message}]);
 act({lose, Kind}, Kind, _Node, _Message) ->
     lost;
-act({full, Kind}, Kind, _Node, _Message) ->
+act({full, Kind}, Kind, Node, Message) ->
+    act(full, Kind, Node, Message);
+act(full, _Kind, _Node, _Message) ->
     %% A full connection also holds up the message by which the registry learns when there is room. This one lets it through at once.
     timer:sleep(?PAUSE),
     nosuspend;

@@ -47,6 +47,7 @@ hang_test_() ->
         heal_cluster:pair(#{edit_timeout => ?EDIT, exchange_timeout => 1000}, fun other_hangs/2),
         heal_cluster:pair(#{exchange_timeout => 300000}, fun catches_up/2),
         heal_cluster:cluster(4, #{exchange_timeout => 300000}, ["+zdbbl", "1"], fun full_of_snapshots/1),
+        heal_cluster:cluster(2, #{send => fun heal_faults:send/2, exchange_timeout => 300000}, fun keeps_order/1),
         heal_cluster:halves(#{edit_timeout => ?EDIT, exchange_timeout => 20000}, fun not_made/2),
         heal_cluster:halves(#{edit_timeout => ?EDIT, exchange_timeout => 500}, fun silent_leader/2),
         heal_cluster:halves(#{edit_timeout => ?EDIT, exchange_timeout => 500}, fun full_connection/2),
@@ -76,9 +77,11 @@ leader_hangs(A, B) ->
 %% many for a subscriber there.
 other_hangs(A, B) ->
     One = own(A, one),
-    ?assertEqual(ok, heal_cluster:call(A, heal_registry, subscribe, [pid_on(B)])),
+    Subscriber = pid_on(B),
+    ?assertEqual(ok, heal_cluster:call(A, heal_registry, subscribe, [Subscriber])),
     Churn = frozen(B, fun() -> within(40, fun() -> heal_cluster:call(A, ?MODULE, churn_here, [busy, 120000]) end) end),
     ?assertEqual([ok], Churn),
+    heal_cluster:eventually(fun() -> lists:last([none | heal_cluster:mail(B, Subscriber)]) =:= {heal_registry, unsubscribed} end),
     Two = own(A, two),
     ?assertEqual([{one, One}, {two, Two}], heal_cluster:alike(A, B)).
 
@@ -100,6 +103,24 @@ full_of_snapshots(Nodes = [A, B, C, D]) ->
     ?assert(Time < 30_000_000),
     ?assertEqual(3000, length(Table -- [{busy, heal_cluster:call(A, heal_registry, whereis_name, [busy])}])),
     receive {'DOWN', Monitor, process, Pid, Answers} when {Pid, Monitor} =:= Churn -> ?assertEqual([ok], Answers) end.
+
+%% A connection has room for a moment, and what is made next goes after what it has refused before: the other node misses no entry. The
+%% primary announces itself much later.
+keeps_order(Nodes) ->
+    #{primary := First} = heal_cluster:status(hd(Nodes)),
+    {[Primary], [Other]} = lists:partition(fun(It) -> heal_cluster:node_of(It) =:= First end, Nodes),
+    plan(Other, {hold, want}),
+    Pid = pid_on(Primary),
+    [begin
+         plan(Primary, full),
+         ok = heal_cluster:call(Primary, heal_registry, register, [{Round, 0}, Pid, #{}]),
+         Edits = [{register, {Round, N}, Pid} || N <- lists:seq(1, 250)],
+         [ok] = lists:usort(heal_cluster:call(Primary, heal_meets_tests, at_once_here, [Edits])),
+         plan(Primary, none),
+         heal_cluster:eventually(fun() -> heal_cluster:call(Other, heal_registry, whereis_name, [{Round, 250}]) =:= Pid end)
+     end || Round <- lists:seq(1, 10)],
+    ?assertEqual([], heal_cluster:call(Other, heal_faults, held, [])),
+    ?assertEqual(2510, length(heal_cluster:one_part(Nodes))).
 
 churn_here(Name, Count) ->
     Pid = spawn(heal_cluster, serve, [[]]),

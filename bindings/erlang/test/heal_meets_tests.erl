@@ -3,6 +3,8 @@
 
 -include_lib("eunit/include/eunit.hrl").
 
+-export([at_once_here/1, looks_up/2]).
+
 -define(REGISTER, {heal_registry, register}).
 
 own(It, Name) ->
@@ -25,7 +27,9 @@ meets_test_() ->
         {timeout, 120, fun older_version/0},
         {timeout, 120, fun some_nodes/0},
         heal_cluster:cluster(3, #{}, fun any_term/1),
-        heal_cluster:cluster(2, #{}, fun subscribed/1)
+        heal_cluster:cluster(2, #{}, fun subscribed/1),
+        heal_cluster:cluster(2, #{}, fun in_order/1),
+        heal_cluster:cluster(3, #{}, fun members/1)
     ]}.
 
 refused(It, Problem) ->
@@ -163,7 +167,76 @@ subscribed([A, B]) ->
         ClashA -> ?assertEqual([], Conflicts);
         ClashB -> heal_cluster:eventually(fun() -> lists:member({conflict, db, ClashA, ClashB}, Mail()) end)
     end,
+    %% The version before had no process for a subscriber on another node.
+    Monitor = heal_cluster:call(A, erlang, make_ref, []),
+    Relayed = heal_cluster:call(A, heal_events, add, [Remote, #{Remote => Monitor}]),
+    ?assertMatch(#{Remote := {_Relay, _}}, Relayed),
+    ok = call(A, subscribe, [Remote]),
+    OnA2 = own(A, four),
+    heal_cluster:eventually(fun() -> lists:member({heal_registry, {registered, four, OnA2}}, heal_cluster:mail(B, Remote)) end),
     ok = call(A, unsubscribe, [Subscriber]),
     Count = length(Mail()),
     _ = own(A, three),
     ?assertEqual(Count, length(Mail())).
+
+%% Several changes of a name that a node learns of together are an event each, in their order. Who hears of a registration finds it.
+in_order(Nodes) ->
+    #{primary := First} = heal_cluster:status(hd(Nodes)),
+    {[Primary], [Other]} = lists:partition(fun(It) -> heal_cluster:node_of(It) =:= First end, Nodes),
+    [P, Q] = [pid_on(Primary) || _ <- [1, 2]],
+    Subscriber = pid_on(Other),
+    Looker = heal_cluster:call(Other, erlang, spawn, [?MODULE, looks_up, [last, []]]),
+    [ok = call(Other, subscribe, [Pid]) || Pid <- [Subscriber, Looker]],
+    Edits = [{register, first, P}, {register, db, P}, {unregister, db}, {register, db, Q}, {unregister, db}, {register, last, Q}],
+    ?assertEqual([ok, ok, ok, ok, ok, ok], heal_cluster:call(Primary, ?MODULE, at_once_here, [Edits])),
+    Expected = [{registered, first, P}, {registered, db, P}, {unregistered, db, P}, {registered, db, Q}, {unregistered, db, Q},
+                {registered, last, Q}],
+    heal_cluster:eventually(fun() ->
+        case [Event || {heal_registry, Event} <- heal_cluster:mail(Other, Subscriber)] of
+            Expected -> true;
+            Events -> Events
+        end
+    end),
+    heal_cluster:eventually(fun() -> heal_cluster:mail(Other, Looker) =/= [] end),
+    ?assertEqual([Q], heal_cluster:mail(Other, Looker)).
+
+%% Makes these edits while the registry is suspended, so that it carries them out one right after the other.
+at_once_here(Edits) ->
+    ok = sys:suspend(heal_registry),
+    Requests = [gen_server:send_request(heal_registry, {edit, edit(Edit)}) || Edit <- Edits],
+    ok = sys:resume(heal_registry),
+    [case gen_server:wait_response(Request, 10000) of {reply, {ok, _}} -> ok; {reply, Answer} -> Answer end || Request <- Requests].
+
+edit({register, Name, Pid}) -> {adopt, heal_names:name(Name), Name, heal_names:options(#{}), Pid, node(Pid)};
+edit({unregister, Name}) -> {unregister, heal_names:name(Name), any}.
+
+%% Looks the name up at once when it hears that it is registered, and keeps what it finds for heal_cluster:mail/2.
+looks_up(Name, Found) ->
+    receive
+        {heal_registry, {registered, Name, _}} -> looks_up(Name, [heal_registry:whereis_name(Name) | Found]);
+        {heal_registry, _} -> looks_up(Name, Found);
+        {'mail of', From, Reference} -> From ! {Reference, Found}, looks_up(Name, Found)
+    end.
+
+%% Every node learns who is in its part: of a node that joins, and of one that ends.
+members(Nodes = [A, B, C]) ->
+    heal_cluster:split_into([[A, B], [C]]),
+    [heal_cluster:one_part(Side) || Side <- [[A, B], [C]]],
+    Subscribers = [{It, Pid} || It <- [A, B], Pid <- [pid_on(It)]],
+    [ok = call(It, subscribe, [Pid]) || {It, Pid} <- Subscribers],
+    Are = fun(Expected) ->
+        Names = lists:sort([heal_cluster:node_of(It) || It <- Expected]),
+        heal_cluster:eventually(fun() ->
+            case [last_part(It, Pid) || {It, Pid} <- Subscribers] of
+                [Names, Names] -> true;
+                Others -> Others
+            end
+        end)
+    end,
+    heal_cluster:mesh(Nodes),
+    Are(Nodes),
+    heal_cluster:kill_node(C),
+    Are([A, B]).
+
+last_part(It, Pid) ->
+    lists:last([none | [Members || {heal_registry, {part, _, Members}} <- heal_cluster:mail(It, Pid)]]).

@@ -711,3 +711,44 @@ programs_without_room_test() ->
     #{replica := Replica, programs := Kept} = heal_table:restore({b, 1}),
     true = ets:delete(heal_registry),
     ?assertEqual({All, Half}, {Kept, heal_replica:half(Replica)}).
+
+%% What rows name stays, also if that leaves programs of the leader out: a half that lacked one of them could exchange with nobody.
+named_program_stays_test() ->
+    Programs = fun(From, To) -> maps:from_list([{<<N:256>>, <<N>>} || N <- lists:seq(From, To)]) end,
+    Apart = start([{a, #{programs => Programs(1, 256)}}, {b, #{programs => Programs(257, 400)}}]),
+    Healed = connect(a, b, fun none_lost/3, event(b, {call, 1, {register, ?NAME, program_row(?NAME, b, 1, 400)}}, fun none_lost/3, Apart)),
+    [#half{names = Names, programs = Known} | _] = Halves = [heal_state:half(maps:get(Node, Healed)) || Node <- [a, b]],
+    ?assertEqual([hd(Halves)], lists:usort(Halves)),
+    ?assertEqual([?NAME], maps:keys(Names)),
+    ?assertEqual([<<N:256>> || N <- lists:seq(1, 255) ++ [400]], lists:sort(maps:keys(Known))).
+
+%% Rows name more programs than there is room for: the parts stay apart, and show so.
+too_many_named_programs_test() ->
+    Programs = fun(From, To) -> maps:from_list([{<<N:256>>, <<N>>} || N <- lists:seq(From, To)]) end,
+    Apart = start([{a, #{programs => Programs(1, 150), names => 1000}}, {b, #{programs => Programs(151, 300), names => 1000}}]),
+    Name = fun(N) -> <<"n", (integer_to_binary(N))/binary>> end,
+    Register = fun({Node, N}, Parts) ->
+        event(Node, {call, N, {register, Name(N), program_row(Name(N), Node, N, N)}}, fun none_lost/3, Parts)
+    end,
+    Full = lists:foldl(Register, Apart, [{a, N} || N <- lists:seq(1, 150)] ++ [{b, N} || N <- lists:seq(151, 300)]),
+    Met = connect(a, b, fun none_lost/3, Full),
+    ?assertMatch(#part{heal = idle, peers = #{b := #peer{failed = 43}}}, maps:get(a, Met)),
+    ?assertMatch(#part{heal = idle, peers = #{a := #peer{failed = 43}}}, maps:get(b, Met)),
+    ?assertEqual([150, 150], [heal_state:count(maps:get(Node, Met)) || Node <- [a, b]]).
+
+program_row(Name, Node, Serial, Program) ->
+    Registration = #{owner => {erlang:phash2(Node, 1000), Serial}, stamp => 1, weight => 0, extra => <<0:128>>,
+                     resolver => {program, <<Program:256>>}},
+    heal_row:new(Name, Registration, {pid, Node, Serial}, Name, {Node, 1}).
+
+%% A node has healed once it has the merge: not if the leader is gone before.
+unfollowed_merge_test() ->
+    Apart = start([{a, #{}}, {b, #{}}]),
+    NotFinished = fun(_, _, Body) -> tuple_size(Body) =:= 3 andalso element(1, Body) =:= finished end,
+    Met = connect(a, b, NotFinished, Apart),
+    ?assertMatch(#part{heal = #open{stage = {done, _, _}}}, maps:get(b, Met)),
+    Facts = fun(Node) -> [With || {healed, #{with := With}} <- done(Node)] end,
+    ?assertEqual({[b], []}, {Facts(a), Facts(b)}),
+    {finished, Number, View} = hd([Body || {send, b, Body} <- done(a), tuple_size(Body) =:= 3, element(1, Body) =:= finished]),
+    _ = event(b, {message, a, {finished, Number, View}}, fun none_lost/3, Met),
+    ?assertEqual([a], Facts(b)).
