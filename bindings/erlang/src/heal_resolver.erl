@@ -16,7 +16,7 @@
 
 -export([start_link/0, upload/1, register/3, register_name/2, register_name/3, unregister_name/1, whereis_name/1, send/2]).
 -export([resolve/3]).
--export([sender/1, init/1, handle_call/3, handle_cast/2, handle_info/2]).
+-export([sender/1, sending/2, init/1, handle_call/3, handle_cast/2, handle_info/2]).
 -export_type([reason/0]).
 
 -compile({no_auto_import, [register/2]}).
@@ -31,6 +31,9 @@
 -define(NODE_KEPT, 600000).
 %% How many registrations a message has.
 -define(CHUNK, 1000).
+%% How many messages wait for a connection at most, and the milliseconds until another attempt to send the first of them.
+-define(MOST, 10000).
+-define(PAUSE, 10).
 -define(TAKEN, 30).
 -define(NO_PROGRAM, 41).
 
@@ -306,28 +309,51 @@ send_all(Message, State = #state{peers = Peers}) ->
 %% @private A process that hibernates outlives the code that it began with.
 sender(Node) ->
     receive
-        {send, Message} -> send_to(Node, Message), sender(Node);
-        snapshot -> send_snapshot(Node), sender(Node)
+        {send, Message} -> sending(Node, [Message]);
+        snapshot -> sending(Node, snapshot())
     after 0 ->
         erlang:hibernate(?MODULE, sender, [Node])
     end.
 
-send_to(Node, Message) ->
-    erlang:send({?MODULE, Node}, {?MODULE, node(), Message}, [noconnect]).
+%% @private Sends messages once the connection takes them.
+sending(Node, []) ->
+    sender(Node);
+sending(Node, Messages = [Message | Rest]) ->
+    case erlang:send({?MODULE, Node}, {?MODULE, node(), Message}, [noconnect, nosuspend]) of
+        nosuspend -> waiting(Node, Messages, process_info(self(), message_queue_len));
+        _ -> sending(Node, Rest)
+    end.
 
-%% Sends all that this node has. A change that is sent later may be in it already, which does no harm.
-send_snapshot(Node) ->
-    send_to(Node, {snapshot, heal_facts:number(node()), heal_names:uptime(), heal_facts:codes()}),
-    send_rows(Node, heal_facts:rows_of(node())).
+%% If too many messages wait, all that this node has goes in place of them, after those that begin the servers' dialogue.
+waiting(Node, Messages, {message_queue_len, Count}) when Count > ?MOST ->
+    paused(Node, [Message || Message = {hello, _, _} <- Messages] ++ greetings() ++ snapshot());
+waiting(Node, Messages, _Few) ->
+    paused(Node, Messages).
 
-send_rows(_Node, []) ->
-    ok;
-send_rows(Node, Rows) when length(Rows) =< ?CHUNK ->
-    send_to(Node, {add, Rows});
-send_rows(Node, Rows) ->
+paused(Node, Messages) ->
+    receive after ?PAUSE -> ?MODULE:sending(Node, Messages) end.
+
+%% Takes all messages that wait, and returns those.
+greetings() ->
+    receive
+        {send, Message = {hello, _, _}} -> [Message | greetings()];
+        {send, _} -> greetings();
+        snapshot -> greetings()
+    after 0 ->
+        []
+    end.
+
+%% All that this node has. A change that is sent later may be in it already, which does no harm.
+snapshot() ->
+    [{snapshot, heal_facts:number(node()), heal_names:uptime(), heal_facts:codes()} | chunks(heal_facts:rows_of(node()))].
+
+chunks([]) ->
+    [];
+chunks(Rows) when length(Rows) =< ?CHUNK ->
+    [{add, Rows}];
+chunks(Rows) ->
     {Chunk, Rest} = lists:split(?CHUNK, Rows),
-    send_to(Node, {add, Chunk}),
-    send_rows(Node, Rest).
+    [{add, Chunk} | chunks(Rest)].
 
 %% A server sends `hello' when it starts and when nodes connect. It receives a snapshot, and `hello' if its own may have come
 %% before the other server started.

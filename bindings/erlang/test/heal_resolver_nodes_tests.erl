@@ -3,7 +3,7 @@
 
 -include_lib("eunit/include/eunit.hrl").
 
--export([hold_global/0, resolve_each/1, halt_when_notified/0, keep_log/0, logged/1]).
+-export([hold_global/0, resolve_each/1, halt_when_notified/0, keep_log/0, logged/1, sender_here/1, flood_here/2]).
 
 %% Both versions of the interface have it.
 -define(REGISTER, {heal_resolver, register_name}).
@@ -14,7 +14,7 @@
 nodes_test_() ->
     Silent = [fun frozen/1, fun frozen_before_it_sent/1, fun killed/1],
     Two = [fun program_of_a_dead_node/1, fun started_late/1, fun meet_again/1, fun process_of_another_node/1, fun server_crash/1,
-           fun unknown_message/1],
+           fun unknown_message/1, fun full_connection/1],
     Three = [fun killed_while_global_resolves/1, fun third_node_knows/1],
     {inparallel, 4, [test([7, 7], fun one_number/1) | [test([2, 1], It) || It <- Silent]] ++
                     [test([1, 2], It) || It <- Two] ++ [test([3, 2, 1], It) || It <- Three]}.
@@ -100,6 +100,30 @@ notified(It, Pids) ->
     heal_cluster:eventually(fun() -> mails(It, Pids) =:= Expected end).
 
 %% ---- Nodes that hang ----
+
+%% A node that hangs takes no memory of the other one, which sends it all that it has once it goes on.
+full_connection([A, B]) ->
+    heal_cluster:connect(A, B),
+    Pid = own(A, one, #{}),
+    knows(B, one, Pid),
+    Sender = heal_cluster:call(A, ?MODULE, sender_here, [heal_cluster:node_of(B)]),
+    Waits = fun() -> element(2, heal_cluster:call(A, erlang, process_info, [Sender, message_queue_len])) end,
+    heal_cluster:call(B, heal_facts, drop_node, [heal_cluster:node_of(A)]),
+    ?assertNot(known(B, one, Pid)),
+    Frozen = heal_cluster:freeze(B),
+    heal_cluster:call(A, ?MODULE, flood_here, [Sender, 40000]),
+    heal_cluster:eventually(fun() -> Waits() =< 10000 end),
+    heal_cluster:thaw(Frozen),
+    knows(B, one, Pid).
+
+sender_here(Node) ->
+    #{Node := {Sender, _}} = element(3, sys:get_state(heal_resolver)),
+    Sender.
+
+%% Messages that a server of this version ignores, 4 KB each.
+flood_here(Sender, Count) ->
+    [Sender ! {send, {of_a_later_version, N, <<0:32768>>}} || N <- lists:seq(1, Count)],
+    ok.
 
 %% A node hangs after it sent its registrations: the other one decides without it.
 frozen([A, B]) ->
