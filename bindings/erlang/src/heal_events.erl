@@ -15,8 +15,10 @@
     | {conflict, Name :: term(), Loser :: pid(), Rival :: pid()}
     | {healed, #{with := node(), number := pos_integer(), names := non_neg_integer(), clashes := non_neg_integer(),
                  milliseconds := non_neg_integer()}}
-    | {part, Primary :: node(), [node()]}.
-%% `conflict' is on the node of the loser, `healed' on the two nodes that exchanged.
+    | {part, Primary :: node(), [node()]}
+    | unsubscribed.
+%% `conflict' is on the node of the loser, `healed' on the two nodes that exchanged. `unsubscribed' is the last one of a process on another
+%% node for which too many events wait.
 
 %% How many events wait for a connection at most, and the milliseconds until another attempt to send the first of them.
 -define(MOST, 10000).

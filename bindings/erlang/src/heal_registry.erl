@@ -251,7 +251,8 @@ subscribe() ->
     subscribe(self()).
 
 %% @doc Sends a process the message `{heal_registry, Event}' for each event of this node from now on, until it ends: see
-%% {@link heal_events:event()}. A registry that is restarted has no subscribers.
+%% {@link heal_events:event()}. A registry that is restarted has no subscribers. A process on another node is none any more once more than
+%% 10,000 events wait for it, and then receives `{heal_registry, unsubscribed}'.
 -spec subscribe(pid()) -> ok | {error, reason()}.
 subscribe(Pid) when is_pid(Pid) ->
     call({subscribe, Pid});
