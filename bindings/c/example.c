@@ -37,7 +37,7 @@ static void must(const char *call, uint32_t refusal)
     if (refusal == 0)
         return;
     len = heal_refusal_words(refusal, words, sizeof words);
-    fprintf(stderr, "%s: refused %u: %.*s\n", call, refusal, (int)len, (const char *)words);
+    fprintf(stderr, "%s: refused %u: %.*s\n", call, refusal, len > sizeof words ? 0 : (int)len, (const char *)words);
     exit(1);
 }
 
@@ -101,6 +101,16 @@ static uint8_t *receive(int from, size_t *len)
     return message;
 }
 
+/* Sends a message and receives one, which the caller frees. B receives first: if both wrote first, two messages that don't fit into the
+   pipes would wait for each other. */
+static uint8_t *swap(uint32_t half, struct link link, heal_bytes *message, size_t *len)
+{
+    uint8_t *theirs = half == HEAL_B ? receive(link.from, len) : NULL;
+
+    send_message(link.to, message);
+    return half == HEAL_B ? theirs : receive(link.from, len);
+}
+
 static void add_name(heal_side *side, const char *name, heal_owner owner, uint64_t stamp, const uint8_t *program)
 {
     heal_registration registration = {.owner = owner, .stamp = stamp, .resolver = HEAL_EXIT};
@@ -135,8 +145,7 @@ static void heal(heal_side *side, uint32_t half, struct link link, heal_outcome 
     size_t len = 0;
 
     must("heal_side_begin", heal_side_begin(side, 1, 7, half == HEAL_B ? 60 : 3600, &message));
-    send_message(link.to, &message);
-    theirs = receive(link.from, &len);
+    theirs = swap(half, link, &message, &len);
     must("heal_side_hear", heal_side_hear(side, theirs, len));
     free(theirs);
     must("heal_side_settle", heal_side_settle(side));
@@ -144,8 +153,7 @@ static void heal(heal_side *side, uint32_t half, struct link link, heal_outcome 
         must("heal_side_withdraw", heal_side_withdraw(side, (const uint8_t *)"mail", 4));
     must("heal_side_withdraw", heal_side_withdraw(side, (const uint8_t *)"news", 4));
     must("heal_side_close_list", heal_side_close_list(side, &message));
-    send_message(link.to, &message);
-    theirs = receive(link.from, &len);
+    theirs = swap(half, link, &message, &len);
     must("heal_side_hear_list", heal_side_hear_list(side, theirs, len));
     free(theirs);
     must("heal_side_finish", heal_side_finish(side, outcome));

@@ -8,10 +8,12 @@
 static void must(uint32_t refusal)
 {
     uint8_t words[128];
+    size_t len;
 
     if (refusal == 0)
         return;
-    fprintf(stderr, "refused %u: %.*s\n", refusal, (int)heal_refusal_words(refusal, words, sizeof words), (char *)words);
+    len = heal_refusal_words(refusal, words, sizeof words);
+    fprintf(stderr, "refused %u: %.*s\n", refusal, len > sizeof words ? 0 : (int)len, (char *)words);
     exit(1);
 }
 

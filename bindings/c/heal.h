@@ -18,14 +18,17 @@
  *           is open: call it before each heal_side_begin, and an exchange has room for 53,000 repeated messages. If the count is
  *           full while an exchange is open, heal_side_give_up closes the exchange and starts a fresh count. An event holds no
  *           memory.
- * THREADS   Calls that take a handle as `const` only read it: any number of them may run on one handle at the same time. A call
+ * THREADS   Calls that take a handle as `const` only read it, or count owners atomically (heal_replica_snapshot, _side and the like):
+ *           any number of them may run on one handle at the same time. A call
  *           that takes it without `const` must be the only one that runs on it. Calls on different handles may run in parallel.
  *           No call starts a thread, waits, or does input or output.
  * COST      With n names in the table: register, unregister, whereis, withdraw, row_after and live_after take O(log n) time;
  *           begin, finish, forget and code O(n), and also close_list in the withdrawn names; hear O(n) and the names of the
  *           offer, and the time to verify its programs; hear_list O(log n) for each name of the list; settle runs the
  *           resolver of each clash once; row, live, program and withdrawn count to their index; heal_program_load and upload
- *           take at most quadratic time in the slots of the code, and judge one step for each instruction. A message that is
+ *           take at most quadratic time in the slots of the code, and judge one step for each instruction. live_after also passes
+ *           the withdrawn names in between, and the first edit of a replica after heal_replica_change copies the table while the
+ *           side isn't freed. A message that is
  *           refused by its head (heal_side_hear) takes constant time, and so do the other calls. begin and finish copy no
  *           table; a side holds about 250 bytes for each name, and 360 to 640 while an exchange is open: the more, the more clash.
  * CALLER    Passes valid pointers: each argument points to as many readable bytes (results: writable) as its comment states, and
@@ -507,7 +510,9 @@ void heal_outcome_free(heal_outcome *outcome);
  *     snapshot and apply the entries. A log that ends within an entry (HEAL_LOG_CUT) ends with the entry before: the last edit
  *     wasn't acknowledged. Then lead, or follow another node.
  *   - For an exchange call heal_replica_side, then heal_replica_begin with its number, so that it is never used again, and only then
- *     heal_side_begin: a side that was made after the edit returns 35 for the number. */
+ *     heal_side_begin: a side that was made after the edit returns 35 for the number. Carry out no other edit from heal_replica_side
+ *     until heal_replica_change returns, nor on the half that follows until it has followed: an edit that the side doesn't have, and
+ *     that was made before `from` or by the half that follows, would be lost without a refusal. */
 
 /* Starts a replica with an empty half, as the primary of its first view. No two lives of a node may share an incarnation. */
 uint32_t heal_replica_start(const heal_life *life, heal_replica *replica);
@@ -563,9 +568,11 @@ uint32_t heal_replica_row_after(const heal_replica *replica, const uint8_t *name
    primary. Returns 74 for another `id`, 32 if the table has more names than the limit. */
 uint32_t heal_replica_side(const heal_replica *replica, uint32_t id, heal_side *side);
 
-/* Starts a view with what the exchange left in the side: its table and its greatest number, also of one that was abandoned. `from` is
-   the position after heal_replica_begin. Returns 33 if the side's exchange is open, 49 if the replica isn't at `from` any more,
-   so that no edit is lost: exchange again. Returns 99 if no view number is left. */
+/* Starts a view with what the exchange left in the side: its table and its greatest number, also of one that was abandoned. A side that
+   hasn't begun the number of heal_replica_begin has an earlier one, and the replica then too. The view has the programs and the limit of
+   this half: upload those of the other half again for registrations with them. `from` is the position right after heal_replica_begin.
+   Returns 33 if the side's exchange is open, 49 if the replica isn't at `from` any more, so that no edit after it is lost: exchange again.
+   Returns 99 if no view number is left. */
 uint32_t heal_replica_change(heal_replica *replica, const heal_position *from, const heal_side *side);
 
 /* Reads what a log begins with, and nothing behind it. Returns 71 for bytes that begin with neither an entry nor a snapshot, 82 for

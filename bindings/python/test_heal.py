@@ -455,9 +455,17 @@ class Sides(unittest.TestCase):
             self.refused(35, side.begin, 5, 0, 0)
 
     def test_freed_with_the_object(self):
+        closed = []
+
+        class Watched(Side):
+            def close(self):
+                super().close()
+                closed.append(self._handle.at)
+
         for _ in range(1000):
-            Side("a").register("db", Registration(Owner(1, 1)))
+            Watched("a").register("db", Registration(Owner(1, 1)))
         gc.collect()
+        self.assertEqual(closed, [None] * 1000)
 
     def test_closed(self):
         side = Side("b")

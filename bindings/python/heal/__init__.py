@@ -4,13 +4,18 @@
         side.register("db", Registration(Owner(1, 10), stamp=5))
         offer = side.begin(number=1, seed=7, uptime=3600)
 
-`bindings/c/heal.h` describes each call. Each raises `Refused`, with the number and words of the refusal, and changes nothing then.
+`bindings/c/heal.h` describes each call. Each raises `Refused`, with the number and words of the refusal, and changes nothing then. After any
+other exception, as that of a signal handler, the call may have been made and its outcome or entry be lost: let no handler raise during `finish`,
+and let a replica `lead` and start a new log then.
 The library is the file that the environment variable HEAL_LIBRARY names, else `libheal.so` beside this file, where a wheel has
 it, else `bindings/c/out/libheal.so`.
 
 Threads may share a `Side` or a `Program`. Each has a lock, so calls on one object take turns, and `close` waits for the call
 that runs. `rows` holds the lock for the whole list. Calls release the interpreter lock (GIL), so other threads run while a side
 hears a large offer, and calls on different objects run in parallel.
+
+After `os.fork` in a program with threads the child must not use or close objects that exist, since a call of another thread may hold the lock
+for ever: end it by `os._exit`, or start processes by "spawn".
 """
 
 from __future__ import annotations

@@ -72,7 +72,8 @@ impl Node {
     }
 
     fn start_log(&mut self) -> Result<Vec<u8>, Box<dyn Error>> {
-        let snapshot = self.replica.snapshot()?;
+        // Without its snapshot the new view has no log, so a refusal ends the node.
+        let snapshot = self.replica.snapshot().map_err(|refused| refused.to_string())?;
         self.log = replace("log", &snapshot)?;
         Ok(snapshot)
     }
