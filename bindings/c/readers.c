@@ -1,7 +1,7 @@
 /*
- * Checks that the calls that take a handle as `const` write nothing, so that any number of them may run at the same time. Makes
- * each of them while all memory of the library is write-protected, and then all of them in eight threads at once, for as many
- * seconds as the argument states.
+ * Checks that the calls that take a side, an outcome, a message or a program as `const`, and return no other handle, write nothing, so
+ * that any number of them may run at the same time. Makes each of them while all memory of the library is write-protected, and then all
+ * of them in eight threads at once, for as many seconds as the argument states.
  *
  * Link it with -Wl,--wrap=malloc,--wrap=realloc,--wrap=free: the library then allocates from one mapping.
  */
