@@ -8,10 +8,12 @@
 %% The node of a process registers it. If that node runs no registry, or isn't one of the setting, the caller's node does.
 -spec place(node(), #part{}) -> here | {at, node()} | unknown | none.
 place(On, #part{node = On}) -> here;
-place(On, #part{nodes = Nodes, links = Links}) ->
+place(On, #part{nodes = Nodes, links = Links, awaited = Awaited}) ->
     case {Links, is_list(Nodes) andalso not lists:member(On, Nodes)} of
         {_, true} -> here;
         {#{On := #link{state = peer}}, _} -> {at, On};
+        %% It has had time to announce itself: it may be a node of another kind, of which nobody learns that it runs no registry.
+        {#{On := #link{state = unknown}}, _} when not is_map_key(On, Awaited) -> here;
         {#{On := #link{state = State}}, _} when State =:= unknown; State =:= deaf -> unknown;
         {#{On := _}, _} -> here;
         _ -> none

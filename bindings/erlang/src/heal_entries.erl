@@ -137,8 +137,9 @@ skipped(Part = #part{requested = Requested}) ->
     end,
     heal_arrivals:all_arrived(maps:fold(Skip, Part#part{gap = none}, Requested)).
 
-restart(Call = #call{edit = {change, _, _, _}, released = Owner}, Part) when Owner =/= none ->
-    heal_edits:answer(Call, {ok, Owner}, Part);
+restart(Call = #call{released = Owner}, Part) when Owner =/= none ->
+    %% The home has made the edit. Made again, it could be of a later registration.
+    heal_arrivals:leave(Call, Owner, Part);
 restart(Call = #call{from = From, edit = Edit}, Part = #part{waiting = Waiting}) ->
     case {is_made(Edit, Part), From} of
         {{true, Name, Row}, _} -> claim(Call, Name, Row, Part);

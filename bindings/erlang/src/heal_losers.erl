@@ -37,7 +37,9 @@ lost(Judged = #judged{losses = Losses, others = Others}, Own) ->
     Pids = case lists:keymember(none, 6, Losses) of true -> heal_processes:pids(Others); false -> #{} end,
     maps:from_list([{Name, Lost} || Loss = {Name, _, _, _, _, _} <- Losses, Lost <- loss(Loss, Judged, Pids, Own)]);
 lost(Losers, Own) ->
-    maps:from_list([{Name, Loss} || {Name, Owner, Loss} <- Losers, #{Name := Row} <- [Own], heal_row:is_of(Owner, Row)]).
+    %% A registration of an earlier life of this node may have had the owner: that one has lost against the process of this one.
+    maps:from_list([{Name, Loss} || {Name, Owner, Loss = {_, Rival}} <- Losers, #{Name := Row = #row{pid = Pid}} <- [Own], Pid =/= Rival,
+                                    heal_row:is_of(Owner, Row)]).
 
 loss({Name, Owner, Position, Verdict, Resolver, Winner}, #judged{withdrawn = Gone, merged = Merged}, Pids, Own) ->
     case {heal_names:notice(Position, Verdict, Resolver), Own} of

@@ -299,7 +299,8 @@ touched(Edit, Part = #part{prepared = Prepared = #prepared{touched = Touched}}) 
 prepare(Side, Members, Part = #part{world = World, replica = Replica}) ->
     #half{names = All, programs = Programs} = heal_state:half(Part),
     Names = offered(Side, Members, All),
-    case World:prepare(Side, Names, Programs, heal_replica:limit(Replica)) of
+    %% A backup has what its primary made, also beyond its own limit.
+    case World:prepare(Side, Names, Programs, max(map_size(Names), heal_replica:limit(Replica))) of
         {ok, Handle} -> {ok, prepared(Side, Members, Names, Handle, Part)};
         Refused -> Refused
     end.

@@ -39,8 +39,10 @@
 link({up, Node, _Type}, Part = #part{links = Links}) when is_map_key(Node, Links) ->
     %% A registry that starts learns of a node twice.
     Part;
-link({up, Node, Type}, Part = #part{links = Links}) ->
-    announce_to(Node, true, await(Node, Part#part{links = Links#{Node => #link{type = Type}}}));
+link({up, Node, Type}, Part = #part{links = Links, nodes = Nodes}) ->
+    Linked = Part#part{links = Links#{Node => #link{type = Type}}},
+    %% A hidden node is in no part unless the setting names it, and one of another kind may never answer.
+    announce_to(Node, true, if Type =:= hidden, Nodes =:= any -> Linked; true -> await(Node, Linked) end);
 link({down, Node}, Part = #part{links = Links, awaited = Awaited}) ->
     forget(Node, heal_congestion:forget(Node, Part#part{links = maps:remove(Node, Links), awaited = maps:remove(Node, Awaited)}));
 link({version, Node, Version}, Part = #part{peers = Peers}) ->
@@ -322,7 +324,7 @@ sync(Part = #part{syncing = Syncing, links = Links, peers = Peers}) ->
     Refused = [refused || #link{state = {refused, _, _}} <- maps:values(Links)],
     Answer = case {heal_meeting:is_idle(Part), [open || #peer{failed = none} <- Apart]} of
         {false, _} -> later;
-        {true, [_ | _]} -> case lists:any(fun(Peer) -> is_coming(Peer, Part) end, Apart) of true -> later; false -> {error, apart} end;
+        {true, [_ | _]} -> case [coming || Peer <- Apart, is_coming(Peer, Part), not is_late(Peer, Part)] of [] -> {error, apart}; _ -> later end;
         {true, []} when Apart =/= []; Refused =/= [] -> {error, apart};
         {true, []} -> ok
     end,
@@ -334,6 +336,10 @@ sync(Part = #part{syncing = Syncing, links = Links, peers = Peers}) ->
 %% Returns whether a node is a primary, or its primary is connected: then it follows, or heals with, another view soon.
 is_coming(#peer{at = {{Primary, _}, _}}, Part = #part{peers = Peers}) ->
     lists:member(Primary, [heal_state:life(Part) | [Of || #peer{life = Of} <- maps:values(Peers)]]).
+
+%% Returns whether a node has been there for long while this one follows a primary, which isn't connected with it then.
+is_late(#peer{met = Met}, Part = #part{now = Now}) ->
+    not heal_state:is_primary(Part) andalso Now - Met > silence(Part).
 
 %% Reports what keeps this node apart from others, if that has changed.
 -spec report(#part{}) -> #part{}.

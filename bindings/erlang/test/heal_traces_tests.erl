@@ -752,3 +752,34 @@ unfollowed_merge_test() ->
     {finished, Number, View} = hd([Body || {send, b, Body} <- done(a), tuple_size(Body) =:= 3, element(1, Body) =:= finished]),
     _ = event(b, {message, a, {finished, Number, View}}, fun none_lost/3, Met),
     ?assertEqual([a], Facts(b)).
+
+%% An unregistration that the home has confirmed isn't made again in a later view, where the name may have another process.
+confirmed_unregistration_test() ->
+    Joined = lists:foldl(fun({One, Other}, Sum) -> connect(One, Other, fun none_lost/3, Sum) end, start([{a, #{}}, {b, #{}}, {c, #{}}]),
+                         [{a, b}, {a, c}, {b, c}]),
+    [First, Second] = [row(b, Serial, b, 0) || Serial <- [1, 2]],
+    Registered = event(b, {call, 1, {register, ?NAME, First}}, fun none_lost/3, Joined),
+    Late = fun(From, To, _) -> {From, To} =:= {a, c} end,
+    Unregistered = event(c, {call, 2, {unregister, ?NAME, any}}, Late, Registered),
+    Again = event(b, {call, 3, {register, ?NAME, Second}}, Late, Unregistered),
+    ?assertEqual([{reply, 1, ok}, {reply, 3, ok}], [Reply || Reply = {reply, _, _} <- lists:reverse(done(b))]),
+    Left = lists:foldl(fun(Node, Sum) -> event(Node, {down, a}, fun none_lost/3, Sum) end, maps:remove(a, Again), [b, c]),
+    ?assertEqual([heal_row:owner(Second)], lists:usort([heal_state:owner(?NAME, maps:get(Node, Left)) || Node <- [b, c]])),
+    ?assertEqual([{reply, 2, {ok, heal_row:owner(First)}}], [Reply || Reply = {reply, _, _} <- done(c)]).
+
+%% A registration of an earlier life of a node, of the same owner, has lost against that of the node's process.
+earlier_life_test() ->
+    Row = #row{pid = Pid} = row(a, 1, a, 0),
+    Lost = fun(Rival) -> heal_losers:lost([{?NAME, heal_row:owner(Row), {{conflict, first}, Rival}}], #{?NAME => Row}) end,
+    ?assertEqual({#{}, [?NAME]}, {Lost(Pid), maps:keys(Lost({pid, b, 1}))}).
+
+%% A node in the middle of two that aren't connected learns that they don't heal.
+sync_in_the_middle_test() ->
+    Middle = connect(b, c, fun none_lost/3, connect(a, b, fun none_lost/3, start([{a, #{}}, {b, #{}}, {c, #{}}]))),
+    [{Apart, _}] = [{Node, At} || Node <- [a, c], At <- [position(Node, Middle)], At =/= position(b, Middle)],
+    ?assert(lists:member(Apart, [a, c])),
+    put(done, []),
+    Soon = event_at(3, b, {sync, 1}, Middle),
+    ?assertEqual([], [Reply || Reply = {reply, _, _} <- done(b)]),
+    _ = event_at(10000, b, {sync, 2}, Soon),
+    ?assertEqual([{reply, 1, {error, apart}}, {reply, 2, {error, apart}}], lists:sort([Reply || Reply = {reply, _, _} <- done(b)])).
