@@ -84,9 +84,12 @@ overdue(Part = #part{node = Self, now = Now, exchange_timeout = Timeout}) ->
 
 ask(Node, Part = #part{now = Now, exchange_timeout = Timeout, requests = Last}) ->
     Reference = {heal_state:life(Part), Last + 1},
-    Asking = #asking{node = Node, reference = Reference, deadline = Now + Timeout div 2 + 1},
+    Asking = #asking{node = Node, reference = Reference, deadline = Now + Timeout div 2 + 1 + most(Part)},
     Asked = Part#part{requests = Last + 1, heal = {asking, Asking}},
     heal_state:send(Node, {ask, Reference, members(Part)}, Asked).
+
+%% Making an offer takes longer the more names there are, and the other node may have as many as this one's limit.
+most(#part{replica = Replica}) -> heal_state:longer(heal_replica:limit(Replica)).
 
 %% This part's nodes and their numbers.
 members(Part = #part{number = Number, members = Members, peers = Peers}) ->
@@ -196,7 +199,7 @@ cancel(Part) ->
 answer(Node, Reference, Members, Part = #part{now = Now, exchange_timeout = Timeout, declined = Declined}) ->
     case length(members(Part)) > length(Members) andalso heal_peers:takes_differences(Node, Part) of
         true ->
-            Asking = #asking{node = Node, reference = Reference, deadline = Now + Timeout div 2 + 1},
+            Asking = #asking{node = Node, reference = Reference, deadline = Now + Timeout div 2 + 1 + most(Part)},
             turn(Node, Reference, Part#part{heal = {asking, Asking}, declined = maps:remove(Node, Declined)});
         false ->
             engage(Node, Reference, Members, Part)
@@ -207,7 +210,7 @@ turn(Node, Reference, Part) ->
 
 %% It makes its offer ready meanwhile.
 engage(Node, Reference, Members, Part = #part{now = Now, exchange_timeout = Timeout, greatest = Greatest, declined = Declined}) ->
-    Engaged = #asking{node = Node, reference = Reference, deadline = Now + Timeout div 2 + 1},
+    Engaged = #asking{node = Node, reference = Reference, deadline = Now + Timeout div 2 + 1 + most(Part)},
     Next = Part#part{heal = {engaged, Engaged}, declined = maps:remove(Node, Declined)},
     Answered = heal_state:send(Node, {hello, Reference, Greatest, members(Part)}, Next),
     heal_state:continue({prepare, Reference, Members}, Answered).

@@ -563,7 +563,11 @@ many_names_test() ->
     ?assertEqual([{a, 2 + 2000 + 100}, {b, 2 + 2000 + 100}], Deadlines(list)),
     %% Before b has heard the offer it doesn't know of the names, and in the end it has the merge.
     ?assertMatch([{b, 2 + 2000}], [Of || Of = {b, _} <- Deadlines(offer)]),
-    ?assertEqual([{b, 2 + 2000 + 100}], Deadlines(finished)).
+    ?assertEqual([{b, 2 + 2000 + 100}], Deadlines(finished)),
+    %% Making an offer takes longer too, and the other node may have as many names as this one may have.
+    Waiting = connect(a, b, fun(_, _, Body) -> element(1, Body) =:= hello end, Begun),
+    ?assertEqual([{a, 2 + 1001 + 100}, {b, 2 + 1001 + 100}],
+                 [{Node, Deadline} || {Node, #part{heal = {_, #asking{deadline = Deadline}}}} <- lists:sort(maps:to_list(Waiting))]).
 
 %% The more names a part has, the longer a registry that has failed may take to start again.
 failed_registry_test() ->
