@@ -31,7 +31,7 @@ use Rattle.exchange_core.specs.Shown.{shown, IsDone, IsUntouched}
 use Rattle.exchange_law.specs.laws.Carried.{when, when_some, goes}
 use Rattle.exchange_core.specs.Refusals as due
 use Rattle.cluster.specs.Clusters.{Cluster, at}
-use Rattle.cluster.specs.Healing.{Plan, IsNew, FitsIn, gone_of_side, other}
+use Rattle.cluster.specs.Healing.{Plan, IsNew, FitsIn, gone_of_side, other_half}
 use Rattle.cluster.specs.declared.fault.HealFault.{HealFault}
 use Rattle.cluster.specs.Causes.{BothNew, HasNames, BothHave, are_new_after, NamesOnce, BothOnce, BothHaveRoom, Agree, IsSideCause, IsCause}
 use Rattle.cluster.specs.model.Stages.{IsRested, offer_in, no_ruling, IsTrying, IsUnlisted, IsUnheard, IsRefusalOf}
@@ -194,12 +194,12 @@ module _ (plan : Plan) (was : Cluster) where
   table_b = shown_table was.b.side
 
   union_of : (id : SideId) →
-      due.union_for id (shown_table (at was id).side) (shown_table (at was (other id)).side) ≡ union_len table_a table_b
+      due.union_for id (shown_table (at was id).side) (shown_table (at was (other_half id)).side) ≡ union_len table_a table_b
   union_of A = refl
   union_of B = refl
 
   agree_of : (id : SideId) →
-      due.agree_for id (shown_table (at was id).side) (shown_table (at was (other id)).side) ≡ tables_agree table_a table_b
+      due.agree_for id (shown_table (at was id).side) (shown_table (at was (other_half id)).side) ≡ tables_agree table_a table_b
   agree_of A = refl
   agree_of B = refl
 
@@ -210,13 +210,13 @@ module _ (plan : Plan) (was : Cluster) where
   no_code : tables_agree table_a table_b ≡ false → ¬ Agree was
   no_code e agree = true≢false (sym agree ∙ e)
 
-  not_own : (id : SideId) → is_side id (other id) ≡ false
+  not_own : (id : SideId) → is_side id (other_half id) ≡ false
   not_own A = refl
   not_own B = refl
 
   module _ (holds : ℕ → Judged → Type 0) (id : SideId) (names : List Name) (full : Bool) (side : Side)
       (t : IsTrying plan was holds id names side) where
-    first_cause : (offer : Offer) → offer ≡ offer_in plan was (other id) → (fault : SideFault) →
+    first_cause : (offer : Offer) → offer ≡ offer_in plan was (other_half id) → (fault : SideFault) →
         due.first_offer_fault (at was id).limit full side t.exchange offer ≡ Some fault → IsSideCause plan was fault
     first_cause offer same fault e =
         let seeds = ap (λ (o : Offer). o.seed) same in
@@ -241,14 +241,14 @@ module _ (plan : Plan) (was : Cluster) where
         by true true false false s f c e = subst (IsSideCause plan was) (some_is e) (no_code c)
         by true true false true s f c e = absurd (cc)
 
-    from_other : (sender : SideId) (number : ℕ) → sender ≡ other id → number ≡ plan.number → (fault : SideFault) →
+    from_other : (sender : SideId) (number : ℕ) → sender ≡ other_half id → number ≡ plan.number → (fault : SideFault) →
         due.sent_fault full side.id t.exchange sender number ≡ Some fault → IsSideCause plan was fault
     from_other sender number theirs same fault e =
         sent_cause full side.id t.exchange sender number
         ((λ i. t.under_way.number i == same i) ∙ eq_self plan.number)
         ((λ i. is_side (t.same_id i) (theirs i)) ∙ not_own id) fault e
 
-    pub hear_cause : (limit : ℕ) → limit ≡ (at was id).limit → (offer : Offer) → offer ≡ offer_in plan was (other id) →
+    pub hear_cause : (limit : ℕ) → limit ≡ (at was id).limit → (offer : Offer) → offer ≡ offer_in plan was (other_half id) →
         (fault : SideFault) → due.hear_fault limit full side offer ≡ Some fault → IsSideCause plan was fault
     hear_cause limit is offer same fault e =
         by (due.is_first_offer side.id t.exchange offer)
@@ -266,7 +266,7 @@ module _ (plan : Plan) (was : Cluster) where
 
     -- an offer that is taken fits
 
-    first_fits : (offer : Offer) → offer ≡ offer_in plan was (other id) →
+    first_fits : (offer : Offer) → offer ≡ offer_in plan was (other_half id) →
         due.first_offer_fault (at was id).limit full side t.exchange offer ≡ None → FitsIn was id
     first_fits offer same e =
         let theirs = sym (ap (λ (o : Offer). o.table) same) in
@@ -290,7 +290,7 @@ module _ (plan : Plan) (was : Cluster) where
         by true true false false f c e = absurd (cc)
 
     pub hear_fits : (limit : ℕ) → limit ≡ (at was id).limit → t.exchange.heard ≡ None → (offer : Offer) →
-        offer ≡ offer_in plan was (other id) → due.hear_fault limit full side offer ≡ None → FitsIn was id
+        offer ≡ offer_in plan was (other_half id) → due.hear_fault limit full side offer ≡ None → FitsIn was id
     hear_fits limit is unheard offer same e =
         by (due.is_first_offer side.id t.exchange offer) first
         (sym (ap (λ (o : Option Exchange). option_map_or (due.hear_fault_in (at was id).limit full side offer) o (Some of.NotHealing))
@@ -299,7 +299,7 @@ module _ (plan : Plan) (was : Cluster) where
         numbers : offer.number ≡ plan.number
         numbers = ap (λ (o : Offer). o.number) same
 
-        senders : offer.side ≡ other id
+        senders : offer.side ≡ other_half id
         senders = ap (λ (o : Offer). o.side) same
 
         first : due.is_first_offer side.id t.exchange offer ≡ true
@@ -314,7 +314,7 @@ module _ (plan : Plan) (was : Cluster) where
         by true f e = first_fits offer same e
         by false f e = absurd (true≢false (sym f))
 
-    pub hear_list_cause : (sent : Withdrawals) → sent.side ≡ other id → sent.number ≡ plan.number →
+    pub hear_list_cause : (sent : Withdrawals) → sent.side ≡ other_half id → sent.number ≡ plan.number →
         (fault : SideFault) → due.hear_list_fault full side sent ≡ Some fault → IsSideCause plan was fault
     hear_list_cause sent theirs same fault e =
         from_other sent.side sent.number theirs same fault

@@ -12,7 +12,7 @@ use Rattle.exchange_law.specs.Sides.{Offer, Withdrawals, Heard, Exchange, Side, 
 use Rattle.exchange_law.specs.Worlds.{offer_of, list_of}
 use Rattle.exchange_core.specs.Finished.{Finished, IsFinished, Half, finished_by, finished_in, finished_of, finished_from, all_held}
 use Rattle.cluster.specs.Clusters.{Cluster, at}
-use Rattle.cluster.specs.Healing.{Plan, gone_of_side, finished_as, idle_side, other, uptime_of}
+use Rattle.cluster.specs.Healing.{Plan, gone_of_side, finished_as, idle_side, other_half, uptime_of}
 use Rattle.verdict_board.specs.Boards.{Pass}
 use Rattle.registry_lock.specs.Meeting.{AgreesWith}
 use Rattle.cluster.specs.model.Stages.{IsRested, offer_in, seen_by, HasHeard, IsUnderWay, IsTrying, HasFinished}
@@ -97,7 +97,7 @@ module _ (plan : Plan) (was : Cluster) (holds : ℕ → Judged → Type 0) (id :
     their_list = u.their_list;
   }
 
-  pub hears : (names : List Name) (side new : Side) (offer : Offer) → offer ≡ offer_in plan was (other id) →
+  pub hears : (names : List Name) (side new : Side) (offer : Offer) → offer ≡ offer_in plan was (other_half id) →
       hear side offer ≡ Some new → IsTrying plan was holds id names side → IsTrying plan was holds id names new
   hears names side new offer same e t =
       goes_on names names side new (hear_in side.id side.table offer) e t
@@ -168,7 +168,7 @@ module _ (plan : Plan) (was : Cluster) (holds : ℕ → Judged → Type 0) (id :
       ap (λ (o : Option Exchange). option_map_or (λ exchange. exchange.withdrawn) o []) t.opened ∙ t.under_way.withdrawn
 
   pub hears_list : (names : List Name) (side new : Side) (sent : Withdrawals) →
-      sent.names ≡ gone_of_side (other id) plan.gone → hear_list side sent ≡ Some new →
+      sent.names ≡ gone_of_side (other_half id) plan.gone → hear_list side sent ≡ Some new →
       IsTrying plan was holds id names side → IsTrying plan was holds id names new
   hears_list names side new sent same e t =
       goes_on names names side new (hear_list_in side.id sent) e t
@@ -226,7 +226,7 @@ holds_more plan was less more id names now laxer t = record {
 -- a half's own and the other's are what the two showed
 as_planned : (plan : Plan) (was : Cluster) (id : SideId) (number seed : ℕ) (own theirs : Half) (rulings : List Judged)
     (table : Table) → number ≡ plan.number → seed ≡ plan.seed → own ≡ half_of plan was id →
-    theirs ≡ half_of plan was (other id) →
+    theirs ≡ half_of plan was (other_half id) →
     finished_by id number seed own theirs rulings table ≡ finished_as plan was rulings table
 as_planned plan was A number seed own theirs rulings table n s o t =
     λ i. finished_by A (n i) (s i) (o i) (t i) rulings table
@@ -247,7 +247,7 @@ module _ (plan : Plan) (was : Cluster) (pass : Pass) (id : SideId) where
       ≡ half_of plan was id =
       λ i. record { table = t.table i; uptime = u.uptime i; gone = u.withdrawn i } in
       let other_half : record { table = heard.table; uptime = heard.uptime; gone = theirs }
-      ≡ half_of plan was (other id) =
+      ≡ half_of plan was (other_half id) =
       λ i. record { table = h.table i; uptime = h.uptime i; gone = u.their_list theirs at i } in
       let rulings = all_held heard.rulings in
       let table = merged_table side exchange heard theirs in

@@ -26,9 +26,9 @@ abbrev pub plan_of : code.Plan → Plan
 plan_of plan =
     record { number = plan.number; seed = plan.seed; uptimes = plan.uptimes; gone = plan.gone.now }
 
-abbrev pub other : SideId → SideId
-other A = B
-other B = A
+abbrev pub other_half : SideId → SideId
+other_half A = B
+other_half B = A
 
 abbrev pub uptime_of : SideId → Uptimes → ℕ
 uptime_of A uptimes = uptimes.a
@@ -131,8 +131,8 @@ pub record IsOpen (plan : Plan) (old : Cluster) (id : SideId) (new : Side) (name
   pub uptime : exchange.uptime ≡ uptime_of id plan.uptimes
   pub withdrawn : exchange.withdrawn ≡ names
   pub heard : (heard : Heard) → exchange.heard ≡ Some heard →
-      (heard.table ≡ shown_table (at old (other id)).side) × (heard.uptime ≡ uptime_of (other id) plan.uptimes)
-  pub their_list : (theirs : List Name) → exchange.their_list ≡ Some theirs → theirs ≡ gone_of_side (other id) plan.gone
+      (heard.table ≡ shown_table (at old (other_half id)).side) × (heard.uptime ≡ uptime_of (other_half id) plan.uptimes)
+  pub their_list : (theirs : List Name) → exchange.their_list ≡ Some theirs → theirs ≡ gone_of_side (other_half id) plan.gone
   pub table : new.table ≡ shown_table (at old id).side
   pub same_id : new.id ≡ (at old id).side.id
   pub latest : new.latest ≡ Some plan.number

@@ -20,7 +20,7 @@ use Rattle.cluster.specs.declared.fault.HealFault.{HealFault}
 use Rattle.cluster.specs.declared.fault.HealFault.TheVariants.{Side as OfSide}
 use Rattle.cluster.specs.declared.halves.Halves as halves
 use Rattle.cluster.specs.Clusters.{Cluster, Extends, at, standing_of}
-use Rattle.cluster.specs.Healing.{Plan, HaveGrown, IsNew, HasHeld, gone_of_side, AreHeld, finished_as, idle_side, other, uptime_of}
+use Rattle.cluster.specs.Healing.{Plan, HaveGrown, IsNew, HasHeld, gone_of_side, AreHeld, finished_as, idle_side, other_half, uptime_of}
 
 abbrev pub halves_of : halves.Halves → Cluster
 halves_of halves = record { a = standing_of halves.a; b = standing_of halves.b }
@@ -86,8 +86,8 @@ seen_by pass k judged = judged_of (seen pass k) ≡ Some judged
 -- a half heard what the other half showed, and holds such rulings
 pub record HasHeard (plan : Plan) (was : Cluster) (holds : ℕ → Judged → Type 0) (id : SideId) (heard : Heard) :
     Type 0 where
-  pub table : heard.table ≡ shown_table (at was (other id)).side
-  pub uptime : heard.uptime ≡ uptime_of (other id) plan.uptimes
+  pub table : heard.table ≡ shown_table (at was (other_half id)).side
+  pub uptime : heard.uptime ≡ uptime_of (other_half id) plan.uptimes
   pub rulings : (k : ℕ) (judged : Judged) → slice_get heard.rulings k ≡ Some (Some judged) → holds k judged
 
 -- the exchange of a half, which withdrew these names
@@ -100,7 +100,7 @@ pub record IsUnderWay (plan : Plan) (was : Cluster) (holds : ℕ → Judged → 
   pub held : AreHeld (shown_table (at was id).side) names
   pub heard : (heard : Heard) → exchange.heard ≡ Some heard → HasHeard plan was holds id heard
   pub their_list : (theirs : List Name) → exchange.their_list ≡ Some theirs →
-      theirs ≡ gone_of_side (other id) plan.gone
+      theirs ≡ gone_of_side (other_half id) plan.gone
 
 -- a half with its exchange open
 pub record IsTrying (plan : Plan) (was : Cluster) (holds : ℕ → Judged → Type 0) (id : SideId) (names : List Name)
