@@ -293,12 +293,11 @@ backup(Part = #part{limbo = Limbo, now = Now}) ->
         moved -> Part
     end.
 
-%% Returns whether the node waits for a snapshot of another view, whose primary is there.
+%% Returns whether the node waits for a snapshot of another view, whose primary is there and has it as a member. A primary that has dropped
+%% it sends none.
 is_expected(Part = #part{gap = View = {Primary = {_, _}, _}, peers = Peers}) ->
-    case announced(Primary, Peers) of
-        Peer = #peer{at = {View, _}} -> not heal_peers:is_silent(Peer, Part);
-        _ -> false
-    end;
+    Peer = announced(Primary, Peers),
+    is_member(View, Peer, Part) =:= true andalso not heal_peers:is_silent(Peer, Part);
 is_expected(_Part) ->
     false.
 

@@ -241,6 +241,21 @@ missed_snapshot_test() ->
 begun(Node, To) ->
     [Kind || Kind <- kinds(Node, To), Kind =:= snapshot orelse Kind =:= difference].
 
+%% A node that has lost its primary waits for the snapshot of a view that has it as a member, until the primary of that view announces it
+%% without the node.
+dropped_while_it_waits_test() ->
+    Linked = connect(b, d, fun none_lost/3, connect(a, d, fun none_lost/3, start([{a, #{}}, {b, #{}}, {d, #{}}]))),
+    {View, _} = At = {{{b, 1}, 5}, 0},
+    Announced = fun(Of, Later, Members, Parts) ->
+        Here = #{seq := Seq} = hd([Here || {send, d, {here, Here}} <- done(Of)]),
+        event_at(2, d, {message, Of, {here, Here#{seq := Seq + Later, at := At, members := Members}}}, Parts)
+    end,
+    Moved = Announced(a, 1, [], Announced(b, 1, [a, d], Linked)),
+    ?assertEqual([{send, b, {want, View}}], [Sent || Sent = {send, b, {want, _}} <- done(d)]),
+    Waits = event_at(2, d, {down, a}, Moved),
+    ?assertMatch({{{a, 1}, _}, _}, position(d, Waits)),
+    ?assertMatch({{{d, 1}, _}, _}, position(d, Announced(b, 2, [a], Waits))).
+
 %% The larger part leads, and a member that has what its primary had gets what differs. Of two parts alike the smaller node leads, and the
 %% members of the other one get snapshots.
 larger_part_leads_test() ->
