@@ -172,6 +172,17 @@ class Exchanges(unittest.TestCase):
         again = replica.side("a")
         self.assertEqual((refusal(again.begin, 5, 0, 0), refusal(again.begin, 6, 0, 0)), (35, 0))
 
+    def test_a_side_with_a_lower_number_doesnt_lower_it(self):
+        replica = Replica(1, 1)
+        side = replica.side("a")
+        replica.begin(5)
+        replica.change(replica.state.at, side)
+        self.assertEqual((side.state.latest, replica.state.latest), (None, 5))
+        side.begin(7, 0, 0)
+        side.abandon()
+        replica.change(replica.state.at, side)
+        self.assertEqual(replica.state.latest, 7)
+
     def test_a_change_loses_no_edit(self):
         replica = Replica(1, 1)
         before = replica.state.at

@@ -16,7 +16,7 @@ use Rattle.exchange_core.specs.Refusals.{finish_fault}
 use Rattle.exchange_core.specs.Shown.{shown, is_full, IsDone, IsUntouched}
 use Rattle.upload_store.specs.Programs.{Programs}
 use Rattle.c_calls.specs.declared.outcome.Outcome.{Outcome}
-use Rattle.c_calls.specs.Answers.{GivesDueOrRunsOut, allowed}
+use Rattle.c_calls.specs.Answers.{GivesDueFirst, allowed}
 use Rattle.c_calls.specs.Exchanges.{IsFinishedFrom, Finishes, FinishesSide}
 use Rattle.c_calls.specs.Halves.{side_and_store}
 use Rattle.c_calls.specs.Sides.{CarriesOut, Stays}
@@ -86,9 +86,9 @@ pub by_its_side : (old new : held.Side) (store : Programs) (outcome outcome' : O
 by_its_side old new store outcome outcome' n = by (allowed side_fault_number (finish_fault (is_full old) (shown old)))
   where
     by : (due : Result (Unit {0}) ℕ)
-        → GivesDueOrRunsOut due (λ _. IsDone old Finish new × IsSomeAnd outcome' (IsFinishedFrom (shown old)))
+        → GivesDueFirst due (λ _. IsDone old Finish new × IsSomeAnd outcome' (IsFinishedFrom (shown old)))
         (IsUntouched old new × (outcome' ≡ outcome)) n
-        → GivesDueOrRunsOut due (λ _. CarriesOut Finish (side_and_store old store) (side_and_store new store)
+        → GivesDueFirst due (λ _. CarriesOut Finish (side_and_store old store) (side_and_store new store)
         × IsSomeAnd outcome' (IsFinishedFrom (shown old)))
         (Stays (side_and_store old store) (side_and_store new store) × (outcome' ≡ outcome)) n
     by (Ok x) (inl h) = inl (h.0, (record { done = h.1.0; store = refl }, h.1.1))

@@ -1,5 +1,4 @@
 -- Proofs that calls share.
-pub mod Answering
 pub mod ClashMarks
 pub mod Finishing
 pub mod Heads

@@ -59,10 +59,21 @@ abbrev pub GivesDueOrRunsOut : {X : Type 0} → Result X ℕ → (X → Type 0) 
 GivesDueOrRunsOut (Ok x) done stays n = ((n ≡ 0) × done x) ⊎ ((n ≡ out_of_memory) × stays)
 GivesDueOrRunsOut (Err m) done stays n = ((n ≡ m) ⊎ (n ≡ out_of_memory)) × stays
 
+-- A call whose refusals come also when out of memory: it returns its refusal, and everything stays; or it returns 0 and is done, or returns 90
+-- and everything stays
+abbrev pub GivesDueFirst : {X : Type 0} → Result X ℕ → (X → Type 0) → Type 0 → ℕ → Type 0
+GivesDueFirst (Ok x) done stays n = ((n ≡ 0) × done x) ⊎ ((n ≡ out_of_memory) × stays)
+GivesDueFirst (Err m) done stays n = (n ≡ m) × stays
+
 -- A call that allocates nothing: it returns 0 and is done, or returns its refusal and everything stays
 abbrev pub GivesDue : {X : Type 0} → Result X ℕ → (X → Type 0) → Type 0 → ℕ → Type 0
 GivesDue (Ok x) done stays n = (n ≡ 0) × done x
 GivesDue (Err m) done stays n = (n ≡ m) × stays
+
+-- A call that first looks for a refusal: it returns that, and everything stays; or it goes on with the value
+abbrev pub OnGiven : {X : Type 0} → Result X ℕ → (X → ℕ → Type 0) → Type 0 → ℕ → Type 0
+OnGiven (Ok x) call stays n = call x n
+OnGiven (Err m) call stays n = (n ≡ m) × stays
 
 -- A call on a handle: an empty one stays empty, the call returns 91, and its results stay
 abbrev pub OnHandle : {A : Type 0} → Option A → Option A → (A → A → ℕ → Type 0) → Type 0 → ℕ → Type 0

@@ -22,7 +22,7 @@ use Rattle.exchange_codec.specs.Withdrawals.{SpellsWithdrawals, list_due}
 use Rattle.exchange_codec.specs.Withdrawals as lists
 use Rattle.c_calls.specs.Halves.{SideAndStore}
 use Rattle.c_calls.specs.declared.outcome.Outcome.{Outcome}
-use Rattle.c_calls.specs.Answers.{allowed, unless, and_then, GivesDueOrRunsOut, GivesDue, Rejects, TakesBytes}
+use Rattle.c_calls.specs.Answers.{allowed, unless, and_then, GivesDueOrRunsOut, GivesDueFirst, GivesDue, Rejects, TakesBytes}
 use Rattle.c_calls.specs.Codes.{given_name}
 use Rattle.c_calls.specs.Outcomes.{IsOutcome}
 use Rattle.c_calls.specs.Sides.{Stays, CarriesOut}
@@ -30,14 +30,14 @@ use Rattle.c_calls.specs.Sides.{Stays, CarriesOut}
 -- ---- begin, and the list
 
 abbrev pub BeginsExchange : ℕ → ℕ → ℕ → SideAndStore → SideAndStore → Option (List ℕ) → Option (List ℕ) → ℕ → Type 0
-BeginsExchange number seed uptime old new offer offer' = GivesDueOrRunsOut
+BeginsExchange number seed uptime old new offer offer' = GivesDueFirst
     (allowed side_fault_number (due.begin_fault (is_full old.side) (shown old.side) number))
     (λ _. CarriesOut (Begin number seed uptime) old new
     × IsSomeAnd offer' (λ bytes. SpellsOffer bytes (offer_of (shown old.side) number seed uptime)))
     (Stays old new × (offer' ≡ offer))
 
 abbrev pub Closes : SideAndStore → SideAndStore → Option (List ℕ) → Option (List ℕ) → ℕ → Type 0
-Closes old new list list' = GivesDueOrRunsOut
+Closes old new list list' = GivesDueFirst
     (allowed side_fault_number (due.close_list_fault (is_full old.side) (shown old.side)))
     (λ _. CarriesOut Close_list old new × IsSomeAnd list' (λ bytes. SpellsWithdrawals bytes (list_of (shown old.side))))
     (Stays old new × (list' ≡ list))
@@ -119,7 +119,7 @@ withdrawing bytes half = and_then (given_name bytes) (λ name. unless side_fault
 
 abbrev pub Withdraws : List ℕ → SideAndStore → SideAndStore → ℕ → Type 0
 Withdraws bytes old new =
-    GivesDueOrRunsOut (withdrawing bytes old) (λ name. CarriesOut (Withdraw name) old new) (Stays old new)
+    GivesDueFirst (withdrawing bytes old) (λ name. CarriesOut (Withdraw name) old new) (Stays old new)
 
 -- what a finish leaves in the handle of the outcome
 abbrev pub IsFinishedFrom : sides.Side → Outcome → Type 0
@@ -127,13 +127,13 @@ IsFinishedFrom side outcome = (f : Finished) × (finished_from side ≡ Some f) 
 
 -- what a finish of a side returns and leaves
 abbrev pub FinishesSide : Side → Side → Option Outcome → Option Outcome → ℕ → Type 0
-FinishesSide old new outcome outcome' = GivesDueOrRunsOut
+FinishesSide old new outcome outcome' = GivesDueFirst
     (allowed side_fault_number (due.finish_fault (is_full old) (shown old)))
     (λ _. IsDone old Finish new × IsSomeAnd outcome' (IsFinishedFrom (shown old)))
     (IsUntouched old new × (outcome' ≡ outcome))
 
 abbrev pub Finishes : SideAndStore → SideAndStore → Option Outcome → Option Outcome → ℕ → Type 0
-Finishes old new outcome outcome' = GivesDueOrRunsOut
+Finishes old new outcome outcome' = GivesDueFirst
     (allowed side_fault_number (due.finish_fault (is_full old.side) (shown old.side)))
     (λ _. CarriesOut Finish old new × IsSomeAnd outcome' (IsFinishedFrom (shown old.side)))
     (Stays old new × (outcome' ≡ outcome))

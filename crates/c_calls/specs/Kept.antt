@@ -63,4 +63,5 @@ HasCodeUnder id half code = (map.get half.store id ≡ Some code) ⊎ IsNamed id
 abbrev pub GivesCode : ProgramId → SideAndStore → Option (List ℕ) → Option (List ℕ) → ℕ → Type 0
 GivesCode id half before after n =
     ((code : List Insn) × HasCodeUnder id half code × (after ≡ Some (flat_map insn_bytes code)) × (n ≡ 0))
-    ⊎ ((after ≡ before) × (((n ≡ 41) × ((code : List Insn) → HasCodeUnder id half code → ⊥)) ⊎ (n ≡ out_of_memory)))
+    ⊎ ((after ≡ before) × (((n ≡ 41) × ((code : List Insn) → HasCodeUnder id half code → ⊥))
+    ⊎ ((n ≡ out_of_memory) × ((code : List Insn) × HasCodeUnder id half code))))

@@ -61,14 +61,12 @@ theirs_of side = option_map_or (λ names. names) (option_and_then (λ exchange. 
 abbrev pub gone_from_both : Side → Gone
 gone_from_both side = gone_for side.id (withdrawn_by side) (theirs_of side)
 
--- these clashes and withdrawn names, and a place for what is known of each clash
+-- these clashes and withdrawn names, and a place for whether the merged table has the name of each clash
 pub record IsRoomFor (list : List Clash) (gone : Gone) (outcome : Outcome) : Type 0 where
   pub gone_a : outcome.gone_a.items ≡ gone.of_a
   pub gone_b : outcome.gone_b.items ≡ gone.of_b
   pub clashes : clashes_in outcome ≡ list
-  pub rulings : length outcome.rulings.items ≡ length list
   pub kept : length outcome.kept.items ≡ length list
-  pub of_a : length outcome.of_a.items ≡ length list
 
 -- the notices of a verdict; a program's verdict brings none
 abbrev pub notices_by : ResolverId → Clash → Verdict3 → List Notice

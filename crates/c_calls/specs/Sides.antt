@@ -20,7 +20,7 @@ use Rattle.exchange_law.specs.Sides.{new_side, rested, shown_table}
 use Rattle.c_calls.specs.Halves.{SideAndStore}
 use Rattle.c_calls.specs.declared.codes.HealRegistration.{HealRegistration}
 use Rattle.c_calls.specs.declared.codes.HealRow.{HealRow}
-use Rattle.c_calls.specs.Answers.{allowed, unless, and_then, IsNumbered, IsOutOfMemory, GivesDueOrRunsOut, GivesDue}
+use Rattle.c_calls.specs.Answers.{allowed, unless, and_then, IsNumbered, IsOutOfMemory, GivesDueFirst, GivesDue}
 use Rattle.c_calls.specs.Codes.{given_name, given_entry, registration_code}
 use Rattle.c_calls.specs.Rows.{row_in, row_in_after}
 
@@ -65,11 +65,11 @@ abbrev pub registering : List ℕ → HealRegistration → SideAndStore → Resu
 registering bytes r half = and_then (given_entry bytes r) (λ e. registering_entry e half)
 
 abbrev pub RegistersEntry : Name × Registration → SideAndStore → SideAndStore → ℕ → Type 0
-RegistersEntry e old new = GivesDueOrRunsOut (registering_entry e old)
+RegistersEntry e old new = GivesDueFirst (registering_entry e old)
     (λ e. CarriesOut (Register e.0 (row_for old.store e.1)) old new) (Stays old new)
 
 abbrev pub Registers : List ℕ → HealRegistration → SideAndStore → SideAndStore → ℕ → Type 0
-Registers bytes r old new = GivesDueOrRunsOut (registering bytes r old)
+Registers bytes r old new = GivesDueFirst (registering bytes r old)
     (λ e. CarriesOut (Register e.0 (row_for old.store e.1)) old new) (Stays old new)
 
 abbrev pub unregistering_name : Name → SideAndStore → Result Name ℕ

@@ -237,14 +237,14 @@ fn finish(side: &mut Side, alloc: Global) -> Result<Box<Outcome>, u32>
     };
     match side.finish(alloc) {
         Ok(finished) => {
-            room.fill(&finished);
+            room.fill(finished);
             Ok(room)
         }
         Err(fault) => Err(fault.number()),
     }
 }
 
-// Allocates an outcome with the clashes and the withdrawn names of the open exchange, and a place for each ruling. Adds an
+// Allocates an outcome with the clashes and the withdrawn names of the open exchange, and a place for each clash. Adds an
 // owner to the list of clashes, which is there once the other's offer was heard.
 #[tactic(auto, using(crate::proofs::Finishing::shared))]
 fn room_for(alloc: Global, side: &Side) -> Result<Box<Outcome>, AllocError>

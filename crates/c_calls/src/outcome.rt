@@ -40,13 +40,8 @@ pub struct Outcome {
     pub gone_b: Vec<Name>,
 }
 
-const UNJUDGED: Judged = Judged {
-    word: 0,
-    answer: Verdict3::Neither,
-};
-
 impl Outcome {
-    // Returns an outcome of these clashes and withdrawn names, with a place for what is known of each clash.
+    // Returns an outcome of these clashes and withdrawn names, without rulings, and with a place for whether each name is kept.
     pub(crate) fn new(
         alloc: Global,
         clashes: Arc<ClashList>,
@@ -56,37 +51,31 @@ impl Outcome {
         ensures gone_a { IfOk result (λ room. room.gone_a.items ≡ gone_a.items) }
         ensures gone_b { IfOk result (λ room. room.gone_b.items ≡ gone_b.items) }
         ensures clashes { IfOk result (λ room. clashes_in room ≡ arc_value clashes) }
-        ensures rulings { IfOk result (λ room. length room.rulings.items ≡ length (arc_value clashes)) }
         ensures kept { IfOk result (λ room. length room.kept.items ≡ length (arc_value clashes)) }
-        ensures of_a { IfOk result (λ room. length room.of_a.items ≡ length (arc_value clashes)) }
     {
-        let count = clashes.len();
-        let rulings = vec![in alloc; UNJUDGED; count]?;
-        let kept = vec![in alloc; false; count]?;
-        let of_a = vec![in alloc; false; count]?;
+        let kept = vec![in alloc; false; clashes.len()]?;
         Ok(Outcome {
             number: 0,
             merged: 0,
             clashes,
-            rulings,
+            rulings: Vec::new(alloc),
             kept,
-            of_a,
+            of_a: Vec::new(alloc),
             gone_a,
             gone_b,
         })
     }
 
-    // Fills in the numbers, the rulings, and what is known of each clash. Allocates nothing.
-    pub(crate) fn fill(&mut self, finished: &Finished)
-        requires { IsRoomFor (clashes_merged finished.now) finished.now.gone self.old }
-        ensures { IsOutcome finished.now self.new }
+    // Fills in the numbers, and moves the rulings and what is known of each clash here. Allocates nothing.
+    pub(crate) fn fill(&mut self, finished: Finished)
+        requires { IsRoomFor (clashes_merged finished) finished.gone self.old }
+        ensures { IsOutcome finished self.new }
     {
         self.number = finished.number();
         self.merged = finished.table().len();
-        self.rulings.copy_from_slice(finished.rulings());
         let clashes = self.clashes.iter().as_slice();
-        mark_kept(finished, clashes, &mut self.kept);
-        self.of_a.copy_from_slice(finished.first_of_a());
+        mark_kept(&finished, clashes, &mut self.kept);
+        (self.rulings, self.of_a) = finished.into_rulings();
     }
 
     /// Returns the number of clashes.

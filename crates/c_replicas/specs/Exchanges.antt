@@ -7,7 +7,7 @@ use Rattle.exchange_core.specs.Shown.{shown, calls, limit_of}
 use Rattle.replica.specs.Faults.{replica_fault_number}
 use Rattle.replica.specs.Replicas.{Replica, Change, left_by, change_fault}
 use Rattle.c_calls.specs.Halves.{SideAndStore}
-use Rattle.c_calls.specs.Answers.{allowed, and_then, GivesDueOrRunsOut}
+use Rattle.c_calls.specs.Answers.{allowed, and_then, GivesDueFirst}
 use Rattle.c_calls.specs.Sides.{side_id}
 use Rattle.c_replicas.specs.declared.positions.HealPosition.{HealPosition}
 use Rattle.c_replicas.specs.Positions.{position_of}
@@ -31,13 +31,13 @@ siding id replica =
 
 -- the handle gets a side that has what the replica has, or stays
 abbrev pub Gets : ℕ → Replica → Option SideAndStore → Option SideAndStore → ℕ → Type 0
-Gets id replica before after = GivesDueOrRunsOut (siding id replica)
+Gets id replica before after = GivesDueFirst (siding id replica)
     (λ side. (half : SideAndStore) × (after ≡ Some half) × IsSideOf side replica half) (after ≡ before)
 
 -- 33 if the side's exchange is open; otherwise a view starts with the side's table and its greatest number
 abbrev pub ChangesTo : Bool → HealPosition → sides.Side → Replica → Replica → ℕ → Type 0
 ChangesTo true from side old new n = (n ≡ 33) × (new ≡ old)
-ChangesTo false from side old new n = GivesDueOrRunsOut
+ChangesTo false from side old new n = GivesDueFirst
     (allowed replica_fault_number (change_fault old (position_of from)))
     (λ _. new ≡ left_by old (Change (position_of from) side.table side.latest)) (new ≡ old) n
 

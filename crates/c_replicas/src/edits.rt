@@ -14,11 +14,13 @@ use std::alloc::Global;
 use upload_store::Upload;
 
 // Carries an edit out, and returns the bytes of its entry. They are written first, so that no edit is made without them.
-
 fn edit(replica: &mut Replica, alloc: Global, edit: Edit) -> Result<Box<Message>, u32>
     ensures { (before : Option (List ℕ)) → Makes edit replica.old replica.new before
         (held_after (λ made. made.value) before result) (returned_number (λ n. n) result) }
 {
+    if let Some(fault) = replica.edit_refusal() {
+        return Err(fault.number());
+    }
     let entry = next_entry(replica, edit);
     let Ok(message) = boxed(alloc, encode_entry(alloc, &entry)) else {
         return Err(OUT_OF_MEMORY);
@@ -73,6 +75,9 @@ pub fn upload(replica: &mut Replica, alloc: Global, program: &Upload) -> Result<
     ensures { (before : Option (List ℕ)) → Makes (edit_of.Upload program.now) replica.old replica.new before
         (held_after (λ made. made.value) before result) (returned_number (λ n. n) result) }
 {
+    if let Some(fault) = replica.edit_refusal() {
+        return Err(fault.number());
+    }
     match program.share() {
         Ok(program) => edit(replica, alloc, Edit::Upload(program)),
         Err(_) => Err(OUT_OF_MEMORY),

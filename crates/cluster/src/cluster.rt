@@ -19,7 +19,7 @@ pub struct Cluster {
 }
 
 impl Cluster {
-    ghost use Rattle.std.specs.Prelude.{OnOk, OnErr, IfOk, Some};
+    ghost use Rattle.std.specs.Prelude.{OnOk, OnErr, IfOk, IfSome, Some, Err};
     ghost use Rattle.std.specs.Option.{option_map};
     ghost use Rattle.std.specs.FinMap.{get};
     ghost use Rattle.partition_table.specs.Tables.{max_names, row_for};
@@ -71,6 +71,9 @@ impl Cluster {
     ) -> Result<(), SideFault>
         ensures answer { let standing = at (cluster_of self.old) id in
             IsAnswered side_fault_number (due.register_fault standing.limit (is_full_at standing) standing.side name registration store.now) result }
+        // Each refusal comes also when out of memory.
+        ensures refused { let standing = at (cluster_of self.old) id in
+            IfSome (due.register_fault standing.limit (is_full_at standing) standing.side name registration store.now) (λ fault. result ≡ Err fault) }
         ensures done { OnOk result (IsCalled (cluster_of self.old) id
             (call.Register name (row_for store.now registration))
             (cluster_of self.new)) }
@@ -95,6 +98,9 @@ impl Cluster {
         requires { agreement.old ≡ record { table = (at (cluster_of self.old) id).side.table; store = store.now } }
         ensures answer { let standing = at (cluster_of self.old) id in
             IsAnswered side_fault_number (due.register_fault standing.limit (is_full_at standing) standing.side name registration store.now) result }
+        // Each refusal comes also when out of memory.
+        ensures refused { let standing = at (cluster_of self.old) id in
+            IfSome (due.register_fault standing.limit (is_full_at standing) standing.side name registration store.now) (λ fault. result ≡ Err fault) }
         ensures done { OnOk result (IsCalled (cluster_of self.old) id
             (call.Register name (row_for store.now registration))
             (cluster_of self.new)) }

@@ -1,5 +1,5 @@
 //! The calls of a side.
-ghost use Rattle.std.specs.Prelude.{◌≡◌, ◌≢◌, IsTrue, ◌≤◌, ◌+◌, [], ◌∷◌, Some, None, Ok, Err, IfOk, OnOk, OnErr, length};
+ghost use Rattle.std.specs.Prelude.{◌≡◌, ◌≢◌, IsTrue, ◌≤◌, ◌+◌, [], ◌∷◌, Some, None, Ok, Err, IfOk, IfSome, OnOk, OnErr, length};
 ghost use Rattle.std.specs.Bool.{Decides};
 ghost use Rattle.std.specs.Option.{option_map};
 ghost use Rattle.std.specs.Arc.{arc_value};
@@ -122,6 +122,8 @@ impl Side {
     /// can't have one more owner.
     pub fn share_clashes(&self) -> Result<Arc<ClashList>, SideFault>
         ensures answer { IsAnswered side_fault_number (due.clashes_fault (shown self.now)) result }
+        // 34 and 39 come also when out of memory.
+        ensures refused { IfSome (due.clashes_fault (shown self.now)) (λ fault. result ≡ Err fault) }
         ensures clashes { IfOk result (λ list. heard_clashes (shown self.now) ≡ Some (arc_value list)) }
     {
         self.state.share_clashes()
@@ -140,6 +142,9 @@ impl Side {
     ) -> Result<(), SideFault>
         ensures answer { IsAnswered side_fault_number (due.register_fault (limit_of self.old) (is_full self.old) (shown self.old) name registration store.now)
             result }
+        // Each refusal comes also when out of memory.
+        ensures refused { IfSome (due.register_fault (limit_of self.old) (is_full self.old) (shown self.old) name registration store.now)
+            (λ fault. result ≡ Err fault) }
         ensures done { OnOk result (IsDone self.old (call.Register name (row_for store.now registration)) self.new) }
         ensures untouched { OnErr result (IsUntouched self.old self.new) }
     {
@@ -159,6 +164,9 @@ impl Side {
         requires { agreement.old ≡ record { table = (shown self.old).table; store = store.now } }
         ensures answer { IsAnswered side_fault_number (due.register_fault (limit_of self.old) (is_full self.old) (shown self.old) name registration store.now)
             result }
+        // Each refusal comes also when out of memory.
+        ensures refused { IfSome (due.register_fault (limit_of self.old) (is_full self.old) (shown self.old) name registration store.now)
+            (λ fault. result ≡ Err fault) }
         ensures done { OnOk result (IsDone self.old (call.Register name (row_for store.now registration)) self.new) }
         ensures untouched { OnErr result (IsUntouched self.old self.new) }
         ensures agreed { agreement.new ≡ record { table = (shown self.new).table; store = store.now } }
@@ -180,6 +188,8 @@ impl Side {
         requires { IsTrue is_known → IsTrue (agrees_with (shown self.old).table (row_for store.now registration)) }
         ensures answer { IsAnswered side_fault_number (due.register_fault (limit_of self.old) (is_full self.old) (shown self.old) name registration store.now)
             result }
+        ensures refused { IfSome (due.register_fault (limit_of self.old) (is_full self.old) (shown self.old) name registration store.now)
+            (λ fault. result ≡ Err fault) }
         ensures done { OnOk result (IsDone self.old (call.Register name (row_for store.now registration)) self.new) }
         ensures untouched { OnErr result (IsUntouched self.old self.new) }
     {
@@ -227,6 +237,8 @@ impl Side {
         uptime: u64,
     ) -> Result<Offer, SideFault>
         ensures answer { IsAnswered side_fault_number (due.begin_fault (is_full self.old) (shown self.old) number) result }
+        // 33, 35 and 40 come also when out of memory.
+        ensures refused { IfSome (due.begin_fault (is_full self.old) (shown self.old) number) (λ fault. result ≡ Err fault) }
         ensures offer { IfOk result (λ offer. offer ≡ offer_of (shown self.old) number seed uptime) }
         ensures done { OnOk result (IsDone self.old (call.Begin number seed uptime) self.new) }
         ensures untouched { OnErr result (IsUntouched self.old self.new) }
@@ -356,6 +368,8 @@ impl Side {
     /// memory.
     pub fn withdraw(&mut self, name: &Name) -> Result<(), SideFault>
         ensures answer { IsAnswered side_fault_number (due.withdraw_fault (is_full self.old) (shown self.old) name.now) result }
+        // 31, 34, 40, 47 and 48 come also when out of memory.
+        ensures refused { IfSome (due.withdraw_fault (is_full self.old) (shown self.old) name.now) (λ fault. result ≡ Err fault) }
         ensures done { OnOk result (IsDone self.old (call.Withdraw name.now) self.new) }
         ensures untouched { OnErr result (IsUntouched self.old self.new) }
     {
@@ -373,6 +387,8 @@ impl Side {
     /// applies. Returns 90 when out of memory.
     pub fn close_list(&mut self, alloc: Global) -> Result<Withdrawals, SideFault>
         ensures answer { IsAnswered side_fault_number (due.close_list_fault (is_full self.old) (shown self.old)) result }
+        // 34, 40 and 48 come also when out of memory.
+        ensures refused { IfSome (due.close_list_fault (is_full self.old) (shown self.old)) (λ fault. result ≡ Err fault) }
         ensures list { IfOk result (λ list. list ≡ list_of (shown self.old)) }
         // The names are distinct names of the side's table.
         ensures own { IfOk result (λ list. AreNamesOf (shown self.old).table list.names) }
@@ -400,6 +416,8 @@ impl Side {
     /// side: the least that applies. Returns 90 when out of memory.
     pub fn hear_list(&mut self, sent: &Withdrawals) -> Result<(), SideFault>
         ensures answer { IsAnswered side_fault_number (due.hear_list_fault (is_full self.old) (shown self.old) sent.now) result }
+        // 34, 40, 45 and 46 come also when out of memory.
+        ensures refused { IfSome (due.hear_list_fault (is_full self.old) (shown self.old) sent.now) (λ fault. result ≡ Err fault) }
         ensures done { OnOk result (IsDone self.old (call.Hear_list sent.now) self.new) }
         ensures untouched { OnErr result (IsUntouched self.old self.new) }
     {
@@ -425,6 +443,8 @@ impl Side {
     /// Returns 90 when out of memory: it allocates the merge, the rulings and the answers.
     pub fn finish(&mut self, alloc: Global) -> Result<Finished, SideFault>
         ensures answer { IsAnswered side_fault_number (due.finish_fault (is_full self.old) (shown self.old)) result }
+        // 34, 39 and 40 come also when out of memory.
+        ensures refused { IfSome (due.finish_fault (is_full self.old) (shown self.old)) (λ fault. result ≡ Err fault) }
         ensures given { IfOk result (λ finished. finished_from (shown self.old) ≡ Some finished) }
         ensures done { OnOk result (IsDone self.old call.Finish self.new) }
         ensures untouched { OnErr result (IsUntouched self.old self.new) }

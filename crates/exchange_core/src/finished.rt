@@ -145,6 +145,14 @@ impl Finished {
         &self.table
     }
 
+    /// Returns the ruling of each clash, and whether side A has its first registration, in the order of clashes. Copies nothing.
+    pub fn into_rulings(self) -> (Vec<Judged>, Vec<bool>)
+        ensures rulings { result.0.items ≡ self.rulings }
+        ensures first_of_a { result.1.items ≡ map (has_first self.a) (clashes_merged self) }
+    {
+        (self.rulings, self.first_of_a)
+    }
+
     /// Returns the merged table with its owner, which the side may share.
     pub fn into_table(self) -> Arc<Table>
         ensures { arc_value result ≡ self.table }

@@ -1,5 +1,5 @@
 //! The state of a side, and what each call leaves of it.
-ghost use Rattle.std.specs.Prelude.{◌≡◌, false, Some, None, IsTrue, IfOk, OnOk, OnErr, is_some};
+ghost use Rattle.std.specs.Prelude.{◌≡◌, false, Some, None, Err, IsTrue, IfOk, IfSome, OnOk, OnErr, is_some};
 ghost use Rattle.std.specs.Bool.{Decides};
 ghost use Rattle.std.specs.FinMap.{get};
 ghost use Rattle.partition_table.specs.Tables.{agrees_with, row_for, rows_of};
@@ -135,6 +135,7 @@ impl State {
     // Adds an owner of the clashes of the open exchange.
     pub(crate) fn share_clashes(&self) -> Result<Arc<ClashList>, SideFault>
         ensures answer { IsAnswered side_fault_number (due.clashes_fault self.now) result }
+        ensures refused { IfSome (due.clashes_fault self.now) (λ fault. result ≡ Err fault) }
         ensures clashes { IfOk result (λ list. heard_clashes self.now ≡ Some (arc_value list)) }
     {
         let Some(compared) = &self.compared else {
@@ -188,6 +189,7 @@ impl State {
         requires idle { self.old.exchange ≡ None }
         requires known { IsTrue is_known → IsTrue (agrees_with self.old.table (row_for store.now registration)) }
         ensures answer { IsAnswered table.table_fault_number (table.row_fault limit.names self.old.table name registration store.now) result }
+        ensures refused { IfSome (table.row_fault limit.names self.old.table name registration store.now) (λ fault. result ≡ Err fault) }
         ensures done { OnOk result (sides.register self.old name (row_for store.now registration) ≡ Some self.new) }
         ensures unchanged { OnErr result (self.new ≡ self.old) }
     {

@@ -31,6 +31,7 @@ use Rattle.exchange_codec.specs.Reading as reading
 use Rattle.exchange_codec.specs.Withdrawals.{SpellsWithdrawals}
 use Rattle.c_calls.specs.Halves.{SideAndStore}
 use Rattle.c_calls.specs.Answers.{allowed, unless, GivesDueOrRunsOut, GivesDue}
+use Rattle.c_calls.specs.laws.Firsts.{or_runs_out}
 use Rattle.c_calls.specs.Exchanges.{HearsWhole, HearsWholeList, UnlessOther, UnlessRefused, refusal_of, withdrawing}
 use Rattle.c_calls.specs.Sides.{CarriesOut, IsRenewedHalf, Stays, registering, unregistering}
 use Rattle.heal_c.specs.Processes.{Processes, process_half, with_half, IsCall, IsHistory}
@@ -379,12 +380,12 @@ step p after id l (call.forgets new program r e) = subst Like (sym e)
     (like_same l id new (forgot (forgetting (id_from program) (process_half p id)) (id_from program) (process_half p id) new r))
 step p after id l (call.registers new name registration r e) = subst Like (sym e)
     (⊎_elim (λ d. like_quiet l id new (Happens (Does id (Register _ _))) (does l id new (Register _ _) d.1)) (stays l id new)
-    (either (registering name registration (process_half p id)) r))
+    (either (registering name registration (process_half p id)) (or_runs_out _ _ _ _ r)))
 step p after id l (call.unregisters new name r e) = subst Like (sym e)
     (⊎_elim (λ d. like_quiet l id new (Happens (Does id (Unregister d.0))) (does l id new (Unregister d.0) d.1))
     (stays l id new) (either_due (unregistering name (process_half p id)) r))
 step p after id l (call.begins new number seed uptime before bytes r e) = subst Like (sym e)
-    (let d = done _ _ _ r in began l id new number seed uptime bytes d.0 d.1)
+    (let d = done _ _ _ (or_runs_out _ _ _ _ r) in began l id new number seed uptime bytes d.0 d.1)
 step p after id l (call.hears new bytes sent r e) = subst Like (sym e)
     (let h = l.offers sent.0 bytes sent.1 in
     let whole : HearsWhole bytes (process_half p id) new 0 =
@@ -397,16 +398,16 @@ step p after id l (call.settles new r e) = subst Like (sym e)
     (ap (settled the_round) (sym (side_is l id new)) ∙ sym d.0.state)))
 step p after id l (call.withdraws new name r e) = subst Like (sym e)
     (⊎_elim (λ d. like_quiet l id new (Happens (Does id (Withdraw d.0))) (does l id new (Withdraw d.0) d.1))
-    (stays l id new) (either (withdrawing name (process_half p id)) r))
+    (stays l id new) (either (withdrawing name (process_half p id)) (or_runs_out _ _ _ _ r)))
 step p after id l (call.closes new before bytes r e) = subst Like (sym e)
-    (let d = done _ _ _ r in closed l id new bytes d.0 d.1)
+    (let d = done _ _ _ (or_runs_out _ _ _ _ r) in closed l id new bytes d.0 d.1)
 step p after id l (call.hears_list new bytes sent r e) = subst Like (sym e)
     (let h = l.lists sent.0 bytes sent.1 in
     let whole : HearsWholeList bytes (process_half p id) new 0 =
     was_read (process_half p id) (reading.due (length bytes) (peeked bytes)) _ _ _ r in
     heard_list l id new h.0 sent.0 h.1.0 (done _ _ _ (was_first _ _ _ _ (whole.taken h.0 h.1.1))))
 step p after id l (call.finishes new before outcome f r given e) = subst Like (sym e)
-    (let d = done _ _ _ r in finished l id new f d.0 given)
+    (let d = done _ _ _ (or_runs_out _ _ _ _ r) in finished l id new f d.0 given)
 step p after id l (call.abandons new r e) = subst Like (sym e)
     (like_quiet l id new (Happens (Does id Abandon)) (does l id new Abandon (settled_so _ _ _ r)))
 step p after id l (call.renews new r e) = subst Like (sym e)

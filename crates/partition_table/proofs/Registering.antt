@@ -1,5 +1,5 @@
 -- Which refusal is due where a name is registered.
-use Rattle.std.proofs.Common.{◌≡◌, ℕ, ◌<◌, ◌≤◌, ◌↔◌, ◌⊎◌, Bool, true, false, if◌then◌else◌, is_some, nat_lt, Option, Some, None, Result, Ok, Err, OnErr, List, refl, ap, sym, subst, ◌∙◌}
+use Rattle.std.proofs.Common.{◌≡◌, ℕ, ◌<◌, ◌≤◌, ◌↔◌, ◌⊎◌, Bool, true, false, if◌then◌else◌, is_some, nat_lt, Option, Some, None, Result, Ok, Err, IfSome, OnErr, List, refl, ap, sym, subst, ◌∙◌, arith}
 use Rattle.std.proofs.lemmas.Bool.{lt-ltb, le-ltb}
 use Rattle.std.specs.Bool.{IsTrue}
 use Rattle.std.specs.Result.{IsErrAnd}
@@ -27,6 +27,20 @@ pub handed_on : {A : Type 0} (due : Option TableFault) (r : Result A TableFault)
     → (due ≡ Some f) ⊎ (table_fault_number f ≡ out_of_memory) → IsAnswered table_fault_number due r
 handed_on due (Ok x) f h is = absurd h
 handed_on due (Err e) f h is = subst (λ x. (due ≡ Some x) ⊎ (table_fault_number x ≡ out_of_memory)) (sym h) is
+
+-- a refusal that is due is passed on
+pub due_on : (B : Type 0) {A : Type 0} (due : Option TableFault) (r : Result A TableFault) (f : TableFault) → IsErrAnd r (λ e. e ≡ f)
+    → IfSome due (λ fault. ◌≡◌ {A = Result B TableFault} (Err f) (Err fault)) → IfSome due (λ fault. r ≡ Err fault)
+due_on B None r f h is = tt
+due_on B (Some fault) (Ok x) f h is = absurd h
+due_on B (Some fault) (Err e) f h is = cc
+
+-- a name that is taken comes before another refusal, and neither is for memory
+pub not_memory : (b : Bool) (fault rest : TableFault) → fault ≡ (if b then NameTaken else rest)
+    → (table_fault_number rest ≡ out_of_memory → ⊥) → table_fault_number fault ≡ out_of_memory → ⊥
+not_memory true fault rest is other e =
+    let both : 30 ≡ 90 = ap table_fault_number (sym is) ∙ e in absurd (omega (arith, both))
+not_memory false fault rest is other e = other (ap table_fault_number (sym is) ∙ e)
 
 -- what always holds holds if there is an error
 pub if_err : {A F P : Type 0} (r : Result A F) → P → OnErr r P
@@ -82,12 +96,9 @@ module _ (limit : ℕ) (table : Table) (name : Name) (r : Registration) (store :
       by false a = due a
 
   -- where nothing else is due, only the name can be refused
-  pub answered : len table < limit → is_known store r.resolver ≡ true
-      → agrees_with table (row_for store r) ≡ true → {A : Type 0} (result : Result A TableFault)
-      → IsAnswered table_fault_number (taken_if (contains_key table name)) result
-      → IsAnswered table_fault_number (row_fault limit table name r store) result
-  answered room k g result =
-      subst (λ due. IsAnswered table_fault_number due result) (sym (by (contains_key table name) refl))
+  pub only_taken : len table < limit → is_known store r.resolver ≡ true
+      → agrees_with table (row_for store r) ≡ true → row_fault limit table name r store ≡ taken_if (contains_key table name)
+  only_taken room k g = by (contains_key table name) refl
     where
       by : (b : Bool) → contains_key table name ≡ b → row_fault limit table name r store ≡ taken_if b
       by true a = taken_due a

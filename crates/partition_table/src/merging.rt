@@ -250,7 +250,7 @@ impl<'a> Parents<'a> {
         if self.is_withdrawn(name, kept) {
             return Ok(());
         }
-        merged.push(name, kept, self.program_for(kept.resolver))
+        merged.push(name, kept, self.program_for(&kept.resolver))
     }
 
     // Checks whether a side that holds the registration under the name withdrew it.
@@ -263,8 +263,22 @@ impl<'a> Parents<'a> {
             || (self.gone_b.contains(name) && holds(self.b, name, kept))
     }
 
+    // The program that the resolver names, if one of the two keeps it. Most rows name none.
+    #[inline]
+    fn program_for(&self, resolver: &ResolverId) -> Option<&'a Arc<Verified>>
+        requires agree { IsTrue (tables_agree self.now.a.now self.now.b.now) }
+        requires tables { IsTable self.now.a.now × IsTable self.now.b.now }
+        ensures { (name : Name) (row : Row) → IsRowOf self.now.a.now self.now.b.now name row
+            → row.registration.resolver ≡ resolver.now → option_map (λ p. arc_value p.now) result ≡ row.code }
+    {
+        match resolver {
+            ResolverId::Builtin(_) => None,
+            ResolverId::Program(_) => self.kept_program(*resolver),
+        }
+    }
+
     // The program that the resolver names, if one of the two keeps it.
-    fn program_for(&self, resolver: ResolverId) -> Option<&'a Arc<Verified>>
+    fn kept_program(&self, resolver: ResolverId) -> Option<&'a Arc<Verified>>
         requires agree { IsTrue (tables_agree self.now.a.now self.now.b.now) }
         requires tables { IsTable self.now.a.now × IsTable self.now.b.now }
         ensures { (name : Name) (row : Row) → IsRowOf self.now.a.now self.now.b.now name row

@@ -38,7 +38,8 @@ impl Clone for Kept {
     }
 }
 
-// Counts one more row that names the program, and keeps the program where this is the first.
+// Counts one more row that names the program, and keeps the program where this is the first. Most rows name none.
+#[inline]
 pub(crate) fn hold_program(
     programs: &mut BTreeMap<ProgramId, Kept>,
     resolver: ResolverId,
@@ -58,6 +59,23 @@ pub(crate) fn hold_program(
     let (ResolverId::Program(id), Some(program)) = (resolver, program) else {
         return Ok(());
     };
+    hold(programs, id, program)
+}
+
+// Counts one more row that names the program of this id, and keeps the program where this is the first.
+fn hold(
+    programs: &mut BTreeMap<ProgramId, Kept>,
+    id: ProgramId,
+    program: &Arc<Verified>,
+) -> Result<(), AllocError>
+    requires room { has_room_for (programs_by kept_code programs.old.entries) (Program id) (Some (arc_value program.now)) }
+    requires few { rows_kept programs.old.entries id < most_names }
+    ensures held { OnOk result (programs_by kept_code programs.new.entries
+        ≡ insert (programs_by kept_code programs.old.entries) id (arc_value program.now)) }
+    ensures counted { OnOk result ((q : ProgramId) → rows_kept programs.new.entries q
+        ≡ rows_kept programs.old.entries q + is_of (Program id) q) }
+    ensures unchanged { OnErr result (programs.new.entries ≡ programs.old.entries) }
+{
     if let Some(kept) = programs.get_mut(&id) {
         kept.rows += 1;
         return Ok(());

@@ -1,5 +1,5 @@
 //! The rows that a table keeps, in a map of its own or in one that other tables read too.
-ghost use Rattle.std.specs.Prelude.{◌≡◌, ◌<◌, ◌^◌, IfOk, IfNone, OnOk, OnErr, Some, None, if◌then◌else◌, is_some, length};
+ghost use Rattle.std.specs.Prelude.{◌≡◌, ◌<◌, ◌^◌, IfOk, IfNone, OnOk, OnErr, Some, None, Err, IfSome, if◌then◌else◌, is_some, length};
 ghost use Rattle.std.specs.Option.{option_copied};
 ghost use Rattle.std.specs.Prelude as prelude;
 ghost use Rattle.std.specs.Ordering.{is_lt};
@@ -129,7 +129,7 @@ impl RowStore {
         Rows::after(map, marks, name)
     }
 
-    // Inserts the row, or returns 30 if the name is registered. Copies the map if other tables read it.
+    // Inserts the row, or returns 30 if the name is registered. Copies the map if other tables read it and the name is new.
     pub(crate) fn insert_new(
         &mut self,
         name: Name,
@@ -137,11 +137,16 @@ impl RowStore {
     ) -> Result<(), TableFault>
         ensures answer { IsAnswered table_fault_number
             (if is_some (lookup (is_at (name_cmp name)) self.old) then Some NameTaken else None) result }
+        ensures refused { IfSome (if is_some (lookup (is_at (name_cmp name)) self.old) then Some NameTaken else None)
+            (λ fault. result ≡ Err fault) }
         ensures inserted { OnOk result (ChangesAt name_cmp self.old self.new name (Some registration)) }
         ensures unchanged { OnErr result ((q : Name) → lookup (is_at (name_cmp q)) self.new ≡ lookup (is_at (name_cmp q)) self.old) }
     {
         if let Stored::Own(map) = &mut self.stored {
             return insert_new(map, name, registration);
+        }
+        if self.contains_key(&name) {
+            return Err(TableFault::NameTaken);
         }
         let mut map = self.take()?;
         let result = insert_new(&mut map, name, registration);
@@ -245,6 +250,8 @@ fn insert_new(
 ) -> Result<(), TableFault>
     ensures answer { IsAnswered table_fault_number
         (if is_some (get name_cmp rows.old name) then Some NameTaken else None) result }
+    ensures refused { IfSome (if is_some (get name_cmp rows.old name) then Some NameTaken else None)
+        (λ fault. result ≡ Err fault) }
     ensures inserted { OnOk result (Updates name_cmp rows.old rows.new name (Some registration)) }
     ensures unchanged { OnErr result ((q : Name) → get name_cmp rows.new q ≡ get name_cmp rows.old q) }
 {

@@ -126,6 +126,8 @@ impl Table {
         store: &UploadStore,
     ) -> Result<(), TableFault>
         ensures answer { IsAnswered table_fault_number (row_fault max_names self.old name registration store.now) result }
+        // 30, 32, 41 and 42 come also when out of memory.
+        ensures refused { IfSome (row_fault max_names self.old name registration store.now) (λ fault. result ≡ Err fault) }
         ensures registered { OnOk result (self.new ≡ map.insert self.old name (row_for store.now registration)) }
         ensures unchanged { OnErr result (self.new ≡ self.old) }
     {
@@ -146,6 +148,7 @@ impl Table {
         store: &UploadStore,
     ) -> Result<(), TableFault>
         ensures answer { IsAnswered table_fault_number (row_fault limit.names self.old name registration store.now) result }
+        ensures refused { IfSome (row_fault limit.names self.old name registration store.now) (λ fault. result ≡ Err fault) }
         ensures registered { OnOk result (self.new ≡ map.insert self.old name (row_for store.now registration)) }
         ensures unchanged { OnErr result (self.new ≡ self.old) }
     {
@@ -164,6 +167,7 @@ impl Table {
     ) -> Result<(), TableFault>
         requires { IsTrue is_known → IsTrue (agrees_with self.old (row_for store.now registration)) }
         ensures answer { IsAnswered table_fault_number (row_fault limit.names self.old name registration store.now) result }
+        ensures refused { IfSome (row_fault limit.names self.old name registration store.now) (λ fault. result ≡ Err fault) }
         ensures registered { OnOk result (self.new ≡ map.insert self.old name (row_for store.now registration)) }
         ensures unchanged { OnErr result (self.new ≡ self.old) }
     {
@@ -316,6 +320,8 @@ impl Table {
             record { registration = registration; code = option_map (λ p. arc_value p.now) program }) }
         ensures answer { IsAnswered table_fault_number
             (if map.contains_key self.old name then Some NameTaken else None) result }
+        ensures refused { IfSome (if map.contains_key self.old name then Some NameTaken else None)
+            (λ fault. result ≡ Err fault) }
         ensures kept { OnOk result (self.new ≡ map.insert self.old name
             record { registration = registration; code = option_map (λ p. arc_value p.now) program.entry }) }
         ensures unchanged { OnErr result (self.new ≡ self.old) }

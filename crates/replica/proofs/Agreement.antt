@@ -12,7 +12,7 @@ use Rattle.replica_law.specs.Histories as laws
 use Rattle.replica_law.specs.Rules.{ViewTells}
 use Rattle.replica.specs.declared.fault.ReplicaFault.{ReplicaFault}
 use Rattle.replica.specs.Halves.{HalfState, Edit, halves, edit_fault, edited}
-use Rattle.replica.specs.Replicas.{Replica, Change, left_by}
+use Rattle.replica.specs.Replicas.{Replica, changed, Change, left_by}
 use Rattle.replica.specs.Nodes.{NodeEvent, Does, nodes_after}
 use Rattle.replica.specs.Histories.{Has, HaveOneHalf, EditsLead, EntriesAgree, SnapshotsAgree, NextEntriesApply, IsMergedHalf, HoldTheMerge}
 use Rattle.replica.proofs.Calls.{change_leaves}
@@ -111,9 +111,7 @@ module _ (tells : (steps : Steps) → ViewTells halves steps) (edits : (steps : 
         FinishedWith exchange id number table → IsLawfulMerge exchange number table) →
         (history : List NodeEvent) (exchange : List exchange.Event) → HoldTheMerge history exchange
     hold_the_merge leads merges history exchange view id number table life r finished started has at =
-        subst (λ h. IsMergedHalf h exchange number table r.at r.half) started.place (record {
-          start = (left_by started.before (Change started.from table started.latest)).half;
-          has = refl;
+        subst (λ h. IsMergedHalf h exchange number (changed started.before.half table started.latest) r.at r.half) started.place (record {
           merged = merges exchange number id table finished;
           edits = edits_lead leads started.later (Does view.primary (Change started.from table started.latest) ∷ started.earlier)
               view.primary life (left_by started.before (Change started.from table started.latest)) r begins ends there;

@@ -98,8 +98,12 @@ refusals_change_nothing history event life call r at is refused =
 
 pub lives_start : (history : List NodeEvent) → LivesStart history
 lives_start history life none =
-    let w = nodes_after history in
-    ap (λ o. (started w life o).replicas life) none ∙ put_there w.replicas life (new_replica life)
+    let w = nodes_after history in (
+      ap (λ o. (started w life o).replicas life) none ∙ put_there w.replicas life (new_replica life),
+      λ other apart.
+          ap (λ o. (started w life o).replicas other) none ∙ put_elsewhere w.replicas life (new_replica life) other apart,
+      ap (λ o. (started w life o).sent) none,
+    )
 
 pub node_calls_happen : (history : List NodeEvent) → NodeCallsHappen history
 node_calls_happen history life Lead made = (Does life Lead, refl)

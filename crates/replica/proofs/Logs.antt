@@ -66,20 +66,22 @@ later_entries reader (k ∷ which) history =
     (rest.0 ++ Hears reader k ∷ [], rest.1 ∙ sym (append_assoc rest.0 (Hears reader k ∷ []) history))
 
 pub logs_restore : ((later earlier : List NodeEvent) → HaveOneHalf later earlier)
-    → ((history : List NodeEvent) → NextEntriesApply history) → (history : List NodeEvent) → LogsRestore history
-logs_restore one takes history writer reader w r k s which has_w has_r there goes on =
+    → ((history : List NodeEvent) → NextEntriesApply history) → (later earlier : List NodeEvent) → LogsRestore later earlier
+logs_restore one takes since earlier writer reader w r k s which has_w has_r there goes on =
+    let history = since ++ earlier in
     let followed = are_calls history (Hears_snapshot reader k) reader (Follow s) r
     (ap (option_map (λ snapshot. (reader, Follow snapshot))) there) has_r goes in
     let start = Hears_snapshot reader k ∷ history in
     let end = reached takes reader which start (moved r s.at s.state) w.at followed.0
     (subst (λ (es : List (Entry Edit)). AreConsecutive es s.at which w.at) (ap (λ sent. sent.entries) (sym followed.2)) on) in
     let later = later_entries reader which start in
-    let whole : after_entries reader which start ≡ (later.0 ++ Hears_snapshot reader k ∷ []) ++ history =
-    later.1 ∙ sym (append_assoc later.0 (Hears_snapshot reader k ∷ []) history) in
+    let read : List NodeEvent = later.0 ++ Hears_snapshot reader k ∷ [] in
+    let whole : after_entries reader which start ≡ (read ++ since) ++ earlier =
+    later.1 ∙ sym (append_assoc later.0 (Hears_snapshot reader k ∷ []) history) ∙ sym (append_assoc read since earlier) in
     record {
       replica = end.0;
       has = end.1;
       there = end.2;
-      holds = sym (one (later.0 ++ Hears_snapshot reader k ∷ []) history writer reader w end.0 has_w
+      holds = sym (one (read ++ since) earlier writer reader w end.0 has_w
           (subst (λ h. Has h reader end.0) whole end.1) (sym end.2));
     }

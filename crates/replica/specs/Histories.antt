@@ -11,7 +11,7 @@ use Rattle.replica_law.specs.declared.position.Position.{Position}
 use Rattle.replica_law.specs.Groups.{Entry, Snapshot, next}
 use Rattle.replica_law.specs.Histories.{Lead, start_of}
 use Rattle.replica.specs.Halves.{HalfState, Edit, edit_fault, halves}
-use Rattle.replica.specs.Replicas.{Replica, NodeCall, Change, Apply, Follow, new_replica, call_fault, follow_fault, left_by, change_fault}
+use Rattle.replica.specs.Replicas.{Replica, NodeCall, Change, Apply, Follow, new_replica, call_fault, follow_fault, left_by, change_fault, changed}
 use Rattle.replica.specs.Nodes.{Nodes, NodeEvent, Starts, Does, Hears, Hears_snapshot, receives_message, sent_after, nodes_after}
 
 -- the life has this replica after the history
@@ -73,11 +73,15 @@ RefusalsChangeNothing history = (event : NodeEvent) (life : Life) (call : NodeCa
     call_of_event nodes event ≡ Some (life, call) → nodes.replicas life ≡ Some r → IsTrue (is_some (call_fault r call)) →
     nodes_after (event ∷ history) ≡ nodes
 
--- a life that has no replica starts with an empty half, in its first view
+-- a life that has no replica starts with an empty half, in its first view. Nothing else changes
 abbrev pub LivesStart : List NodeEvent → Type 0
 LivesStart history = (life : Life) →
     let nodes = nodes_after history in
-    nodes.replicas life ≡ None → Has (Starts life ∷ history) life (new_replica life)
+    nodes.replicas life ≡ None →
+    let after = nodes_after (Starts life ∷ history) in
+    (after.replicas life ≡ Some (new_replica life))
+    × ((other : Life) → (other ≡ life → ⊥) → after.replicas other ≡ nodes.replicas other)
+    × (after.sent ≡ nodes.sent)
 
 -- the call receives nothing, or a message that was made
 abbrev pub IsHandedMade : Nodes → NodeCall → Type 0
@@ -111,12 +115,13 @@ pub record IsAt (history : List NodeEvent) (life : Life) (at : Position) (half :
   pub there : replica.at ≡ at
   pub holds : replica.half ≡ half
 
--- a log is a snapshot and the entries that come after it, up to where a replica is. A replica that may follow the snapshot, and
--- then applies these entries, is refused none, and gets that replica's half
-abbrev pub LogsRestore : List NodeEvent → Type 0
-LogsRestore history = (writer reader : Life) (w r : Replica) (k : ℕ) (s : Snapshot HalfState) (which : List ℕ) →
+-- a log is a snapshot and the entries that come after it, up to where a replica is, or was earlier. A replica that may follow the
+-- snapshot, and then applies these entries, is refused none, and gets the half that that replica had there
+abbrev pub LogsRestore : List NodeEvent → List NodeEvent → Type 0
+LogsRestore later earlier = (writer reader : Life) (w r : Replica) (k : ℕ) (s : Snapshot HalfState) (which : List ℕ) →
+    let history = later ++ earlier in
     let sent = (nodes_after history).sent in
-    Has history writer w → Has history reader r → slice_get sent.snapshots k ≡ Some s → follow_fault r s ≡ None →
+    Has earlier writer w → Has history reader r → slice_get sent.snapshots k ≡ Some s → follow_fault r s ≡ None →
     AreConsecutive sent.entries s.at which w.at →
     IsAt (after_entries reader which (Hears_snapshot reader k ∷ history)) reader w.at w.half
 
@@ -134,17 +139,16 @@ pub record IsStartedWith (history : List NodeEvent) (view : View) (table : Table
   pub number : view.number ≡ suc before.led
   pub goes : change_fault before from ≡ None
 
--- a half that an exchange merged, with the edits that the entries of a view made of it since. At the start of the view
--- these are none
-pub record IsMergedHalf (history : List NodeEvent) (exchange : List exchange.Event) (number : ℕ) (table : Table)
+-- the half that a view started with, whose table an exchange merged, with the edits that the entries of the view made of it since. At
+-- the start of the view these are none
+pub record IsMergedHalf (history : List NodeEvent) (exchange : List exchange.Event) (number : ℕ) (start : HalfState)
     (at : Position) (half : HalfState) : Type 0 where
-  pub start : HalfState
-  pub has : start.table ≡ table
   pub merged : IsLawfulMerge exchange number start.table
   pub edits : Lead halves (nodes_after history).sent.entries at.view start at.op half
 
 -- replicas that follow a view which starts with the table of a finished exchange hold its lawful merge
 abbrev pub HoldTheMerge : List NodeEvent → List exchange.Event → Type 0
 HoldTheMerge history exchange = (view : View) (id : SideId) (number : ℕ) (table : Table) (life : Life) (r : Replica) →
-    FinishedWith exchange id number table → IsStartedWith history view table → Has history life r → r.at.view ≡ view →
-    IsMergedHalf history exchange number table r.at r.half
+    FinishedWith exchange id number table → (started : IsStartedWith history view table) → Has history life r →
+    r.at.view ≡ view →
+    IsMergedHalf history exchange number (changed started.before.half table started.latest) r.at r.half

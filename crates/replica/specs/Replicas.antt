@@ -1,6 +1,7 @@
 -- A replica: what it keeps, and what each of its calls leaves.
 use Rattle.std.specs.Prelude.{ℕ, suc, Bool, not, ◌==◌, nat_lt, nat_le, if◌then◌else◌, Option, Some, None, Result, Ok, Err}
 use Rattle.partition_table.specs.Tables.{Table}
+use Rattle.exchange_law.specs.Sides.{is_above}
 use Rattle.replica_law.specs.declared.position.Life.{Life}
 use Rattle.replica_law.specs.declared.position.View.{View}
 use Rattle.replica_law.specs.declared.position.Position.{Position}
@@ -112,9 +113,14 @@ call_fault r Show = None
 call_fault r (Follow snapshot) = follow_fault r snapshot
 call_fault r (Apply entry) = apply_fault r entry
 
--- a half after an exchange: another table, and the greatest number that it began
+-- the greater of two numbers of exchanges, if there is one
+abbrev pub greater : Option ℕ → Option ℕ → Option ℕ
+greater None other = other
+greater (Some number) other = if is_above number other then Some number else other
+
+-- a half after an exchange: another table, and the greater of its number and the exchange's
 abbrev pub changed : HalfState → Table → Option ℕ → HalfState
-changed half table latest = record half { table = table; latest = latest }
+changed half table latest = record half { table = table; latest = greater half.latest latest }
 
 -- what a call that isn't refused leaves
 abbrev pub left_by : Replica → NodeCall → Replica

@@ -1,5 +1,5 @@
 //! A half as each of its nodes holds it.
-ghost use Rattle.std.specs.Prelude.{◌≡◌, ◌≤◌, ◌+◌, if◌then◌else◌, nat_le, Some, None, IfOk, OnOk, OnErr, length};
+ghost use Rattle.std.specs.Prelude.{◌≡◌, ◌≤◌, ◌+◌, if◌then◌else◌, nat_le, Some, None, Err, false, IfOk, OnOk, OnErr, length};
 ghost use Rattle.std.specs.Arc.{arc_value};
 ghost use Rattle.std.specs.FinMap.{len};
 ghost use Rattle.refusals.specs.Answers.{IsAnswered};
@@ -9,7 +9,7 @@ ghost use Rattle.partition_table.specs.declared.fault.TableFault.TheVariants.{Fu
 ghost use Rattle.replica.specs.declared.fault.ReplicaFault.TheVariants as of;
 ghost use Rattle.replica.specs.Faults.{replica_fault_number};
 ghost use Rattle.replica.specs.Halves.{edit_fault, edited, first_half};
-ghost use Rattle.replica.specs.Replicas.{changed};
+ghost use Rattle.replica.specs.Replicas.{changed, greater};
 
 use crate::edit::Edit;
 use crate::fault::ReplicaFault;
@@ -119,7 +119,8 @@ impl Half {
         self.latest
     }
 
-    // Returns the half after an exchange. Copies the store and, unless its rows are shared already, the table.
+    // Returns the half after an exchange, with the greater of the two numbers. Copies the store and, unless its rows are
+    // shared already, the table.
     pub(crate) fn changed(&self, table: &Table, latest: Option<u64>) -> Result<Half, AllocError>
         ensures { IfOk result (λ half. half ≡ changed self.now table.now latest) }
     {
@@ -127,7 +128,7 @@ impl Half {
             store: self.store.try_clone()?,
             table: table.try_clone()?,
             limit: self.limit,
-            latest,
+            latest: greater(self.latest, latest),
         })
     }
 
@@ -135,6 +136,7 @@ impl Half {
     pub(crate) fn side(&self, alloc: Global, id: SideId) -> Result<Side, ReplicaFault>
         ensures answer { IsAnswered replica_fault_number
             (if nat_le (len self.now.table) self.now.limit then None else Some (of.Table Full)) result }
+        ensures full { nat_le (len self.now.table) self.now.limit ≡ false → result ≡ Err (of.Table Full) }
         ensures state { IfOk result (λ side. shown side ≡ record {
           id = id;
           table = self.now.table;
@@ -144,10 +146,13 @@ impl Half {
         ensures limit { IfOk result (λ side. limit_of side ≡ self.now.limit) }
         ensures short { IfOk result (λ side. length (calls side) ≤ len self.now.table + 2) }
     {
+        if self.table.len() > self.limit.names() {
+            return Err(ReplicaFault::Table(TableFault::Full));
+        }
         let table = self.table.try_clone()?;
         match Side::with_table(alloc, id, self.limit, table, self.latest) {
             Ok(side) => Ok(side),
-            Err(_) => Err(ReplicaFault::Table(TableFault::Full)),
+            Err(_) => unreachable!(),
         }
     }
 
@@ -192,6 +197,16 @@ fn is_above(number: u64, latest: Option<u64>) -> bool
     match latest {
         Some(latest) => number > latest,
         None => true,
+    }
+}
+
+// Returns the greater of the two, if there is one.
+fn greater(number: Option<u64>, other: Option<u64>) -> Option<u64>
+    ensures { result ≡ greater number other }
+{
+    match number {
+        Some(own) if is_above(own, other) => number,
+        _ => other,
     }
 }
 

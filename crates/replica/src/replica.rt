@@ -144,7 +144,8 @@ impl Replica {
         Ok(view)
     }
 
-    /// Starts a view with the table and the greatest number that an exchange left, and returns the view.
+    /// Starts a view with the table that an exchange left, and returns the view. The half's greatest number stays if it is
+    /// above that of the exchange.
     ///
     /// `from` is the position of the edit `Begin` that recorded the exchange's number. Returns 49 if the replica isn't there any more,
     /// so that no edit made since is lost, and 99 if no view number is left: the first of these. Returns 90 when out of
@@ -157,13 +158,17 @@ impl Replica {
         latest: Option<u64>,
     ) -> Result<View, ReplicaFault>
         ensures answer { IsAnswered replica_fault_number (change_fault self.old from) result }
-        ensures moved { same_position self.old.at from ≡ false → result ≡ Err of.Moved }
+        // 49 and 99 come also when out of memory.
+        ensures early { IfSome (change_fault self.old from) (λ fault. result ≡ Err fault) }
         ensures view { IfOk result (λ view. view ≡ own_view self.new) }
         ensures done { OnOk result (self.new ≡ left_by self.old (Change from table.now latest)) }
         ensures unchanged { OnErr result (self.new ≡ self.old) }
     {
         if self.at != from {
             return Err(ReplicaFault::Moved);
+        }
+        if self.led == u64::MAX {
+            return Err(ReplicaFault::Exhausted);
         }
         let half = self.half.changed(table, latest)?;
         let Ok(half) = Arc::new(alloc, half) else {
@@ -195,13 +200,23 @@ impl Replica {
         ensures done { OnOk result (self.new ≡ left_by self.old (Make edit.now)) }
         ensures unchanged { OnErr result (self.new ≡ self.old) }
     {
-        if !self.is_primary() {
-            return Err(ReplicaFault::NotPrimary);
-        }
-        if self.at.op == u64::MAX {
-            return Err(ReplicaFault::Exhausted);
+        if let Some(fault) = self.edit_refusal() {
+            return Err(fault);
         }
         self.step(edit)
+    }
+
+    /// Returns the refusal that is due to any edit, whatever the half holds: 95 or 99. Allocates nothing.
+    pub fn edit_refusal(&self) -> Option<ReplicaFault>
+        ensures { result ≡ early_make_fault self.now }
+    {
+        if !self.is_primary() {
+            return Some(ReplicaFault::NotPrimary);
+        }
+        if self.at.op == u64::MAX {
+            return Some(ReplicaFault::Exhausted);
+        }
+        None
     }
 
     /// Carries an edit out as the primary, and returns the entry to send to the backups.
@@ -289,6 +304,8 @@ impl Replica {
     pub fn side(&self, alloc: Global, id: SideId) -> Result<Side, ReplicaFault>
         ensures answer { IsAnswered replica_fault_number
             (if nat_le (len self.now.half.table) self.now.half.limit then None else Some (of.Table Full)) result }
+        // 32 comes also when out of memory.
+        ensures full { nat_le (len self.now.half.table) self.now.half.limit ≡ false → result ≡ Err (of.Table Full) }
         ensures state { IfOk result (λ side. shown side ≡ record {
           id = id;
           table = self.now.half.table;

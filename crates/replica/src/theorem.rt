@@ -37,8 +37,8 @@ pub fn replicas_theorem()
     ensures refusals { (history : List NodeEvent) → RefusalsChangeNothing history }
     ensures starts { (history : List NodeEvent) → LivesStart history }
     ensures happen { (history : List NodeEvent) → NodeCallsHappen history }
-    // A log of a snapshot and the entries after it gives the replica that wrote it.
-    ensures logs { (history : List NodeEvent) → LogsRestore history }
+    // A log of a snapshot and the entries after it gives the half that the replica which wrote it had at its last entry.
+    ensures logs { (later earlier : List NodeEvent) → LogsRestore later earlier }
     // After an exchange, each node that follows its outcome holds the merge, with the edits made since.
     ensures merge { (history : List NodeEvent) (exchange : List exchange.Event) → HoldTheMerge history exchange }
 {

@@ -47,6 +47,12 @@ module _ (store : Programs) (upload : Upload) where
   due_room h room =
       by_kept None h ∙ ap (λ b. if b then None else Some StoreFull) (lt-ltb (map.len store) max_programs room)
 
+  -- an upload that is the same has room
+  pub due_none : (other : Upload) (count : ℕ) → upload ≡ other → map.get store upload.id ≡ None → count ≡ map.len store
+      → count < max_programs → keep_fault store other ≡ None
+  due_none other count same h len room =
+      subst (λ u. keep_fault store u ≡ None) same (due_room h (subst (λ n. n < max_programs) len room))
+
   -- where no refusal is due, there is a place
   pub has_place : keep_fault store upload ≡ None → HasPlace store upload.id upload.code
   has_place = by_there (map.get store upload.id) refl

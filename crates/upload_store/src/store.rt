@@ -194,6 +194,8 @@ impl UploadStore {
     /// allocates one entry, and one more owner of the program.
     pub fn keep_upload(&mut self, upload: &Upload) -> Result<(), UploadFault>
         ensures answer { IsAnswered upload_fault_number (keep_fault self.old upload.now) result }
+        // 42 and 43 come also when out of memory.
+        ensures refused { IfSome (keep_fault self.old upload.now) (λ fault. result ≡ Err fault) }
         ensures kept { OnOk result (self.new ≡ map.insert self.old upload.now.id upload.now.code) }
         ensures unchanged { OnErr result (self.new ≡ self.old) }
     {

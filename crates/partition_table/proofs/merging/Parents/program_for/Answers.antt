@@ -1,17 +1,18 @@
-use Rattle.std.specs.Arc.{arc_value}
-use Rattle.partition_table.proofs.Uniting.{kept_in_first, kept_in_second}
+use Rattle.std.proofs.Common.{◌≡◌, List, Option, Some, None, refl, subst, ◌∙◌}
+use Rattle.instruction_set.specs.declared.insn.Insn.{Insn}
+use Rattle.clash_record.specs.declared.registrations.Builtin.{Builtin}
+use Rattle.clash_record.specs.declared.registrations.ResolverId.TheVariants as resolver
+use Rattle.partition_table.specs.Tables.{IsCodeOf}
+use Rattle.partition_table.proofs.Uniting.{coded_row_of}
 use Rattle.partition_table.proofs.merging.Parents.program_for.Goals as goal
 
-pub returns-in-Some : goal.returns-in-Some
-returns-in-Some c = λ n row of_row same.
-    let p = c.args.self.now in
-    kept_in_first p.a.now p.b.now c.requires.tables.0 c.requires.tables.1 c.requires.agree c.args.resolver
-    (arc_value c.in-Some.program.now)
-    c.in-Some.ensures.named n row of_row same
+-- a built-in resolver has no code
+no_code : (b : Builtin) (code : Option (List Insn)) → IsCodeOf (resolver.Builtin b) code → None ≡ code
+no_code b None h = refl
+no_code b (Some c) h = absurd h
 
-pub returns-in-None : goal.returns-in-None
-returns-in-None c = λ n row of_row same.
+pub returns-in-Builtin : goal.returns-in-Builtin
+returns-in-Builtin c = λ n row of_row same.
     let p = c.args.self.now in
-    kept_in_second p.a.now p.b.now c.requires.tables.0 c.requires.tables.1 c.requires.agree arc_value c.args.resolver
-    c.program_for-in-None.result c.program_for-in-None.ensures.named n row (λ h. c.in-None.ensures.each n row h same)
-    (λ h. c.program_for-in-None.ensures.each n row h same) same of_row
+    no_code c.in-Builtin.field-0 row.code (subst (λ r. IsCodeOf r row.code) (same ∙ c.in-Builtin.is)
+    (coded_row_of p.a.now p.b.now c.requires.tables.0 c.requires.tables.1 c.requires.agree n row of_row))

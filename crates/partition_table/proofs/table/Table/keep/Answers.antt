@@ -1,4 +1,4 @@
-use Rattle.std.proofs.Common.{◌≡◌, Err, ap, sym, subst, ◌∙◌}
+use Rattle.std.proofs.Common.{◌≡◌, IfSome, Result, Err, ap, sym, subst, ◌∙◌}
 use Rattle.std.specs.Option.{option_map}
 use Rattle.std.specs.Arc.{arc_value}
 use Rattle.std.specs.FinMap.{insert}
@@ -11,7 +11,9 @@ use Rattle.clash_record.specs.laws.Orders.{names_total, names_exact}
 use Rattle.refusals.specs.Answers.{IsAnswered}
 use Rattle.partition_table.specs.Faults.{table_fault_number}
 use Rattle.upload_store.specs.laws.Mapped.{made_same}
-use Rattle.partition_table.proofs.Registering.{handed_on, if_err, taken_if, new_name}
+use Rattle.upload_store.specs.laws.Refused.{none_is_due}
+use Rattle.partition_table.specs.declared.fault.TableFault.{TableFault}
+use Rattle.partition_table.proofs.Registering.{due_on, handed_on, if_err, taken_if, new_name}
 use Rattle.partition_table.proofs.Changes.{few_kept, kept_more, made_more, made_back}
 use Rattle.partition_table.proofs.table.Table.keep.Goals.{After-into, In_default, After-from_residual}
 use Rattle.partition_table.proofs.table.Table.keep.Goals as goal
@@ -56,6 +58,14 @@ returns-in_err-insert_new-clause-answer c =
     (subst (λ b. IsAnswered {A = Unit {0}} table_fault_number (taken_if b) (Err c.in_err-insert_new.field-0.0)) named
     c.in_err-insert_new.ensures.answer)
 
+pub returns-in_err-insert_new-clause-refused : goal.returns-in_err-insert_new-clause-refused
+returns-in_err-insert_new-clause-refused c =
+    let named = has_name (programs_by kept_code c.self.inside.programs.entries) c.self.inside.rows
+    c.args.self.now c.self.view_is c.args.name in
+    due_on (Unit {0}) _ c.from_residual.result c.in_err-insert_new.field-0.0 c.from_residual.ensures.1
+    (subst (λ b. IfSome (taken_if b) (λ fault. ◌≡◌ {A = Result (Unit {0}) TableFault} (Err c.in_err-insert_new.field-0.0) (Err fault))) named
+    c.in_err-insert_new.ensures.refused)
+
 pub returns-in_err-insert_new-clause-unchanged : goal.returns-in_err-insert_new-clause-unchanged
 returns-in_err-insert_new-clause-unchanged c = if_err c.from_residual.result (table_same c)
 
@@ -84,6 +94,12 @@ invariant_of-self-in-Err c =
 
 pub returns-in-Err-clause-unchanged : goal.returns-in-Err-clause-unchanged
 returns-in-Err-clause-unchanged c = table_back c
+
+pub returns-in-Err-clause-refused : goal.returns-in-Err-clause-refused
+returns-in-Err-clause-refused c =
+    let named = has_name (programs_by kept_code c.self.inside.programs.entries) c.self.inside.rows
+    c.args.self.now c.self.view_is c.args.name in
+    none_is_due _ _ (ap taken_if (sym named) ∙ c.in_ok-insert_new.ensures.answer)
 
 -- the row that is kept
 row : In_default → Row
@@ -125,3 +141,6 @@ returns-clause-answer c =
     let named = has_name (programs_by kept_code c.self.inside.programs.entries) c.self.inside.rows
     c.args.self.now c.self.view_is c.args.name in
     ap taken_if (sym named) ∙ c.in_ok-insert_new.ensures.answer
+
+pub returns-clause-refused : goal.returns-clause-refused
+returns-clause-refused c = none_is_due _ _ (returns-clause-answer c)

@@ -4,8 +4,10 @@ use Rattle.std.specs.FinMap as map
 use Rattle.instruction_set.specs.laws.SameInsn.{same_code}
 use Rattle.upload_store.specs.declared.fault.UploadFault.TheVariants.{DigestClash, StoreFull}
 use Rattle.upload_store.specs.Programs.{Upload, programs_by, IsProgram, max_programs}
+use Rattle.upload_store.specs.Faults.{upload_fault_number}
 use Rattle.upload_store.specs.Uploads.{keep_fault}
-use Rattle.upload_store.proofs.Keeping.{due_same, due_clash, due_full, due_room}
+use Rattle.upload_store.specs.laws.Refused.{is_due, none_is_due}
+use Rattle.upload_store.proofs.Keeping.{due_same, due_clash, due_full, due_none}
 use Rattle.upload_store.proofs.Maps.{get_lent, insert_again, map_inserted, still_kept}
 use Rattle.upload_store.proofs.store.UploadStore.keep_upload.Goals.{Then-eq, Joined-insert-2}
 use Rattle.upload_store.proofs.store.UploadStore.keep_upload.Goals as goal
@@ -24,6 +26,9 @@ pub returns-then-eq-clause-answer : goal.returns-then-eq-clause-answer
 returns-then-eq-clause-answer c =
     subst (λ u. keep_fault c.args.self.now u ≡ None) c.upload.view_is (due_same c.args.self.now _ (again c))
 
+pub returns-then-eq-clause-refused : goal.returns-then-eq-clause-refused
+returns-then-eq-clause-refused c = none_is_due _ _ (returns-then-eq-clause-answer c)
+
 pub returns-then-eq-clause-kept : goal.returns-then-eq-clause-kept
 returns-then-eq-clause-kept c =
     subst (λ (u : Upload). c.args.self.now ≡ map.insert c.args.self.now u.id u.code) c.upload.view_is
@@ -40,6 +45,9 @@ returns-in-Some-clause-answer c = inl (subst (λ u. keep_fault c.args.self.now u
     let is_true = (same_code c.code.result.now c.code-in-Some.result.now c.eq.result c.eq.ensures).1 equal in
     absurd (cc (c.if-eq.false, is_true)))))
 
+pub returns-in-Some-clause-refused : goal.returns-in-Some-clause-refused
+returns-in-Some-clause-refused c = is_due _ upload_fault_number _ DigestClash (returns-in-Some-clause-answer c) (λ e. absurd (cc))
+
 pub returns-then-len-ge-MAX_PROGRAMS-clause-answer : goal.returns-then-len-ge-MAX_PROGRAMS-clause-answer
 returns-then-len-ge-MAX_PROGRAMS-clause-answer c =
     inl (subst (λ u. keep_fault c.args.self.now u ≡ Some StoreFull) c.upload.view_is
@@ -50,6 +58,18 @@ returns-then-len-ge-MAX_PROGRAMS-clause-answer c =
     let many = ap map.len (sym c.self.view_is) ∙ c.self.invariant.distinct in
     let full = c.if-len-ge-MAX_PROGRAMS.true in
     absurd (omega (arith, less, many, full, c.len.ensures.len)))))
+
+pub returns-then-len-ge-MAX_PROGRAMS-clause-refused : goal.returns-then-len-ge-MAX_PROGRAMS-clause-refused
+returns-then-len-ge-MAX_PROGRAMS-clause-refused c =
+    is_due _ upload_fault_number _ StoreFull (returns-then-len-ge-MAX_PROGRAMS-clause-answer c) (λ e. absurd (cc))
+
+pub returns-in_default-program-clause-refused : goal.returns-in_default-program-clause-refused
+returns-in_default-program-clause-refused c =
+    none_is_due _ _ (due_none c.args.self.now _ c.args.upload.now _ c.upload.view_is
+    (get_lent arc_value c.args.self.now c.self.inside.programs.entries c.self.view_is c.upload.inside.id None
+    c.in_default.ensures.value)
+    (sym (ap map.len (sym c.self.view_is) ∙ c.self.invariant.distinct))
+    (omega (arith, c.if-len-ge-MAX_PROGRAMS.false, c.len.ensures.len)))
 
 -- there is room
 room : (c : Joined-insert-2) → length c.self.inside.programs.entries < max_programs
@@ -71,9 +91,19 @@ invariant_of-self c =
 
 pub returns-in-Ok-insert-clause-answer : goal.returns-in-Ok-insert-clause-answer
 returns-in-Ok-insert-clause-answer c =
-    subst (λ u. keep_fault c.args.self.now u ≡ None) c.upload.view_is
-    (due_room c.args.self.now _ (none c)
-    (subst (λ n. n < max_programs) (sym (ap map.len (sym c.self.view_is) ∙ c.self.invariant.distinct)) (room c)))
+    due_none c.args.self.now _ c.args.upload.now _ c.upload.view_is (none c)
+    (sym (ap map.len (sym c.self.view_is) ∙ c.self.invariant.distinct)) (room c)
+
+pub returns-in-Ok-insert-clause-refused : goal.returns-in-Ok-insert-clause-refused
+returns-in-Ok-insert-clause-refused c = none_is_due _ _ (returns-in-Ok-insert-clause-answer c)
+
+pub returns-clause-refused : goal.returns-clause-refused
+returns-clause-refused c =
+    none_is_due _ _ (due_none c.args.self.now _ c.args.upload.now _ c.upload.view_is
+    (get_lent arc_value c.args.self.now c.self.inside.programs.entries c.self.view_is c.upload.inside.id None
+    c.in_default.ensures.value)
+    (sym (ap map.len (sym c.self.view_is) ∙ c.self.invariant.distinct))
+    (omega (arith, c.if-len-ge-MAX_PROGRAMS.false, c.len.ensures.len)))
 
 pub returns-in-Ok-insert-clause-kept : goal.returns-in-Ok-insert-clause-kept
 returns-in-Ok-insert-clause-kept c =
