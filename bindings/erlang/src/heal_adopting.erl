@@ -48,8 +48,11 @@ adopt_for(Node, Number, Edit, Part = #part{peers = Peers}) ->
         #{Node := Peer = #peer{adopted = Last}} when Number > Last ->
             Call = #call{from = {adopting, Node, Number}, edit = Edit},
             heal_edits:edit(Call, Part#part{peers = Peers#{Node := Peer#peer{adopted = Number}}});
+        #{Node := _} ->
+            Part;
         _ ->
-            Part
+            %% This node refuses the other one, or hasn't heard of it so far. The request may be repeated.
+            heal_state:send(Node, {adopted, Number, {error, {noconnection, unknown}}}, Part)
     end.
 
 %% The home has answered. A registration is answered once this node has it too.

@@ -89,7 +89,8 @@ entered(Number, Made, Answer, Before, Part = #part{requested = Requested, unrele
         {{Call, Rest}, {now, Edit}} when element(1, Edit) =:= unregister; element(1, Edit) =:= change ->
             Name = element(2, Edit),
             #{Name := #row{home = Home}} = (heal_state:half(Before))#half.names,
-            case lists:member(Home, [heal_state:life(Part), heal_state:primary(Part)]) of
+            case Call#call.from =:= none orelse lists:member(Home, [heal_state:life(Part), heal_state:primary(Part)]) of
+                %% The home confirms it already, or nobody waits for that any more.
                 true -> heal_edits:answer(Call, Answer, Part#part{requested = Rest});
                 false when Call#call.released =/= none -> heal_arrivals:leave(Call, Call#call.released, Part#part{requested = Rest});
                 false -> Part#part{requested = Rest, unreleased = Unreleased#{Number => Call}}

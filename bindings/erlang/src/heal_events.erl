@@ -106,6 +106,8 @@ events({restoring, Rows}) ->
     [Event || {Name, Row} <- Rows, Event <- changed(Name, Row)];
 events({hide, Name}) ->
     unregistered(Name);
+events({ended, Name, _Row}) ->
+    unregistered(Name);
 events({disown, Name, _Row}) ->
     [Event || heal_table:is_restoring(Name), Event <- unregistered(Name)];
 events({lost, Losers}) ->

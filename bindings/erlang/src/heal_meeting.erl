@@ -114,10 +114,11 @@ name(Part) -> case heal_view:members(Part) of [_] -> apart; _ -> joined end.
 -spec message(node(), Body :: term(), #part{}) -> #part{}.
 message(Node, {ask, Reference, Members}, Part = #part{node = Self, peers = Peers}) when Node < Self ->
     Nodes = [Of || {{Of, _}, _} <- Members],
-    case is_map_key(Node, Peers) andalso heal_peers:is_primary(map_get(Node, Peers)) of
-        true -> asked(Node, Reference, Members, Nodes, Part);
+    case {is_map_key(Node, Peers) andalso heal_peers:is_primary(map_get(Node, Peers)), heal_peers:turned_down(Node, Part)} of
+        {true, _} -> asked(Node, Reference, Members, Nodes, Part);
+        {false, {true, Told}} -> Told;
         %% It has heard of this node, and not the other way round, or not that it leads a part now.
-        false -> heal_peers:hurry(Node, busy(Node, Reference, Nodes, Part))
+        {false, false} -> heal_peers:hurry(Node, busy(Node, Reference, Nodes, Part))
     end;
 message(Node, {turn, Reference, Members}, Part = #part{heal = {asking, #asking{node = Node, reference = Reference}}}) ->
     engage(Node, Reference, Members, Part#part{heal = idle});
@@ -155,6 +156,13 @@ message(Node, {finished, Number, View}, Part = #part{heal = Open = #open{node = 
     follow(View, Open, Part);
 message(Node, {abandon, Number, Refusal}, Part = #part{heal = #open{node = Node, number = Number}}) ->
     failed(Refusal, Node, Part);
+message(Node, {abandon, 0, Refusal}, Part = #part{heal = Heal, exchange_timeout = Timeout}) ->
+    %% The other node refuses this one, which takes it for a node to heal with.
+    Rest = case Heal =/= idle andalso with(Heal) of Node -> Part#part{heal = idle}; _ -> Part end,
+    heal_peers:retry(Node, Refusal, Timeout, Rest);
+message(Node, {abandon, _Number, numbers}, Part = #part{heal = {engaged, #asking{node = Node}}}) ->
+    %% The leader doesn't begin.
+    failed(numbers, Node, Part);
 message(_Node, _Stale, Part) ->
     Part.
 
@@ -218,7 +226,7 @@ engage(Node, Reference, Members, Part = #part{now = Now, exchange_timeout = Time
 %% ---- The exchange ----
 
 %% The leader proposes a number and a seed, with which both nodes begin at the same time, and opens the exchange: step 1.
-propose(Node, Reference, Number, Members, Part = #part{world = World, exchange_timeout = Timeout}) ->
+propose(Node, Reference, Number, Members, Part = #part{world = World}) ->
     Own = members(Part),
     case clashing_numbers(Own ++ Members) of
         false ->
@@ -226,7 +234,7 @@ propose(Node, Reference, Number, Members, Part = #part{world = World, exchange_t
             Sent = heal_state:send(Node, {propose, Number, Seed, Own, Reference}, counted(Number, Part)),
             heal_state:continue({propose, Reference, Number, Seed, Members}, Sent);
         true ->
-            heal_peers:retry(Node, numbers, Timeout, Part#part{heal = idle})
+            refused(numbers, Node, Number, Part)
     end.
 
 %% No later exchange of this node has this number.
@@ -500,16 +508,23 @@ broken(Part = #part{heal = Heal, peers = Peers}) ->
         false -> Part#part{heal = idle}
     end.
 
-%% A registry that starts has missed a query that was sent before: it is queried again.
+%% A node that has this one announce itself, as a registry does that starts, is in no exchange with it, and has missed a query that was sent
+%% before.
 -spec announced(node(), heal_peers:here(), #part{}) -> #part{}.
-announced(Node, #{is_first := true}, Part = #part{heal = {asking, #asking{node = Node}}}) -> Part#part{heal = idle};
-announced(_Node, _Here, Part) -> Part.
+announced(Node, #{is_first := true, life := Life, seq := Seq}, Part = #part{heal = Heal, peers = Peers}) when Heal =/= idle ->
+    case {with(Heal), Peers} of
+        {Node, #{Node := #peer{life = Life, seq = Last}}} when Seq =< Last -> Part;
+        {Node, _} -> Part#part{heal = idle};
+        _ -> Part
+    end;
+announced(_Node, _Here, Part) ->
+    Part.
 
-%% The registry of a node has failed, and starts again soon.
+%% The registry of a node has failed, and starts again soon. If it has begun another exchange already, it gives that up.
 -spec failed_with(node(), #part{}) -> #part{}.
 failed_with(Node, Part = #part{heal = Heal}) ->
     case Heal =/= idle andalso with(Heal) of
-        Node -> Part#part{heal = idle};
+        Node -> heal_peers:hurry(Node, Part#part{heal = idle});
         _ -> Part
     end.
 

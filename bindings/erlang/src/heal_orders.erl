@@ -7,6 +7,8 @@
 
 %% How many owners a primary remembers that it has unregistered.
 -define(REMEMBERED, 1000).
+%% The refusal of a registration that there is no room for.
+-define(TABLE_FULL, 32).
 
 %% Decides what an edit does to the half: nothing, with this answer, or an edit of the replica.
 plan({register, Name, Row = #row{home = Home}}, Part = #part{own = Own, lost = Lost}) ->
@@ -57,8 +59,18 @@ make(Call, Edit, Answer, Part = #part{replica = Replica}) ->
             Answered = made(Call, By, Answer, applied(Made, By, Part, Claimed)),
             heal_view:broadcast({edit, At, [Made], By, Answer}, awaited(By, Made, Part), Answered);
         {error, Number} ->
-            heal_entries:finish(Call, {error, Number}, Part)
+            refused(Call, Number, Part)
     end.
+
+%% A full table has no room for a registration that this node restores: it waits for room, and nobody else restores it. Other homes look for
+%% theirs again.
+refused(Call = #call{from = From, edit = {register, Name, Row}}, ?TABLE_FULL, Part) when From =:= none; element(1, From) =:= home ->
+    case heal_home:is_own(Name, heal_row:owner(Row), Part) of
+        true -> heal_edits:wait(Call#call{from = {home, element(2, heal_state:at(Part))}}, Part);
+        false -> Part
+    end;
+refused(Call, Number, Part) ->
+    heal_entries:finish(Call, {error, Number}, Part).
 
 %% The request that an entry answers. A caller of this node whose edit another home has to confirm needs a number too.
 by(#call{from = {member, Node, Number}}, _Edit, Part) ->
@@ -145,8 +157,7 @@ applied({register, Name, Row = #row{home = Home}}, _By, _Before, Part) ->
         true -> heal_arrivals:arrived(Name, heal_state:add({rows, [{Name, Row}], []}, Part));
         false ->
             %% Nobody waits for it any more. The table keeps what the replica has, but no process finds it.
-            Hidden = heal_state:add({hide, Name}, heal_state:add({rows, [{Name, Row}], []}, Part)),
-            heal_edits:edit(#call{edit = {unregister, Name, Owner}}, Hidden)
+            heal_edits:edit(#call{edit = {unregister, Name, Owner}}, heal_state:add({ended, Name, Row}, Part))
     end;
 applied({unregister, Name}, By, Before, Part) ->
     #{Name := Row = #row{home = Home}} = (heal_state:half(Before))#half.names,
@@ -167,12 +178,13 @@ applied({unregister, Name}, By, Before, Part) ->
 applied({change, Name, _}, By, _Before, Part) ->
     #{Name := Row = #row{home = Home}} = (heal_state:half(Part))#half.names,
     Owner = heal_row:owner(Row),
-    Shown = heal_state:add({rows, [{Name, Row}], []}, note(Owner, Part)),
+    Noted = note(Owner, Part),
+    Shown = {rows, [{Name, Row}], []},
     case {Home =:= heal_state:life(Part), heal_home:is_own(Name, Owner, Part)} of
-        {true, true} -> confirm(Owner, By, heal_home:change(Name, Row, Shown));
+        {true, true} -> confirm(Owner, By, heal_home:change(Name, Row, heal_state:add(Shown, Noted)));
         %% Its process has ended.
-        {true, false} -> confirm(Owner, By, heal_state:add({hide, Name}, Shown));
-        {false, _} -> Shown
+        {true, false} -> confirm(Owner, By, heal_state:add({ended, Name, Row}, Noted));
+        {false, _} -> heal_state:add(Shown, Noted)
     end;
 applied({upload, Id, Code}, _By, _Before, Part = #part{programs = Programs}) ->
     heal_home:keep_programs(Part#part{programs = Programs#{Id => Code}}).
@@ -195,8 +207,10 @@ is_current({member, Node, _}, _Edit, Part = #part{peers = Peers}) ->
         #{Node := #peer{at = {View, _}}} -> true;
         _ -> false
     end;
-is_current({home, Operation}, {register, _, Row}, Part) ->
-    is_later(Operation, heal_row:owner(Row), Part);
+is_current({home, Operation}, {register, Name, Row = #row{home = Home}}, Part) ->
+    Owner = heal_row:owner(Row),
+    IsOwn = Home =:= heal_state:life(Part),
+    is_later(Operation, Owner, Part) andalso (not IsOwn orelse heal_home:is_own(Name, Owner, Part));
 is_current({home, Operation}, {change, _, Owner, _}, Part) ->
     is_later(Operation, Owner, Part);
 is_current(_From, _Edit, _Part) ->

@@ -74,6 +74,8 @@
     | {rows, Put :: [{heal:name(), #row{}}], Drop :: [heal:name()]}
     %% The process of the name has ended, and its row stays for a while.
     | {hide, heal:name()}
+    %% A row whose process has ended: the table has it for a while, and no process finds it.
+    | {ended, heal:name(), #row{}}
     | {own, heal:name(), #row{}}
     | {disown, heal:name(), #row{}}
     %% Processes that have lost their names: this node answers for them no more, and notifies them.

@@ -20,7 +20,7 @@
     %% When it announced itself for the first time.
     met :: integer(),
     retry = 0 :: integer() | none,
-    failed = none :: none | silent | numbers | pos_integer(),
+    failed = none :: none | silent | heal_peers:refusal() | pos_integer(),
     adopted = 0 :: non_neg_integer()
 }).
 

@@ -5,7 +5,7 @@
 
 -export([link/2, connecting/2, attempted/2, failed/2, here/3, announce/1, announce_to/2, hurry/2, moved/4, pulse/1]).
 -export([has_met/3, takes_groups/2, takes_differences/2, is_silent/2, is_connected/2, is_in_setting/2, is_primary/1, followers/1, give_up/2, heard_of/2]).
--export([retry/4, hopeful/2, arrived/1, sync/1, report/1]).
+-export([retry/4, hopeful/2, turned_down/2, arrived/1, sync/1, report/1]).
 -export_type([refusal/0, problems/0, here/0]).
 
 -define(STORE_FULL, 43).
@@ -41,26 +41,35 @@ link({up, Node, _Type}, Part = #part{links = Links}) when is_map_key(Node, Links
     Part;
 link({up, Node, Type}, Part = #part{links = Links, nodes = Nodes}) ->
     Linked = Part#part{links = Links#{Node => #link{type = Type}}},
-    %% A hidden node is in no part unless the setting names it, and one of another kind may never answer.
-    announce_to(Node, true, if Type =:= hidden, Nodes =:= any -> Linked; true -> await(Node, Linked) end);
+    %% A node that the setting doesn't admit is in no part, and one of another kind may never answer.
+    announce_to(Node, true, case is_admitted(Node, Type, Nodes) of true -> await(Node, Linked); false -> Linked end);
 link({down, Node}, Part = #part{links = Links, awaited = Awaited}) ->
     forget(Node, heal_congestion:forget(Node, Part#part{links = maps:remove(Node, Links), awaited = maps:remove(Node, Awaited)}));
 link({version, Node, Version}, Part = #part{peers = Peers}) ->
     case Peers of
         #{Node := _} -> Part;
-        _ -> announce_once(Node, {refused, version, Version}, Part)
+        _ -> announce_once(Node, {refused, version, Version}, false, Part)
     end;
 link({Kind, Node}, Part = #part{links = Links}) ->
     case {Kind, Links} of
         %% A registry that is refused has failed, and starts again.
         {absent, #{Node := #link{state = {refused, _, _}}}} -> Part;
-        _ -> forget(Node, mark(Node, absent, Part))
+        _ -> asked_again(Node, Part, forget(Node, mark(Node, absent, Part)))
     end.
+
+%% The next registry of a node that had announced itself may have done so before it was known that the last one is gone. Then it does so
+%% again.
+asked_again(Node, #part{peers = Before}, Part) when is_map_key(Node, Before) -> hurry(Node, Part);
+asked_again(_Node, _Before, Part) -> Part.
 
 %% Gives a node up that takes no requests, until it announces itself.
 -spec give_up(node(), #part{}) -> #part{}.
 give_up(Node, Part) ->
     forget(Node, mark(Node, deaf, Part)).
+
+%% A hidden node is in no part unless the setting names it.
+is_admitted(_Node, Type, any) -> Type =/= hidden;
+is_admitted(Node, _Type, Nodes) -> lists:member(Node, Nodes).
 
 forget(Node, Part = #part{peers = Peers, grouping = Grouping, differing = Differing}) ->
     Part#part{peers = maps:remove(Node, Peers), grouping = maps:remove(Node, Grouping), differing = maps:remove(Node, Differing)}.
@@ -72,10 +81,23 @@ mark(Node, State, Part = #part{links = Links, awaited = Awaited}) ->
     end.
 
 %% Answers a node that is refused, so that it learns why, but not each of its messages.
-announce_once(Node, Refused = {refused, Why, _}, Part = #part{links = Links}) ->
+announce_once(Node, Refused = {refused, Why, _}, IsFirst, Part = #part{links = Links}) ->
     case Links of
+        #{Node := #link{state = Refused}} when IsFirst -> tell(Node, Why, mark(Node, Refused, Part));
         #{Node := #link{state = Refused}} -> mark(Node, Refused, Part);
-        _ -> announce_to(Node, forget(Node, mark(Node, Refused, met(Node, Why, Part))))
+        _ -> tell(Node, Why, announce_to(Node, forget(Node, mark(Node, Refused, met(Node, Why, Part)))))
+    end.
+
+%% Tells a node that is refused why: it may not refuse this one. No exchange has the number.
+tell(Node, Why, Part) ->
+    heal_state:send(Node, {abandon, 0, Why}, Part).
+
+%% A node queries this one. Returns false unless the node is refused, which it is told.
+-spec turned_down(node(), #part{}) -> {true, #part{}} | false.
+turned_down(Node, Part = #part{links = Links}) ->
+    case Links of
+        #{Node := #link{state = {refused, Why, _}}} -> {true, tell(Node, Why, Part)};
+        _ -> false
     end.
 
 %% A node that runs a registry in this scope is to be connected again when it is lost. A hidden one stays apart.
@@ -172,8 +194,8 @@ fresh(Node, Here = #{life := Life, seq := Seq, number := Number, at := At}, none
             Peer = #peer{life = Life, seq = Seq, number = Number, at = At, heard = Part#part.now, met = Part#part.now},
             heard(Node, Here, Peer, linked(Node, Met))
     end;
-fresh(Node, _Here, {Why, Info}, Part) ->
-    announce_once(Node, {refused, Why, Info}, Part).
+fresh(Node, #{is_first := IsFirst}, {Why, Info}, Part) ->
+    announce_once(Node, {refused, Why, Info}, IsFirst, Part).
 
 linked(Node, Part = #part{links = Links}) ->
     #{Node := Link} = Links,
@@ -281,7 +303,7 @@ followers(Part = #part{peers = Peers}) ->
     maps:filter(fun(_, #peer{at = {Of, _}}) -> Of =:= View end, Peers).
 
 %% Puts the next attempt to heal with a node off, as the last one has failed.
--spec retry(node(), Failed :: none | silent | numbers | pos_integer(), After :: pos_integer(), #part{}) -> #part{}.
+-spec retry(node(), Failed :: none | silent | refusal() | pos_integer(), After :: pos_integer(), #part{}) -> #part{}.
 retry(Node, Failed, After, Part = #part{peers = Peers, now = Now}) ->
     case Peers of
         #{Node := Peer} -> Part#part{peers = Peers#{Node := Peer#peer{retry = Now + After, failed = Failed}}};
@@ -333,9 +355,10 @@ sync(Part = #part{syncing = Syncing, links = Links, peers = Peers}) ->
         _ -> lists:foldl(fun(From, Sum) -> heal_state:add({reply, From, Answer}, Sum) end, Part#part{syncing = []}, Syncing)
     end.
 
-%% Returns whether a node is a primary, or its primary is connected: then it follows, or heals with, another view soon.
+%% Returns whether a node is a primary, or its primary is connected and has not failed to heal: then it follows, or heals with, another view
+%% soon.
 is_coming(#peer{at = {{Primary, _}, _}}, Part = #part{peers = Peers}) ->
-    lists:member(Primary, [heal_state:life(Part) | [Of || #peer{life = Of} <- maps:values(Peers)]]).
+    lists:member(Primary, [heal_state:life(Part) | [Of || #peer{life = Of, failed = none} <- maps:values(Peers)]]).
 
 %% Returns whether a node has been there for long while this one follows a primary, which isn't connected with it then.
 is_late(#peer{met = Met}, Part = #part{now = Now}) ->

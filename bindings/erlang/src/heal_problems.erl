@@ -21,6 +21,8 @@ words(nodes, Node, Nodes) ->
     io_lib:format("stays apart from ~p, whose setting nodes is ~0p", [Node, Nodes]);
 words(scope, Node, Scope) ->
     io_lib:format("stays apart from ~p, whose scope is ~0p", [Node, Scope]);
+words(hidden, Node, none) ->
+    io_lib:format("~p stays apart from this node, a hidden node: name this one in its setting nodes", [Node]);
 words(hidden, Node, _Number) ->
     io_lib:format("stays apart from ~p, a hidden node: name it in the setting nodes", [Node]);
 words(numbers, Node, {Other, Number}) ->

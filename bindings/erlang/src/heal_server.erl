@@ -487,7 +487,7 @@ perform(Actions, State) ->
 
 %% Returns whether an action writes rows of the half, or which programs it has.
 changes({keep, Key, _}) -> Key =:= known;
-changes({Kind, _, _}) -> Kind =:= rows;
+changes({Kind, _, _}) -> Kind =:= rows orelse Kind =:= ended;
 changes({Kind, _}) -> Kind =:= restoring;
 changes(_Action) -> false.
 
@@ -592,6 +592,9 @@ act({rows, Put, Drop}, State = #server{heap = Heap}) ->
 act({hide, Name}, State) ->
     ok = heal_table:hide(Name),
     State;
+act({ended, Name, Row}, State = #server{heap = Heap}) ->
+    ok = heal_table:ended(Name, Row),
+    State#server{heap = heal_heap:changed(1, Heap)};
 act({keep, Key, Value}, State) ->
     ok = heal_table:keep(Key, Value),
     kept(Key, Value, State);

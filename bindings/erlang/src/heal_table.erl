@@ -7,7 +7,7 @@
 
 -include("heal_replica.hrl").
 
--export([create/0, give/1, bequeath/1, rows/2, restoring/1, hide/1, disown/1, disown/2, kept/2, keep/2, forget/1, keep_own/1]).
+-export([create/0, give/1, bequeath/1, rows/2, restoring/1, hide/1, ended/2, disown/1, disown/2, kept/2, keep/2, forget/1, keep_own/1]).
 -export([changing/1, keep_position/3, keep_operation/1, keep_patience/1, patience/1, restore/1, met/0]).
 -export([is_running/0, find/2, names/0, names/1, count/0, info/2, row/1, is_restoring/1]).
 
@@ -135,6 +135,12 @@ hide(Name) ->
         [#entry{pid = Pid}] when is_pid(Pid) -> ets:update_element(?ROWS, Name, {#entry.pid, {ended, Pid}});
         _ -> false
     end,
+    ok.
+
+%% The process of this row has ended.
+-spec ended(heal:name(), #row{}) -> ok.
+ended(Name, Row = #row{pid = Pid}) ->
+    true = ets:insert(?ROWS, (entry(Name, Row))#entry{pid = {ended, Pid}}),
     ok.
 
 %% This node answers for a name no more.

@@ -17,7 +17,7 @@ actions(Name, Actions, Count, Sim) ->
     lists:foldl(fun(Action, Sum) -> action(Action, Name, Sum) end, Marked, lists:sublist(Actions, Count)).
 
 changes({keep, Key, _}) -> Key =:= known;
-changes(Action) -> lists:member(element(1, Action), [rows, restoring]).
+changes(Action) -> lists:member(element(1, Action), [rows, restoring, ended]).
 
 action({send, To, Body}, From, Sim = #sim{nodes = Nodes}) ->
     #{From := #node{outbox = Outbox}} = Nodes,
@@ -59,6 +59,8 @@ action({own, Term, Row = #row{pid = Pid}}, Name, Sim) ->
         true -> Known;
         false -> heal_sim_trace:at(1, {died, Pid}, Known)
     end;
+action({ended, Term, Row}, Name, Sim) ->
+    update(Name, fun(Node = #node{table = Table}) -> Node#node{table = Table#{Term => {Row, hidden}}} end, seen(Row, Name, Sim));
 action({disown, Term, #row{pid = Pid}}, Name, Sim) ->
     Traced = heal_sim_trace:trace("~p disowns ~0p ~p", [Name, Term, Pid], Sim),
     Rest = update(Name, fun(Node = #node{own = Own, table = Table, kept = Kept}) ->

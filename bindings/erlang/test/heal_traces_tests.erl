@@ -802,3 +802,177 @@ sync_in_the_middle_test() ->
     ?assertEqual([], [Reply || Reply = {reply, _, _} <- done(b)]),
     _ = event_at(10000, b, {sync, 2}, Soon),
     ?assertEqual([{reply, 1, {error, apart}}, {reply, 2, {error, apart}}], lists:sort([Reply || Reply = {reply, _, _} <- done(b)])).
+
+%% Two parts of two nodes each that can't heal: all nodes learn so, also where the other part has a node that begins no exchange.
+sync_of_parts_that_stay_apart_test() ->
+    Apart = full_of_programs([{a, b, 1}, {c, d, 151}]),
+    Met = lists:foldl(fun({One, Other}, Sum) -> connect(One, Other, fun none_lost/3, Sum) end, Apart, [{b, c}, {b, d}, {a, d}, {a, c}]),
+    ?assertMatch(#{a := #part{peers = #{c := #peer{failed = 43}}}, c := #part{peers = #{a := #peer{failed = 43}}}}, Met),
+    put(done, []),
+    _ = event(c, {sync, 2}, fun none_lost/3, event(a, {sync, 1}, fun none_lost/3, Met)),
+    Replies = lists:sort([{Node, From, Answer} || {Node, {reply, From, Answer}} <- get(done)]),
+    ?assertEqual([{a, 1, {error, apart}}, {c, 2, {error, apart}}], Replies).
+
+%% Pairs of nodes whose names use 150 programs each, from this one on.
+full_of_programs(Pairs) ->
+    Programs = fun(From) -> maps:from_list([{<<N:256>>, <<N>>} || N <- lists:seq(From, From + 149)]) end,
+    Nodes = start([{Node, #{programs => Programs(From), names => 1000}} || {One, Other, From} <- Pairs, Node <- [One, Other]]),
+    Register = fun({Node, N}, Parts) ->
+        Name = <<"n", (integer_to_binary(N))/binary>>,
+        event(Node, {call, N, {register, Name, program_row(Name, Node, N, N)}}, fun none_lost/3, Parts)
+    end,
+    Full = lists:foldl(Register, Nodes, [{One, N} || {One, _, From} <- Pairs, N <- lists:seq(From, From + 149)]),
+    lists:foldl(fun({One, Other, _}, Sum) -> connect(One, Other, fun none_lost/3, Sum) end, Full, Pairs).
+
+%% Nodes of two parts have one number. Both primaries learn so, and neither waits for the other.
+clashing_numbers_test() ->
+    Nodes = start([{a, #{}}, {b, #{number => 7}}, {c, #{}}, {d, #{number => 7}}]),
+    Pairs = connect(c, d, fun none_lost/3, connect(a, b, fun none_lost/3, Nodes)),
+    Met = lists:foldl(fun({One, Other}, Sum) -> connect(One, Other, fun none_lost/3, Sum) end, Pairs, [{b, c}, {b, d}, {a, d}, {a, c}]),
+    ?assertMatch(#{a := #part{heal = idle, peers = #{c := #peer{failed = numbers}}}}, Met),
+    ?assertMatch(#{c := #part{heal = idle, peers = #{a := #peer{failed = numbers}}}}, Met).
+
+%% A node that the setting doesn't name is in no part, so no edit waits for it.
+stranger_test() ->
+    Replies = fun(Type, Nodes) ->
+        Connected = event(a, {up, x, Type}, fun none_lost/3, start([{a, #{nodes => Nodes}}])),
+        _ = event(a, registering(1, a), fun none_lost/3, Connected),
+        [Answer || {reply, 1, Answer} <- done(a)]
+    end,
+    ?assertEqual([ok, ok], [Answer || Type <- [visible, hidden], Answer <- Replies(Type, [a, b])]),
+    ?assertEqual([ok], Replies(hidden, any)),
+    %% One that may be in a part is waited for.
+    ?assertEqual([], Replies(visible, any)),
+    ?assertEqual([], Replies(hidden, [a, x])).
+
+%% A node has an unregistration made after its caller was answered, and the home of the name is gone before it confirms it: the node keeps
+%% nothing of it.
+unconfirmed_unregistration_test() ->
+    Joined = event(b, registering(1, b), fun none_lost/3, joined_three()),
+    Lost = fun(c, a, {request, _, _, _} = Body) -> put(request, Body), true; (_, _, _) -> false end,
+    Called = event(c, {call, 7, {unregister, <<"m1">>, any}}, Lost, Joined),
+    Late = event_at(2000, c, tick, Called),
+    ?assertEqual([{reply, 7, {error, {timeout, unknown}}}], [Reply || Reply = {reply, 7, _} <- done(c)]),
+    Silent = fun(b, c, _) -> true; (_, _, _) -> false end,
+    Made = event(a, {message, c, get(request)}, Silent, Late),
+    ?assertEqual(none, heal_state:owner(<<"m1">>, maps:get(c, Made))),
+    #{c := #part{requested = Requested, unreleased = Unreleased}} = Made,
+    ?assertEqual({#{}, #{}}, {Requested, Unreleased}).
+
+%% A primary has no room for a name that it answers for. It restores the name once there is room.
+restored_in_a_full_table_test() ->
+    Two = #{own := Own} = with_names(a, 2, 2),
+    Row = row(a, 9, a, 0),
+    #{a := Started} = Full = start([{a, Two#{own := Own#{?NAME => Row}}}]),
+    ?assertEqual(2, heal_state:count(Started)),
+    Names = fun(Parts) ->
+        Room = event(a, {call, 1, {unregister, <<"a1">>, any}}, fun none_lost/3, Parts),
+        lists:sort(maps:keys(names(a, lists:foldl(fun(Now, Sum) -> event_at(Now, a, tick, Sum) end, Room, lists:seq(100, 5000, 100)))))
+    end,
+    ?assertEqual([<<"a2">>, ?NAME], Names(Full)),
+    %% Its process has ended meanwhile, or somebody has unregistered it.
+    ?assertEqual([<<"a2">>], Names(event(a, {died, ?NAME, heal_row:owner(Row)}, fun none_lost/3, Full))),
+    ?assertEqual([<<"a2">>], Names(event(a, {call, 2, {unregister, ?NAME, any}}, fun none_lost/3, Full))).
+
+%% It is reported late that a node had no registry, or that its registry had ended, and the next one has announced itself meanwhile. The
+%% node is a member again at once.
+late_report_test() ->
+    Members = fun(Parts) -> [maps:get(members, heal_part:status(Part)) || Part <- maps:values(Parts)] end,
+    [begin
+        Joined = event(To, {Kind, Of}, fun none_lost/3, connect(a, b, fun none_lost/3, start([{a, #{}}, {b, #{}}]))),
+        ?assertEqual({To, Kind, [[a, b], [a, b]]}, {To, Kind, Members(Joined)}),
+        ?assertEqual(position(a, Joined), position(b, Joined))
+     end || {To, Of} <- [{a, b}, {b, a}], Kind <- [absent, stopped, failed]].
+
+%% The other registry of an exchange starts again, or a late report ends the exchange on one node. Both nodes give the exchange up at once.
+exchange_of_one_node_test() ->
+    IsOpen = fun(Kind) -> fun(_, _, Body) -> tuple_size(Body) >= 3 andalso element(1, Body) =:= Kind end end,
+    Healed = fun(Parts) ->
+        Ticked = events([{Node, tick} || Node <- [a, b, a, b]], fun none_lost/3, Parts),
+        ?assertEqual(position(a, Ticked), position(b, Ticked))
+    end,
+    [begin
+        Open = connect(a, b, IsOpen(Body), start([{a, #{}}, {b, #{}}])),
+        ?assertNotEqual(position(a, Open), position(b, Open)),
+        Healed(event(To, {Kind, Of}, fun none_lost/3, Open))
+     end || Body <- [hello, offer, list], {To, Of} <- [{a, b}, {b, a}], Kind <- [absent, stopped, failed]],
+    [Healed(started(Node, #{connected => [{Other, visible}]}, connect(a, b, IsOpen(Body), start([{a, #{}}, {b, #{}}]))))
+     || Body <- [hello, offer, list, finished], {Node, Other} <- [{a, b}, {b, a}]].
+
+%% A node refuses another one, which takes it for a node that it heals with: that one and a further node have one number, or only one of the
+%% two settings names a hidden node. The other node learns so, also when its registry starts again.
+refused_by_one_test() ->
+    Learns = fun(Node, Of, Why, Parts) ->
+        put(done, []),
+        Synced = event(Node, {sync, 1}, fun none_lost/3, Parts),
+        ?assertEqual([{reply, 1, {error, apart}}], [Reply || Reply = {reply, _, _} <- done(Node)]),
+        #{Node := #part{heal = idle, problems = Problems}} = Synced,
+        ?assertMatch(#{Why := {Of, none}}, Problems)
+    end,
+    Numbers = fun(Of, Node) ->
+        Known = connect(Of, c, fun none_lost/3, start([{Of, #{}}, {c, #{number => 7}}, {Node, #{number => 7}}])),
+        connect(Of, Node, fun none_lost/3, Known)
+    end,
+    Again = fun(Node, Of, Type, More, Parts) -> started(Node, More#{connected => [{Of, Type}]}, Parts) end,
+    [begin
+        Apart = Numbers(Of, Node),
+        Learns(Node, Of, numbers, Apart),
+        Learns(Node, Of, numbers, Again(Node, Of, visible, #{number => 7}, Apart)),
+        %% It queries that one again later.
+        put(done, []),
+        _ = event(Of, {message, Node, {ask, {{Node, 1}, 9}, []}}, fun none_lost/3, Apart),
+        ?assertEqual([abandon || Node < Of], kinds(Of, Node))
+     end || {Node, Of} <- [{d, a}, {a, d}]],
+    Hidden = fun(One, Other) ->
+        Parts = start([{One, #{nodes => [a, b]}}, {Other, #{}}]),
+        event(One, {up, Other, hidden}, fun none_lost/3, event(Other, {up, One, hidden}, fun none_lost/3, Parts))
+    end,
+    [begin
+        Apart = Hidden(One, Other),
+        Learns(One, Other, hidden, Apart),
+        Learns(One, Other, hidden, Again(One, Other, hidden, #{nodes => [a, b]}, Apart))
+     end || {One, Other} <- [{a, b}, {b, a}]].
+
+%% A node that doesn't know another one, or refuses it, answers its request to register a process.
+request_of_a_stranger_test() ->
+    Known = connect(b, c, fun none_lost/3, start([{b, #{}}, {c, #{number => 7}}, {d, #{number => 7}}])),
+    Refused = connect(b, d, fun none_lost/3, Known),
+    Options = #{stamp => 1, weight => 0, extra => <<0:128>>, resolver => notify},
+    _ = event(d, {call, 1, {adopt, ?NAME, ?NAME, Options, {pid, b, 1}, b}}, fun none_lost/3, Refused),
+    ?assertEqual([{reply, 1, {error, {noconnection, unknown}}}], [Reply || Reply = {reply, 1, _} <- done(d)]).
+
+%% The process of a name has ended, which the primary doesn't know so far, and the registration is changed. Subscribers on the node of the
+%% process hear of its end alone.
+change_of_an_ended_process_test() ->
+    Name = <<"m1">>,
+    Options = #{stamp => 1, weight => 0, extra => <<0:128>>, resolver => notify},
+    Joined = connect(a, b, fun none_lost/3, start([{a, #{}}, {b, #{}}])),
+    ok = heal_table:create(),
+    %% One of the messages of each event changes the table of b.
+    Do = fun(Node, Event, Lost, Parts) ->
+        put(done, []),
+        Next = event(Node, Event, Lost, Parts),
+        {lists:append([heard_of(Action) || Action <- done(b)]), Next}
+    end,
+    {First, #{b := B} = Registered} = Do(b, {call, 1, {adopt, Name, Name, Options, self(), b}}, fun none_lost/3, Joined),
+    Unheard = fun(b, a, {request, _, _, _}) -> true; (_, _, _) -> false end,
+    {Second, Ended} = Do(b, {died, Name, heal_state:owner(Name, B)}, Unheard, Registered),
+    {Third, Changed} = Do(a, {call, 2, {change, Name, any, #{weight => 1}}}, fun none_lost/3, Ended),
+    ?assertMatch(#{Name := #row{alike = {_, 1, _, _}}}, names(b, Changed)),
+    Kept = heal_table:row(Name),
+    true = ets:delete(heal_registry),
+    ?assertEqual({[{registered, Name, self()}], [{unregistered, Name, self()}], []}, {First, Second, Third}),
+    ?assertEqual(none, Kept).
+
+%% Does what an action writes. Returns the events.
+heard_of(Action) ->
+    Events = heal_events:due(Action, #{self() => subscriber}),
+    case Action of
+        {rows, Put, Drop} -> heal_table:rows(Put, Drop);
+        {ended, Name, Row} -> heal_table:ended(Name, Row);
+        {hide, Name} -> heal_table:hide(Name);
+        {disown, Name, _} -> heal_table:disown(Name);
+        {keep_own, Rows} -> heal_table:keep_own(Rows);
+        _ -> ok
+    end,
+    Events.
