@@ -4,7 +4,7 @@ ghost use Rattle.std.specs.FinMap.{len};
 ghost use Rattle.refusals.specs.Answers.{out_of_memory};
 ghost use Rattle.partition_table.specs.Tables.{max_names};
 ghost use Rattle.exchange_core.specs.Shown.{shown, calls};
-ghost use Rattle.c_calls.specs.Answers.{GivesDue, GivesDueOrRunsOut, OnHandle, ReadsHandle};
+ghost use Rattle.c_calls.specs.Answers.{GivesDue, GivesDueFirst, OnHandle, ReadsHandle};
 ghost use Rattle.c_calls.specs.Kept.{Forgets, GivesCode, id_from};
 ghost use Rattle.c_calls.specs.Sides.{side_id, side_within, Registers, Unregisters, Renews, GivesUp, IsNewHalf, IsUpload, found_at, row_after, row_code_at};
 
@@ -21,7 +21,7 @@ use std::alloc::Global;
 /// Returns 74 for another number. Returns 90 when out of memory.
 #[unsafe(no_mangle)]
 pub extern "C" fn heal_side_new(alloc: Global, id: u32, side: &mut HealSide) -> u32
-    ensures { GivesDueOrRunsOut (side_id id) (λ id. IsSomeAnd side.new.half (IsNewHalf max_names id)) (side.new.half ≡ side.old.half)
+    ensures { GivesDueFirst (side_id id) (λ id. IsSomeAnd side.new.half (IsNewHalf max_names id)) (side.new.half ≡ side.old.half)
         result }
 {
     match side_id(id) {
@@ -40,7 +40,7 @@ pub extern "C" fn heal_side_new_within(
     names: usize,
     side: &mut HealSide,
 ) -> u32
-    ensures { GivesDueOrRunsOut (side_within id names) (λ at. IsSomeAnd side.new.half (IsNewHalf at.1 at.0))
+    ensures { GivesDueFirst (side_within id names) (λ at. IsSomeAnd side.new.half (IsNewHalf at.1 at.0))
         (side.new.half ≡ side.old.half) result }
 {
     let id = match side_id(id) {
