@@ -7,7 +7,7 @@
 
 %% How many owners a primary remembers that it has unregistered.
 -define(REMEMBERED, 1000).
-%% The refusal of a registration that there is no room for.
+%% The refusal of a registration in a full table.
 -define(TABLE_FULL, 32).
 
 %% Decides what an edit does to the half: nothing, with this answer, or an edit of the replica.

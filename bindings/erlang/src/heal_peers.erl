@@ -88,11 +88,11 @@ announce_once(Node, Refused = {refused, Why, _}, IsFirst, Part = #part{links = L
         _ -> tell(Node, Why, announce_to(Node, forget(Node, mark(Node, Refused, met(Node, Why, Part)))))
     end.
 
-%% Tells a node that is refused why: it may not refuse this one. No exchange has the number.
+%% Sends a node why it is refused: it may not refuse this one. No exchange has the number.
 tell(Node, Why, Part) ->
     heal_state:send(Node, {abandon, 0, Why}, Part).
 
-%% A node queries this one. Returns false unless the node is refused, which it is told.
+%% A node queries this one. Returns false unless the node is refused: then it learns why.
 -spec turned_down(node(), #part{}) -> {true, #part{}} | false.
 turned_down(Node, Part = #part{links = Links}) ->
     case Links of
