@@ -4,8 +4,8 @@
  * RESULTS   Every call that can fail returns 0, or the number of its refusal; heal_refusal_words gives the words. Several
  *           refusals may apply: 91 comes first, then 44 and 76 for arguments, then the least number of the call itself;
  *           heal_side_hear, heal_side_hear_list, heal_side_forget, heal_bpf_load and the calls of replicas state their own order.
- *           90, out of memory, may replace another refusal only in calls that read a message, a program or a log, and in edits
- *           of a replica, there but for 44, 76, 95 and 99.
+ *           90, out of memory, may replace another refusal only in calls that read a message or a program, and in edits of a
+ *           replica, there but for 44, 76, 92, 95 and 99.
  *           A refused call leaves every handle unchanged, also the one that it would fill, and writes no result; the
  *           exceptions are `slot` and `fault`.
  * HANDLES   A handle is one word. Start it with `{0}`, which is empty; pass it by its address; never copy it while both
@@ -569,8 +569,8 @@ uint32_t heal_replica_row_after(const heal_replica *replica, const uint8_t *name
    primary. Returns 74 for another `id`, 32 if the table has more names than the limit. */
 uint32_t heal_replica_side(const heal_replica *replica, uint32_t id, heal_side *side);
 
-/* Starts a view with the table that the exchange left in the side, also an abandoned one, and with the greater of the greatest numbers of
-   the side and of the replica. The view has the programs and the limit of this half: upload those of the other half again for
+/* Starts a view with the table that the exchange left in the side, and with the greater of the greatest numbers of the side and of the
+   replica. After an abandoned exchange the table lacks the names that were withdrawn. The view has the programs and the limit of this half: upload those of the other half again for
    registrations with them. `from` is the position right after heal_replica_begin.
    Returns 33 if the side's exchange is open, 49 if the replica isn't at `from` any more, so that no edit after it is lost: exchange again.
    Returns 99 if no view number is left. */
