@@ -1,5 +1,5 @@
 #!/usr/bin/env python3
-"""must_fail.py [CRATE[/EDIT] ..]: tries the wrong bodies crates/CRATE/must-fail/EDIT.edit: the prover must refuse each.
+"""must_fail.py [--anew] [CRATE[/EDIT] ..]: tries the wrong bodies crates/CRATE/must-fail/EDIT.edit: the prover must refuse each.
 
 `rt ci` tries them one by one, and most of each try is loading. This tries those of a crate together, in as few checks as it can: one
 check has at most one wrong body of each function. A wrong body counts as refused if the check doesn't prove its function, for the
@@ -9,8 +9,12 @@ don't change what is proved of it. A wrong body that isn't refused like this, or
 
 Takes the libraries in crates/*/out/rlib, as `rt ci` or prove.py left them. Prints one line for each wrong body, and at the end
 'N refused, M not refused'. The status is 1 if one isn't refused or can't be tried.
+
+What a machine has tried is kept beside the kit, as `rt ci` keeps its proofs: if all wrong bodies of a crate were refused, they aren't
+tried again with the same sources of the crate and of all below it, the same kit and this script. --anew tries all.
 """
 
+import hashlib
 import os
 import re
 import shutil
@@ -23,6 +27,7 @@ from concurrent.futures import ThreadPoolExecutor, as_completed
 from prove import ROOT, read_crates, with_below
 
 KIT = os.path.dirname(subprocess.run(["rt", "doc"], capture_output=True, text=True, check=True).stdout.strip())
+KEPT = f"{os.path.dirname(KIT)}/heal-must-fail-kept"
 FUNCTION = re.compile(r"(\s*)(?:pub(?:\([^)]*\))? )?(?:const |unsafe |final |extern \"C\" )*fn (\w+)")
 CONSTANT = re.compile(r"(?:pub(?:\([^)]*\))? )?(?:const|static) (\w+)\s*:")
 IMPL = re.compile(r"impl(?:<.*?>)?\s+(?:(?P<trait>[\w:]+)(?:<.*>)?\s+for\s+)?(?P<type>[\w:]+)")
@@ -199,6 +204,44 @@ def try_crate(lines, uses, crate, edits):
     return said, failed
 
 
+def sum_of(lines, uses, crate, edits):
+    """Returns a checksum of all that tries of these wrong bodies read."""
+    paths = [f"{ROOT}/scripts/must_fail.py", f"{ROOT}/scripts/prove.py"]
+    for name in with_below(uses, crate):
+        walks = [walk for part in ("src", "specs", "proofs") for walk in os.walk(f"{ROOT}/crates/{name}/{part}")]
+        paths += sorted(f"{at}/{it}" for at, _, files in walks for it in files)
+    kit = subprocess.run(["rt", "version"], capture_output=True, text=True, check=True).stdout
+    total = hashlib.sha256(repr((kit, [lines[it] for it in with_below(uses, crate)], [(it.name, it.pairs) for it in edits])).encode())
+    for path in paths:
+        with open(path, "rb") as file:
+            total.update(repr((os.path.relpath(path, ROOT), hashlib.sha256(file.read()).digest())).encode())
+    return total.hexdigest()
+
+
+def try_once(lines, uses, crate, edits, anew):
+    """Tries the wrong bodies of a crate like try_crate, unless an earlier run of this machine has tried the same."""
+    path = f"{KEPT}/{crate}-{sum_of(lines, uses, crate, edits)}"
+    if not anew and os.path.isfile(path):
+        with open(path, encoding="utf-8") as file:
+            return [*file.read().splitlines(), f"{crate}: an earlier run of this machine has tried these"], 0
+    said, failed = try_crate(lines, uses, crate, edits)
+    # Sources that were changed meanwhile give another sum.
+    if not failed and path == f"{KEPT}/{crate}-{sum_of(lines, uses, crate, edits)}":
+        keep(path, said)
+    return said, failed
+
+
+def keep(path, said):
+    """Keeps what was printed, where this may write."""
+    try:
+        os.makedirs(KEPT, mode=0o700, exist_ok=True)
+        with tempfile.NamedTemporaryFile("w", encoding="utf-8", dir=KEPT, delete=False) as file:
+            file.write("\n".join(said) + "\n")
+        os.replace(file.name, path)
+    except OSError as error:
+        print(f"must_fail.py: not kept: {error}", file=sys.stderr)
+
+
 def edits_of(crate, names):
     """Returns the wrong bodies of a crate, or those of these names."""
     folder = f"{ROOT}/crates/{crate}/must-fail"
@@ -209,7 +252,8 @@ def edits_of(crate, names):
 
 def main():
     lines, uses = read_crates()
-    wanted = sys.argv[1:]
+    anew = "--anew" in sys.argv
+    wanted = [it for it in sys.argv[1:] if it != "--anew"]
     crates = list(dict.fromkeys(it.partition("/")[0] for it in wanted)) or list(lines)
     tasks = [(it, edits_of(it, [name for name in wanted if name.startswith(f"{it}/")])) for it in crates]
     known = {*lines, *(edit.name for _, edits in tasks for edit in edits)}
@@ -221,7 +265,7 @@ def main():
     jobs = int(os.environ.get("RT_JOBS") or os.cpu_count())
     tried = failed = 0
     with ThreadPoolExecutor(jobs) as pool:
-        running = {pool.submit(try_crate, lines, uses, crate, edits): edits for crate, edits in tasks if edits}
+        running = {pool.submit(try_once, lines, uses, crate, edits, anew): edits for crate, edits in tasks if edits}
         for done in as_completed(running):
             said, bad = done.result()
             print("\n".join(f"must-fail {it}" for it in said), flush=True)
