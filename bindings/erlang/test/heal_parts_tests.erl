@@ -45,6 +45,7 @@ parts_test_() ->
         heal_cluster:cluster(3, #{}, fun registry_fails/1),
         heal_cluster:cluster(3, #{}, fun found_at_home/1),
         heal_cluster:cluster(3, #{}, fun not_transitive/1),
+        heal_cluster:cluster(3, ?QUICK, fun primary_in_the_middle/1),
         heal_cluster:cluster(3, #{}, fun others_process/1),
         heal_cluster:cluster(3, #{}, fun three_way_clash/1),
         {timeout, 240, fun by_themselves/0},
@@ -271,6 +272,18 @@ not_transitive(Nodes = [A, B, C]) ->
     ?assertEqual(Before, Views()),
     heal_cluster:connect(A, C),
     ?assertEqual(Names, heal_cluster:one_part(Nodes)).
+
+%% The primary of two nodes is connected with a third one that the other isn't connected with: all are one part, and stay so.
+primary_in_the_middle(Nodes = [A, B, C]) ->
+    Names = [{Name, own(It, Name)} || {It, Name} <- lists:zip(Nodes, names("n", 3))],
+    heal_cluster:split_into([[It] || It <- Nodes]),
+    heal_cluster:mesh([B, C]),
+    heal_cluster:one_part([B, C]),
+    ?assertEqual(heal_cluster:node_of(B), maps:get(primary, heal_cluster:status(C))),
+    heal_cluster:connect(A, B),
+    ?assertEqual(Names, heal_cluster:one_part(Nodes)),
+    More = [{Name, own(It, Name)} || {It, Name} <- lists:zip(Nodes, names("o", 3))],
+    ?assertEqual(Names ++ More, heal_cluster:one_part(Nodes)).
 
 %% A process that another node registers belongs to its own node.
 others_process(Nodes = [A, B, C]) ->
