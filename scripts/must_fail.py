@@ -10,10 +10,11 @@ don't change what is proved of it. A wrong body that isn't refused like this, or
 Takes the libraries in crates/*/out/rlib, as `rt ci` or prove.py left them. Prints one line for each wrong body, and at the end
 'N refused, M not refused'. The status is 1 if one isn't refused or can't be tried.
 
-What a machine has tried is kept beside the kit, as `rt ci` keeps its proofs: if all wrong bodies of a crate were refused, they aren't
-tried again with the same sources of the crate and of all below it, the same kit and this script. --anew tries all.
+What a machine has tried is kept next to the kit, as `rt ci` keeps its proofs: if all wrong bodies of a crate were refused, they aren't
+tried again with the same sources, the same libraries below the crate, the same kit and this script. --anew tries all.
 """
 
+import functools
 import hashlib
 import os
 import re
@@ -28,6 +29,7 @@ from prove import ROOT, read_crates, with_below
 
 KIT = os.path.dirname(subprocess.run(["rt", "doc"], capture_output=True, text=True, check=True).stdout.strip())
 KEPT = f"{os.path.dirname(KIT)}/heal-must-fail-kept"
+MONTH = 30 * 24 * 60 * 60
 FUNCTION = re.compile(r"(\s*)(?:pub(?:\([^)]*\))? )?(?:const |unsafe |final |extern \"C\" )*fn (\w+)")
 CONSTANT = re.compile(r"(?:pub(?:\([^)]*\))? )?(?:const|static) (\w+)\s*:")
 IMPL = re.compile(r"impl(?:<.*?>)?\s+(?:(?P<trait>[\w:]+)(?:<.*>)?\s+for\s+)?(?P<type>[\w:]+)")
@@ -204,17 +206,24 @@ def try_crate(lines, uses, crate, edits):
     return said, failed
 
 
+@functools.cache
+def digest(path, _size, _changed):
+    """Returns the checksum of a file of this size that was changed at this time."""
+    with open(path, "rb") as file:
+        return hashlib.sha256(file.read()).digest()
+
+
 def sum_of(lines, uses, crate, edits):
-    """Returns a checksum of all that tries of these wrong bodies read."""
-    paths = [f"{ROOT}/scripts/must_fail.py", f"{ROOT}/scripts/prove.py"]
-    for name in with_below(uses, crate):
-        walks = [walk for part in ("src", "specs", "proofs") for walk in os.walk(f"{ROOT}/crates/{name}/{part}")]
-        paths += sorted(f"{at}/{it}" for at, _, files in walks for it in files)
+    """Returns a checksum of all that tries of these wrong bodies read: sources of the crate, libraries below it, the kit, and scripts."""
+    folders = [f"{ROOT}/crates/{crate}/{part}" for part in ("src", "specs", "proofs")]
+    folders += [f"{ROOT}/crates/{it}/out/rlib/{it}.rlib" for it in with_below(uses, crate)[:-1]]
+    paths = [f"{at}/{it}" for folder in folders for at, _, files in os.walk(folder) for it in files]
+    paths += [f"{ROOT}/scripts/must_fail.py", f"{ROOT}/scripts/prove.py"]
     kit = subprocess.run(["rt", "version"], capture_output=True, text=True, check=True).stdout
-    total = hashlib.sha256(repr((kit, [lines[it] for it in with_below(uses, crate)], [(it.name, it.pairs) for it in edits])).encode())
-    for path in paths:
-        with open(path, "rb") as file:
-            total.update(repr((os.path.relpath(path, ROOT), hashlib.sha256(file.read()).digest())).encode())
+    total = hashlib.sha256(repr((kit, lines[crate], [(it.name, it.pairs) for it in edits])).encode())
+    for path in sorted(paths):
+        found = os.stat(path)
+        total.update(repr((os.path.relpath(path, ROOT), digest(path, found.st_size, found.st_mtime_ns))).encode())
     return total.hexdigest()
 
 
@@ -225,19 +234,22 @@ def try_once(lines, uses, crate, edits, anew):
         with open(path, encoding="utf-8") as file:
             return [*file.read().splitlines(), f"{crate}: an earlier run of this machine has tried these"], 0
     said, failed = try_crate(lines, uses, crate, edits)
-    # Sources that were changed meanwhile give another sum.
+    # What was changed meanwhile gives another sum.
     if not failed and path == f"{KEPT}/{crate}-{sum_of(lines, uses, crate, edits)}":
         keep(path, said)
     return said, failed
 
 
 def keep(path, said):
-    """Keeps what was printed, where this may write."""
+    """Keeps what was printed, where this may write. Removes what was kept a month ago."""
     try:
         os.makedirs(KEPT, mode=0o700, exist_ok=True)
         with tempfile.NamedTemporaryFile("w", encoding="utf-8", dir=KEPT, delete=False) as file:
             file.write("\n".join(said) + "\n")
         os.replace(file.name, path)
+        for entry in os.scandir(KEPT):
+            if entry.stat().st_mtime < time.time() - MONTH:
+                os.remove(entry)
     except OSError as error:
         print(f"must_fail.py: not kept: {error}", file=sys.stderr)
 

@@ -16,7 +16,7 @@
 silence_test_() ->
     case network() of
         {ok, Network} ->
-            unlink_all(Network),
+            remove(Network),
             {inparallel, 4, [
                 over(fun both_are_silent/2, []),
                 over(fun left_is_silent/2, []),
@@ -39,7 +39,7 @@ network() ->
                             || {Of, Address} <- [{Left, ?LEFT}, {Right, ?RIGHT}]])],
     case [Printed || Step <- Steps, Printed <- [ip(Step)], Printed =/= ""] of
         [] -> {ok, Both};
-        [First | _] -> unlink_all(Both), {error, First}
+        [First | _] -> remove(Both), {error, First}
     end.
 
 name(Side) ->
@@ -48,8 +48,8 @@ name(Side) ->
 ip(Words) ->
     os:cmd(lists:flatten(["ip ", Words, " 2>&1"])).
 
-%% Ends what still runs there, as the daemon of a node's ports does.
-unlink_all({Left, Right}) ->
+%% Removes the namespaces, with what still runs there, as the daemon of the nodes' ports does.
+remove({Left, Right}) ->
     [begin
         [os:cmd("kill -9 " ++ Pid) || Pid <- string:lexemes(ip(["netns pids ", Of]), "\n"), lists:all(fun(C) -> C >= $0 andalso C =< $9 end, Pid)],
         ip(["netns del ", Of])
@@ -79,7 +79,7 @@ over(Test, Args) ->
             [heal_cluster:start_registry(It, any, ?OPTIONS) || It <- Nodes],
             {Both, Nodes}
         end,
-        fun({Both, Nodes}) -> [heal_cluster:stop(It) || It <- Nodes], unlink_all(Both) end,
+        fun({Both, Nodes}) -> [heal_cluster:stop(It) || It <- Nodes], remove(Both) end,
         fun({Both, Nodes}) ->
             {name, Name} = erlang:fun_info(Test, name),
             {atom_to_list(Name), {timeout, 240, fun() -> heal_cluster:mesh(Nodes), heal_cluster:one_part(Nodes), Test(Both, Nodes) end}}
