@@ -1,11 +1,12 @@
 #!/usr/bin/env python3
 """must_fail.py [--anew] [CRATE[/EDIT] ..]: tries the wrong bodies crates/CRATE/must-fail/EDIT.edit: the prover must refuse each.
 
-`rt ci` tries them one by one, and most of each try is loading. This tries those of a crate together, in as few checks as it can: one
-check has at most one wrong body of each function. A wrong body counts as refused if the check doesn't prove its function, for the
-function's own goals and not only because it calls another that isn't proved. Proofs are modular, so the other wrong bodies
-don't change what is proved of it. A wrong body that isn't refused like this, or that lies outside functions, is tried alone, as
-`rt ci` does: then the crate must not be proved.
+`rt ci` tries them one by one, and most of each try is loading and proving what the changed function calls. This tries those of a crate
+together, in as few checks as it can: one check has at most one wrong body of each function. The proof of a function stands on the
+contracts of those that it calls, and on nothing else of them. So all functions that no wrong body changes have no body in the copy that
+is checked, and a hole for their proof. A wrong body counts as refused if the check doesn't prove its function, for the function's own
+goals and not only because it calls another that isn't proved. A wrong body that isn't refused like this, or that lies outside functions,
+is tried alone in the whole crate, as `rt ci` does: then the crate must not be proved.
 
 Takes the libraries in crates/*/out/rlib, as `rt ci` or prove.py left them. Prints one line for each wrong body, and at the end
 'N refused, M not refused'. The status is 1 if one isn't refused or can't be tried.
@@ -25,14 +26,13 @@ import tempfile
 import time
 from concurrent.futures import ThreadPoolExecutor, as_completed
 
+from bodies import cut, functions_of, sources_of
 from prove import ROOT, read_crates, with_below
 
 KIT = os.path.dirname(subprocess.run(["rt", "doc"], capture_output=True, text=True, check=True).stdout.strip())
 KEPT = f"{os.path.dirname(KIT)}/heal-must-fail-kept"
 MONTH = 30 * 24 * 60 * 60
-FUNCTION = re.compile(r"(\s*)(?:pub(?:\([^)]*\))? )?(?:const |unsafe |final |extern \"C\" )*fn (\w+)")
 CONSTANT = re.compile(r"(?:pub(?:\([^)]*\))? )?(?:const|static) (\w+)\s*:")
-IMPL = re.compile(r"impl(?:<.*?>)?\s+(?:(?P<trait>[\w:]+)(?:<.*>)?\s+for\s+)?(?P<type>[\w:]+)")
 
 
 class Edit:
@@ -71,50 +71,31 @@ class Edit:
                 it.write(text.replace(old, new))
 
 
-def lines_of(crate, file):
-    """Returns the lines of a crate's file."""
-    with open(f"{ROOT}/crates/{crate}/{file}", encoding="utf-8") as it:
-        return it.read().split("\n")
+@functools.cache
+def read(crate):
+    """Returns the lines of each source of a crate, and its functions."""
+    sources = sources_of(f"{ROOT}/crates/{crate}")
+    return sources, functions_of(crate, sources)
 
 
 def items_at(crate, file, old):
     """Returns the path of the function around a text of a crate's file, or those of the functions that name the constant around it."""
-    lines = lines_of(crate, file)
+    sources, functions = read(crate)
+    lines = sources.get(file, [])
     at = "\n".join(lines).partition(old)[0].count("\n")
-    function = function_at(crate, file, lines, at)
+    function = next((it.path for it in functions if it.file == file and it.first <= at <= it.last), None)
     if function:
         return (function,)
     start = next((n for n in range(at, -1, -1) if CONSTANT.match(lines[n]) or lines[n] in ("", "}")), at)
-    constant = CONSTANT.match(lines[start])
+    constant = CONSTANT.match(lines[start]) if lines else None
     return naming(crate, constant[1]) if constant else ()
 
 
 def naming(crate, constant):
     """Returns the paths of the functions of a crate that name a constant."""
-    folder, found = f"{ROOT}/crates/{crate}", []
-    for at, _, names in os.walk(f"{folder}/src"):
-        for file in sorted(os.path.relpath(f"{at}/{it}", folder) for it in names):
-            lines = lines_of(crate, file)
-            places = [n for n, line in enumerate(lines) if re.search(rf"\b{constant}\b", line)]
-            found += [function_at(crate, file, lines, n) for n in places]
-    return tuple(dict.fromkeys(it for it in found if it))
-
-
-def function_at(crate, file, lines, last):
-    """Returns the path of the function around a line of a crate's file, or the end of its path, as the prover names it, or None.
-
-    The prover names a method by the module of its type, which may be in another file.
-    """
-    at = next((n for n in range(last, -1, -1) if FUNCTION.match(lines[n])), None)
-    if at is None or any(line == "}" for line in lines[at:last]):
-        return None
-    indent, name = FUNCTION.match(lines[at]).groups()
-    if not indent:
-        modules = [it for it in file[len("src/") : -len(".rt")].split("/") if it not in ("lib", "main")]
-        return "::".join([crate, *modules, name])
-    head = next((lines[n] for n in range(at, -1, -1) if lines[n].startswith(("impl", "trait", "pub trait"))), "")
-    owner = IMPL.match(head)
-    return f"{owner['type']}{(owner['trait'] or '').rpartition('::')[2]}::{name}" if owner else None
+    sources, functions = read(crate)
+    word = re.compile(rf"\b{constant}\b")
+    return tuple(it.path for it in functions if any(map(word.search, sources[it.file][it.first : it.last])))
 
 
 def check_words(lines, uses, crate):
@@ -133,12 +114,17 @@ def check_words(lines, uses, crate):
     return words + (["--crate-type", "staticlib"] if "staticlib" in own[0] else [])
 
 
-def checked(crate, words, edits, kept, functions):
-    """Checks a copy of the crate with these wrong bodies, over kept work, and returns the status and what was printed."""
+def copied(crate, folder):
+    """Copies the parts of a crate that a check reads."""
+    for part in ("src", "specs", "proofs"):
+        if os.path.isdir(f"{ROOT}/crates/{crate}/{part}"):
+            shutil.copytree(f"{ROOT}/crates/{crate}/{part}", f"{folder}/{part}")
+
+
+def checked(words, base, edits, kept, functions):
+    """Checks functions of a copy of a crate with these wrong bodies, over kept work, and returns the status and what was printed."""
     with tempfile.TemporaryDirectory(prefix="must-fail-") as folder:
-        for part in ("src", "specs", "proofs"):
-            if os.path.isdir(f"{ROOT}/crates/{crate}/{part}"):
-                shutil.copytree(f"{ROOT}/crates/{crate}/{part}", f"{folder}/{part}")
+        shutil.copytree(base, folder, dirs_exist_ok=True)
         for edit in edits:
             edit.apply(folder)
         only = [word for it in functions for word in ("--only", it)]
@@ -172,34 +158,44 @@ def rounds_of(edits):
     return rounds
 
 
-def try_alone(crate, words, edit, kept):
+def try_alone(words, base, edit, kept):
     """Returns why the crate with this wrong body isn't refused, or None if it is."""
-    status, printed = checked(crate, words, [edit], kept, [])
+    status, printed = checked(words, base, [edit], kept, [])
     last = printed.rstrip().rpartition("\n")[2]
     if status == 1 and last.startswith("logic=not-proved"):
         return None
     return "the crate is still proved" if status == 0 else f"it did not reach the prover: {printed.strip()[:300]}"
 
 
+def try_together(crate, words, base, edits, kept):
+    """Tries wrong bodies of functions of a copy of a crate in as few checks as it can. Returns a line for each refused one, and the others."""
+    said, left = [], []
+    for group in rounds_of(edits):
+        status, printed = checked(words, base, group, kept, [function for it in group for function in it.functions])
+        if status not in (0, 1):
+            said.append(f"{crate}: tries each alone: {printed.strip()[-300:]}")
+        for edit in group:
+            refused = next((it for it in edit.functions if is_refused(printed, it)), None)
+            if refused:
+                said.append(f"{edit.name}: refused, as it must be: {refused}")
+            else:
+                left.append(edit)
+    return said, left
+
+
 def try_crate(lines, uses, crate, edits):
     """Tries the wrong bodies of a crate, and returns a line for each and how many are not refused."""
     start = time.monotonic()
     words = check_words(lines, uses, crate)
-    said, failed = [], 0
-    with tempfile.TemporaryDirectory(prefix="must-fail-kept-") as kept:
-        left = [it for it in edits if not it.functions]
-        for group in rounds_of([it for it in edits if it.functions]):
-            status, printed = checked(crate, words, group, kept, [function for it in group for function in it.functions])
-            if status not in (0, 1):
-                said.append(f"{crate}: tries each alone: {printed.strip()[-300:]}")
-            for edit in group:
-                refused = next((it for it in edit.functions if is_refused(printed, it)), None)
-                if refused:
-                    said.append(f"{edit.name}: refused, as it must be: {refused}")
-                else:
-                    left.append(edit)
-        for edit in left:
-            why = try_alone(crate, words, edit, kept)
+    failed = 0
+    with tempfile.TemporaryDirectory(prefix="must-fail-kept-") as room:
+        whole, base, kept = f"{room}/whole", f"{room}/base", f"{room}/kept"
+        for folder in (whole, base):
+            copied(crate, folder)
+        cut(crate, base, {it for edit in edits for it in edit.functions})
+        said, left = try_together(crate, [*words, "--allow-holes"], base, [it for it in edits if it.functions], kept)
+        for edit in [*left, *(it for it in edits if not it.functions)]:
+            why = try_alone(words, whole, edit, kept)
             said.append(f"{edit.name}: {'NOT REFUSED: ' + why if why else 'refused, as it must be, alone'}")
             failed += why is not None
     said.append(f"{crate}: {len(edits)} wrong bodies in {time.monotonic() - start:.0f} s")
@@ -218,7 +214,7 @@ def sum_of(lines, uses, crate, edits):
     folders = [f"{ROOT}/crates/{crate}/{part}" for part in ("src", "specs", "proofs")]
     folders += [f"{ROOT}/crates/{it}/out/rlib/{it}.rlib" for it in with_below(uses, crate)[:-1]]
     paths = [f"{at}/{it}" for folder in folders for at, _, files in os.walk(folder) for it in files]
-    paths += [f"{ROOT}/scripts/must_fail.py", f"{ROOT}/scripts/prove.py"]
+    paths += [f"{ROOT}/scripts/{it}.py" for it in ("must_fail", "bodies", "prove")]
     kit = subprocess.run(["rt", "version"], capture_output=True, text=True, check=True).stdout
     total = hashlib.sha256(repr((kit, lines[crate], [(it.name, it.pairs) for it in edits])).encode())
     for path in sorted(paths):
