@@ -5,7 +5,7 @@ import re
 from dataclasses import dataclass
 
 FUNCTION = re.compile(r"(\s*)(?:pub(?:\([^)]*\))? )?(?:const |unsafe |final |extern \"C\" )*fn (\w+)")
-IMPL = re.compile(r"impl(?:<.*?>)?\s+(?:(?P<trait>[\w:]+)(?P<of><.*>)?\s+for\s+)?(?P<type>[\w:]+)")
+IMPL = re.compile(r"impl(?:<.*?>)?\s+(?:(?P<trait>[\w:]+)(?:<.*>)?\s+for\s+)?(?P<type>[\w:]+)")
 TYPE = re.compile(r"(?:pub(?:\([^)]*\))? )?(?:struct|enum|union) (\w+)")
 HOLE = "use Rattle.{module}.Statement.{{statement}}\n\npub {name}_spec : {{M : Type 1}} → statement M\n{name}_spec = ?\n"
 

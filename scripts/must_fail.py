@@ -2,9 +2,9 @@
 """must_fail.py [--anew] [CRATE[/EDIT] ..]: tries the wrong bodies crates/CRATE/must-fail/EDIT.edit: the prover must refuse each.
 
 `rt ci` tries them one by one, and most of each try is loading and proving what the changed function calls. This tries those of a crate
-together, in as few checks as it can: one check has at most one wrong body of each function. The proof of a function stands on the
-contracts of those that it calls, and on nothing else of them. So all functions that no wrong body changes have no body in the copy that
-is checked, and a hole for their proof. A wrong body counts as refused if the check doesn't prove its function, for the function's own
+together, in as few checks as it can: one check has at most one wrong body of each function. The proof of a function depends only on the
+contracts of the functions that it calls. So in the copy that is checked all functions that no wrong body changes have no body, and a
+hole for their proof. A wrong body counts as refused if the check doesn't prove its function, for the function's own
 goals and not only because it calls another that isn't proved. A wrong body that isn't refused like this, or that lies outside functions,
 is tried alone in the whole crate, as `rt ci` does: then the crate must not be proved.
 
@@ -81,13 +81,15 @@ def read(crate):
 def items_at(crate, file, old):
     """Returns the path of the function around a text of a crate's file, or those of the functions that name the constant around it."""
     sources, functions = read(crate)
-    lines = sources.get(file, [])
+    if file not in sources:
+        return ()
+    lines = sources[file]
     at = "\n".join(lines).partition(old)[0].count("\n")
     function = next((it.path for it in functions if it.file == file and it.first <= at <= it.last), None)
     if function:
         return (function,)
     start = next((n for n in range(at, -1, -1) if CONSTANT.match(lines[n]) or lines[n] in ("", "}")), at)
-    constant = CONSTANT.match(lines[start]) if lines else None
+    constant = CONSTANT.match(lines[start])
     return naming(crate, constant[1]) if constant else ()
 
 
@@ -230,7 +232,7 @@ def try_once(lines, uses, crate, edits, anew):
         with open(path, encoding="utf-8") as file:
             return [*file.read().splitlines(), f"{crate}: an earlier run of this machine has tried these"], 0
     said, failed = try_crate(lines, uses, crate, edits)
-    # What was changed meanwhile gives another sum.
+    # Keeps nothing if a file has changed during the tries.
     if not failed and path == f"{KEPT}/{crate}-{sum_of(lines, uses, crate, edits)}":
         keep(path, said)
     return said, failed
