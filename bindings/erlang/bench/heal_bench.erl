@@ -4,8 +4,8 @@
 %% First calls of a gen_server that does nothing, on its node and from another one: no registry that asks another process makes more
 %% registrations. Then, on 2, 4 and 8 nodes: registrations on the primary and on each other node, with one client and with eight; lookups;
 %% memory on the node of the processes and on another one; and healings of two halves whose names all clash, by a resolver that notifies
-%% the loser, while a client goes on to register. Then registrations of heal_registry next to many names. At last `global' and
-%% heal_registry heal more and more clashes, as far as `global' goes. A table compares the outcome with the goals.
+%% the loser, while clients go on to register on both primaries and on another node. Then registrations of heal_registry next to many names.
+%% At last `global' and heal_registry heal more and more clashes, as far as `global' goes. A table compares the outcome with the goals.
 -module(heal_bench).
 
 -behaviour(gen_server).
@@ -46,8 +46,9 @@ on(Count, Plan) ->
     [io:format("~p nodes: ~s takes ~.1f bytes for each of ~p names on the ~s node~n", [Count, Registry, Bytes, Names, Where])
      || {{_, {_, Names, Where}, Registry}, Bytes} <- Memory],
     Heals = [{{Count, {heal, Clashes}, Registry}, heal(Count, Clashes, Registry, Plan)} || Clashes <- Plan#plan.clashes, Registry <- ?REGISTRIES],
-    [io:format("~p nodes, ~p clashes: ~s heals in ~.1f ms (least ~.1f), and the longest registration meanwhile takes ~.1f ms~n",
-               [Count, Clashes, Registry, Median, Least, Longest]) || {{_, {heal, Clashes}, Registry}, {Median, Least, Longest}} <- Heals],
+    [io:format("~p nodes, ~p clashes: ~s heals in ~.1f ms (least ~.1f), and the longest registration meanwhile takes~s~n",
+               [Count, Clashes, Registry, Median, Least, [io_lib:format(" ~.1f ms on the ~s", [Time, Where]) || {Where, Time} <- Longest]])
+     || {{_, {heal, Clashes}, Registry}, {Median, Least, Longest}} <- Heals],
     Edits ++ Memory ++ Heals.
 
 with_nodes(Count, Run) ->
@@ -226,10 +227,11 @@ memory() ->
 heal(Count, Clashes, Registry, #plan{rounds = Most}) ->
     Rounds = max(1, min(Most, Most * 4096 div Clashes)),
     Times = [healing(Count, Clashes, Registry) || _ <- lists:seq(1, Rounds)],
-    {Heals, Longest} = lists:unzip(Times),
-    {lists:nth(Rounds div 2 + 1, lists:sort(Heals)) / 1000, lists:min(Heals) / 1000, lists:max(Longest) / 1000}.
+    {Heals, [First | _] = Longest} = lists:unzip(Times),
+    {lists:nth(Rounds div 2 + 1, lists:sort(Heals)) / 1000, lists:min(Heals) / 1000,
+     [{Where, lists:max([proplists:get_value(Where, Of) || Of <- Longest]) / 1000} || {Where, _} <- First]}.
 
-%% The time from the connection of two halves until all nodes answer alike, and that of the longest registration meanwhile. The nodes
+%% The time from the connection of two halves until all nodes answer alike, and those of the longest registrations meanwhile. The nodes
 %% were connected before: the first connection of a node takes 60 ms, which load modules of the kernel.
 healing(Count, Clashes, Registry) ->
     with_nodes(Count, fun(Nodes) ->
@@ -240,10 +242,14 @@ healing(Count, Clashes, Registry) ->
         [gathered(Registry, Half) || Half <- [Left, Right]],
         [long_call(hd(Half), fill, [Registry, "n", Clashes]) || Half <- [Left, Right]],
         [filled(Registry, lists:last(names("n", Clashes)), Half) || Half <- [Left, Right]],
-        Client = heal_cluster:call(hd(Left), ?MODULE, longest, [Registry]),
+        Clients = [{Where, It, heal_cluster:call(It, ?MODULE, longest, [Registry])} || {Where, It} <- places(Left, Right)],
         {Time, _} = timer:tc(fun() -> heal_cluster:mesh(Nodes), gathered(Registry, Nodes), settled(Registry, Nodes, Clashes) end),
-        {Time, heal_cluster:call(hd(Left), ?MODULE, stop_longest, [Client])}
+        {Time, [{Where, heal_cluster:call(It, ?MODULE, stop_longest, [Client])} || {Where, It, Client} <- Clients]}
     end).
+
+%% The smallest node of a half is its primary.
+places(Left, Right) ->
+    [{"leader", hd(Left)}, {"other primary", hd(Right)}] ++ [{"member", lists:last(Left)} || length(Left) > 1].
 
 gathered(global, Nodes) ->
     heal_cluster:mesh(Nodes),
@@ -353,8 +359,9 @@ goals(Rows, #plan{nodes = Counts, clashes = Series, names = Sizes}) ->
         || Names <- Sizes, Where <- [home, other],
            Part <- [Of({Count, {memory, Names, Where}, heal_registry}) / Of({Count, {memory, Names, Where}, global})]
     ] ++ lists:append([
-        [{io_lib:format("~p clashes in 0.05 of global's time", [Clashes]), Heals / Global, Heals / Global =< 0.05},
-         {io_lib:format("longest registration during ~p clashes under 100 ms", [Clashes]), Longest, Longest < 100}]
+        [{io_lib:format("~p clashes in 0.05 of global's time", [Clashes]), Heals / Global, Heals / Global =< 0.05}
+         | [{io_lib:format("longest registration on the ~s during ~p clashes under 100 ms", [Where, Clashes]), Time, Time < 100}
+            || {Where, Time} <- Longest]]
         || Clashes <- Series, {Heals, _, Longest} <- [Of({Count, {heal, Clashes}, heal_registry})],
            {Global, _, _} <- [Of({Count, {heal, Clashes}, global})]
     ])].

@@ -52,7 +52,7 @@ is_due(_Node, {offer, Number, _, _, _}, #part{heal = Heal}) -> is_open(Number, H
 is_due(_Node, {list, Number, _}, #part{heal = Heal}) -> is_open(Number, Heal);
 is_due(_Node, {finished, _, _}, _Part) -> true;
 is_due(_Node, {adopt, Number, _}, #part{adopting = Adopting}) -> is_map_key(Number, Adopting);
-is_due(_Node, Body, _Part) -> lists:member(element(1, Body), [busy, ready, cancel, abandon, answer, adopted, released]).
+is_due(_Node, Body, _Part) -> lists:member(element(1, Body), [busy, ready, cancel, abandon, answer, granted, adopted, released]).
 
 is_query(Reference, {_, #asking{reference = Reference}}) -> true;
 is_query(_Reference, _Heal) -> false.

@@ -2,7 +2,7 @@
 %%
 %% The primary carries edits out (heal_orders) and sends their entries to its members (heal_entries), which request theirs from it.
 %% The process of another node is registered by that node (heal_adopting). While a node waits for an exchange, a new view or a full
-%% connection to the primary, its edits wait too.
+%% connection to the primary, its edits wait too, but for what a primary grants in an exchange (heal_grants).
 -module(heal_edits).
 
 -include("heal_part.hrl").
@@ -34,7 +34,8 @@ edit(Call = #call{edit = {adopt, _, _, _, _, On}}, Part) ->
     heal_adopting:adopt(Call, heal_adopting:place(On, Part), Part);
 edit(Call, Part) ->
     case {waits(Part), heal_state:is_primary(Part)} of
-        {true, _} -> wait(Call, Part);
+        {true, true} -> heal_grants:edit(Call, Part);
+        {true, false} -> wait(Call, Part);
         {false, true} -> heal_orders:make(Call, Part);
         {false, false} -> heal_entries:request(Call, Part)
     end.
@@ -53,16 +54,17 @@ waits(Part = #part{awaited = Awaited}) ->
 wait(Call, Part = #part{waiting = Waiting}) ->
     Part#part{waiting = [timed(Call, Part) | Waiting]}.
 
-%% Carries out what waited, in its order.
+%% Carries out what was granted and what waited, in its order.
 -spec resume(#part{}) -> #part{}.
-resume(Part = #part{waiting = []}) ->
+resume(Part = #part{waiting = [], granted = Granted}) when Granted =:= #{} ->
     Part;
-resume(Part = #part{waiting = Waiting}) ->
-    case waits(Part) of
-        true -> Part;
+resume(Part) ->
+    Made = #part{waiting = Waiting} = heal_grants:make(Part),
+    case waits(Made) of
+        true -> Made;
         false ->
-            {Now, Later} = lists:splitwith(resumes(Part), lists:reverse(Waiting)),
-            lists:foldl(fun edit/2, Part#part{waiting = lists:reverse(Later)}, Now)
+            {Now, Later} = lists:splitwith(resumes(Made), lists:reverse(Waiting)),
+            lists:foldl(fun edit/2, Made#part{waiting = lists:reverse(Later)}, Now)
     end.
 
 %% Registrations are made before the view is settled. Other edits may be of names that are restored by then, and those that follow

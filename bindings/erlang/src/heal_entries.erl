@@ -3,7 +3,7 @@
 
 -include("heal_part.hrl").
 
--export([request/2, unsent/3, entries/6, answered/5, finish/3, restart/1, skipped/1]).
+-export([request/2, unsent/3, entries/6, answered/5, finish/3, taken/4, restart/1, skipped/1]).
 
 %% Has the primary carry an edit out.
 -spec request(#call{}, #part{}) -> #part{}.
@@ -119,13 +119,37 @@ answered(Node, View, Number, Answer, Part = #part{requested = Requested}) ->
         _ -> Part
     end.
 
+%% The primary of this node begins another view. Requests after the last one that it took before aren't made.
+-spec taken(node(), heal_replica:view(), Last :: non_neg_integer(), #part{}) -> #part{}.
+taken(Node, View = {Life, _}, Last, Part) ->
+    case heal_state:primary(Part) of
+        Life = {Node, _} -> Part#part{taken = {View, Last}};
+        _ -> Part
+    end.
+
 %% The view has changed. Registrations that it has are answered; other requests wait again, but for those that nobody waits for.
 -spec restart(#part{}) -> #part{}.
-restart(Part = #part{requested = Requested, waiting = Waiting}) ->
+restart(Part = #part{requested = Requested, waiting = Waiting, taken = Taken, members = Members}) ->
     Kept = [Call || Call = #call{from = From} <- Waiting, From =:= none orelse lists:member(element(1, From), [caller, adopting])],
-    Calls = [Call || {_, Call} <- lists:sort(maps:to_list(Requested))],
-    Restarted = lists:foldl(fun restart/2, Part#part{requested = #{}, waiting = [], gap = none}, Calls),
+    View = heal_state:view(Part),
+    IsMade = fun(Number) -> case Taken of {View, Last} -> Number =< Last; _ -> true end end,
+    Calls = [again(Call, IsMade(Number)) || {Number, Call} <- lists:sort(maps:to_list(Requested))],
+    Next = Part#part{requested = #{}, waiting = [], gap = none, taken = none, members = lists:foldl(fun untaken/2, Members, Waiting)},
+    Restarted = lists:foldl(fun restart/2, Next, Calls),
     heal_arrivals:all_arrived(Restarted#part{waiting = Kept ++ Restarted#part.waiting}).
+
+%% A member's request that waited isn't made, nor are those after it.
+untaken(#call{from = {member, Node, Number}}, Members) ->
+    case Members of
+        #{Node := Member = #member{taken = Last}} when Last =/= none -> Members#{Node := Member#member{taken = min(Last, Number - 1)}};
+        _ -> Members
+    end;
+untaken(_Call, Members) ->
+    Members.
+
+%% A request that may have been made in an earlier view, or isn't.
+again(Call, true) -> Call#call{is_repeated = true};
+again(Call = #call{is_repeated = IsRepeated}, false) -> Call#call{is_sent = IsRepeated}.
 
 %% This node has skipped entries of its view. Requests that aren't made are still with the primary.
 -spec skipped(#part{}) -> #part{}.
@@ -145,7 +169,7 @@ restart(Call = #call{from = From, edit = Edit}, Part = #part{waiting = Waiting})
     case {is_made(Edit, Part), From} of
         {{true, Name, Row}, _} -> claim(Call, Name, Row, Part);
         {false, none} -> Part;
-        {false, _} -> Part#part{waiting = [Call#call{is_repeated = true} | Waiting]}
+        {false, _} -> Part#part{waiting = [Call | Waiting]}
     end.
 
 %% A registration of this node is made: it is claimed, unless this node has come to answer for another one of the name.

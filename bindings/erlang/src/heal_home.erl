@@ -7,7 +7,7 @@
 -include("heal_part.hrl").
 
 -export([claim/3, change/3, show/2, show_all/1, is_taken/3, disown/2, is_own/3, waiting/1, conflicts/2, is_conflict/3, keep_programs/1]).
--export([plan/4, changes/2, is_current/2, losers/1, conflicts/1, swap/2, differences/1, differences/2, settle/1, restrict/2]).
+-export([plan/4, changes/2, current/3, conflicts/1, swap/2, differences/1, differences/2, settle/1, restrict/2]).
 -export_type([changes/0, plan/0]).
 
 -define(MAX_PROGRAMS, 256).
@@ -90,9 +90,10 @@ is_taken(Name, Owner, Part = #part{own = Own}) ->
 
 %% Answers for it no more.
 -spec disown(heal:name(), #part{}) -> #part{}.
-disown(Name, Part = #part{own = Own, lost = Lost}) ->
+disown(Name, Part = #part{own = Own, lost = Lost, granted = Granted}) ->
     {Row, Rest} = maps:take(Name, Own),
-    heal_state:add({disown, Name, Row}, Part#part{own = Rest, lost = maps:remove(Name, Lost)}).
+    Left = Part#part{own = Rest, lost = maps:remove(Name, Lost), granted = maps:remove(Name, Granted)},
+    heal_state:add({disown, Name, Row}, Left).
 
 %% Returns whether this node answers for the registration of this owner.
 -spec is_own(heal:name(), heal:owner(), #part{}) -> boolean().
@@ -188,14 +189,19 @@ changes(Old, New) ->
     Put = [Entry || Entry = {Name, Row} <- maps:to_list(New), not (is_map_key(Name, Old) andalso map_get(Name, Old) =:= Row)],
     {Put, [Name || Name <- maps:keys(Old), not is_map_key(Name, New)]}.
 
-%% Returns whether a plan for a half still holds.
--spec is_current(plan(), #part{}) -> boolean().
-is_current(#plan{own = Own, before = Before}, Part = #part{own = Now}) ->
-    Own =:= Now andalso Before =:= (heal_state:half(Part))#half.names.
+%% Returns the plan for the same half as it is now. What this node has granted since, or had and has no more, is in neither table.
+-spec current(plan(), #half{}, #part{}) -> plan().
+current(Plan = #plan{losers = Losers, own = Own, before = Before, lacking = Lacking}, Half, Part = #part{own = Now, granted = Granted}) ->
+    {Gone, Left} = lists:partition(fun(Edit) -> is_gone(Edit, Now) end, Lacking),
+    Known = maps:without([Name || {register, Name, _} <- Gone], Own),
+    New = maps:filter(fun(Name, _) -> not is_map_key(Name, Known) end, maps:with(maps:keys(Granted), Now)),
+    case maps:merge(Known, New) =:= Now andalso Before =:= (heal_state:half(Part))#half.names of
+        true -> Plan#plan{own = Now, lacking = [{register, Name, Row} || {Name, Row} <- maps:to_list(New)] ++ Left};
+        false -> plan(Losers, Half, unknown, Part)
+    end.
 
-%% Returns the losers of a plan.
--spec losers(plan()) -> heal_losers:losers().
-losers(#plan{losers = Losers}) -> Losers.
+is_gone({register, Name, _}, Own) -> not is_map_key(Name, Own);
+is_gone(_Change, _Own) -> false.
 
 %% Returns the names of this node that the half of a plan gives to another process, except those that an exchange decided.
 -spec conflicts(plan()) -> [heal:name()].

@@ -9,12 +9,14 @@
 -include("heal_part.hrl").
 
 -export([meet/1, message/3, continue/2, touched/2, broken/1, announced/3, failed_with/2, expired/1, withdraw/2, is_idle/1, name/1]).
--export_type([member/0, outcome/0]).
+-export_type([member/0, outcome/0, merge/0]).
 
 -type member() :: {heal_replica:life(), Number :: non_neg_integer()}.
 %% What an exchange has come to: what heal_exchange:finish/3 returned, and the names that the other node has withdrawn.
 -type outcome() :: {{Clashes :: non_neg_integer(), [heal:loss()], heal_exchange:rulings()}, [{heal:name(), heal:values()}],
                     Lacking :: [heal:name()], Withdrawn :: [heal:name()]}.
+%% The merge, its losers, how its rows differ, and what is reported of it.
+-type merge() :: {#half{}, heal_losers:losers(), heal_home:changes() | unknown, Facts :: #{atom() => term()}}.
 
 -define(MAX_PROGRAMS, 256).
 %% The refusal of a program that there is no room for.
@@ -143,9 +145,8 @@ message(Node, {offer, Number, Seed, Offer, Reference},
     %% The leader has an earlier version, which makes no proposal. Both nodes judge at the same time.
     Judge = fun(Open) -> heal_state:continue({hear, Number, Offer}, Open) end,
     accept(Node, Number, Seed, element(4, Offer), Judge, Part#part{heal = idle});
-message(Node, {offer, Number, _Seed, Offer, _Reference},
-        Part = #part{heal = Open = #open{node = Node, number = Number, side = Side, others = none}}) ->
-    hear(Offer, Open, Part, case Side of a -> fun close/1; b -> fun(Heard) -> Heard end end);
+message(Node, {offer, Number, _Seed, Offer, _Reference}, Part = #part{heal = Open = #open{node = Node, number = Number, others = none}}) ->
+    hear(Offer, Open, Part);
 message(Node, {list, Number, List}, Part = #part{heal = Open = #open{node = Node, number = Number, side = a, stage = listed}}) ->
     finish(List, Open, Part);
 message(Node, {list, Number, List}, Part = #part{heal = Open = #open{node = Node, number = Number, side = b, stage = offered}})
@@ -154,6 +155,9 @@ message(Node, {list, Number, List}, Part = #part{heal = Open = #open{node = Node
     heal_state:continue({finish, Number, List}, close(Part));
 message(Node, {finished, Number, View}, Part = #part{heal = Open = #open{node = Node, number = Number, stage = {done, _, _}}}) ->
     follow(View, Open, Part);
+message(Node, {finished, Number, View}, Part = #part{heal = Open = #open{node = Node, number = Number, side = b, stage = Stage}})
+        when element(1, Stage) =:= finished; element(1, Stage) =:= merged ->
+    Part#part{heal = Open#open{led = View}};
 message(Node, {abandon, Number, Refusal}, Part = #part{heal = #open{node = Node, number = Number}}) ->
     failed(Refusal, Node, Part);
 message(Node, {abandon, 0, Refusal}, Part = #part{heal = Heal, exchange_timeout = Timeout}) ->
@@ -175,11 +179,19 @@ continue({begin_with, Reference, Greatest, Members}, Part = #part{heal = {asking
 continue({prepare, Reference, Members}, Part = #part{heal = {engaged, #asking{reference = Reference}}}) ->
     ready_offer(b, Members, Part);
 continue({hear, Number, Offer}, Part = #part{heal = Open = #open{number = Number, side = b, others = none}}) ->
-    hear(Offer, Open, Part, fun(Heard) -> Heard end);
+    hear(Offer, Open, Part);
+continue({judge, Number, Bytes}, Part = #part{heal = Open = #open{number = Number}}) ->
+    judge(Bytes, Open, Part);
 continue({finish, Number, List}, Part = #part{heal = Open = #open{number = Number, side = b, stage = listed}}) ->
     finish(List, Open, Part);
-continue({lead, Number, Outcome}, Part = #part{heal = Open = #open{number = Number, side = a, stage = listed}}) ->
-    led(Outcome, Open, Part);
+continue({merge, Number}, Part = #part{heal = Open = #open{number = Number, stage = {finished, Outcome}}}) ->
+    decided(merge(Outcome, Open, Part), Open, Part);
+continue({lead, Number}, Part = #part{heal = Open = #open{number = Number, stage = {merged, Merge}}}) ->
+    lead(Merge, Open, Part);
+continue({led, Number}, Part = #part{heal = Open = #open{number = Number, stage = {merged, Merge}}}) ->
+    led(Merge, Open, Part);
+continue({keep, Number}, Part = #part{heal = Open = #open{number = Number, stage = {merged, Merge}}}) ->
+    keep(Merge, Open, Part);
 continue(_Step, Part) ->
     Part.
 
@@ -338,13 +350,16 @@ accept(Node, Number, Seed, Members, Continue, Part) ->
             Part
     end.
 
-hear({Bytes, Processes, Programs, Members}, Open = #open{handle = Handle}, Part = #part{world = World}, Continue) ->
-    case World:hear(Bytes, Handle) of
-        {ok, Heard} ->
-            Next = Open#open{handle = Heard, others = heal_processes:received(Processes), programs = Programs, members = Members},
-            Continue(Part#part{heal = extended(Next, Part)});
-        {error, Refusal} ->
-            refused(Refusal, Part)
+%% Hears the other side's offer. Callers that register what is in neither offer don't wait for the verdicts.
+hear({Bytes, Processes, Programs, Members}, Open = #open{number = Number}, Part) ->
+    Next = Open#open{others = heal_processes:received(Processes), programs = Programs, members = Members},
+    heal_state:continue({judge, Number, Bytes}, heal_grants:heard(Part#part{heal = extended(Next, Part)})).
+
+judge(Bytes, Open = #open{handle = Handle, side = Side}, Part = #part{world = World}) ->
+    case {World:hear(Bytes, Handle), Side} of
+        {{ok, Heard}, a} -> close(Part#part{heal = Open#open{handle = Heard}});
+        {{ok, Heard}, b} -> Part#part{heal = Open#open{handle = Heard}};
+        {{error, Refusal}, _} -> refused(Refusal, Part)
     end.
 
 extended(Open, #part{now = Now, exchange_timeout = Timeout}) ->
@@ -364,47 +379,52 @@ close(Part = #part{world = World, heal = Open = #open{node = Node, number = Numb
             refused(Refusal, Part)
     end.
 
-%% Ends the exchange. The leader names the view that begins with the merge, and both nodes compute the merge at the same time.
-finish({List, Withdrawn}, Open = #open{handle = Handle, own = Own, others = Others, side = Side}, Part = #part{world = World}) ->
+%% Ends the exchange. Both nodes compute the merge at the same time, and callers don't wait for it.
+finish({List, Withdrawn}, Open = #open{number = Number, handle = Handle, own = Own, others = Others}, Part = #part{world = World}) ->
     %% Besides the names that clash, only those of one side alone and those that are withdrawn may change.
     Gone = [Name || Name <- Withdrawn ++ Open#open.withdrawn, is_map_key(Name, Own)],
     case World:finish(List, Gone ++ heal_processes:alone(Others, Own), Handle) of
-        {ok, Judged, Rows, Lacking} -> decided(Side, {Judged, Rows, Lacking, Withdrawn}, Open, Part);
-        {error, Refusal} -> refused(Refusal, Part)
+        {ok, Judged, Rows, Lacking} ->
+            Finished = Open#open{stage = {finished, {Judged, Rows, Lacking, Withdrawn}}},
+            heal_state:later({merge, Number}, Part#part{heal = Finished});
+        {error, Refusal} ->
+            refused(Refusal, Part)
     end.
 
-decided(Side, Outcome, Open, Part) ->
-    case {has_room(Outcome, Open, Part), Side} of
-        {false, _} -> refused(?STORE_FULL, Part);
-        {true, a} -> lead(Open, Outcome, Part);
-        {true, b} -> keep(Open, merge(Outcome, Open, Part), Part)
+decided(Merge, Open = #open{number = Number, side = Side}, Part) ->
+    case has_room(Merge, Open, Part) of
+        true ->
+            Next = case Side of a -> lead; b -> keep end,
+            heal_state:later({Next, Number}, Part#part{heal = Open#open{stage = {merged, Merge}}});
+        false ->
+            refused(?STORE_FULL, Part)
     end.
 
 %% Returns whether there is room for all programs that rows of the merge name. Most often there is room for those of both parts.
-has_room(Outcome, Open = #open{programs = Theirs}, Part) ->
+has_room({#half{names = Names}, _, _, _}, #open{programs = Theirs}, Part) ->
     #half{programs = Ours} = heal_state:half(Part),
-    map_size(maps:merge(Theirs, Ours)) =< ?MAX_PROGRAMS orelse begin
-        {#half{names = Names}, _, _, _} = merge(Outcome, Open, Part),
-        map_size(named(Names)) =< ?MAX_PROGRAMS
-    end.
+    map_size(maps:merge(Theirs, Ours)) =< ?MAX_PROGRAMS orelse map_size(named(Names)) =< ?MAX_PROGRAMS.
 
-%% A node that fails after this starts another view.
-lead(#open{node = Node, number = Number, from = From}, Outcome, Part = #part{replica = Replica}) ->
-    case heal_replica:change(From, heal_state:half(Part), Replica) of
+%% The leader names the view that begins with the merge. A node that fails after this starts another view.
+lead({Half, _, _, _}, #open{node = Node, number = Number, from = From}, Part = #part{replica = Replica}) ->
+    case heal_replica:change(From, Half, Replica) of
         {ok, Led} ->
             {View = {_, Latest}, 0} = heal_replica:position(Led),
             Sent = heal_state:send(Node, {finished, Number, View}, heal_state:add({keep, led, Latest}, Part)),
-            heal_state:continue({lead, Number, Outcome}, Sent);
+            heal_state:continue({led, Number}, Sent);
         {error, Refusal} ->
             refused(Refusal, Part)
     end.
 
 %% The other node keeps the merge until it hears of the leader's view, with what it changes on this node and what is reported of it.
-keep(Open, {Half, Losers, Changes, Facts}, Part) ->
+keep({Half, Losers, Changes, Facts}, Open = #open{led = Led}, Part) ->
     Plan = heal_home:plan(Losers, Half, Changes, Part),
-    Part#part{heal = extended(Open#open{handle = {healed, Facts}, stage = {done, Half, Plan}}, Part)}.
+    Done = extended(Open#open{handle = {healed, Facts}, stage = {done, Half, Plan}}, Part),
+    case Led of
+        none -> Part#part{heal = Done};
+        View -> follow(View, Done, Part)
+    end.
 
-%% The merge, its losers, how its rows differ, and what is reported of it.
 merge({{Clashes, Losses, Rulings}, Rows, Lacking, Withdrawn}, Open, Part = #part{world = World}) ->
     Won = [{Name, Values} || {Name, _, _, _, _, Values} <- Losses, Values =/= none],
     Lost = [Name || {Name, _, _, _, _, none} <- Losses],
@@ -444,8 +464,7 @@ named(Names) ->
     maps:from_keys([Id || Row <- maps:values(Names), {program, Id} <- [heal_row:resolver(Row)]], named).
 
 %% The leader starts the view with the merge.
-led(Outcome, Open = #open{node = Node, from = From}, Part = #part{replica = Replica}) ->
-    {Half, Losers, Changes, Facts} = merge(Outcome, Open, Part),
+led({Half, Losers, Changes, Facts}, Open = #open{node = Node, from = From}, Part = #part{replica = Replica}) ->
     {ok, Led} = heal_replica:change(From, Half, Replica),
     Started = heal_view:start(Led, united_members(Node, Open, Part), Node, {Losers, Changes}, succeeded(Node, Part)),
     heal_state:add({healed, Facts}, Started).

@@ -62,7 +62,8 @@
     | {prepare, Reference :: term(), [heal_meeting:member()]}
     | {begin_with, Reference :: term(), Greatest :: non_neg_integer(), [heal_meeting:member()]}
     | {propose, Reference :: term(), Number :: pos_integer(), Seed :: non_neg_integer(), [heal_meeting:member()]}
-    | {lead, Number :: pos_integer(), heal_meeting:outcome()}
+    | {judge, Number :: pos_integer(), Offer :: binary()}
+    | {merge | lead | led | keep, Number :: pos_integer()}
     | welcome | settle.
 -type action() ::
     {send, node(), Body :: term()}
@@ -126,11 +127,11 @@ taken(Part = #part{out = Out}) ->
 %% Takes the state of an earlier version over: the fields that it lacks are the last ones.
 -spec upgrade(Earlier :: part()) -> part().
 upgrade(Earlier) ->
-    Part = later(Earlier, record_info(size, part), [none, none, [], none, #{}, #{}, #{}, #{}, #{}, none, heal_recent:new(), 0, 0]),
+    Part = later(Earlier, record_info(size, part), [none, none, [], none, #{}, #{}, #{}, #{}, #{}, none, heal_recent:new(), 0, 0, #{}, false, none]),
     #part{replica = Replica, waiting = Waiting, requested = Requested, unreleased = Unreleased, adopting = Adopting} = Part,
     #part{arriving = Arriving, leaving = Leaving, storing = Storing} = Part,
     Each = fun(_, Call) -> call(Call) end,
-    owned(tuple_size(Earlier) < #part.lost, given_up(tuple_size(Earlier) < #part.grouping, Part#part{
+    owned(tuple_size(Earlier) < #part.lost, exchanging(tuple_size(Earlier) < #part.grouping, Part#part{
         replica = heal_replica:upgrade(Replica),
         waiting = [call(Call) || Call <- Waiting],
         requested = maps:map(Each, Requested),
@@ -141,11 +142,16 @@ upgrade(Earlier) ->
         storing = [{Id, call(Call)} || {Id, Call} <- Storing]
     })).
 
-%% An exchange of a version before the field `grouping' goes no further: it knows the processes of the other side otherwise.
-given_up(false, Part) ->
-    Part;
-given_up(true, Part = #part{heal = Heal}) ->
-    Part#part{heal = case Heal of #open{} -> idle; _ -> Heal end, prepared = none}.
+%% An exchange of a version before the field `grouping' goes no further: it knows the processes of the other side otherwise. Later ones may
+%% lack the last fields.
+exchanging(true, Part = #part{heal = Open}) when element(1, Open) =:= open ->
+    Part#part{heal = idle, prepared = none};
+exchanging(true, Part) ->
+    Part#part{prepared = none};
+exchanging(false, Part = #part{heal = Open}) when element(1, Open) =:= open ->
+    Part#part{heal = later(Open, record_info(size, open), [none, none])};
+exchanging(false, Part) ->
+    Part.
 
 %% A version before the field `lost' kept a registration that this node answers for with what became of it.
 owned(false, Part) ->
@@ -183,7 +189,7 @@ event({sync, From}, Part = #part{syncing = Syncing}) ->
 event({disk, Ids, Lacking, Problem}, Part) ->
     settled(heal_storing:reported(Ids, Lacking, Problem, Part));
 event({continue, welcome}, Part) ->
-    act(Part);
+    act(heal_view:welcome(Part));
 event({continue, settle}, Part) ->
     act(heal_view:continue(Part));
 event({continue, Step}, Part) ->
@@ -209,6 +215,10 @@ message(Node, {request, View, Number, Edit}, Part) ->
     heal_orders:requested(Node, View, Number, Edit, Part);
 message(Node, {answer, View, Number, Answer}, Part) ->
     heal_entries:answered(Node, View, Number, Answer, Part);
+message(Node, {granted, View, Number}, Part) ->
+    heal_grants:take(Node, View, Number, Part);
+message(Node, {taken, View, Last}, Part) ->
+    heal_entries:taken(Node, View, Last, Part);
 message(Node, {adopt, Number, Edit}, Part) ->
     heal_adopting:adopt_for(Node, Number, Edit, Part);
 message(Node, {adopted, Number, Answer}, Part) ->

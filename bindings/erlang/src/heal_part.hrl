@@ -24,14 +24,15 @@
     adopted = 0 :: non_neg_integer()
 }).
 
-%% A node that follows the view of this primary. `was' is the view that it had before, until it has joined; `taken' its last request.
+%% A node that follows the view of this primary. `was' is the view that it had before, until it has joined; `taken' its last request, once it
+%% has joined this view or one before.
 -record(member, {
     life :: heal_replica:life(),
     was :: none | heal_replica:view(),
     is_joined = false :: boolean(),
     %% It has missed an entry, so it gets no other ones before a snapshot.
     is_lagging = false :: boolean(),
-    taken = 0 :: non_neg_integer()
+    taken = none :: none | non_neg_integer()
 }).
 
 %% An edit that isn't answered. `from' is a caller of this node; a node that requests that this one registers a process; a member
@@ -65,9 +66,14 @@
     programs = #{} :: #{binary() => binary()},
     members = [] :: [heal_meeting:member()],
     withdrawn = [] :: [heal:name()],
-    stage = offered :: offered | listed | {done, #half{}, heal_home:plan()},
+    %% `done' on the node that doesn't lead.
+    stage = offered :: offered | listed | {finished, heal_meeting:outcome()} | {merged, heal_meeting:merge()} | {done, #half{}, heal_home:plan()},
     begun :: integer(),
-    deadline :: integer()
+    deadline :: integer(),
+    %% The processes of the other side by their names, once somebody registers meanwhile.
+    theirs = none :: none | #{heal:name() => pid()},
+    %% The view that the leader has started, before this node is done.
+    led = none :: none | heal_replica:view()
 }).
 
 %% What this node is about to offer: the half of this view, on side b without the names of these members of the leader's part. `touched'
@@ -160,5 +166,11 @@
     recent = heal_recent:new() :: heal_recent:recent(),
     %% Of a backup: when it may compare its registrations with its half again, and when it wants a snapshot again that hasn't arrived.
     next_check = 0 :: integer(),
-    next_want = 0 :: integer()
+    next_want = 0 :: integer(),
+    %% Of a primary: the registrations that it has granted in an exchange, and makes when that is over.
+    granted = #{} :: #{heal:name() => #call{}},
+    %% Whether it is about to send a snapshot.
+    is_welcoming = false :: boolean(),
+    %% Of a backup: the last of its requests that its primary took before it began this view.
+    taken = none :: none | {heal_replica:view(), Last :: non_neg_integer()}
 }).

@@ -315,7 +315,8 @@ own({?REGISTRY, post}, State = #server{outbox = Outbox}) ->
     {StartTimer, Next} = heal_outbox:expired(Outbox),
     timed_post(StartTimer, State#server{outbox = Next});
 own({?REGISTRY, step, Step}, State) ->
-    event({continue, Step}, State);
+    %% Nothing waits for it to be sent.
+    event({continue, Step}, drained(State));
 own({?REGISTRY, lost}, State) ->
     lost(State);
 own({?REGISTRY, release}, State) ->

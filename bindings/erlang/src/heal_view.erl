@@ -7,7 +7,7 @@
 
 -include("heal_part.hrl").
 
--export([resume/2, act/1, continue/1, is_settling/1, members/1, lead_alone/1, follow_merge/5, start/5]).
+-export([resume/2, act/1, welcome/1, continue/1, is_settling/1, members/1, lead_alone/1, follow_merge/5, start/5]).
 -export([heard/3, snapshot/3, difference/3, want/2, wanted/3, joined/3, join_again/2, settled/3, broadcast/3]).
 
 %% ---- Starting ----
@@ -82,13 +82,27 @@ members(Part = #part{node = Node, members = Members, peers = Peers}) ->
 %% ---- The primary ----
 
 %% A node that follows an earlier view of this one gets a snapshot, and so does one that follows this view and isn't a member. A large
-%% snapshot takes a while to send, so the messages that have arrived go before the next one.
-followers(Part = #part{peers = Peers}) ->
-    case [Node || {Node, Peer} <- maps:to_list(Peers), is_behind(Node, Peer, Part), not has_snapshot(Node, Part),
-                  has_room(Node, Part), not heal_peers:is_silent(Peer, Part)] of
+%% snapshot takes a while to send, so the messages that have arrived go before each.
+followers(Part = #part{is_welcoming = true}) ->
+    Part;
+followers(Part) ->
+    case behind(Part) of
         [] -> Part;
-        [Node] -> welcome(Node, Part);
-        [Node | _] -> heal_state:later(welcome, welcome(Node, Part))
+        _ -> heal_state:later(welcome, Part#part{is_welcoming = true})
+    end.
+
+behind(Part = #part{peers = Peers}) ->
+    [Node || {Node, Peer} <- maps:to_list(Peers), is_behind(Node, Peer, Part), not has_snapshot(Node, Part), has_room(Node, Part),
+             not heal_peers:is_silent(Peer, Part)].
+
+%% Sends the next snapshot. That of an exchange has its losers, which take a while to list.
+-spec welcome(#part{}) -> #part{}.
+welcome(Part = #part{heal = Heal, losers = Losers}) ->
+    Next = Part#part{is_welcoming = false},
+    case not is_record(Heal, open) andalso heal_state:is_primary(Part) andalso behind(Part) of
+        [Node | _] when is_list(Losers) -> regarded(Part, welcome(Node, Next));
+        [_ | _] -> Next#part{losers = heal_losers:list(Losers)};
+        _ -> Next
     end.
 
 %% Returns whether a node's connection has room: for a snapshot after a pause, for what differs at once.
@@ -216,7 +230,16 @@ send_snapshot(Node, Part = #part{replica = Replica, losers = Losers}) ->
         none -> {snapshot, {heal_replica:snapshot(Replica), All}};
         Difference -> {difference, {Difference, All}}
     end,
-    heal_state:send(Node, Body, heal_difference:given(Node, Part#part{losers = All})).
+    heal_state:send(Node, Body, taken(Node, heal_difference:given(Node, Part#part{losers = All}))).
+
+%% A member hears which of its requests were taken before this view: the others aren't made.
+taken(Node, Part = #part{members = Members}) ->
+    case Members of
+        #{Node := #member{is_joined = false, taken = Last}} when Last =/= none ->
+            heal_state:send(Node, {taken, heal_state:view(Part), Last}, Part);
+        _ ->
+            Part
+    end.
 
 %% A node has followed this view. Its edits are those that its home has and the view lacks.
 -spec joined(node(), {pos_integer(), heal_replica:position(), non_neg_integer(), [heal_edits:edit()]}, #part{}) -> #part{}.
@@ -230,6 +253,7 @@ joined(Node, {Seq, At = {View, Operation}, Requests, Edits}, Part) ->
 join(Node, Requests, Edits, Operation, Part = #part{members = Members, peers = Peers, settle_by = SettleBy}) ->
     #{Node := #peer{life = Life}} = Peers,
     Member = case Members of
+        #{Node := Known = #member{life = Life, taken = none}} -> Known#member{is_joined = true, taken = Requests};
         #{Node := Known = #member{life = Life, taken = Taken}} -> Known#member{is_joined = true, taken = max(Taken, Requests)};
         _ -> #member{life = Life, was = none, is_joined = true, taken = Requests}
     end,
@@ -509,11 +533,7 @@ follow(Snapshot = {{View, _}, Half}, Changes, Losers, Node, Part) ->
 %% Follows the view of another primary, which begins with the outcome of an exchange.
 -spec follow_merge(heal_replica:view(), #half{}, heal_home:plan(), node(), #part{}) -> #part{}.
 follow_merge(View, Half, Plan, Node, Part) ->
-    Current = case heal_home:is_current(Plan, Part) of
-        true -> Plan;
-        false -> heal_home:plan(heal_home:losers(Plan), Half, unknown, Part)
-    end,
-    taken({{View, 0}, Half}, Current, fun entered/1, noted(View, Node, Part)).
+    taken({{View, 0}, Half}, heal_home:current(Plan, Half, Part), fun entered/1, noted(View, Node, Part)).
 
 entered(Part = #part{peers = Peers}) ->
     Known = case announced(heal_state:primary(Part), Peers) of #peer{seq = Seq} -> Seq; none -> 0 end,
@@ -526,7 +546,8 @@ taken(Snapshot, Plan, Continue, Part = #part{replica = Replica}) ->
     case heal_home:conflicts(Plan) of
         [] ->
             {ok, Following} = heal_replica:follow(Snapshot, Replica),
-            Moved = Part#part{replica = Following, members = #{}, settle_by = none, losers = [], limbo = none, base = none, next_want = 0},
+            Moved = Part#part{replica = Following, members = #{}, settle_by = none, losers = [], limbo = none, base = none, next_want = 0,
+                              granted = #{}},
             Swapped = Continue(heal_home:swap(Plan, Moved)),
             heal_peers:announce(join_with(heal_home:differences(Plan, Swapped), Swapped));
         _ ->

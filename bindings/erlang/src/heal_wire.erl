@@ -50,7 +50,8 @@ read(_Other) -> error.
 -spec is_of_edit(Body :: tuple()) -> boolean().
 is_of_edit(Body) ->
     Kind = element(1, Body),
-    Kind =:= edit orelse Kind =:= request orelse Kind =:= answer orelse Kind =:= adopt orelse Kind =:= adopted orelse Kind =:= released.
+    Kind =:= edit orelse Kind =:= request orelse Kind =:= answer orelse Kind =:= granted orelse Kind =:= adopt orelse Kind =:= adopted
+        orelse Kind =:= released.
 
 %% Returns a body that another node has sent, if it is valid. An invalid edit is `bad', which the receiver refuses.
 -spec body(Sent :: term()) -> {ok, Body :: term()} | error.
@@ -97,6 +98,7 @@ is_valid({edit, At, Edits, By, _Answer}) ->
     is_at(At) andalso Edits =/= [] andalso all(fun is_made/1, Edits) andalso (By =:= none orelse is_request(By));
 is_valid({request, View, Number, _Edit}) -> is_view(View) andalso is_count(Number);
 is_valid({answer, View, Number, _Answer}) -> is_view(View) andalso is_count(Number);
+is_valid({Kind, View, Number}) when Kind =:= granted; Kind =:= taken -> is_view(View) andalso is_count(Number);
 is_valid({adopt, Number, _Edit}) -> is_count(Number);
 is_valid({adopted, Number, _Answer}) -> is_count(Number);
 is_valid({released, Number, Owner}) -> is_count(Number) andalso is_owner(Owner);

@@ -106,7 +106,8 @@ delayed(Sender, Kind, A, B, Owners) ->
 during_test_() ->
     halves(?LONG, fun during/3).
 
-%% While the exchange is open, names are found, edits wait, and processes that are killed are withdrawn.
+%% While the exchange is open, names are found, and processes that are killed are withdrawn. Edits wait, but new names are registered once the
+%% primary knows the names of the other side.
 during(A, B, Owners = #{a := OnA, b := OnB, db_of_a := DbA, db_of_b := DbB}) ->
     More = [{It, Name, heal_cluster:own(It, ?REGISTER, Name, #{resolver => notify})}
             || {It, Name} <- [{A, dies_on_a}, {A, dies_twice}, {B, dies_twice}, {B, dies_on_b}, {A, dies_late}]],
@@ -118,22 +119,28 @@ during(A, B, Owners = #{a := OnA, b := OnB, db_of_a := DbA, db_of_b := DbB}) ->
                                         || {It, Name} <- [{A, a}, {A, db}, {B, db}, {B, b}]]),
     Self = self(),
     spawn_link(fun() -> Self ! {registered, heal_cluster:own(A, ?REGISTER, later, #{})} end),
+    OnEarly = heal_cluster:own(B, ?REGISTER, early, #{}),
+    ?assertEqual(OnEarly, heal_cluster:call(B, heal_registry, whereis_name, [early])),
+    spawn_link(fun() -> Self ! {taken, heal_cluster:call(A, heal_registry, register, [b, OnA, #{}])} end),
     [heal_cluster:kill(It, Pid) || {It, Name, Pid} <- More, Name =/= dies_late],
     Names = fun(It) -> [Name || {Name, _} <- heal_cluster:table(It)] end,
-    heal_cluster:eventually(fun() -> {Names(A), Names(B)} =:= {[a, db, dies_late], [b, db]} end),
+    heal_cluster:eventually(fun() -> {Names(A), Names(B)} =:= {[a, db, dies_late], [b, db, early]} end),
+    receive {registered, _} -> error(registered_before_the_offer) after 0 -> ok end,
     plan(B, {hold, list}),
     release(B),
     holds(B),
     %% B has finished, and A has closed its list.
-    ?assertMatch({#{link := open}, #{link := joined}}, {heal_cluster:status(A), heal_cluster:status(B)}),
+    heal_cluster:eventually(fun() -> [Link || It <- [A, B], #{link := Link} <- [heal_cluster:status(It)]] =:= [open, joined] end),
     [heal_cluster:kill(It, Pid) || {It, dies_late, Pid} <- More],
-    receive {registered, _} -> error(registered_during_the_exchange) after 0 -> ok end,
+    OnLater = receive {registered, Pid} -> Pid end,
+    ?assertMatch(#{link := open}, heal_cluster:status(A)),
+    receive {taken, _} -> error(edited_during_the_exchange) after 0 -> ok end,
     plan(B, none),
     release(B),
-    OnLater = receive {registered, Pid} -> Pid end,
-    heal_cluster:eventually(fun() -> Names(B) =:= [a, b, db, later] end),
+    ?assertMatch({error, {30, _}}, receive {taken, Answer} -> Answer end),
+    heal_cluster:eventually(fun() -> Names(B) =:= [a, b, db, early, later] end),
     Table = heal_cluster:alike(A, B),
-    ?assertEqual({later, OnLater}, lists:keyfind(later, 1, Table)),
+    ?assertEqual([OnEarly, OnLater], [proplists:get_value(Name, Table) || Name <- [early, later]]),
     ?assert(lists:member(proplists:get_value(db, Table), [DbA, DbB])),
     ?assertEqual(4, map_size(Owners)).
 

@@ -129,12 +129,12 @@ churn_here(Name, Count) ->
 
 %% An edit that is answered with `not_made' never happens later.
 not_made(A, B) ->
-    plan(B, {hold, offer}),
+    [plan(It, {hold, offer}) || It <- [A, B]],
     heal_cluster:connect(A, B),
-    heal_cluster:eventually(fun() -> heal_cluster:call(B, heal_faults, held, []) =/= [] end),
+    [heal_cluster:eventually(fun() -> heal_cluster:call(It, heal_faults, held, []) =/= [] end) || It <- [A, B]],
     [?assertEqual({error, {timeout, not_made}}, soon(fun() -> register_on(It, db) end)) || It <- [A, B]],
     ?assertEqual({error, {timeout, not_made}}, soon(fun() -> heal_cluster:call(A, heal_registry, unregister_name, [db]) end)),
-    release(B),
+    [release(It) || It <- [A, B]],
     Pid = own(A, other),
     ?assertEqual([{other, Pid}], heal_cluster:alike(A, B)).
 

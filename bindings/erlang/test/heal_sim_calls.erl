@@ -77,9 +77,10 @@ answered({register, Pid}, ok, Name, Sim = #sim{nodes = Nodes, processes = Proces
     #{Name := #node{table = Table}} = Nodes,
     case Table of
         #{Term := {#row{pid = Pid}, _}} -> ok;
-        %% Another caller may have unregistered it since, or the process's node has left the part, or was dropped and restores it.
+        %% Another caller may have unregistered it since, or the process's node has left the part, was dropped and restores it, or has yet to
+        %% hear that it was dropped.
         _ -> is_unregistered(Term) orelse not heal_sim_world:is_alive(Pid) orelse not are_together(Name, element(2, Pid), Sim)
-            orelse is_restoring(Term, Pid, Sim) orelse heal_sim_trace:broken(reads_its_writes, {Pid, Name, maps:get(Term, Table, none)}, Sim)
+            orelse is_restoring(Term, Pid, Sim) orelse is_ahead(Name, Term, Pid, Sim) orelse heal_sim_trace:broken(reads_its_writes, {Pid, Name, maps:get(Term, Table, none)}, Sim)
     end,
     heal_sim_acts:process(Pid, fun(Process) -> Process#process{state = acknowledged} end, Sim);
 answered({register, Pid}, {error, {_, unknown}}, _Name, Sim) ->
@@ -123,6 +124,14 @@ is_restoring(Term, Pid = {pid, On, _}, #sim{nodes = Nodes}) ->
     #{On := #node{table = Table}} = Nodes,
     case Table of
         #{Term := {#row{pid = Pid}, restoring}} -> true;
+        _ -> false
+    end.
+
+%% Returns whether a node has entries of its view that the process's node lacks, which finds the process.
+is_ahead(Name, Term, Pid = {pid, On, _}, #sim{nodes = Nodes}) ->
+    #{Name := #node{part = Part}, On := #node{part = Home, table = Table}} = Nodes,
+    case {heal_state:at(Part), heal_state:at(Home), Table} of
+        {{View, Operation}, {View, Earlier}, #{Term := {#row{pid = Pid}, _}}} -> Earlier < Operation;
         _ -> false
     end.
 

@@ -379,8 +379,9 @@ starts_before_it_follows_test() ->
 %% A registry fails after it has sent what begins its view, and before it has kept its position. It leads no view of that number again.
 fails_before_its_position_test() ->
     Three = #{b := Part} = joined_three(),
-    {Actions, _} = heal_part:handle({down, a}, 2, Part),
-    ?assertMatch([_], [At || {send, c, {difference, {{_, _, At = {{{b, 1}, 2}, _}, _, _, _, _}, _}}} <- Actions]),
+    {Actions, Led} = heal_part:handle({down, a}, 2, Part),
+    {Sent, _} = heal_part:handle({continue, welcome}, 2, Led),
+    ?assertMatch([_], [At || {send, c, {difference, {{_, _, At = {{{b, 1}, 2}, _}, _, _, _, _}, _}}} <- Sent]),
     ok = heal_table:create(),
     ok = heal_table:keep_position(position(b, Three), 1, 0),
     IsBefore = fun(Action) -> element(1, Action) =/= send end,
@@ -498,7 +499,9 @@ earlier_offer_test() ->
 
 %% A leader answers the callers that wait before it sends snapshots, and sends one after the other.
 waiting_callers_test() ->
-    Halves = connect(c, d, fun none_lost/3, connect(a, b, fun none_lost/3, start([{Node, #{}} || Node <- [a, b, c, d]]))),
+    Apart = connect(c, d, fun none_lost/3, connect(a, b, fun none_lost/3, start([{Node, #{names => 2}} || Node <- [a, b, c, d]]))),
+    %% As far as anybody knows before the merge there is no room for another name.
+    Halves = adopt(c, <<"n2">>, 2, adopt(a, <<"n2">>, 1, Apart)),
     Linked = lists:foldl(fun({One, Other}, Sum) -> connect(One, Other, fun none_lost/3, Sum) end, Halves, [{b, c}, {b, d}, {a, d}]),
     Waits = event(a, {up, c, visible}, fun none_lost/3, Linked),
     Options = #{stamp => 1, weight => 0, extra => <<0:128>>, resolver => notify},
@@ -507,13 +510,95 @@ waiting_callers_test() ->
     put(done, []),
     Healed = event(c, {up, a, visible}, fun none_lost/3, Called),
     ?assertMatch([{{{a, 1}, _}, _}], lists:usort([position(Node, Healed) || Node <- [a, b, c, d]])),
-    ?assertEqual([[?NAME]], lists:usort([maps:keys((heal_state:half(Part))#half.names) || Part <- maps:values(Healed)])),
-    Sent = [Action || Action <- done(a), element(1, Action) =:= reply orelse element(1, Action) =:= later orelse is_snapshot(Action)],
-    %% The events are here with the last one first.
-    ?assertMatch([{send, d, _}, {reply, 7, ok}, {send, b, _}, {later, welcome} | _], Sent).
+    ?assertEqual([[?NAME, <<"n2">>]], lists:usort([maps:keys((heal_state:half(Part))#half.names) || Part <- maps:values(Healed)])),
+    %% The actions are here with the last one first.
+    ?assertMatch([{send, d, _}, {send, b, _}, {reply, 7, ok}], [Action || Action <- done(a), element(1, Action) =:= reply orelse is_snapshot(Action)]),
+    ?assertMatch([_, _ | _], [Action || Action = {later, welcome} <- done(a)]).
 
-is_snapshot({send, _, {snapshot, _}}) -> true;
+is_snapshot({send, _, {Kind, _}}) -> Kind =:= snapshot orelse Kind =:= difference;
 is_snapshot(_Action) -> false.
+
+%% Two nodes with a name each, whose exchange is open: both have heard the other's offer. Returns the list that the other one has yet to hear.
+opened() ->
+    opened(adopt(b, <<"b1">>, 11, adopt(a, <<"a1">>, 1, start([{a, #{}}, {b, #{}}])))).
+
+opened(Apart) ->
+    Lost = fun(From, To, Body = {list, _, _}) -> put(From, {To, {message, From, Body}}), true; (_, _, _) -> false end,
+    Opened = connect(a, b, Lost, Apart),
+    ?assertEqual([listed, offered], [Stage || #part{heal = #open{stage = Stage}} <- maps:values(Opened)]),
+    put(done, []),
+    {get(a), Opened}.
+
+adopt(Node, Name, Serial, Parts) ->
+    Options = #{stamp => Serial, weight => 0, extra => <<0:128>>, resolver => notify},
+    event(Node, {call, Serial, {adopt, Name, Name, Options, {pid, Node, Serial}, Node}}, fun none_lost/3, Parts).
+
+replies(Node) ->
+    lists:sort([{N, Answer} || {reply, N, Answer} <- done(Node)]).
+
+names_of(Node, Parts) ->
+    lists:sort(maps:keys(names(Node, Parts))).
+
+%% In an open exchange a primary's process gets a name that neither side has, and may give it up. The part has what is left when the exchange
+%% is over or given up. Other edits wait.
+granted_test() ->
+    {{To, List}, Opened} = opened(),
+    Calls = [{2, <<"n1">>}, {3, <<"n2">>}, {4, <<"n3">>}, {5, <<"b1">>}, {6, <<"n1">>}],
+    Called = #{a := #part{own = Own}} = lists:foldl(fun({N, Name}, Sum) -> adopt(a, Name, N, Sum) end, Opened, Calls),
+    ?assertEqual([{2, ok}, {3, ok}, {4, ok}, {6, {error, 30}}], replies(a)),
+    [Second, Third] = [heal_row:owner(maps:get(Name, Own)) || Name <- [<<"n2">>, <<"n3">>]],
+    Edits = [{call, 9, {unregister, <<"n2">>, any}}, {call, 10, {unregister, <<"n1">>, {0, 0}}}, {died, <<"n3">>, Third}],
+    Left = lists:foldl(fun(Edit, Sum) -> event(a, Edit, fun none_lost/3, Sum) end, Called, Edits),
+    ?assertEqual([{9, {ok, Second}}, {10, {error, not_held}}], [Reply || Reply = {N, _} <- replies(a), N > 6]),
+    Both = adopt(b, <<"n4">>, 12, Left),
+    ?assertEqual([{12, ok}], replies(b)),
+    ?assertEqual([[<<"a1">>], [<<"b1">>]], [names_of(Node, Both) || Node <- [a, b]]),
+    Healed = event(To, List, fun none_lost/3, Both),
+    ?assertEqual(position(a, Healed), position(b, Healed)),
+    ?assertEqual([<<"a1">>, <<"b1">>, <<"n1">>, <<"n4">>], names_of(a, Healed)),
+    ?assertEqual([{5, {error, 30}}], [Reply || Reply = {5, _} <- replies(a)]),
+    GivenUp = event_at(3000, a, tick, event_at(3000, b, tick, Both)),
+    ?assertEqual([[<<"a1">>, <<"n1">>], [<<"b1">>, <<"n4">>]], [names_of(Node, GivenUp) || Node <- [a, b]]),
+    ?assertEqual([#{}], lists:usort([Granted || #part{granted = Granted} <- maps:values(Healed) ++ maps:values(GivenUp)])).
+
+%% Both sides grant a name: an exchange decides who has it.
+granted_twice_test() ->
+    {{To, List}, Opened} = opened(),
+    Healed = event(To, List, fun none_lost/3, adopt(b, <<"n1">>, 12, adopt(a, <<"n1">>, 2, Opened))),
+    ?assertEqual([{2, ok}], replies(a)),
+    ?assertEqual([{12, ok}], replies(b)),
+    ?assertEqual(position(a, Healed), position(b, Healed)),
+    Facts = [{Node, Number, Clashes} || {Node, {healed, #{number := Number, clashes := Clashes}}} <- get(done)],
+    ?assertEqual([{a, 1, 0}, {a, 2, 1}, {b, 1, 0}, {b, 2, 1}], lists:sort(Facts)).
+
+%% A member's process gets such a name from its primary, and finds it. The next view has it from the start, so nobody else gets it there.
+granted_to_a_member_test() ->
+    Linked = connect(b, c, fun none_lost/3, connect(a, c, fun none_lost/3, start([{a, #{}}, {b, #{}}, {c, #{}}]))),
+    ?assertEqual([c], maps:keys((maps:get(a, Linked))#part.members)),
+    {{To, List}, Opened} = opened(Linked),
+    Called = lists:foldl(fun({Node, N}, Sum) -> adopt(Node, <<"n1">>, N, Sum) end, Opened, [{c, 1}, {a, 2}, {c, 3}]),
+    ?assertEqual([{1, ok}, {3, {error, 30}}], replies(c)),
+    ?assertEqual([], replies(a)),
+    Healed = event(To, List, fun none_lost/3, Called),
+    ?assertMatch([_], lists:usort([position(Node, Healed) || Node <- [a, b, c]])),
+    ?assertEqual([{2, {error, 30}}], replies(a)),
+    ?assertMatch([#{<<"n1">> := #row{pid = {pid, c, 1}}}], lists:usort([names(Node, Healed) || Node <- [a, b, c]])),
+    %% The exchange is given up, or the primary is lost.
+    GivenUp = event(a, {down, b}, fun none_lost/3, Called),
+    ?assertMatch([#{<<"n1">> := #row{pid = {pid, c, 1}}}], lists:usort([names(Node, GivenUp) || Node <- [a, c]])),
+    Left = event(c, {down, a}, fun none_lost/3, maps:remove(a, Called)),
+    ?assertMatch(#{<<"n1">> := #row{pid = {pid, c, 1}}}, names(c, Left)).
+
+%% A caller waits where the exchange may yet have the name, the table no room, or an earlier caller the name.
+not_granted_test() ->
+    Silent = fun(_, _, Body) -> element(1, Body) =:= offer end,
+    Unheard = adopt(a, <<"n1">>, 2, connect(a, b, Silent, start([{a, #{}}, {b, #{}}]))),
+    ?assertMatch(#{a := #part{heal = #open{others = none}}}, Unheard),
+    ?assertEqual([], replies(a)),
+    {_, Opened} = opened(),
+    Register = fun(N, Parts) -> adopt(a, <<"n", (integer_to_binary(N))/binary>>, N, Parts) end,
+    _ = lists:foldl(Register, Opened, lists:seq(2, 10)),
+    ?assertEqual([{N, ok} || N <- lists:seq(2, 9)], replies(a)).
 
 %% A caller whose registration comes with the merge is answered after the leader's table has it.
 merged_registration_test() ->
@@ -654,7 +739,9 @@ upgraded_exchange_test() ->
     Begun = Part#part{heal = Open},
     Cut = fun(Size) -> list_to_tuple(lists:sublist(tuple_to_list(Begun), Size)) end,
     [?assertMatch(#part{heal = idle}, heal_part:upgrade(Cut(Size - 1))) || Size <- [#part.lost, #part.full, #part.grouping]],
-    ?assertMatch(#part{heal = Open}, heal_part:upgrade(Begun)).
+    ?assertMatch(#part{heal = Open}, heal_part:upgrade(Begun)),
+    [?assertMatch(#part{heal = Open}, heal_part:upgrade(Begun#part{heal = list_to_tuple(lists:sublist(tuple_to_list(Open), Size))}))
+     || Size <- [#open.deadline, #open.theirs]].
 
 %% A change that was sent to a primary which is lost may have been made, so a refusal by the next one means nothing.
 repeated_change_test() ->
@@ -663,6 +750,23 @@ repeated_change_test() ->
     Called = event(b, {call, 7, {change, ?NAME, any, #{weight => 1}}}, Lost, Joined),
     _ = event(b, {down, a}, fun none_lost/3, Called),
     ?assertEqual([{reply, 7, {error, {timeout, unknown}}}], [Reply || Reply = {reply, 7, _} <- done(b)]).
+
+%% A primary begins another view. Its member's requests that it has yet to make, or takes no more, are certain to be made once at most.
+sure_change_test() ->
+    Linked = connect(b, c, fun none_lost/3, connect(a, c, fun none_lost/3, start([{a, #{}}, {b, #{}}, {c, #{}}]))),
+    {{To, List}, Opened} = opened(Linked),
+    Change = fun(N) -> {call, N, {change, ?NAME, any, #{weight => N}}} end,
+    Waits = event(c, Change(7), fun none_lost/3, Opened),
+    Late = fun(c, a, Body = {request, _, _, _}) -> put(late, Body), true; (_, _, _) -> false end,
+    Sent = event(c, Change(8), Late, Waits),
+    %% The snapshot is on its way when the second request arrives.
+    Held = fun(a, c, Body) when element(1, Body) =:= snapshot; element(1, Body) =:= difference -> put(held, Body), true; (_, _, _) -> false end,
+    Led = event(To, List, Held, Sent),
+    ?assertNotEqual(position(a, Led), position(c, Led)),
+    Ignored = event(a, {message, c, get(late)}, fun none_lost/3, Led),
+    Healed = event(c, {message, a, get(held)}, fun none_lost/3, Ignored),
+    ?assertEqual(position(a, Healed), position(c, Healed)),
+    ?assertEqual([{7, {error, 31}}, {8, {error, 31}}], replies(c)).
 
 %% A request was sent in an earlier view, and a full connection refuses it in the next one. It isn't known whether it is made.
 refused_again_test() ->
