@@ -171,10 +171,14 @@ register_here(Registry, Names, Pids) ->
     [yes = Registry:register_name(Name, Pid) || {Name, Pid} <- lists:zip(Names, Pids)],
     ok.
 
-%% What the processes and tables of a node take, without garbage.
+%% What the processes and tables of a node take, without garbage. A collection may leave a heap with room for what follows, and the next one
+%% without.
 used() ->
+    lists:min([used_now() || _ <- lists:seq(1, 4)]).
+
+used_now() ->
     [erlang:garbage_collect(Pid) || Pid <- processes()],
-    timer:sleep(200),
+    timer:sleep(300),
     erlang:memory(processes_used) + erlang:memory(ets) + erlang:memory(binary).
 
 %% An exchange has room for 300 words for each name. It leaves no such heap behind.
