@@ -47,7 +47,8 @@ on(Count, Plan) ->
      || {{_, {_, Names, Where}, Registry}, Bytes} <- Memory],
     Heals = [{{Count, {heal, Clashes}, Registry}, heal(Count, Clashes, Registry, Plan)} || Clashes <- Plan#plan.clashes, Registry <- ?REGISTRIES],
     [io:format("~p nodes, ~p clashes: ~s heals in ~.1f ms (least ~.1f), and the longest registration meanwhile takes~s~n",
-               [Count, Clashes, Registry, Median, Least, [io_lib:format(" ~.1f ms on the ~s", [Time, Where]) || {Where, Time} <- Longest]])
+               [Count, Clashes, Registry, Median, Least,
+                lists:join(",", [io_lib:format(" ~.1f ms on the ~s", [Time, Where]) || {Where, Time} <- Longest])])
      || {{_, {heal, Clashes}, Registry}, {Median, Least, Longest}} <- Heals],
     Edits ++ Memory ++ Heals.
 
