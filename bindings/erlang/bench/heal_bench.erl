@@ -1,5 +1,5 @@
-%% Measures heal_registry and `global' on nodes of one machine, which connect over the loopback interface. Each measurement starts nodes
-%% of its own, since what one registry leaves behind slows the other.
+%% Measures heal_registry and `global' on nodes of one machine, which connect over the loopback interface. Each measurement starts its
+%% nodes, since what one registry leaves behind slows the other.
 %%
 %% First calls of a gen_server that does nothing, on its node and from another one: no registry that asks another process makes more
 %% registrations. Then, on 2, 4 and 8 nodes: registrations on the primary and on each other node, with one client and with eight; lookups;

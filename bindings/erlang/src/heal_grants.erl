@@ -37,8 +37,8 @@ unregister(Call = #call{edit = {_, Name, _}}, Whose, Owner, Part) when Whose =:=
 unregister(Call, _Whose, _Owner, Part) ->
     heal_edits:answer(Call, {error, not_held}, Part).
 
-%% Grants a name that neither side of an open exchange has, that nobody else may have, and for which the table has room. An edit of the name may
-%% wait already.
+%% Grants a name that neither side of an open exchange has and for which the table has room. It grants none that another node or an edit which
+%% waits may have.
 grant(Name, Call, Part = #part{heal = Open = #open{node = Node, others = Others}, limbo = none, awaited = Awaited}) when Others =/= none ->
     Theirs = case Open of #open{theirs = none} -> heal_processes:pids(Others); #open{theirs = Known} -> Known end,
     Next = #part{own = Own, replica = Replica, granted = Granted, waiting = Waiting} = Part#part{heal = Open#open{theirs = Theirs}},
@@ -60,8 +60,8 @@ names(Name) ->
 heard(Part = #part{waiting = Waiting}) ->
     lists:foldl(fun edit/2, Part#part{waiting = []}, lists:reverse(Waiting)).
 
-%% The primary has granted a request of this node. If this node has yet to hear that somebody else gave the name up, its caller waits for the
-%% entry, which follows in any case.
+%% The primary has granted a request of this node. If the table still has the name for another process, whose unregistration is on its way, the
+%% caller waits for the entry, which follows in any case.
 -spec take(node(), heal_replica:view(), pos_integer(), #part{}) -> #part{}.
 take(Node, View, Number, Part = #part{requested = Requested, own = Own}) ->
     #half{names = Names} = heal_state:half(Part),

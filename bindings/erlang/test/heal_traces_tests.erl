@@ -500,7 +500,7 @@ earlier_offer_test() ->
 %% A leader answers the callers that wait before it sends snapshots, and sends one after the other.
 waiting_callers_test() ->
     Apart = connect(c, d, fun none_lost/3, connect(a, b, fun none_lost/3, start([{Node, #{names => 2}} || Node <- [a, b, c, d]]))),
-    %% As far as anybody knows before the merge there is no room for another name.
+    %% Before the merge nobody knows of room for another name.
     Halves = adopt(c, <<"n2">>, 2, adopt(a, <<"n2">>, 1, Apart)),
     Linked = lists:foldl(fun({One, Other}, Sum) -> connect(One, Other, fun none_lost/3, Sum) end, Halves, [{b, c}, {b, d}, {a, d}]),
     Waits = event(a, {up, c, visible}, fun none_lost/3, Linked),
@@ -539,8 +539,8 @@ replies(Node) ->
 names_of(Node, Parts) ->
     lists:sort(maps:keys(names(Node, Parts))).
 
-%% In an open exchange a primary's process gets a name that neither side has, and may give it up. The part has what is left when the exchange
-%% is over or given up. Other edits wait.
+%% In an open exchange a primary's process gets a name that neither side has, and may unregister it. The part has what is left when the
+%% exchange is over or abandoned. Other edits wait.
 granted_test() ->
     {{To, List}, Opened} = opened(),
     Calls = [{2, <<"n1">>}, {3, <<"n2">>}, {4, <<"n3">>}, {5, <<"b1">>}, {6, <<"n1">>}],
@@ -598,7 +598,13 @@ not_granted_test() ->
     {_, Opened} = opened(),
     Register = fun(N, Parts) -> adopt(a, <<"n", (integer_to_binary(N))/binary>>, N, Parts) end,
     _ = lists:foldl(Register, Opened, lists:seq(2, 10)),
-    ?assertEqual([{N, ok} || N <- lists:seq(2, 9)], replies(a)).
+    ?assertEqual([{N, ok} || N <- lists:seq(2, 9)], replies(a)),
+    %% The other node has requested the name for a process of this one.
+    put(done, []),
+    Options = #{stamp => 1, weight => 0, extra => <<0:128>>, resolver => notify},
+    Requested = {adopt, 1, {adopt, <<"n2">>, <<"n2">>, Options, {pid, a, 20}, a}},
+    _ = Register(2, event(a, {message, b, Requested}, fun none_lost/3, Opened)),
+    ?assertEqual([], replies(a)).
 
 %% A caller whose registration comes with the merge is answered after the leader's table has it.
 merged_registration_test() ->
