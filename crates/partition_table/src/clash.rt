@@ -1,5 +1,5 @@
 //! Clashes: names that two tables register differently.
-ghost use Rattle.std.specs.Prelude.{◌≡◌, ◌≤◌, ◌↔◌, [], length, slice_get, IfOk, IsTrue, All};
+ghost use Rattle.std.specs.Prelude.{◌≡◌, ◌≤◌, ◌↔◌, [], if◌then◌else◌, length, slice_get, IfOk, IsTrue, All};
 ghost use Rattle.std.specs.Option.{option_map};
 ghost use Rattle.std.specs.Arc.{arc_value};
 ghost use Rattle.std.specs.Slice.Iter.{iter_rest};
@@ -17,14 +17,31 @@ use std::slice;
 use std::sync::Arc;
 use verifier::Verified;
 
+// The facts of the two halves of a comparison, which all its clashes share.
+#[derive(Clone, Copy, Debug)]
+pub(crate) struct HalfFacts {
+    pub(crate) a: Facts,
+    pub(crate) b: Facts,
+}
+
+// The two registrations of a name, the lesser first, and whether half A has that one.
+#[derive(Clone, Copy, Debug)]
+pub(crate) struct Rivals {
+    pub(crate) first: Registration,
+    pub(crate) second: Registration,
+    pub(crate) is_first_of_a: bool,
+}
+
 /// A name that two tables register differently, with everything that judging it reads.
 ///
 /// The lesser registration is first, and its resolver judges.
 #[derive(Debug)]
 pub struct Clash {
     name: Name,
-    first: Contender,
-    second: Contender,
+    is_first_of_a: bool,
+    first: Registration,
+    second: Registration,
+    facts: Arc<HalfFacts>,
     program: Option<Arc<Verified>>,
 }
 
@@ -33,14 +50,17 @@ impl Drop for Clash {
     fn drop(self) {
         let Clash {
             name: _,
+            is_first_of_a: _,
             first: _,
             second: _,
+            facts: _,
             program: _,
         } = self;
     }
 }
 
 impl Model for Clash {
+    ghost use Rattle.std.specs.Prelude.{if◌then◌else◌};
     ghost use Rattle.std.specs.Option.{option_map};
     ghost use Rattle.std.specs.Arc.{arc_value};
     ghost use Rattle.partition_table.specs.Tables.{Clash};
@@ -52,36 +72,38 @@ impl Model for Clash {
 
     ghost view = { λ c. record {
       name = c.name;
-      first = c.first.registration;
-      second = c.second.registration;
-      of_first = c.first.facts;
-      of_second = c.second.facts;
+      first = c.first;
+      second = c.second;
+      of_first = if c.is_first_of_a then (arc_value c.facts).a else (arc_value c.facts).b;
+      of_second = if c.is_first_of_a then (arc_value c.facts).b else (arc_value c.facts).a;
       code = option_map arc_value c.program;
     } };
 }
 
 impl Clash {
-    // Returns the clash of this name; the first registration precedes the second.
+    // Returns the clash of this name, in which these halves have these rivals.
     #[inline]
     pub(crate) fn new(
         name: Name,
-        first: Contender,
-        second: Contender,
+        rivals: Rivals,
+        facts: Arc<HalfFacts>,
         program: Option<Arc<Verified>>,
     ) -> Clash
         ensures { result ≡ record {
           name = name;
-          first = first.registration;
-          second = second.registration;
-          of_first = first.facts;
-          of_second = second.facts;
+          first = rivals.first;
+          second = rivals.second;
+          of_first = if rivals.is_first_of_a then (arc_value facts).a else (arc_value facts).b;
+          of_second = if rivals.is_first_of_a then (arc_value facts).b else (arc_value facts).a;
           code = option_map arc_value program;
         } }
     {
         Clash {
             name,
-            first,
-            second,
+            is_first_of_a: rivals.is_first_of_a,
+            first: rivals.first,
+            second: rivals.second,
+            facts,
             program,
         }
     }
@@ -97,35 +119,43 @@ impl Clash {
     pub fn first(&self) -> &Registration
         ensures { result.now ≡ self.now.first }
     {
-        &self.first.registration
+        &self.first
     }
 
     /// Returns the greater registration.
     pub fn second(&self) -> &Registration
         ensures { result.now ≡ self.now.second }
     {
-        &self.second.registration
+        &self.second
     }
 
     /// Returns the size and uptime of the half that holds the lesser registration.
     pub fn of_first(&self) -> Facts
         ensures { result ≡ self.now.of_first }
     {
-        self.first.facts
+        if self.is_first_of_a {
+            self.facts.a
+        } else {
+            self.facts.b
+        }
     }
 
     /// Returns the size and uptime of the half that holds the greater registration.
     pub fn of_second(&self) -> Facts
         ensures { result ≡ self.now.of_second }
     {
-        self.second.facts
+        if self.is_first_of_a {
+            self.facts.b
+        } else {
+            self.facts.a
+        }
     }
 
     /// Returns the resolver that judges: that of the lesser registration.
     pub fn resolver(&self) -> ResolverId
         ensures { result ≡ self.now.first.resolver }
     {
-        self.first.registration.resolver
+        self.first.resolver
     }
 
     /// Returns the program that judges, if the resolver is a program.
@@ -155,7 +185,15 @@ impl Clash {
         ensures { scratch.new ≡ clash_bytes self.now.name self.now.first self.now.second word self.now.of_first
             self.now.of_second }
     {
-        scratch.write_record(&self.name, &self.first, &self.second, word);
+        let first = Contender {
+            registration: self.first,
+            facts: self.of_first(),
+        };
+        let second = Contender {
+            registration: self.second,
+            facts: self.of_second(),
+        };
+        scratch.write_record(&self.name, &first, &second, word);
     }
 }
 

@@ -13,14 +13,14 @@ ghost use Rattle.partition_table.specs.model.Coding.{IsCoded};
 ghost use Rattle.partition_table.specs.model.Judging.{clash_by_name};
 
 use crate::both::BothPrograms;
-use crate::clash::{Clash, ClashList, one_more_owner};
+use crate::clash::{Clash, ClashList, HalfFacts, Rivals, one_more_owner};
 use crate::fault::TableFault;
 use crate::fitting::fit_within;
 use crate::limit::NameLimit;
 use crate::order::order;
 use crate::paired::Paired;
 use crate::table::Table;
-use clash_record::{Contender, Facts, Name, Registration};
+use clash_record::{Facts, Name, Registration};
 use std::alloc::{AllocError, Global};
 use std::cmp::Ordering;
 use std::sync::Arc;
@@ -35,37 +35,29 @@ pub struct HalfTable<'a> {
     pub uptime: u64,
 }
 
-// One half: its table and its facts.
-#[derive(Clone, Copy)]
-struct Party<'a> {
-    table: &'a Table,
-    facts: Facts,
+// Two halves: their tables, and the facts that all clashes share.
+#[derive(Drop)]
+struct Halves<'a> {
+    a: &'a Table,
+    b: &'a Table,
+    facts: Arc<HalfFacts>,
 }
 
-impl<'a> Party<'a> {
-    // Returns a registration of this half, with its facts.
-    fn with(self, registration: &Registration) -> Contender
-        ensures { result ≡ record { registration = registration.now; facts = self.entry.facts } }
-    {
-        Contender {
-            registration: *registration,
-            facts: self.facts,
-        }
+// Returns the facts of a half.
+fn facts_of(table: &Table, uptime: u64) -> Facts
+    ensures { result ≡ facts_of table.now uptime }
+{
+    Facts {
+        size: table.len() as u64,
+        uptime,
     }
+}
 
-    // Returns the half of this table and uptime.
-    fn new(table: &'a Table, uptime: u64) -> Party<'a>
-        ensures table { result.table ≡ table.entry }
-        ensures facts { result.facts ≡ facts_of table.entry.now uptime }
-    {
-        Party {
-            table,
-            facts: Facts {
-                size: table.len() as u64,
-                uptime,
-            },
-        }
-    }
+// Lets clashes share the facts of the halves.
+fn share_facts(alloc: Global, a: Facts, b: Facts) -> Result<Arc<HalfFacts>, AllocError>
+    ensures { IfOk result (λ facts. arc_value facts ≡ record { a = a; b = b }) }
+{
+    Ok(Arc::new(alloc, HalfFacts { a, b })?)
 }
 
 /// The result of a comparison of two tables.
@@ -191,16 +183,18 @@ fn walk(
     ensures alone { IfOk result (λ walked. walked.alone ≡ length (names_without b.now (keys a.now))) }
     ensures kept { IfOk result (λ walked. IsTable a.now × IsTable b.now) }
 {
-    let half_a = Party::new(a, uptime_a);
-    let half_b = Party::new(b, uptime_b);
+    let of_a = facts_of(a, uptime_a);
+    let of_b = facts_of(b, uptime_b);
+    let facts = share_facts(alloc, of_a, of_b)?;
+    let halves = Halves { a, b, facts };
     let mut found = Found::with_capacity(alloc, a.len().min(b.len()).min(FIRST_ROOM))?;
     let mut alone = 0;
-    for (name, mine, other) in Paired::new(half_a.table, half_b.table) {
+    for (name, mine, other) in Paired::new(a, b) {
         let Some(other) = other else {
             alone += 1;
             continue;
         };
-        found.push_clash(name, mine, half_a, other, half_b)?;
+        found.push_clash(&halves, name, mine, other)?;
     }
     found.shrink_to_fit();
     Ok(Walked { found, alone })
@@ -230,41 +224,49 @@ impl Found {
     // Appends the clash of a name that both halves have, unless the registrations are equal.
     fn push_clash(
         &mut self,
+        halves: &Halves<'_>,
         name: &Name,
         mine: &Registration,
-        half_a: Party<'_>,
         other: &Registration,
-        half_b: Party<'_>,
     ) -> Result<(), AllocError>
-        requires mine { option_map (λ row. row.registration) (get half_a.table.now name.now) ≡ Some mine.now }
-        requires other { option_map (λ row. row.registration) (get half_b.table.now name.now) ≡ Some other.now }
-        requires first { self.old.first_of_a.items ≡ map (has_first half_a.table.now) self.old.clashes.items }
+        requires mine { option_map (λ row. row.registration) (get halves.now.a.now name.now) ≡ Some mine.now }
+        requires other { option_map (λ row. row.registration) (get halves.now.b.now name.now) ≡ Some other.now }
+        requires first { self.old.first_of_a.items ≡ map (has_first halves.now.a.now) self.old.clashes.items }
         ensures found { OnOk result ((names : List Name)
-            → let by_name = clash_by_name half_a.entry.facts half_a.entry.table.now half_b.entry.facts half_b.entry.table.now in
+            → let facts = arc_value halves.now.facts in
+            let by_name = clash_by_name facts.a halves.now.a.now facts.b halves.now.b.now in
             self.new.clashes.items ++ filter_map by_name names
             ≡ self.old.clashes.items ++ filter_map by_name (name.now ∷ names)) }
         ensures first { OnOk result (self.new.first_of_a.items
-            ≡ map (has_first half_a.entry.table.now) self.new.clashes.items) }
+            ≡ map (has_first halves.now.a.now) self.new.clashes.items) }
     {
         self.clashes.reserve(1)?;
         self.first_of_a.reserve(1)?;
         match order(mine, other) {
             Ordering::Less => {
-                let program = half_a.table.program_for(mine.resolver);
+                let program = halves.a.program_for(mine.resolver);
                 let program = one_more_owner(program)?;
-                let first = half_a.with(mine);
-                let second = half_b.with(other);
-                let clash = Clash::new(*name, first, second, program);
+                let facts = halves.facts.clone()?;
+                let rivals = Rivals {
+                    first: *mine,
+                    second: *other,
+                    is_first_of_a: true,
+                };
+                let clash = Clash::new(*name, rivals, facts, program);
                 self.clashes.push_reserved(clash);
                 self.first_of_a.push_reserved(true);
             }
             Ordering::Equal => {}
             Ordering::Greater => {
-                let program = half_b.table.program_for(other.resolver);
+                let program = halves.b.program_for(other.resolver);
                 let program = one_more_owner(program)?;
-                let first = half_b.with(other);
-                let second = half_a.with(mine);
-                let clash = Clash::new(*name, first, second, program);
+                let facts = halves.facts.clone()?;
+                let rivals = Rivals {
+                    first: *other,
+                    second: *mine,
+                    is_first_of_a: false,
+                };
+                let clash = Clash::new(*name, rivals, facts, program);
                 self.clashes.push_reserved(clash);
                 self.first_of_a.push_reserved(false);
             }

@@ -1,4 +1,5 @@
 use Rattle.std.proofs.Common.{◌≡◌, ◌+◌, ◌++◌, map, length}
+use Rattle.std.specs.Arc.{arc_value}
 use Rattle.std.specs.List.{filter_map, AllByRecursion}
 use Rattle.std.specs.FinMap.{keys}
 use Rattle.partition_table.specs.Tables.{has_first, names_without}
@@ -11,7 +12,8 @@ abbrev pub invariant-loop-name : goal.invariant-loop-name
 invariant-loop-name l =
     let a = l.a in
     let b = l.b in
-    let by_name = clash_by_name l.half_a.facts a l.half_b.facts b in
+    let facts = arc_value l.halves.facts in
+    let by_name = clash_by_name facts.a a facts.b b in
     let left = map (λ item. item.0) (pairs_left l.name-iterator) in
     record {
       told : l.found.clashes.items ++ filter_map by_name left ≡ filter_map by_name (keys a);

@@ -1,4 +1,4 @@
-use Rattle.std.proofs.Common.{◌∷◌, ap, sym, ◌∙◌}
+use Rattle.std.proofs.Common.{ap, sym, ◌∙◌}
 use Rattle.std.specs.Ordering.{is_lt}
 use Rattle.partition_table.specs.model.Dropping.{marks_above}
 use Rattle.partition_table.proofs.Dropped.{marks_end, marks_here}

@@ -1,5 +1,4 @@
 use Rattle.std.proofs.Common.{ap, ◌∙◌, arith}
-use Rattle.std.specs.Map.{keys_of}
 use Rattle.partition_table.specs.model.Dropping.{undropped}
 use Rattle.partition_table.proofs.Dropped.{all_pass, at_most_all, left_sorted}
 use Rattle.partition_table.proofs.rows.Rows.new.Goals as goal
