@@ -115,6 +115,7 @@ static resource *new_resource(ErlNifResourceType *type)
         return NULL;
     memset(made, 0, sizeof *made);
     made->next_until = enif_monotonic_time(ERL_NIF_MSEC);
+    enif_set_pid_undefined(&made->next);
     made->lock = enif_mutex_create("heal");
     if (made->lock != NULL)
         return made;

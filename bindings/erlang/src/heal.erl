@@ -25,6 +25,15 @@
 -export([replica_lead/1, replica_snapshot/1, replica_follow/2, replica_apply/2, replica_whereis/2, replica_rows/1]).
 -export([replica_side/2, replica_change/3, log_front/1]).
 -export([serials/0]).
+%% Calls of these are made by name: a fun of this module may run in an instance of it that is being loaded, before its NIF is.
+-export([upload_in_turn/2, forget_in_turn/2, programs_in_turn/1, code_in_turn/2, query_in_turn/1, register_in_turn/3]).
+-export([register_all_in_turn/2, unregister_in_turn/2, whereis_in_turn/2, count_in_turn/1, rows_in_turn/1, values_in_turn/2]).
+-export([begin_exchange_in_turn/4, hear_in_turn/2, settle_in_turn/1, withdraw_in_turn/2, close_list_in_turn/1]).
+-export([hear_list_in_turn/2, finish_in_turn/1, abandon_in_turn/1, events_in_turn/1, renew_in_turn/1, give_up_in_turn/1]).
+-export([replica_query_in_turn/1, replica_register_in_turn/3, replica_unregister_in_turn/2, replica_upload_in_turn/2]).
+-export([replica_limit_in_turn/2, replica_begin_in_turn/2, replica_lead_in_turn/1, replica_snapshot_in_turn/1]).
+-export([replica_follow_in_turn/2, replica_apply_in_turn/2, replica_whereis_in_turn/2, replica_rows_in_turn/1]).
+-export([replica_side_in_turn/2, replica_change_in_turn/3]).
 -export_type([program/0, side/0, outcome/0, name/0, owner/0, resolver/0, registration/0, values/0, facts/0, clash/0, notice/0, ruling/0, loss/0]).
 -export_type([state/0, head/0, refusal/0, replica/0, position/0, replica_state/0]).
 
@@ -146,95 +155,95 @@ side(_Id, _Names) -> missing().
 
 %% @doc Verifies a program, keeps it for registrations of this side, and returns its id.
 -spec upload(side(), Code :: binary()) -> result(id()).
-upload(Side, Code) -> turn(fun() -> upload_in_turn(Side, Code) end).
+upload(Side, Code) -> turn(upload_in_turn, [Side, Code]).
 
 %% @doc Forgets an uploaded program that no row names.
 -spec forget(side(), id()) -> result().
-forget(Side, Id) -> turn(fun() -> forget_in_turn(Side, Id) end).
+forget(Side, Id) -> turn(forget_in_turn, [Side, Id]).
 
 %% @doc Returns the ids of the uploaded programs, in order.
 -spec programs(side()) -> result([id()]).
-programs(Side) -> turn(fun() -> programs_in_turn(Side) end).
+programs(Side) -> turn(programs_in_turn, [Side]).
 
 %% @doc Returns the code of an uploaded program, or of one that a row names.
 -spec code(side(), id()) -> result(Code :: binary()).
-code(Side, Id) -> turn(fun() -> code_in_turn(Side, Id) end).
+code(Side, Id) -> turn(code_in_turn, [Side, Id]).
 
 %% @doc Registers a name on an idle side.
 -spec register(side(), name(), registration()) -> result().
-register(Side, Name, Registration) -> turn(fun() -> register_in_turn(Side, Name, Registration) end).
+register(Side, Name, Registration) -> turn(register_in_turn, [Side, Name, Registration]).
 
 %% @doc Registers names on an idle side, one after the other. A refusal ends that, and the names before it stay.
 -spec register_all(side(), [{name(), registration() | values()}]) -> result().
-register_all(Side, Rows) -> turn(fun() -> register_all_in_turn(Side, Rows) end).
+register_all(Side, Rows) -> turn(register_all_in_turn, [Side, Rows]).
 
 %% @doc Unregisters a name on an idle side.
 -spec unregister(side(), name()) -> result().
-unregister(Side, Name) -> turn(fun() -> unregister_in_turn(Side, Name) end).
+unregister(Side, Name) -> turn(unregister_in_turn, [Side, Name]).
 
 %% @doc Looks a name up.
 -spec whereis(side(), name()) -> result(registration()).
-whereis(Side, Name) -> turn(fun() -> whereis_in_turn(Side, Name) end).
+whereis(Side, Name) -> turn(whereis_in_turn, [Side, Name]).
 
 %% @doc Returns the number of names in the side's table.
 -spec count(side()) -> result(non_neg_integer()).
-count(Side) -> turn(fun() -> count_in_turn(Side) end).
+count(Side) -> turn(count_in_turn, [Side]).
 
 %% @doc Returns the side's table in the order of names.
 -spec rows(side()) -> result([{name(), registration()}]).
-rows(Side) -> turn(fun() -> rows_in_turn(Side) end).
+rows(Side) -> turn(rows_in_turn, [Side]).
 
 %% @doc Looks names up. Returns the rows of those that are registered, and those that aren't, both in no order.
 -spec values(side(), [name()]) -> {ok, [{name(), values()}], Lacking :: [name()]} | {error, refusal()}.
-values(Side, Names) -> turn(fun() -> values_in_turn(Side, Names) end).
+values(Side, Names) -> turn(values_in_turn, [Side, Names]).
 
 %% @doc Opens an exchange and returns the offer for the other half. Both halves use the same number and seed.
 -spec begin_exchange(side(), Number :: word(), Seed :: word(), Uptime :: word()) -> result(Offer :: binary()).
-begin_exchange(Side, Number, Seed, Uptime) -> turn(fun() -> begin_exchange_in_turn(Side, Number, Seed, Uptime) end).
+begin_exchange(Side, Number, Seed, Uptime) -> turn(begin_exchange_in_turn, [Side, Number, Seed, Uptime]).
 
 %% @doc Hears the offer of the other half.
 -spec hear(side(), Offer :: binary()) -> result().
-hear(Side, Offer) -> turn(fun() -> hear_in_turn(Side, Offer) end).
+hear(Side, Offer) -> turn(hear_in_turn, [Side, Offer]).
 
 %% @doc Judges every clash that has no ruling, at the word that the other half judges it at too.
 -spec settle(side()) -> result().
-settle(Side) -> turn(fun() -> settle_in_turn(Side) end).
+settle(Side) -> turn(settle_in_turn, [Side]).
 
 %% @doc Withdraws a name in the open exchange.
 -spec withdraw(side(), name()) -> result().
-withdraw(Side, Name) -> turn(fun() -> withdraw_in_turn(Side, Name) end).
+withdraw(Side, Name) -> turn(withdraw_in_turn, [Side, Name]).
 
 %% @doc Closes the list of withdrawn names and returns the list for the other half.
 -spec close_list(side()) -> result(List :: binary()).
-close_list(Side) -> turn(fun() -> close_list_in_turn(Side) end).
+close_list(Side) -> turn(close_list_in_turn, [Side]).
 
 %% @doc Hears the list of the other half.
 -spec hear_list(side(), List :: binary()) -> result().
-hear_list(Side, List) -> turn(fun() -> hear_list_in_turn(Side, List) end).
+hear_list(Side, List) -> turn(hear_list_in_turn, [Side, List]).
 
 %% @doc Replaces the table by the merge and closes the exchange.
 -spec finish(side()) -> result(outcome()).
-finish(Side) -> turn(fun() -> finish_in_turn(Side) end).
+finish(Side) -> turn(finish_in_turn, [Side]).
 
 %% @doc Closes the exchange and keeps the table, without the withdrawn names.
 -spec abandon(side()) -> result().
-abandon(Side) -> turn(fun() -> abandon_in_turn(Side) end).
+abandon(Side) -> turn(abandon_in_turn, [Side]).
 
 %% @doc Returns what the side knows of its exchange.
 -spec query(side()) -> result(state()).
-query(Side) -> turn(fun() -> query_in_turn(Side) end).
+query(Side) -> turn(query_in_turn, [Side]).
 
 %% @doc Returns the number of events in the side's journal, at most 16 for each name that it may have.
 -spec events(side()) -> result(non_neg_integer()).
-events(Side) -> turn(fun() -> events_in_turn(Side) end).
+events(Side) -> turn(events_in_turn, [Side]).
 
 %% @doc Starts a fresh journal on an idle side.
 -spec renew(side()) -> result().
-renew(Side) -> turn(fun() -> renew_in_turn(Side) end).
+renew(Side) -> turn(renew_in_turn, [Side]).
 
 %% @doc Closes the open exchange as {@link abandon/1} does, if there is one, and starts a fresh journal, also of a full side.
 -spec give_up(side()) -> result().
-give_up(Side) -> turn(fun() -> give_up_in_turn(Side) end).
+give_up(Side) -> turn(give_up_in_turn, [Side]).
 
 %% @doc Returns the number of the exchange.
 -spec number(outcome()) -> result(word()).
@@ -263,60 +272,60 @@ replica(_Node, _Incarnation) -> missing().
 
 %% @doc Returns what the replica knows.
 -spec replica_query(replica()) -> result(replica_state()).
-replica_query(Replica) -> turn(fun() -> replica_query_in_turn(Replica) end).
+replica_query(Replica) -> turn(replica_query_in_turn, [Replica]).
 
 %% @doc Registers a name, as the primary, and returns the entry for the log and the backups.
 -spec replica_register(replica(), name(), registration()) -> result(Entry :: binary()).
-replica_register(Replica, Name, Registration) -> turn(fun() -> replica_register_in_turn(Replica, Name, Registration) end).
+replica_register(Replica, Name, Registration) -> turn(replica_register_in_turn, [Replica, Name, Registration]).
 
 %% @doc Unregisters a name, as the primary, and returns the entry.
 -spec replica_unregister(replica(), name()) -> result(Entry :: binary()).
-replica_unregister(Replica, Name) -> turn(fun() -> replica_unregister_in_turn(Replica, Name) end).
+replica_unregister(Replica, Name) -> turn(replica_unregister_in_turn, [Replica, Name]).
 
 %% @doc Keeps a program for registrations, as the primary, and returns the entry.
 -spec replica_upload(replica(), program()) -> result(Entry :: binary()).
-replica_upload(Replica, Program) -> turn(fun() -> replica_upload_in_turn(Replica, Program) end).
+replica_upload(Replica, Program) -> turn(replica_upload_in_turn, [Replica, Program]).
 
 %% @doc Sets how many names registrations may bring the table to, as the primary, and returns the entry.
 -spec replica_limit(replica(), Names :: word()) -> result(Entry :: binary()).
-replica_limit(Replica, Names) -> turn(fun() -> replica_limit_in_turn(Replica, Names) end).
+replica_limit(Replica, Names) -> turn(replica_limit_in_turn, [Replica, Names]).
 
 %% @doc Records the number of the next exchange, as the primary, and returns the entry: after `replica_side', and before
 %% `begin_exchange'.
 -spec replica_begin(replica(), Number :: word()) -> result(Entry :: binary()).
-replica_begin(Replica, Number) -> turn(fun() -> replica_begin_in_turn(Replica, Number) end).
+replica_begin(Replica, Number) -> turn(replica_begin_in_turn, [Replica, Number]).
 
 %% @doc Starts a view with the half as it is.
 -spec replica_lead(replica()) -> result().
-replica_lead(Replica) -> turn(fun() -> replica_lead_in_turn(Replica) end).
+replica_lead(Replica) -> turn(replica_lead_in_turn, [Replica]).
 
 %% @doc Returns the position and the half, for the other nodes and for the log.
 -spec replica_snapshot(replica()) -> result(Snapshot :: binary()).
-replica_snapshot(Replica) -> turn(fun() -> replica_snapshot_in_turn(Replica) end).
+replica_snapshot(Replica) -> turn(replica_snapshot_in_turn, [Replica]).
 
 %% @doc Takes the position and the half of a snapshot.
 -spec replica_follow(replica(), Snapshot :: binary()) -> result().
-replica_follow(Replica, Snapshot) -> turn(fun() -> replica_follow_in_turn(Replica, Snapshot) end).
+replica_follow(Replica, Snapshot) -> turn(replica_follow_in_turn, [Replica, Snapshot]).
 
 %% @doc Carries the edit of an entry out, unless the replica has it already.
 -spec replica_apply(replica(), Entry :: binary()) -> result().
-replica_apply(Replica, Entry) -> turn(fun() -> replica_apply_in_turn(Replica, Entry) end).
+replica_apply(Replica, Entry) -> turn(replica_apply_in_turn, [Replica, Entry]).
 
 %% @doc Looks a name up.
 -spec replica_whereis(replica(), name()) -> result(registration()).
-replica_whereis(Replica, Name) -> turn(fun() -> replica_whereis_in_turn(Replica, Name) end).
+replica_whereis(Replica, Name) -> turn(replica_whereis_in_turn, [Replica, Name]).
 
 %% @doc Returns the table in the order of names.
 -spec replica_rows(replica()) -> result([{name(), registration()}]).
-replica_rows(Replica) -> turn(fun() -> replica_rows_in_turn(Replica) end).
+replica_rows(Replica) -> turn(replica_rows_in_turn, [Replica]).
 
 %% @doc Returns an idle side with what the replica has, for an exchange with the other half's primary.
 -spec replica_side(replica(), a | b) -> result(side()).
-replica_side(Replica, Id) -> turn(fun() -> replica_side_in_turn(Replica, Id) end).
+replica_side(Replica, Id) -> turn(replica_side_in_turn, [Replica, Id]).
 
 %% @doc Starts a view with what an exchange left in the side. `From' is the position after `replica_begin'.
 -spec replica_change(replica(), From :: position(), side()) -> result().
-replica_change(Replica, From, Side) -> turn(fun() -> replica_change_in_turn(Replica, From, Side) end).
+replica_change(Replica, From, Side) -> turn(replica_change_in_turn, [Replica, From, Side]).
 
 %% @doc Returns what a log begins with, and the number of its bytes.
 -spec log_front(Log :: binary()) -> result(empty | cut | {entry | snapshot, Size :: pos_integer()}).
@@ -329,53 +338,90 @@ serials() ->
 
 %% Makes a call on a side. While a call of another process runs on it, this one waits: it lets other
 %% processes run, and then sleeps.
-turn(Call) ->
-    turn(Call, ?YIELDS).
+turn(Function, Args) ->
+    turn(Function, Args, ?YIELDS).
 
-turn(Call, Yields) ->
-    case Call() of
-        busy when Yields > 0 -> erlang:yield(), turn(Call, Yields - 1);
-        busy -> receive after 1 -> turn(Call, 0) end;
+turn(Function, Args, Yields) ->
+    case apply(?MODULE, Function, Args) of
+        busy when Yields > 0 -> erlang:yield(), turn(Function, Args, Yields - 1);
+        busy -> receive after 1 -> turn(Function, Args, 0) end;
         Answer -> Answer
     end.
 
 %% The functions of the NIF that return `busy' while another call runs on their first argument.
+%% @private
 upload_in_turn(_Side, _Code) -> missing().
+%% @private
 forget_in_turn(_Side, _Id) -> missing().
+%% @private
 programs_in_turn(_Side) -> missing().
+%% @private
 code_in_turn(_Side, _Id) -> missing().
+%% @private
 query_in_turn(_Side) -> missing().
+%% @private
 register_in_turn(_Side, _Name, _Registration) -> missing().
+%% @private
 register_all_in_turn(_Side, _Rows) -> missing().
+%% @private
 unregister_in_turn(_Side, _Name) -> missing().
+%% @private
 whereis_in_turn(_Side, _Name) -> missing().
+%% @private
 count_in_turn(_Side) -> missing().
+%% @private
 rows_in_turn(_Side) -> missing().
+%% @private
 values_in_turn(_Side, _Names) -> missing().
+%% @private
 begin_exchange_in_turn(_Side, _Number, _Seed, _Uptime) -> missing().
+%% @private
 hear_in_turn(_Side, _Offer) -> missing().
+%% @private
 settle_in_turn(_Side) -> missing().
+%% @private
 withdraw_in_turn(_Side, _Name) -> missing().
+%% @private
 close_list_in_turn(_Side) -> missing().
+%% @private
 hear_list_in_turn(_Side, _List) -> missing().
+%% @private
 finish_in_turn(_Side) -> missing().
+%% @private
 abandon_in_turn(_Side) -> missing().
+%% @private
 events_in_turn(_Side) -> missing().
+%% @private
 renew_in_turn(_Side) -> missing().
+%% @private
 give_up_in_turn(_Side) -> missing().
+%% @private
 replica_query_in_turn(_Replica) -> missing().
+%% @private
 replica_register_in_turn(_Replica, _Name, _Registration) -> missing().
+%% @private
 replica_unregister_in_turn(_Replica, _Name) -> missing().
+%% @private
 replica_upload_in_turn(_Replica, _Program) -> missing().
+%% @private
 replica_limit_in_turn(_Replica, _Names) -> missing().
+%% @private
 replica_begin_in_turn(_Replica, _Number) -> missing().
+%% @private
 replica_lead_in_turn(_Replica) -> missing().
+%% @private
 replica_snapshot_in_turn(_Replica) -> missing().
+%% @private
 replica_follow_in_turn(_Replica, _Snapshot) -> missing().
+%% @private
 replica_apply_in_turn(_Replica, _Entry) -> missing().
+%% @private
 replica_whereis_in_turn(_Replica, _Name) -> missing().
+%% @private
 replica_rows_in_turn(_Replica) -> missing().
+%% @private
 replica_side_in_turn(_Replica, _Id) -> missing().
+%% @private
 replica_change_in_turn(_Replica, _From, _Side) -> missing().
 
 missing() ->

@@ -101,7 +101,7 @@ released_by_death(Name, Owner, Part) ->
 answer(#call{from = From}, _Answer, Part) when From =:= none; element(1, From) =:= home ->
     Part;
 answer(Call = #call{from = {caller, From}, edit = {upload, Id, _}}, Answer = {ok, Id}, Part) ->
-    case heal_storing:is_awaited(Id, Part) of
+    case heal_storing:is_awaited(Part) of
         true -> heal_storing:await(Call, Id, Part);
         false -> heal_state:add({reply, From, Answer}, Part)
     end;

@@ -9,15 +9,17 @@
 
 -export([edit/2, heard/1, take/4, make/1]).
 
+-define(MAX_PROGRAMS, 256).
+
 %% Grants what a primary's caller or a member registers, or lets an edit wait.
 -spec edit(#call{}, #part{}) -> #part{}.
 edit(Call = #call{from = {caller, _}, edit = {register, Name, Row}}, Part) ->
-    case grant(Name, Call#call{from = none}, Part) of
+    case grant(Name, Row, Call#call{from = none}, Part) of
         {true, Granted} -> claim(Name, Row, Call, Granted);
         {false, Next} -> heal_edits:wait(Call, Next)
     end;
-edit(Call = #call{from = {member, Node, Number}, edit = {register, Name, _}}, Part) ->
-    case grant(Name, Call, Part) of
+edit(Call = #call{from = {member, Node, Number}, edit = {register, Name, Row}}, Part) ->
+    case grant(Name, Row, Call, Part) of
         {true, Granted} -> heal_state:send(Node, {granted, heal_state:view(Part), Number}, Granted);
         {false, Next} -> heal_edits:wait(Call, Next)
     end;
@@ -37,20 +39,27 @@ unregister(Call = #call{edit = {_, Name, _}}, Whose, Owner, Part) when Whose =:=
 unregister(Call, _Whose, _Owner, Part) ->
     heal_edits:answer(Call, {error, not_held}, Part).
 
-%% Grants a name that neither side of an open exchange has and for which the table has room. It grants none that another node or an edit which
-%% waits may have.
-grant(Name, Call, Part = #part{heal = Open = #open{node = Node, others = Others}, limbo = none, awaited = Awaited}) when Others =/= none ->
+%% Grants a name that neither side of an open exchange has, for which the table has room, and whose program the merge has for sure. It grants
+%% none that another node or an edit which waits may have.
+grant(Name, Row, Call, Part = #part{heal = Open = #open{node = Node, others = Others}, limbo = none, awaited = Awaited}) when Others =/= none ->
     Theirs = case Open of #open{theirs = none} -> heal_processes:pids(Others); #open{theirs = Known} -> Known end,
     Next = #part{own = Own, replica = Replica, granted = Granted, waiting = Waiting} = Part#part{heal = Open#open{theirs = Theirs}},
     #half{names = Names} = heal_state:half(Part),
     HasRoom = map_size(Names) + map_size(Theirs) + map_size(Granted) < heal_replica:limit(Replica),
     IsTaken = lists:any(fun(Known) -> is_map_key(Name, Known) end, [Own, Names, Theirs, Granted]) orelse lists:any(names(Name), Waiting),
-    case HasRoom andalso not IsTaken andalso maps:remove(Node, Awaited) =:= #{} of
+    case HasRoom andalso not IsTaken andalso maps:remove(Node, Awaited) =:= #{} andalso has_program(heal_row:resolver(Row), Next) of
         true -> {true, Next#part{granted = Granted#{Name => Call}}};
         false -> {false, Next}
     end;
-grant(_Name, _Call, Part) ->
+grant(_Name, _Row, _Call, Part) ->
     {false, Part}.
+
+%% If both sides have too many programs together, the merge lacks some.
+has_program({program, Id}, Part = #part{heal = #open{programs = Theirs}}) ->
+    #half{programs = Ours} = heal_state:half(Part),
+    is_map_key(Id, Ours) andalso map_size(maps:merge(Theirs, Ours)) =< ?MAX_PROGRAMS;
+has_program(_Builtin, _Part) ->
+    true.
 
 names(Name) ->
     fun(#call{edit = Edit}) -> is_tuple(Edit) andalso element(2, Edit) =:= Name end.

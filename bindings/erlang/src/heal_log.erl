@@ -145,14 +145,12 @@ stored(Log = #log{open = none}) ->
 stored(Log = #log{open = #{entries := Entries}}) when Entries > ?ENTRIES ->
     opened(closed(Log));
 stored(Log = #log{open = Open = #{replica := Replica}}) ->
-    case entries(Replica, Log) of
-        {[], Problem} -> problem(Problem, Log);
-        {Entries, Problem} ->
-            case append(Entries, Open, Log) of
-                {ok, Appended} -> problem(Problem, written(Replica, Log#log{open = Appended}));
-                replaced -> problem(replaced, closed(Log));
-                error -> opened(closed(Log))
-            end
+    {Entries, Problem} = entries(Replica, Log),
+    case append(Entries, Open, Log) of
+        {ok, Open} -> problem(Problem, Log);
+        {ok, Appended} -> problem(Problem, written(Replica, Log#log{open = Appended}));
+        replaced -> problem(replaced, closed(Log));
+        error -> opened(closed(Log))
     end.
 
 closed(Log = #log{open = #{device := Device}}) ->
@@ -194,6 +192,7 @@ written(Replica, Log = #log{greatest = Greatest}) ->
 
 append(Entries, Open = #{device := Device, size := Size, entries := Count}, Log) ->
     case is_open(Open, Log) of
+        true when Entries =:= [] -> {ok, Open};
         true ->
             case and_then([fun() -> file:write(Device, Entries) end, fun() -> file:datasync(Device) end]) of
                 ok -> {ok, Open#{size := Size + iolist_size(Entries), entries := Count + length(Entries)}};

@@ -7,6 +7,8 @@
 -export_type([state/0]).
 
 -define(INTERVAL, 10000).
+%% The longest interval.
+-define(MOST, 2_000_000_000).
 %% An attempt may not hold up edits for longer than this part of `edit_timeout'.
 -define(EDIT_TIMEOUT, 5000).
 %% A node that isn't in the setting is tried at each of the first intervals, then at each sixtieth, and then forgotten: after an hour and a week
@@ -31,19 +33,20 @@
 %% connects them stay apart, unless the option is given.
 -spec start(any | [node()], Met :: [node()], heal_registry:options()) -> state().
 start(Nodes, Met, Options) ->
-    Usual = case application:get_env(kernel, dist_auto_connect) of
-        undefined -> application:get_env(heal, reconnect_interval, ?INTERVAL);
-        {ok, _} -> never
-    end,
-    Interval = case maps:get(reconnect_interval, Options, Usual) of
-        Never when Never =:= never; Never =:= 0 -> never;
-        Time when is_integer(Time), Time > 0 -> Time;
-        Value -> error({bad_setting, reconnect_interval, Value})
+    Given = interval(maps:get(reconnect_interval, Options, application:get_env(heal, reconnect_interval, ?INTERVAL))),
+    Interval = case {Options, application:get_env(kernel, dist_auto_connect)} of
+        {#{reconnect_interval := _}, _} -> Given;
+        {_, undefined} -> Given;
+        {_, {ok, _}} -> never
     end,
     Setting = case Nodes of any -> []; _ -> lists:usort(Nodes) -- [node()] end,
     Timeout = maps:get(edit_timeout, Options, application:get_env(heal, edit_timeout, ?EDIT_TIMEOUT)),
     Lost = maps:merge(maps:from_keys(Met, ?INTERVALS), maps:from_keys(Setting, infinity)),
     #state{interval = Interval, timeout = Timeout div 2, setting = Setting, lost = maps:without([node() | nodes(connected)], Lost)}.
+
+interval(Never) when Never =:= never; Never =:= 0 -> never;
+interval(Time) when is_integer(Time), Time > 0, Time =< ?MOST -> Time;
+interval(Value) -> error({bad_setting, reconnect_interval, Value}).
 
 %% Tries to connect the nodes that are apart and returns them. The next attempt follows after the interval.
 -spec attempt(state()) -> {[node()], state()}.

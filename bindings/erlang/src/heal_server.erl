@@ -9,7 +9,7 @@
 -include("heal_replica.hrl").
 
 -export([start_link/2, observe/3, observing/4]).
--export([init/1, handle_call/3, handle_cast/2, handle_info/2, code_change/3]).
+-export([init/1, handle_call/3, handle_cast/2, handle_info/2, code_change/3, format_status/1]).
 
 -define(REGISTRY, heal_registry).
 -define(NAMES, 4096).
@@ -18,6 +18,8 @@
 -define(EXCHANGE_TIMEOUT, 10000).
 %% Milliseconds that a caller waits for the registry itself.
 -define(PATIENCE, 5000).
+%% The longest timeout of a setting: a caller waits for two of these and its patience, and a timer takes less than 2^32 milliseconds.
+-define(MOST_TIMEOUT, 2_000_000_000).
 
 -record(server, {
     part :: heal_part:part(),
@@ -62,6 +64,8 @@
 %% How many losers are notified, and names of a process that has ended released, before the next message is handled.
 -define(LOSERS, 200).
 -define(RELEASED, 200).
+%% How much of its last message the report of a failure shows.
+-define(DEPTH, 50).
 %% How often to look for a registry that has failed, at least, and the milliseconds in between.
 -define(ATTEMPTS, 100).
 -define(PAUSE, 100).
@@ -160,7 +164,7 @@ send(Options) ->
 
 setting(Key, Options, Usual) ->
     case maps:get(Key, Options, application:get_env(heal, Key, Usual)) of
-        Number when is_integer(Number), Number > 0 -> Number;
+        Number when is_integer(Number), Number > 0, Number =< ?MOST_TIMEOUT -> Number;
         Value -> error({bad_setting, Key, Value})
     end.
 
@@ -382,6 +386,14 @@ code_change(_Version, State, _Extra) ->
     Relayed = lists:foldl(fun heal_events:add/2, Subscribers, maps:keys(Subscribers)),
     Upgraded = Server#server{part = heal_part:upgrade(Part), subscribers = Relayed},
     {ok, relogged(rewatched(Monitors, element(#server.heap, State), Upgraded))}.
+
+%% @private What a report of a failure shows: the state and a message may have all rows.
+format_status(Status) ->
+    maps:map(fun shown/2, Status).
+
+shown(state, #server{part = Part}) -> (heal_part:status(Part))#{names => heal_part:count(Part)};
+shown(message, Message) -> unicode:characters_to_binary(io_lib:format("~0tP", [Message, ?DEPTH]));
+shown(_Key, Value) -> Value.
 
 %% A version before had a monitor for each name, and a map of the owners instead of the heap.
 rewatched(Monitors, Owners, State = #server{part = Part}) when is_map(Owners) ->

@@ -272,9 +272,12 @@ renewed(Node, Before, Part = #part{members = Members}) ->
 %% ---- Leading ----
 
 %% Starts a view with this half, whose members are to follow it.
-lead(Half, Members, Part = #part{replica = Replica}) ->
+lead(Half, Members, Part) ->
+    lead(Half, Members, [], Part).
+
+lead(Half, Members, Losers, Part = #part{replica = Replica}) ->
     {ok, Led} = heal_replica:change(heal_replica:position(Replica), Half, Replica),
-    start(Led, Members, none, {[], unknown}, Part).
+    start(Led, Members, none, {Losers, unknown}, Part).
 
 %% Starts the view of a replica that leads, whose half comes from an exchange with these losers and changes rows so, or from none. Callers
 %% that wait receive their answers before members get a snapshot (followers/1), which takes a while with a large table. One member has the
@@ -301,10 +304,10 @@ start(Led, Members, Has, {Losers, Changes}, Part = #part{peers = Peers, links = 
 viewed(Part) ->
     heal_state:add({view, heal_state:view(Part), members(Part)}, Part).
 
-%% Starts a view with the names of this node alone.
+%% Starts a view with the names of this node alone. What an exchange has decided stays so.
 -spec lead_alone(#part{}) -> #part{}.
 lead_alone(Part) ->
-    lead(heal_home:restrict([heal_state:life(Part)], Part), #{}, Part).
+    lead(heal_home:restrict([heal_state:life(Part)], Part), #{}, heal_home:waiting(Part), Part).
 
 %% ---- The backup ----
 

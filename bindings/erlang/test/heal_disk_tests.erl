@@ -55,7 +55,7 @@ problem(It) ->
 disks_test_() ->
     {inparallel, 3, [{atom_to_list(Name), {timeout, 240, Test}} || {Name, Test} <- [
         {cluster, fun cluster/0}, {torn, fun torn/0}, {damaged, fun damaged/0}, {not_a_folder, fun not_a_folder/0},
-        {another_reason, fun another_reason/0}, {full, fun full/0}, {hanging, fun hanging/0}, {hanging_again, fun hanging_again/0},
+        {another_reason, fun another_reason/0}, {deleted, fun deleted/0}, {full, fun full/0}, {hanging, fun hanging/0}, {hanging_again, fun hanging_again/0},
         {one_folder, fun one_folder/0}, {replaced, fun replaced/0}, {writer_ends, fun writer_ends/0}, {binary, fun binary/0},
         {bad_setting, fun bad_setting/0}, {numbers, fun numbers/0}]]}.
 
@@ -196,6 +196,19 @@ another_reason() ->
     ?assertMatch({error, {not_stored, {_, not_a_log}}}, upload(A, 2)),
     ?assertMatch({_, _}, binary:match(map_get(dir, problem(A)), <<"it isn't a log">>)),
     heal_cluster:stop(A).
+
+%% Somebody has deleted the file: an upload of a program that it had writes it again.
+deleted() ->
+    Folder = folder(),
+    A = start(a, Folder),
+    {ok, One} = upload(A, 1),
+    {ok, Two} = upload(A, 2),
+    ok = file:delete(file(Folder, A)),
+    ?assertEqual({ok, One}, upload(A, 1)),
+    heal_cluster:kill_node(A),
+    B = again(A, Folder),
+    ?assertEqual([true, true], [knows(B, Id) || Id <- [One, Two]]),
+    heal_cluster:stop(B).
 
 %% A disk that is full: the new file can't be written. The upload is refused, and no program is lost once there is room.
 full() ->

@@ -123,11 +123,13 @@ settings_test_() ->
         ?assertMatch({error, {{bad_setting, nodes, none}, _}}, Start(#{nodes => none})),
         [?assertMatch({error, {{bad_setting, nodes, Nodes}, _}}, Start(#{nodes => Nodes})) || Nodes <- [[b@c], [], [b@c | x]]],
         ?assertMatch({error, {{bad_setting, send, x}, _}}, Start(#{nodes => any, send => x})),
-        Wrong = [{Key, Value} || Key <- [names, edit_timeout, exchange_timeout], Value <- [-1, 0, 1.5, x, "1"]] ++ [{names, 1048577}],
+        Wrong = [{Key, Value} || Key <- [names, edit_timeout, exchange_timeout], Value <- [-1, 0, 1.5, x, "1", 2_000_000_001]] ++ [{names, 1048577}],
+        Reconnects = [{reconnect_interval, Value} || Value <- [-1, 1.5, x, 2_000_000_001]],
         _ = heal_cluster:call(A, application, load, [heal]),
         [?assertMatch({error, {{bad_setting, Key, Value}, _}}, Start(#{nodes => any, Key => Value}))
-         || {Key, Value} <- Wrong ++ [{reconnect_interval, Value} || Value <- [-1, 1.5, x]]],
-        [in_application(A, Key, Value, Start) || {Key, Value} <- Wrong],
+         || {Key, Value} <- Wrong ++ Reconnects],
+        %% Also where dist_auto_connect of the kernel turns the attempts off.
+        [in_application(A, Key, Value, Start) || {Key, Value} <- Wrong ++ Reconnects],
         Of = heal_cluster:node_of(A),
         [in_application(A, node_numbers, Value, Start)
          || Value <- [none, [], [{Of, 1}], #{Of => 1 bsl 32}, #{b@c => -1}, #{"b@c" => 1}, #{b@c => 1.0}]],
@@ -142,6 +144,37 @@ in_application(A, Key, Value, Start) ->
     ok = heal_cluster:call(A, application, set_env, [heal, Key, Value]),
     ?assertMatch({error, {{bad_setting, Key, Value}, _}}, Start(#{nodes => any})),
     ok = heal_cluster:call(A, application, set_env, [heal, Key, Usual]).
+
+%% The longest timeouts are timers that the virtual machine takes.
+longest_timeouts_test_() ->
+    {timeout, 120, fun() ->
+        Nodes = [A, B] = [heal_cluster:start(Letter) || Letter <- [a, b]],
+        Longest = maps:from_keys([edit_timeout, exchange_timeout, reconnect_interval], 2_000_000_000),
+        [heal_cluster:start_registry(It, any, Longest) || It <- Nodes],
+        heal_cluster:mesh(Nodes),
+        heal_cluster:one_part(Nodes),
+        Pids = [heal_cluster:own(It, ?REGISTER, Name, #{}) || {It, Name} <- [{A, one}, {B, two}]],
+        ?assertEqual(lists:zip([one, two], Pids), heal_cluster:alike(A, B)),
+        [heal_cluster:stop(It) || It <- Nodes]
+    end}.
+
+%% ---- Failures ----
+
+%% What a registry shows of itself, also in the report of its failure, doesn't grow with its names.
+shown_status_test_() ->
+    {timeout, 120, fun() ->
+        A = heal_cluster:start(a),
+        heal_cluster:start_registry(A, any, #{}),
+        Pid = pid_on(A),
+        [ok = register_on(A, [{name, N}, Pid, #{}]) || N <- lists:seq(1, 500)],
+        Status = heal_cluster:call(A, sys, get_status, [heal_registry]),
+        ?assert(erlang:external_size(Status) < 20_000),
+        ?assertMatch({status, _, _, [_, _, _, _, [_, _, {data, [{"State", #{names := 500, link := apart}}]}]]}, Status),
+        Message = heal_cluster:call(A, heal_server, format_status, [#{message => lists:seq(1, 100_000), reason => x}]),
+        ?assertMatch(#{reason := x, message := <<"[1,2,3", _/binary>>}, Message),
+        ?assert(byte_size(map_get(message, Message)) < 1000),
+        heal_cluster:stop(A)
+    end}.
 
 %% ---- Arguments ----
 

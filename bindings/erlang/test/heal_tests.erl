@@ -287,6 +287,33 @@ readers_share_test_() ->
         [receive read -> ok end || _ <- lists:seq(1, 8)]
     end}.
 
+%% Processes look a name up as often as they can, on a side that is new to all of them.
+lookups_share_test_() ->
+    {timeout, 60, fun() ->
+        Self = self(),
+        Look = fun(Side) -> [{ok, _} = heal:whereis(Side, <<"x">>) || _ <- lists:seq(1, 50000)], Self ! looked end,
+        [begin
+             Side = side(a, [{<<"x">>, registration(1, 1, 1, exit)}]),
+             [spawn_link(fun() -> Look(Side) end) || _ <- lists:seq(1, 3)],
+             [receive looked -> ok end || _ <- lists:seq(1, 3)]
+         end || _ <- lists:seq(1, 5)]
+    end}.
+
+%% The module is loaded again, unchanged, while processes make calls.
+loaded_again_test_() ->
+    {timeout, 60, fun() ->
+        Side = side(a, [{<<"x">>, registration(1, 1, 1, exit)}]),
+        Rounds = counters:new(1, []),
+        Self = self(),
+        Readers = [spawn_link(fun() -> read_rows(Side, Rounds, Self) end) || _ <- lists:seq(1, 3)],
+        [begin
+             Before = counters:get(Rounds, 1),
+             heal_cluster:eventually(fun() -> counters:get(Rounds, 1) > Before + 10 andalso code:soft_purge(heal) end),
+             ?assertEqual({module, heal}, code:load_file(heal))
+         end || _ <- lists:seq(1, 30)],
+        [begin Pid ! stop, receive {stopped, Pid} -> ok end end || Pid <- Readers]
+    end}.
+
 %% A side with this many names.
 big_side(Count) ->
     side(a, [{integer_to_binary(N), registration(1, N, 1, exit)} || N <- lists:seq(1, Count)]).

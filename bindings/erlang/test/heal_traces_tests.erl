@@ -530,7 +530,10 @@ opened(Apart) ->
     {get(a), Opened}.
 
 adopt(Node, Name, Serial, Parts) ->
-    Options = #{stamp => Serial, weight => 0, extra => <<0:128>>, resolver => notify},
+    adopt(Node, Name, Serial, notify, Parts).
+
+adopt(Node, Name, Serial, Resolver, Parts) ->
+    Options = #{stamp => Serial, weight => 0, extra => <<0:128>>, resolver => Resolver},
     event(Node, {call, Serial, {adopt, Name, Name, Options, {pid, Node, Serial}, Node}}, fun none_lost/3, Parts).
 
 replies(Node) ->
@@ -570,6 +573,37 @@ granted_twice_test() ->
     ?assertEqual(position(a, Healed), position(b, Healed)),
     Facts = [{Node, Number, Clashes} || {Node, {healed, #{number := Number, clashes := Clashes}}} <- get(done)],
     ?assertEqual([{a, 1, 0}, {a, 2, 1}, {b, 1, 0}, {b, 2, 1}], lists:sort(Facts)).
+
+%% One of these homes leaves its part before it has notified the losers of the exchange. They lose their names all the same.
+granted_twice_with_losers_test() ->
+    Clashing = adopt(b, <<"x">>, 11, notify_all, adopt(a, <<"x">>, 1, notify_all, start([{a, #{}}, {b, #{}}]))),
+    {{To, List}, Opened} = opened(Clashing),
+    Healed = event(To, List, fun none_lost/3, adopt(b, <<"n1">>, 12, adopt(a, <<"n1">>, 2, Opened))),
+    ?assertEqual(position(a, Healed), position(b, Healed)),
+    ?assertEqual([<<"n1">>], names_of(a, Healed)),
+    Lost = [{Node, Pid, Kind} || {Node, {lost, Losers}} <- get(done), {<<"x">>, #row{pid = Pid}, {{Kind, _}, _}} <- Losers],
+    ?assertEqual([{a, {pid, a, 1}, conflict_with}, {b, {pid, b, 11}, conflict_with}], lists:sort(Lost)).
+
+%% A name isn't granted with a program that its part doesn't know, or that the merge may lack: its caller waits and is refused.
+unknown_program_test() ->
+    {{To, List}, Opened} = opened(),
+    Called = adopt(a, <<"n1">>, 2, {program, <<7:256>>}, Opened),
+    ?assertEqual([], replies(a)),
+    Healed = event(To, List, fun none_lost/3, Called),
+    ?assertEqual([{2, {error, 41}}], replies(a)),
+    ?assertEqual([<<"a1">>, <<"b1">>], names_of(a, Healed)).
+
+too_many_programs_test() ->
+    Upload = fun(Node) -> fun(N, Parts) -> event(Node, {call, N, {upload, <<N:256>>, <<N:64>>}}, fun none_lost/3, Parts) end end,
+    Apart = adopt(b, <<"b1">>, 11, adopt(a, <<"a1">>, 1, start([{a, #{}}, {b, #{}}]))),
+    Few = lists:foldl(Upload(b), lists:foldl(Upload(a), Apart, lists:seq(1001, 1128)), lists:seq(1129, 1256)),
+    Register = fun(Parts) ->
+        {_, Opened} = opened(Parts),
+        _ = adopt(a, <<"n1">>, 2, {program, <<1001:256>>}, Opened),
+        replies(a)
+    end,
+    ?assertEqual([{2, ok}], Register(Few)),
+    ?assertEqual([], Register((Upload(b))(1257, Few))).
 
 %% A member's process gets such a name from its primary, and finds it. The next view has it from the start, so nobody else gets it there.
 granted_to_a_member_test() ->
