@@ -5,6 +5,7 @@
 # Each time is the least of 25: what else a machine does makes a time longer, never shorter.
 set -e
 here=$(cd "$(dirname "$0")" && pwd)
+. "$here/host.sh"
 runs=${1:-200000}
 rounds=25
 out=$(mktemp -d) && trap 'rm -rf "$out"' EXIT
@@ -60,3 +61,4 @@ for slots in 16 128 1024; do
             "$(number verify "$out/ours")" "$(number run "$out/ours")" "$(number steps "$out/ours")"
     done
 done
+host_took

@@ -4,6 +4,7 @@
 # ROUNDS, in microseconds (exchange: nanoseconds for each name), and the ratio.
 set -e
 root=$(cd "$(dirname "$0")/.." && pwd)
+. "$root/bench/host.sh"
 before=$(cd "${1:?usage: exchange.sh BEFORE [NAMES [ROUNDS]]}" && pwd)
 lib=${HEAL_OUT:-$root/bindings/c/out}
 names=${2:-4096}
@@ -21,3 +22,4 @@ for call in begin hear settle hear_list finish rows exchange; do
     least() { awk -v call=$call '$1 == call { print $2 }' "$out/$1.times" | sort -g | head -1; }
     awk -v call=$call -v a="$(least before)" -v b="$(least after)" 'BEGIN { printf "%-10s %10s %10s %7.2f\n", call, a, b, b / a }'
 done
+host_took

@@ -5,6 +5,7 @@
 # have run, heal_bench to be built, and Debian's gcc, libdpdk-dev and librte-bpf23.
 set -e
 root=$(cd "$(dirname "$0")/.." && pwd)
+. "$root/bench/host.sh"
 lib=${HEAL_OUT:-$root/bindings/c/out}
 runs=${1:-200000}
 rounds=25
@@ -30,3 +31,4 @@ for file in "$root"/resolvers/*.hex; do
         'BEGIN { printf "%-12s %8s %8s %6.2f %8s %8s %8s %6.2f\n",
             name, load, peer_load, load / peer_load, run, judge, peer_run, judge / peer_run }'
 done
+host_took

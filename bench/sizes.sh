@@ -5,6 +5,7 @@
 # them, and none; and the most that the process has for each name, with both sides and their messages. Needs bindings/c/build.sh to have run, and a C compiler. Takes minutes.
 set -e
 root=$(cd "$(dirname "$0")/.." && pwd)
+. "$root/bench/host.sh"
 lib=${HEAL_OUT:-$root/bindings/c/out}
 rounds=${1:-5}
 out=$(mktemp -d) && trap 'rm -rf "$out"' EXIT
@@ -27,3 +28,4 @@ for call in {register,whereis,begin,hear,settle,finish}{,",cold"} rest exchange{
     awk -v call="$call" -v a="${least[0]}" -v b="${least[1]}" -v c="${least[2]}" \
         'BEGIN { printf "%-12s %10s %10s %10s %7.2f %7.2f\n", call, a, b, c, b / a, c / a }'
 done
+host_took

@@ -5,6 +5,7 @@
 # the least of 25, in nanoseconds for runs, and milliseconds for scripts and clusters.
 set -e
 here=$(cd "$(dirname "$0")" && pwd)
+. "$here/host.sh"
 root=$(dirname "$here")
 before=$(cd "${1:?usage: versions.sh BEFORE}" && pwd)
 rounds=25
@@ -55,3 +56,4 @@ done
 
 echo
 make -s -C "$root/bindings/erlang" bench
+host_took

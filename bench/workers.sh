@@ -4,6 +4,7 @@
 # microseconds. A part of linear is the time of one divided by that of n and by n, or by four if n is more.
 set -e
 root=$(cd "$(dirname "$0")/.." && pwd)
+. "$root/bench/host.sh"
 rounds=${1:-25}
 out=$(mktemp -d) && trap 'rm -rf "$out"' EXIT
 gcc -O2 -o "$out/threads" "$root/bench/threads.c" -lpthread
@@ -56,3 +57,4 @@ for length in 2 102 1024; do
         echo
     done
 done
+host_took

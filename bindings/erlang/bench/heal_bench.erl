@@ -31,12 +31,24 @@ plan(short) ->
 main(Mode) ->
     Plan = plan(Mode),
     io:format("~s: OTP ~s, ~p schedulers~n", [Mode, erlang:system_info(otp_release), erlang:system_info(schedulers)]),
+    Before = ticks(),
     {Time, Rows} = timer:tc(fun() -> bare(Plan) ++ lists:append([on(Count, Plan) || Count <- Plan#plan.nodes]) end),
     crowded(Plan),
     alone(Plan),
     goals(Rows, Plan),
     io:format("~.1f seconds without the last series~n", [Time / 1.0e6]),
+    io:format("The host took ~p percent of the processors' time.~n", [stolen(Before, ticks())]),
     halt(0).
+
+%% The ticks of the processors so far, and those of them that the host of a virtual machine has taken.
+ticks() ->
+    {ok, Stat} = file:read_file("/proc/stat"),
+    [<<"cpu">> | Ticks] = string:lexemes(hd(string:split(Stat, "\n")), " "),
+    Times = [binary_to_integer(It) || It <- lists:sublist(Ticks, 8)],
+    {lists:sum(Times), lists:last(Times)}.
+
+stolen({All, Taken}, {AllNow, TakenNow}) ->
+    round(100 * (TakenNow - Taken) / max(1, AllNow - All)).
 
 on(Count, Plan) ->
     Edits = lists:append([with_nodes(Count, fun(Nodes) -> edits(Registry, Nodes, Plan) end) || Registry <- ?REGISTRIES]),
