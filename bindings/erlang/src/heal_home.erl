@@ -6,7 +6,7 @@
 
 -include("heal_part.hrl").
 
--export([claim/3, change/3, show/2, show_all/1, is_taken/3, disown/2, is_own/3, waiting/1, conflicts/2, is_conflict/3, keep_programs/1]).
+-export([claim/3, change/3, made/4, show/2, show_all/1, is_taken/3, disown/2, is_own/3, waiting/1, conflicts/2, is_conflict/3, keep_programs/1]).
 -export([plan/4, changes/2, current/3, conflicts/1, swap/2, differences/1, differences/2, settle/1, restrict/2]).
 -export_type([changes/0, plan/0]).
 
@@ -77,6 +77,18 @@ restoring(Rows, Part) -> heal_state:add({restoring, Rows}, Part).
 %% Keeps registrations, so that a registry that starts again has them.
 kept([], Part) -> Part;
 kept(Rows, Part) -> heal_state:add({keep_own, Rows}, Part).
+
+%% Keeps them no longer: the half has them as they are.
+unkept([], Part) -> Part;
+unkept(Names, Part) -> heal_state:add({forget_own, Names}, Part).
+
+%% The half has a row. `Before' is the state in which it hadn't: if this node answered for the registration already, it was kept.
+-spec made(heal:name(), #row{}, Before :: #part{}, #part{}) -> #part{}.
+made(Name, Row, #part{own = Own}, Part) ->
+    case Own of
+        #{Name := Row} -> unkept([Name], Part);
+        _ -> Part
+    end.
 
 %% A registration that this node answers for is changed.
 -spec change(heal:name(), #row{}, #part{}) -> #part{}.
@@ -215,8 +227,21 @@ swap(Plan = #plan{lost = Lost, moved = Moved, losing = Losing, strange = Strange
     All = maps:merge(Part#part.programs, Known),
     Noted = keep_programs(lists:foldl(fun disown/2, Part#part{lost = Lost, programs = All}, Moved)),
     Restoring = lacked(Lacking, Names),
-    Shown = heal_state:add({rows, Put, gone(Plan, maps:from_list(Restoring), Names)}, restoring(Restoring, kept(Losing, Noted))),
-    lists:foldl(fun({Name, _}, Sum) -> heal_state:add({hide, Name}, Sum) end, Shown, Strange).
+    Kept = kept(Losing ++ earlier(Lacking, Noted), Noted),
+    Shown = heal_state:add({rows, Put, gone(Plan, maps:from_list(Restoring), Names)}, restoring(Restoring, Kept)),
+    Unkept = unkept([Name || {Name, Row} <- Put, is_shown(Name, Row, Noted)], Shown),
+    lists:foldl(fun({Name, _}, Sum) -> heal_state:add({hide, Name}, Sum) end, Unkept, Strange).
+
+%% The registrations of this node that the half has as they were before a change.
+earlier(Lacking, #part{own = Own}) ->
+    [{Name, map_get(Name, Own)} || {change, Name, _, _} <- Lacking].
+
+%% Returns whether the half shows a registration of this node as it is.
+is_shown(Name, Row, #part{own = Own, lost = Lost}) ->
+    case Own of
+        #{Name := Row} -> not is_map_key(Name, Lost);
+        _ -> false
+    end.
 
 %% Keeps the programs that this node relies on, and which of them the half has: the part may have no room for all.
 -spec keep_programs(#part{}) -> #part{}.

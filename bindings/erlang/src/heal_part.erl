@@ -84,6 +84,8 @@
     | {keep, Key :: term(), Value :: term()}
     %% Registrations that this node answers for otherwise than the half has them, or that have lost their names.
     | {keep_own, [{heal:name(), #row{}}]}
+    %% Registrations of which that is over.
+    | {forget_own, [heal:name()]}
     %% Registrations that this node answers for and the half lacks. The table has them.
     | {restoring, [{heal:name(), #row{}}]}
     | {problems, heal_peers:problems()}

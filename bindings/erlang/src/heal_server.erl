@@ -614,6 +614,9 @@ act({keep, Key, Value}, State) ->
 act({keep_own, Rows}, State) ->
     ok = heal_table:keep_own(Rows),
     State;
+act({forget_own, Names}, State) ->
+    [ok = heal_table:forget({own, Name}) || Name <- Names],
+    State;
 act({restoring, Rows}, State) ->
     ok = heal_table:restoring(Rows),
     State;

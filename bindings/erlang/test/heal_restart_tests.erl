@@ -153,7 +153,9 @@ restoring(A, B) ->
     ?assertEqual(undefined, Call(whereis_name, [Term])),
     heal_cluster:start_registry(It, [A, B], #{}),
     ?assertEqual([{one, Pid}], heal_cluster:alike(A, B)),
-    ?assertEqual(1, Call(count, [])).
+    ?assertEqual(1, Call(count, [])),
+    %% What was kept in addition to the row is gone.
+    ?assertEqual([], heal_cluster:call(It, ets, match, [heal_registry, {kept, {own, '$1'}, '_'}])).
 
 %% A registry is killed after it has written rows, and before the position that has them. All nodes have one table again.
 killed_while_writing(A, B) ->

@@ -81,6 +81,9 @@ action({keep_own, Rows}, Name, Sim) ->
         Changed = lists:foldl(fun({Term, Row}, Sum) -> Sum#{Term := Row} end, Own, Rows),
         Node#node{own = Changed, kept = Kept#{own => maps:merge(maps:get(own, Kept, #{}), maps:from_list(Rows))}}
     end, Sim);
+action({forget_own, Terms}, Name, Sim) ->
+    [_ | _] = Terms,
+    update(Name, fun(Node = #node{kept = Kept}) -> Node#node{kept = Kept#{own => maps:without(Terms, maps:get(own, Kept, #{}))}} end, Sim);
 action({keep, Key, Value}, Name, Sim) ->
     heal_sim_disk:kept(Key, Value, Name, update(Name, fun(Node = #node{kept = Kept}) -> Node#node{kept = Kept#{Key => Value}} end, Sim));
 action({view, View, Members}, Name, Sim) ->
