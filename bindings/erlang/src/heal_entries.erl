@@ -175,7 +175,7 @@ restart(Call = #call{from = From, edit = Edit}, Part = #part{waiting = Waiting})
 %% A registration of this node is made: it is claimed, unless this node has come to answer for another one of the name.
 claim(Call, Name, Row, Part) ->
     case heal_home:is_taken(Name, heal_row:owner(Row), Part) of
-        false -> heal_edits:answer(Call, ok, heal_home:made(Name, Row, Part, shown(Name, Row, heal_home:claim(Name, Row, Part))));
+        false -> heal_edits:answer(Call, ok, heal_home:forget_kept(Name, Row, Part, shown(Name, Row, heal_home:claim(Name, Row, Part))));
         true -> heal_edits:answer(Call, {error, 30}, Part)
     end.
 

@@ -9,8 +9,6 @@
 
 -export([edit/2, heard/1, take/4, make/1]).
 
--define(MAX_PROGRAMS, 256).
-
 %% Grants what a primary's caller or a member registers, or lets an edit wait.
 -spec edit(#call{}, #part{}) -> #part{}.
 edit(Call = #call{from = {caller, _}, edit = {register, Name, Row}}, Part) ->

@@ -6,11 +6,10 @@
 
 -include("heal_part.hrl").
 
--export([claim/3, change/3, made/4, show/2, show_all/1, is_taken/3, disown/2, is_own/3, waiting/1, conflicts/2, is_conflict/3, keep_programs/1]).
+-export([claim/3, change/3, forget_kept/4, show/2, show_all/1, is_taken/3, disown/2, is_own/3, waiting/1, conflicts/2, is_conflict/3, keep_programs/1]).
 -export([plan/4, changes/2, current/3, conflicts/1, swap/2, differences/1, differences/2, settle/1, restrict/2]).
 -export_type([changes/0, plan/0]).
 
--define(MAX_PROGRAMS, 256).
 
 %% The rows of a half that differ from those of the half before, and the names that it lacks.
 -type changes() :: {Put :: [{heal:name(), #row{}}], Drop :: [heal:name()]}.
@@ -78,15 +77,15 @@ restoring(Rows, Part) -> heal_state:add({restoring, Rows}, Part).
 kept([], Part) -> Part;
 kept(Rows, Part) -> heal_state:add({keep_own, Rows}, Part).
 
-%% Keeps them no longer: the half has them as they are.
-unkept([], Part) -> Part;
-unkept(Names, Part) -> heal_state:add({forget_own, Names}, Part).
+%% Forgets what was kept of registrations that the half has as they are.
+forgotten([], Part) -> Part;
+forgotten(Names, Part) -> heal_state:add({forget_own, Names}, Part).
 
-%% The half has a row. `Before' is the state in which it hadn't: if this node answered for the registration already, it was kept.
--spec made(heal:name(), #row{}, Before :: #part{}, #part{}) -> #part{}.
-made(Name, Row, #part{own = Own}, Part) ->
+%% Forgets what was kept of a registration, now that the half has its row: if this node answered for it while the half lacked it, in `Before'.
+-spec forget_kept(heal:name(), #row{}, Before :: #part{}, #part{}) -> #part{}.
+forget_kept(Name, Row, #part{own = Own}, Part) ->
     case Own of
-        #{Name := Row} -> unkept([Name], Part);
+        #{Name := Row} -> forgotten([Name], Part);
         _ -> Part
     end.
 
@@ -229,10 +228,10 @@ swap(Plan = #plan{lost = Lost, moved = Moved, losing = Losing, strange = Strange
     Restoring = lacked(Lacking, Names),
     Kept = kept(Losing ++ earlier(Lacking, Noted), Noted),
     Shown = heal_state:add({rows, Put, gone(Plan, maps:from_list(Restoring), Names)}, restoring(Restoring, Kept)),
-    Unkept = unkept([Name || {Name, Row} <- Put, is_shown(Name, Row, Noted)], Shown),
-    lists:foldl(fun({Name, _}, Sum) -> heal_state:add({hide, Name}, Sum) end, Unkept, Strange).
+    Forgotten = forgotten([Name || {Name, Row} <- Put, is_shown(Name, Row, Noted)], Shown),
+    lists:foldl(fun({Name, _}, Sum) -> heal_state:add({hide, Name}, Sum) end, Forgotten, Strange).
 
-%% The registrations of this node that the half has as they were before a change.
+%% Returns the registrations of this node whose latest change the half lacks.
 earlier(Lacking, #part{own = Own}) ->
     [{Name, map_get(Name, Own)} || {change, Name, _, _} <- Lacking].
 

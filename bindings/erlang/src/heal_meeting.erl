@@ -18,7 +18,6 @@
 %% The merge, its losers, how its rows differ, and what is reported of it.
 -type merge() :: {#half{}, heal_losers:losers(), heal_home:changes() | unknown, Facts :: #{atom() => term()}}.
 
--define(MAX_PROGRAMS, 256).
 %% The refusal of a program that there is no room for.
 -define(STORE_FULL, 43).
 

@@ -154,7 +154,7 @@ requested(Node, View, Number, Edit, Part = #part{members = Members}) ->
 applied({register, Name, Row = #row{home = Home}}, _By, Before, Part) ->
     Owner = heal_row:owner(Row),
     case Home =/= heal_state:life(Part) orelse heal_home:is_own(Name, Owner, Part) of
-        true -> heal_arrivals:arrived(Name, heal_home:made(Name, Row, Before, heal_state:add({rows, [{Name, Row}], []}, Part)));
+        true -> heal_arrivals:arrived(Name, heal_home:forget_kept(Name, Row, Before, heal_state:add({rows, [{Name, Row}], []}, Part)));
         false ->
             %% Nobody waits for it any more. The table keeps what the replica has, but no process finds it.
             heal_edits:edit(#call{edit = {unregister, Name, Owner}}, heal_state:add({ended, Name, Row}, Part))

@@ -9,7 +9,6 @@
 -export_type([refusal/0, problems/0, here/0]).
 
 -define(STORE_FULL, 43).
--define(MAX_PROGRAMS, 256).
 %% The form of differences that this version sends and takes.
 -define(DIFFERENCES, 2).
 

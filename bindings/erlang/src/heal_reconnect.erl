@@ -7,8 +7,8 @@
 -export_type([state/0]).
 
 -define(INTERVAL, 10000).
-%% The longest interval.
--define(MOST, 2_000_000_000).
+%% The longest interval, which a timer takes.
+-define(MOST, (1 bsl 40)).
 %% An attempt may not hold up edits for longer than this part of `edit_timeout'.
 -define(EDIT_TIMEOUT, 5000).
 %% A node that isn't in the setting is tried at each of the first intervals, then at each sixtieth, and then forgotten: after an hour and a week

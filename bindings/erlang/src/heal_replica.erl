@@ -12,7 +12,6 @@
 -export_type([replica/0, life/0, view/0, position/0, half/0, row/0, edit/0, changes/0, entry/0, snapshot/0, refusal/0]).
 
 -define(USUAL_LIMIT, 4096).
--define(MAX_PROGRAMS, 256).
 -define(MAX_NUMBER, 16#ffffffffffffffff).
 
 -record(replica, {

@@ -17,3 +17,6 @@
     programs = #{} :: #{Id :: binary() => Code :: binary()},
     latest = 0 :: non_neg_integer()
 }).
+
+%% How many programs a half has at most.
+-define(MAX_PROGRAMS, 256).

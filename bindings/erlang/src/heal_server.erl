@@ -18,7 +18,7 @@
 -define(EXCHANGE_TIMEOUT, 10000).
 %% Milliseconds that a caller waits for the registry itself.
 -define(PATIENCE, 5000).
-%% The longest timeout of a setting: a caller waits for two of these and its patience, and a timer takes less than 2^32 milliseconds.
+%% The longest timeout of a setting: a call waits for two of these and the patience, and may wait for less than 2^32 milliseconds.
 -define(MOST_TIMEOUT, 2_000_000_000).
 
 -record(server, {
@@ -387,7 +387,7 @@ code_change(_Version, State, _Extra) ->
     Upgraded = Server#server{part = heal_part:upgrade(Part), subscribers = Relayed},
     {ok, relogged(rewatched(Monitors, element(#server.heap, State), Upgraded))}.
 
-%% @private What a report of a failure shows: the state and a message may have all rows.
+%% @private What the report of a failure shows of the state and of the last message, which may have all rows. Its reason may have some.
 format_status(Status) ->
     maps:map(fun shown/2, Status).
 

@@ -304,7 +304,7 @@ start(Led, Members, Has, {Losers, Changes}, Part = #part{peers = Peers, links = 
 viewed(Part) ->
     heal_state:add({view, heal_state:view(Part), members(Part)}, Part).
 
-%% Starts a view with the names of this node alone. What an exchange has decided stays so.
+%% Starts a view with the names of this node alone. Losers of an exchange that wait for their notice still receive it.
 -spec lead_alone(#part{}) -> #part{}.
 lead_alone(Part) ->
     lead(heal_home:restrict([heal_state:life(Part)], Part), #{}, heal_home:waiting(Part), Part).

@@ -124,7 +124,7 @@ settings_test_() ->
         [?assertMatch({error, {{bad_setting, nodes, Nodes}, _}}, Start(#{nodes => Nodes})) || Nodes <- [[b@c], [], [b@c | x]]],
         ?assertMatch({error, {{bad_setting, send, x}, _}}, Start(#{nodes => any, send => x})),
         Wrong = [{Key, Value} || Key <- [names, edit_timeout, exchange_timeout], Value <- [-1, 0, 1.5, x, "1", 2_000_000_001]] ++ [{names, 1048577}],
-        Reconnects = [{reconnect_interval, Value} || Value <- [-1, 1.5, x, 2_000_000_001]],
+        Reconnects = [{reconnect_interval, Value} || Value <- [-1, 1.5, x, 1 bsl 40 + 1]],
         _ = heal_cluster:call(A, application, load, [heal]),
         [?assertMatch({error, {{bad_setting, Key, Value}, _}}, Start(#{nodes => any, Key => Value}))
          || {Key, Value} <- Wrong ++ Reconnects],
@@ -145,11 +145,11 @@ in_application(A, Key, Value, Start) ->
     ?assertMatch({error, {{bad_setting, Key, Value}, _}}, Start(#{nodes => any})),
     ok = heal_cluster:call(A, application, set_env, [heal, Key, Usual]).
 
-%% The longest timeouts are timers that the virtual machine takes.
+%% With the longest timeouts and the longest interval two nodes join, and their callers are answered.
 longest_timeouts_test_() ->
     {timeout, 120, fun() ->
         Nodes = [A, B] = [heal_cluster:start(Letter) || Letter <- [a, b]],
-        Longest = maps:from_keys([edit_timeout, exchange_timeout, reconnect_interval], 2_000_000_000),
+        Longest = #{edit_timeout => 2_000_000_000, exchange_timeout => 2_000_000_000, reconnect_interval => 1 bsl 40},
         [heal_cluster:start_registry(It, any, Longest) || It <- Nodes],
         heal_cluster:mesh(Nodes),
         heal_cluster:one_part(Nodes),
@@ -160,7 +160,7 @@ longest_timeouts_test_() ->
 
 %% ---- Failures ----
 
-%% What a registry shows of itself, also in the report of its failure, doesn't grow with its names.
+%% What a registry shows of its state and its last message doesn't grow with its names.
 shown_status_test_() ->
     {timeout, 120, fun() ->
         A = heal_cluster:start(a),

@@ -62,7 +62,7 @@ lost(Nodes, IsMet) ->
     heal_reconnect:down(?LOST, IsMet, started(Nodes, [])).
 
 started(Nodes, Met) ->
-    heal_reconnect:start(Nodes, Met, #{reconnect_interval => 2_000_000_000}).
+    heal_reconnect:start(Nodes, Met, #{reconnect_interval => 1 bsl 31}).
 
 %% Returns the intervals, up to this one, at which the node is tried.
 tried(Intervals, State) ->

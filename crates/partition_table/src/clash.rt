@@ -81,7 +81,7 @@ impl Model for Clash {
 }
 
 impl Clash {
-    // Returns the clash of this name, in which these halves have these rivals.
+    // Returns the clash of a name with its two registrations and the facts of both halves.
     #[inline]
     pub(crate) fn new(
         name: Name,

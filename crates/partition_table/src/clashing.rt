@@ -53,7 +53,7 @@ fn facts_of(table: &Table, uptime: u64) -> Facts
     }
 }
 
-// Lets clashes share the facts of the halves.
+// Returns the facts of both halves, for all clashes to share.
 fn share_facts(alloc: Global, a: Facts, b: Facts) -> Result<Arc<HalfFacts>, AllocError>
     ensures { IfOk result (λ facts. arc_value facts ≡ record { a = a; b = b }) }
 {
