@@ -36,6 +36,7 @@ PROMISES = [
         "partition_table::Table::register", "partition_table::Table::unregister", "partition_table::clashes",
         "partition_table::Verdict::judged", "partition_table::merge"]),
     ("**two sides that finish hold one table** (the headline)", ["exchange_law::history_theorem"]),
+    ("a history's events are calls, and each side is where its calls lead", ["exchange_law::events_theorem"]),
     ("each call of a side is a step, and each refusal has its cause", [
         "exchange_core::Side::" + name for name in
         ("register", "unregister", "begin", "hear", "take", "withdraw", "close_list", "hear_list", "finish", "abandon",

@@ -1,20 +1,19 @@
 -- Settling as judgings in round 0 and rulings that are taken.
 use Rattle.std.proofs.Common.{◌≡◌, ℕ, zero, suc, Bool, true, false, cond, not, ◌&&◌, if◌then◌else◌, List, [], ◌∷◌, ◌++◌, length, Option, Some, None, is_none, slice_get, eq-eqb, ◌==◌, refl, sym, ap, ◌∙◌, subst, ⊎_elim, append_assoc, arith, option_map, option_and_then}
-use Rattle.std.specs.List.{list_all}
+use Rattle.std.specs.List.{cons_option, list_all}
 use Rattle.clash_record.specs.declared.side_id.SideId.{SideId}
 use Rattle.clash_record.specs.declared.side_id.SideId.TheVariants.{A, B}
 use Rattle.partition_table.specs.Tables.{Table, Clash, answer, word_of, clashes}
-use Rattle.exchange_law.specs.Sides.{Offer, Judged, Heard, Exchange, Side, is_side, clashes_for, clashes_heard, heard_clashes, has_clash, take}
+use Rattle.exchange_law.specs.Sides.{Offer, Judged, Heard, Exchange, Side, is_side, clashes_for, clashes_heard, heard_clashes, take}
 use Rattle.exchange_law.specs.Calls.{Take}
-use Rattle.exchange_law.specs.Worlds.{Ruling, Past, World, Event, Tells, Judges, side_of, with_side, called, called_if, ruling_at, taken_by, offer_by, ruling_of, clashes_between, ruling_on, add_ruling, judge, happens, world_after}
+use Rattle.exchange_law.specs.Worlds.{Ruling, Past, World, Event, Tells, Judges, side_of, with_side, called, called_if, ruling_at, offer_by, ruling_of, clashes_between, ruling_on, judge, happens, world_after}
 use Rattle.exchange_core.specs.Settling.{judged_in, filled, settled, the_round}
 use Rattle.exchange_core.specs.Halves.{is_settling, IsSettling, SettlesByEvents}
 use Rattle.exchange_law.specs.laws.Carried.{some_inj}
-use Rattle.exchange_law.specs.laws.Rulings.{lawful, has_clash_passes}
-use Rattle.exchange_law.specs.laws.Kept.{Has, other, made, OneEach}
-use Rattle.exchange_law.specs.laws.Steps.{Made, judge_cases, at_more, found_key, past_is, sound}
+use Rattle.exchange_law.specs.laws.Rulings.{lawful}
+use Rattle.exchange_law.specs.laws.Kept.{Has, other, made, OneEach, same_clashes}
+use Rattle.exchange_law.specs.laws.Steps.{Made, offer_key, judge_cases, at_more, past_is, sound}
 use Rattle.exchange_law.specs.laws.Places.{side_now}
-use Rattle.exchange_law.specs.laws.Told.{offer_key, ruling_fits, same_clashes}
 use Rattle.exchange_law.specs.laws.Calling.{judgings_add}
 use Rattle.exchange_core.proofs.Settled.{length-seam, take_next, unheard}
 use Rattle.exchange_core.proofs.Filling.{at_seam}
@@ -235,7 +234,7 @@ module _ (first : List Event) (id : SideId) (x : Exchange) (heard : Heard)
           }
       by_found (Some r) is =
           let past = (world_after (events ++ first)).past in
-          let fits = ruling_fits (events ++ first) x.number k r is in
+          let fits = (sound (events ++ first)).ruled x.number k r is in
           let sent = λ (offer : Offer) (h : Has (world_after first).past.offers offer).
           subst (λ (l : List Offer). Has l offer) (sym n.offers_are) h in
           let same = same_clashes (sound (events ++ first)).one x.number k r fits id x.seed x.uptime heard.uptime
@@ -251,8 +250,8 @@ module _ (first : List Event) (id : SideId) (x : Exchange) (heard : Heard)
             ruling = r;
             found =
                 ap (λ (o : Option Ruling). ruling_at x.number k (if is_none o
-                then add_ruling past.rulings (ruling_on x.number k the_round (offer_by A x.number past.offers)
-                (offer_by B x.number past.offers)) else past.rulings)) is
+                then cons_option (ruling_on x.number k the_round (offer_by A x.number past.offers)
+                (offer_by B x.number past.offers)) past.rulings else past.rulings)) is
                 ∙ is;
             clash_is = clash;
             judged_is = λ i. record {
@@ -314,16 +313,6 @@ module _ (first : List Event) (id : SideId) (x : Exchange) (heard : Heard)
     ruled = λ j s e. n.ruled j s (sym (ap (λ (p : Past). ruling_at x.number j p.rulings) same_past) ∙ e);
   }
     where
-      key : (r.ruling.number ≡ x.number) × (r.ruling.k ≡ length front)
-      key = found_key x.number (length front) (world_after (events ++ first)).past.rulings r.ruling r.found
-
-      has : has_clash (side_of (world_after (events ++ first)) id) r.ruling.k r.ruling.clash ≡ true
-      has =
-          (λ i. has_clash (n.side_is i) (key.1 i) (r.clash_is i))
-          ∙ has_clash_passes (held (front ++ None ∷ rest))
-          (record x { heard = Some (record heard { rulings = front ++ None ∷ rest }) })
-          (record heard { rulings = front ++ None ∷ rest }) (length front) c refl refl at
-
       took : take (side_of (world_after (events ++ first)) id) x.number (length front)
           (judged_in x.seed the_round (length (clashes_heard (side_of (world_after first) id) x heard)) (length front) c)
           ≡ Some (held (front ++ Some (judged_in x.seed the_round
@@ -339,9 +328,9 @@ module _ (first : List Event) (id : SideId) (x : Exchange) (heard : Heard)
           (length (clashes_heard (side_of (world_after first) id) x heard)) (length front) c) ∷ rest)))
       told =
           let v = world_after (events ++ first) in
-          ap (λ (o : Option Ruling). called_if v id (option_and_then (taken_by (side_of v id)) o)) r.found
-          ∙ ap (λ b. called_if v id (if b then Some (Take r.ruling.number r.ruling.k r.ruling.judged) else None)) has
-          ∙ (λ i. called v id (Take (key.0 i) (key.1 i) (r.judged_is i)))
+          ap (λ (o : Option Ruling). called_if v id
+          (option_map (λ (ruling : Ruling). Take x.number (length front) ruling.judged) o)) r.found
+          ∙ (λ i. called v id (Take x.number (length front) (r.judged_is i)))
           ∙ ap (λ (o : Option Side). with_side v id v.past o) took
 
       same_past : (happens (world_after (events ++ first)) (Tells id x.number (length front))).past

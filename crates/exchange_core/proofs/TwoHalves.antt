@@ -1,5 +1,5 @@
 -- Two halves that settle, each in its own process, are the sides of a history in which all is judged in round 0.
-use Rattle.std.proofs.Common.{◌≡◌, ℕ, Bool, true, false, not, if◌then◌else◌, List, [], ◌∷◌, ◌++◌, length, Option, Some, None, slice_get, eqb-true, ◌==◌, refl, sym, ap, ◌∙◌, subst, ⊎_elim, append_assoc, option_map, option_and_then}
+use Rattle.std.proofs.Common.{◌≡◌, ℕ, Bool, true, false, not, if◌then◌else◌, List, [], ◌∷◌, ◌++◌, length, Option, Some, None, slice_get, eqb-true, ◌==◌, refl, sym, ap, ◌∙◌, subst, append_assoc, option_map, option_and_then}
 use Rattle.std.proofs.lemmas.Bool.{and_parts, and_from}
 use Rattle.std.specs.List.{list_all}
 use Rattle.clash_record.specs.declared.side_id.SideId.{SideId}
@@ -16,9 +16,8 @@ use Rattle.exchange_core.specs.Halves.{IsRuledInRound, is_settling, Act, Happens
 use Rattle.exchange_core.specs.model.Finishing.{IsMergeable}
 use Rattle.exchange_law.specs.laws.Carried.{some_inj, found}
 use Rattle.exchange_law.specs.laws.Kept.{Has, other, made, made_list, Grows, our_offer}
-use Rattle.exchange_law.specs.laws.Steps.{Made, judge_cases, at_more, step_grows, grows_on, sound}
-use Rattle.exchange_law.specs.laws.Places.{judged_at}
-use Rattle.exchange_law.specs.laws.Told.{offer_key}
+use Rattle.exchange_law.specs.laws.Steps.{Made, offer_key, step_grows, grows_on, sound}
+use Rattle.exchange_law.specs.laws.Places.{judged_at, judged_new}
 use Rattle.exchange_law.specs.laws.Calling.{event_leaves}
 use Rattle.exchange_law.specs.laws.Replays.{Holds, replay_holds, led}
 use Rattle.exchange_core.proofs.Ending.{held_answers, held_at, merged_so, finished_so}
@@ -64,14 +63,8 @@ word_in history of_round number k r e seed all o =
     (subst (λ (h : List Event). list_all in_round h ≡ true) (sym j.place.1) of_round)) in
     let grows : Grows past (world_after history).past =
     subst (λ (h : List Event). Grows past (world_after h).past) j.place.1 (grows_since j.place.0 j.earlier step) in
-    sym j.at_word
-    ∙ ⊎_elim
-    (λ same. let e' = sym j.unjudged ∙ sym (ap (ruling_at number k) same) ∙ j.judged in absurd (cc))
-    (λ new. ⊎_elim
-    (λ h. sym (ap (λ (x : Ruling). x.judged.word) h.0) ∙ word_of_new j.round round new.ruling past grows new.made)
-    (λ old. let e' = sym j.unjudged ∙ old in absurd (cc))
-    (at_more new.ruling past.rulings number k j.ruling (sym (ap (ruling_at number k) new.rulings_are) ∙ j.judged)))
-    (judge_cases past number k j.round)
+    let n = judged_new j in
+    sym (ap (λ (x : Ruling). x.judged.word) n.1) ∙ word_of_new j.round round n.0.ruling past grows n.0.made
   where
     grows_since : (later earlier : List Event) (step : Event) →
         Grows (world_after earlier).past (world_after (later ++ step ∷ earlier)).past

@@ -24,7 +24,7 @@ mod with_table;
 mod withdrawn_names;
 
 pub use clash_record::SideId;
-pub use exchange_law::history_theorem;
+pub use exchange_law::{events_theorem, history_theorem};
 pub use fault::{MissingPart, SideFault};
 pub use finished::Finished;
 pub use halves::two_halves_theorem;

@@ -1,2 +1,2 @@
 mod Once
-mod Theorem
+mod OneTable

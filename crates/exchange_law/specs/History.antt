@@ -1,70 +1,58 @@
 -- What a history of two sides shows. Each fact names a place in it.
-use Rattle.std.specs.Prelude.{◌≡◌, ℕ, IsTrue, false, List, [], ◌∷◌, ◌++◌, length, Option, Some, None, is_some, slice_get}
+use Rattle.std.specs.Prelude.{◌≡◌, ℕ, IsTrue, if◌then◌else◌, List, ◌∷◌, ◌++◌, length, map, Option, Some, None, is_some, slice_get}
+use Rattle.std.specs.List.{zip}
 use Rattle.std.specs.Option.{option_map, option_and_then}
 use Rattle.builtin_resolvers.specs.declared.verdicts.Verdict3.{Verdict3}
 use Rattle.clash_record.specs.Name.{Name}
-use Rattle.partition_table.specs.Tables.{Table, Clash, Gone, IsOneOfFour, clashes, answer, IsMerge, fit_together}
+use Rattle.partition_table.specs.Tables.{Table, Clash, Gone, clashes, answer, merge, fit_together}
 use Rattle.clash_record.specs.declared.side_id.SideId.{SideId}
 use Rattle.clash_record.specs.declared.side_id.SideId.TheVariants.{A, B}
-use Rattle.exchange_law.specs.Sides.{Heard, Exchange, Side}
-use Rattle.exchange_law.specs.Calls.{Call, Begin, Close_list, Finish, carried_out, replay}
-use Rattle.exchange_law.specs.Worlds.{Event, Does, Judges, Ruling, side_of, world_after, ruling_at, taken_by}
+use Rattle.exchange_law.specs.Sides.{Heard, Exchange, Side, is_one_of_four, has_clash, begin, close_list, finish}
+use Rattle.exchange_law.specs.Calls.{Call, Begin, Take, Close_list, Finish, carried_out, replay}
+use Rattle.exchange_law.specs.Worlds.{Event, Does, Judges, Ruling, ruling_of, side_of, list_of, world_after, ruling_at}
 
 -- the step is in the history, right after these
 abbrev pub Follows : List Event → Event → List Event → Type 0
 Follows earlier step history = (later : List Event) × (later ++ step ∷ earlier ≡ history)
 
--- the exchange that is open
-abbrev pub number_of : Side → Option ℕ
-number_of side = option_map (λ exchange. exchange.number) side.exchange
-
 -- a Begin of this number was carried out, and this is the table with which the side began
 pub record BeganWith (history : List Event) (id : SideId) (number seed uptime : ℕ) (table : Table) : Type 0 where
   pub earlier : List Event
   pub place : Follows earlier (Does id (Begin number seed uptime)) history
-  pub idle : number_of (side_of (world_after earlier) id) ≡ None
-  pub opens : number_of (side_of (world_after (Does id (Begin number seed uptime) ∷ earlier)) id) ≡ Some number
+  pub begins : IsTrue (is_some (begin (side_of (world_after earlier) id) number seed uptime))
   pub has : (side_of (world_after earlier) id).table ≡ table
 
 -- a Finish of this number was carried out, and this is the table that it left
 pub record FinishedWith (history : List Event) (id : SideId) (number : ℕ) (table : Table) : Type 0 where
   pub earlier : List Event
   pub place : Follows earlier (Does id Finish) history
-  pub open_before : number_of (side_of (world_after earlier) id) ≡ Some number
-  pub idle_after : number_of (side_of (world_after (Does id Finish ∷ earlier)) id) ≡ None
+  pub of_number : option_map (λ exchange. exchange.number) (side_of (world_after earlier) id).exchange ≡ Some number
+  pub finishes : IsTrue (is_some (finish (side_of (world_after earlier) id)))
   pub leaves : (side_of (world_after (Does id Finish ∷ earlier)) id).table ≡ table
 
--- a Judge of this clash, number k of this exchange, was carried out at this word
+-- a Judge of this clash, number k of this exchange, was carried out at this word: it added the clash's ruling there
 pub record JudgedAt (history : List Event) (number k : ℕ) (clash : Clash) (word : ℕ) : Type 0 where
   pub earlier : List Event
   pub round : ℕ
   pub place : Follows earlier (Judges number k round) history
-  pub ruling : Ruling
-  pub unjudged : ruling_at number k (world_after earlier).past.rulings ≡ None
-  pub judged : ruling_at number k (world_after (Judges number k round ∷ earlier)).past.rulings ≡ Some ruling
-  pub of_clash : ruling.clash ≡ clash
-  pub at_word : ruling.judged.word ≡ word
+  pub adds : (world_after (Judges number k round ∷ earlier)).past.rulings ≡
+      ruling_of number k word clash ∷ (world_after earlier).past.rulings
 
--- a Close of this number was carried out, and these names the side had withdrawn
+-- a Close of this number was carried out, and these names the side had withdrawn: they are the list that it sent
 pub record ClosedWith (history : List Event) (id : SideId) (number : ℕ) (names : List Name) : Type 0 where
   pub earlier : List Event
   pub place : Follows earlier (Does id Close_list) history
-  pub exchange : Exchange
-  pub open_then : (side_of (world_after earlier) id).exchange ≡ Some exchange
-  pub same_number : exchange.number ≡ number
-  pub was_open : exchange.closed ≡ false
-  pub has : exchange.withdrawn ≡ names
+  pub closes : IsTrue (is_some (close_list (side_of (world_after earlier) id)))
+  pub sends : list_of (side_of (world_after earlier) id) ≡ record { side = id; number = number; names = names }
 
 -- the answers at a choice of one word for each clash
 abbrev pub answers_to : List Clash → List ℕ → List Verdict3
-answers_to (clash ∷ clashes) (word ∷ words) = answer clash word ∷ answers_to clashes words
-answers_to (clash ∷ clashes) [] = []
-answers_to [] words = []
+answers_to clashes words = map (λ pair. answer pair.0 pair.1) (zip clashes words)
 
 -- one word for each clash, each one of its four, and at each a Judge of the clash was carried out
 pub record IsLawfulChoice (history : List Event) (number seed : ℕ) (all : List Clash) (words : List ℕ) : Type 0 where
   pub one_each : length words ≡ length all
-  pub one_of_four : (k word : ℕ) → slice_get words k ≡ Some word → IsOneOfFour word seed (length all) k
+  pub one_of_four : (k word : ℕ) → slice_get words k ≡ Some word → IsTrue (is_one_of_four word seed (length all) k)
   pub judged : (k word : ℕ) (clash : Clash) → slice_get words k ≡ Some word → slice_get all k ≡ Some clash →
       JudgedAt history number k clash word
 
@@ -84,7 +72,7 @@ pub record IsLawfulMerge (history : List Event) (number : ℕ) (table : Table) :
   pub closed_b : ClosedWith history B number gone.of_b
   pub words : List ℕ
   pub lawful : IsLawfulChoice history number seed (clashes a uptime_a b uptime_b) words
-  pub merged : IsMerge a b (answers_to (clashes a uptime_a b uptime_b) words) gone table
+  pub merged : merge a b (answers_to (clashes a uptime_a b uptime_b) words) gone ≡ table
 
 -- a side begins a number once: with one seed, one uptime and one table
 abbrev pub BeginsOnce : List Event → Type 0
@@ -105,6 +93,11 @@ JudgesOnce history = (number k : ℕ) (c d : Clash) (u v : ℕ) →
 abbrev pub HasOneSeed : List Event → Type 0
 HasOneSeed history = (number : ℕ) (id : SideId) (table : Table) (s t u v : ℕ) (a b : Table) →
     FinishedWith history id number table → BeganWith history A number s u a → BeganWith history B number t v b → s ≡ t
+
+-- a ruling is taken by a side that has its clash
+abbrev pub taken_by : Side → Ruling → Option Call
+taken_by side ruling =
+    if has_clash side ruling.k ruling.clash then Some (Take ruling.number ruling.k ruling.judged) else None
 
 -- no ruling is refused by a side that has its number open and heard the other's offer
 abbrev pub TakesRulings : List Event → Type 0

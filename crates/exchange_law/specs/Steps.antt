@@ -1,11 +1,11 @@
 -- Events as calls: which call an event is, and what it leaves.
 use Rattle.std.specs.Prelude.{◌≡◌, ℕ, IsTrue, nat_lt, if◌then◌else◌, List, ◌∷◌, Option, Some, None, unwrap_or, is_some, slice_get}
-use Rattle.std.specs.Option.{option_map, option_and_then}
+use Rattle.std.specs.Option.{option_map}
 use Rattle.clash_record.specs.declared.side_id.SideId.{SideId}
 use Rattle.clash_record.specs.declared.side_id.SideId.TheVariants.{A, B}
 use Rattle.exchange_law.specs.Sides.{Side, is_side}
 use Rattle.exchange_law.specs.Calls.{Call, Hear, Take, Hear_list, carried_out, takes_message}
-use Rattle.exchange_law.specs.Worlds.{Ruling, World, Event, Does, Hears, Hears_list, Tells, Judges, side_of, past_after, ruling_at, taken_by, offer_by, ruling_on, world_after}
+use Rattle.exchange_law.specs.Worlds.{Ruling, World, Event, Does, Hears, Hears_list, Tells, Judges, side_of, past_after, ruling_at, offer_by, ruling_on, world_after}
 
 -- the call that an event is, and its side; none for a judging, and for a message that wasn't sent
 abbrev pub call_at : World → Event → Option (SideId × Call)
@@ -13,7 +13,7 @@ call_at w (Does id call) = if takes_message call then None else Some (id, call)
 call_at w (Hears id which) = option_map (λ offer. (id, Hear offer)) (slice_get w.past.offers which)
 call_at w (Hears_list id which) = option_map (λ sent. (id, Hear_list sent)) (slice_get w.past.lists which)
 call_at w (Tells id number k) =
-    option_map (λ call. (id, call)) (option_and_then (taken_by (side_of w id)) (ruling_at number k w.past.rulings))
+    option_map (λ ruling. (id, Take number k ruling.judged)) (ruling_at number k w.past.rulings)
 call_at w (Judges number k round) = None
 
 -- a side after a call of this or of the other side. A call that is refused changes nothing
@@ -35,19 +35,18 @@ CallsSend history = (event : Event) (id : SideId) (call : Call) →
     (world_after (event ∷ history)).past ≡ past_after w.past (side_of w id) call
 
 -- the call is handed nothing, or a message that was sent
-abbrev pub IsHandedSent : World → SideId → Call → Type 0
-IsHandedSent w id (Hear offer) = (which : ℕ) × (slice_get w.past.offers which ≡ Some offer)
-IsHandedSent w id (Hear_list sent) = (which : ℕ) × (slice_get w.past.lists which ≡ Some sent)
-IsHandedSent w id (Take number k judged) =
-    (ruling : Ruling) × (ruling_at number k w.past.rulings ≡ Some ruling)
-    × (taken_by (side_of w id) ruling ≡ Some (Take number k judged))
-IsHandedSent w id call = Unit {0}
+abbrev pub IsHandedSent : World → Call → Type 0
+IsHandedSent w (Hear offer) = (which : ℕ) × (slice_get w.past.offers which ≡ Some offer)
+IsHandedSent w (Hear_list sent) = (which : ℕ) × (slice_get w.past.lists which ≡ Some sent)
+IsHandedSent w (Take number k judged) =
+    (ruling : Ruling) × (ruling_at number k w.past.rulings ≡ Some ruling) × (ruling.judged ≡ judged)
+IsHandedSent w call = Unit {0}
 
 -- each such call may be the next event
 abbrev pub CallsHappen : List Event → Type 0
 CallsHappen history = (id : SideId) (call : Call) →
     let w = world_after history in
-    IsHandedSent w id call → (event : Event) × (call_at w event ≡ Some (id, call))
+    IsHandedSent w call → (event : Event) × (call_at w event ≡ Some (id, call))
 
 -- judging a clash that has no ruling yet, in one of four rounds, adds its ruling
 abbrev pub JudgingsAdd : List Event → Type 0

@@ -1,12 +1,12 @@
 -- Two sides, all that they ever sent, and all rulings.
 use Rattle.std.specs.Prelude.{ℕ, ◌&&◌, ◌==◌, nat_lt, if◌then◌else◌, List, [], ◌∷◌, length, Option, Some, None, is_none, slice_get}
-use Rattle.std.specs.Option.{option_map, option_and_then, option_map_or}
-use Rattle.std.specs.List.{find}
+use Rattle.std.specs.Option.{option_map, option_map_or}
+use Rattle.std.specs.List.{find, cons_option}
 use Rattle.partition_table.specs.Tables.{Clash, clashes, word_of}
 pub use Rattle.partition_table.specs.Rulings.{Ruling, ruling_of}
 use Rattle.clash_record.specs.declared.side_id.SideId.{SideId}
 use Rattle.clash_record.specs.declared.side_id.SideId.TheVariants.{A, B}
-use Rattle.exchange_law.specs.Sides.{Offer, Withdrawals, Side, new_side, is_side, has_clash}
+use Rattle.exchange_law.specs.Sides.{Offer, Withdrawals, Side, new_side, is_side}
 use Rattle.exchange_law.specs.Calls.{Call, Begin, Hear, Take, Close_list, Hear_list, carried_out, takes_message}
 
 -- what is never lost
@@ -69,11 +69,6 @@ called_if w id (Some call) = called w id call
 abbrev pub ruling_at : ℕ → ℕ → List Ruling → Option Ruling
 ruling_at number k rulings = find (λ ruling. ruling.number == number && ruling.k == k) rulings
 
--- a ruling is taken by a side that has its clash
-abbrev pub taken_by : Side → Ruling → Option Call
-taken_by side ruling =
-    if has_clash side ruling.k ruling.clash then Some (Take ruling.number ruling.k ruling.judged) else None
-
 abbrev pub offer_by : SideId → ℕ → List Offer → Option Offer
 offer_by side number offers = find (λ offer. is_side offer.side side && offer.number == number) offers
 
@@ -90,17 +85,12 @@ ruling_on number k round (Some a) (Some b) =
 ruling_on number k round (Some a) None = None
 ruling_on number k round None b = None
 
-abbrev pub add_ruling : List Ruling → Option Ruling → List Ruling
-add_ruling rulings None = rulings
-add_ruling rulings (Some ruling) = ruling ∷ rulings
-
 -- both sides made an offer of the number; a clash that has a ruling is judged no more
 abbrev pub judge : Past → ℕ → ℕ → ℕ → List Ruling
 judge past number k round =
-    let a = offer_by A number past.offers in
-    let b = offer_by B number past.offers in
+    let offer = λ (id : SideId). offer_by id number past.offers in
     if nat_lt round 4 && is_none (ruling_at number k past.rulings)
-    then add_ruling past.rulings (ruling_on number k round a b)
+    then cons_option (ruling_on number k round (offer A) (offer B)) past.rulings
     else past.rulings
 
 -- A message that reaches a side is any of those that were ever sent, at any time and any number of times. One that is
@@ -110,7 +100,7 @@ happens w (Does id call) = if takes_message call then w else called w id call
 happens w (Hears id which) = called_if w id (option_map Hear (slice_get w.past.offers which))
 happens w (Hears_list id which) = called_if w id (option_map Hear_list (slice_get w.past.lists which))
 happens w (Tells id number k) =
-    called_if w id (option_and_then (taken_by (side_of w id)) (ruling_at number k w.past.rulings))
+    called_if w id (option_map (λ ruling. Take number k ruling.judged) (ruling_at number k w.past.rulings))
 happens w (Judges number k round) = record w { past = record w.past { rulings = judge w.past number k round } }
 
 -- where a history leads. Its latest step stands first

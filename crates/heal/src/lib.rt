@@ -6,7 +6,7 @@
 //! | task | items | crate |
 //! |---|---|---|
 //! | heal a split in one process | `Cluster`, `Plan`, `Healing`, `HealFault`, `Workers`, `Gate`, `OpenGate` | `cluster`, `judge_pool` |
-//! | run one half | `Side`, `Offer`, `Withdrawals`, `ListFault`, `Finished`, `Judged`, `SideFault`, `history_theorem`, `two_halves_theorem` | `exchange_core` |
+//! | run one half | `Side`, `Offer`, `Withdrawals`, `ListFault`, `Finished`, `Judged`, `SideFault`, `history_theorem`, `events_theorem`, `two_halves_theorem` | `exchange_core` |
 //! | send messages | `encode_offer`, `decode_offer`, `encode_withdrawals`, `decode_withdrawals`, `peek`, `MessageFault` | `exchange_codec` |
 //! | judge clashes | `clashes`, `Clash`, `ClashList`, `word`, `Verdict`, `Ruling` | `partition_table` |
 //! | build and merge tables | `Table`, `TableBuilder`, `NameLimit`, `Agreement`, `Rows`, `fit`, `fit_within`, `merge`, `TableFault` | `partition_table` |
@@ -41,7 +41,7 @@ pub use exchange_codec::{
 };
 pub use exchange_core::{
     Finished, Judged, ListFault, MAX_EVENTS, MissingPart, Offer, ShownRows, Side, SideFault,
-    Withdrawals, history_theorem, one_round_theorem, two_halves_theorem,
+    Withdrawals, events_theorem, history_theorem, one_round_theorem, two_halves_theorem,
 };
 pub use judge_pool::{Gate, MAX_WORKERS, OpenGate, Workers};
 pub use partition_table::{

@@ -7,7 +7,7 @@ use Rattle.builtin_resolvers.specs.declared.verdicts.Verdict3.TheVariants.{First
 use Rattle.partition_table.specs.declared.judged.Judged.{Judged}
 use Rattle.partition_table.specs.Tables.{Clash, answer, word_of}
 
--- the test of IsOneOfFour
+-- one of the four words of clash k of n
 abbrev pub is_one_of_four : ℕ → ℕ → ℕ → ℕ → Bool
 is_one_of_four word seed n k = list_any (λ round. word == word_of seed round n k) (0 ∷ 1 ∷ 2 ∷ 3 ∷ [])
 

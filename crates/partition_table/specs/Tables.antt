@@ -148,25 +148,22 @@ same_clash c d =
     && (same_facts c.of_first d.of_first
     && (same_facts c.of_second d.of_second && same_code c.code d.code))))
 
+-- of a row with the lesser registration and one with the greater, each with the facts of its half
+abbrev pub ordered_clash : Name → Row → Facts → Row → Facts → Clash
+ordered_clash name r of_r s of_s = record {
+  name = name;
+  first = r.registration;
+  second = s.registration;
+  of_first = of_r;
+  of_second = of_s;
+  code = r.code;
+}
+
 abbrev pub clash_of : Name → Row → Facts → Row → Facts → Clash
 clash_of name r of_r s of_s =
     if is_lt (registration_cmp r.registration s.registration)
-    then record {
-      name = name;
-      first = r.registration;
-      second = s.registration;
-      of_first = of_r;
-      of_second = of_s;
-      code = r.code;
-    }
-    else record {
-      name = name;
-      first = s.registration;
-      second = r.registration;
-      of_first = of_s;
-      of_second = of_r;
-      code = s.code;
-    }
+    then ordered_clash name r of_r s of_s
+    else ordered_clash name s of_s r of_r
 
 abbrev pub clash_at : Facts → Facts → Name → Option Row → Option Row → Option Clash
 clash_at of_a of_b name (Some r) (Some s) =

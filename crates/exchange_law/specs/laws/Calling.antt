@@ -1,10 +1,11 @@
 -- Events are calls, calls are events, and judgings add rulings.
-use Rattle.std.proofs.Common.{◌≡◌, Bool, true, false, ◌&&◌, if◌then◌else◌, List, Option, Some, None, is_some, is_none, unwrap_or, slice_get, refl, ap, ◌∙◌, option_map, option_and_then}
+use Rattle.std.proofs.Common.{◌≡◌, Bool, true, false, ◌&&◌, if◌then◌else◌, List, Option, Some, None, is_some, is_none, unwrap_or, slice_get, refl, ap, ◌∙◌, option_map}
+use Rattle.std.specs.List.{cons_option}
 use Rattle.clash_record.specs.declared.side_id.SideId.{SideId}
 use Rattle.clash_record.specs.declared.side_id.SideId.TheVariants.{A, B}
 use Rattle.exchange_law.specs.Sides.{Offer, Withdrawals, Side, is_side}
 use Rattle.exchange_law.specs.Calls.{Call, Register, Unregister, Begin, Hear, Take, Withdraw, Close_list, Hear_list, Finish, Abandon, carried_out, takes_message}
-use Rattle.exchange_law.specs.Worlds.{Ruling, Past, World, Event, Does, Hears, Hears_list, Tells, Judges, side_of, past_after, with_side, called, called_if, ruling_at, taken_by, offer_by, ruling_on, add_ruling, world_after, happens}
+use Rattle.exchange_law.specs.Worlds.{Ruling, Past, World, Event, Does, Hears, Hears_list, Tells, Judges, side_of, past_after, with_side, called, called_if, ruling_at, offer_by, ruling_on, world_after, happens}
 use Rattle.exchange_law.specs.Steps.{call_at, after_call, EventsAreCalls, CallsSend, CallsHappen, JudgingsAdd}
 use Rattle.exchange_law.specs.laws.Carried.{some_inj}
 
@@ -62,7 +63,10 @@ event_leaves w (Hears by which) id =
 event_leaves w (Hears_list by which) id =
     called_if_leaves w by _ id
     ∙ ap (λ o. after_call o id (side_of w id)) (handed by Hear_list (slice_get w.past.lists which))
-event_leaves w (Tells by number k) id = called_if_leaves w by _ id
+event_leaves w (Tells by number k) id =
+    called_if_leaves w by _ id
+    ∙ ap (λ o. after_call o id (side_of w id))
+    (handed by (λ (ruling : Ruling). Take number k ruling.judged) (ruling_at number k w.past.rulings))
 event_leaves w (Judges number k round) A = refl
 event_leaves w (Judges number k round) B = refl
 
@@ -98,13 +102,13 @@ call_world w (Hears_list by which) id call e = by_list (slice_get w.past.lists w
         called_if w by (option_map Hear_list o) ≡ called w id call
     by_list None e = cc
     by_list (Some sent) e = ap (λ (p : SideId × Call). called w p.0 p.1) (some_inj e)
-call_world w (Tells by number k) id call e =
-    by_call (option_and_then (taken_by (side_of w by)) (ruling_at number k w.past.rulings)) e
+call_world w (Tells by number k) id call e = by_ruling (ruling_at number k w.past.rulings) e
   where
-    by_call : (o : Option Call) → option_map (by_side by) o ≡ Some (by_side id call) →
-        called_if w by o ≡ called w id call
-    by_call None e = cc
-    by_call (Some made) e = ap (λ (p : SideId × Call). called w p.0 p.1) (some_inj e)
+    by_ruling : (o : Option Ruling) →
+        option_map (λ ruling. by_side by (Take number k ruling.judged)) o ≡ Some (by_side id call) →
+        called_if w by (option_map (λ (ruling : Ruling). Take number k ruling.judged) o) ≡ called w id call
+    by_ruling None e = cc
+    by_ruling (Some ruling) e = ap (λ (p : SideId × Call). called w p.0 p.1) (some_inj e)
 call_world w (Judges number k round) id call e = cc
 
 pub calls_send : (history : List Event) → CallsSend history
@@ -120,12 +124,11 @@ calls_happen history id (Register name row) sent = (Does id (Register name row),
 calls_happen history id (Unregister name) sent = (Does id (Unregister name), refl)
 calls_happen history id (Begin number seed uptime) sent = (Does id (Begin number seed uptime), refl)
 calls_happen history id (Hear offer) sent = (Hears id sent.0, ap (option_map (λ offer. by_side id (Hear offer))) sent.1)
-calls_happen history id (Take number k judged) sent =
-    let side = side_of (world_after history) id in (
-      Tells id number k,
-      ap (λ o. option_map (by_side id) (option_and_then (taken_by side) o)) sent.1
-          ∙ ap (option_map (by_side id)) sent.2,
-    )
+calls_happen history id (Take number k judged) sent = (
+  Tells id number k,
+  ap (option_map (λ (ruling : Ruling). by_side id (Take number k ruling.judged))) sent.1
+      ∙ ap (λ judged. Some (by_side id (Take number k judged))) sent.2,
+)
 calls_happen history id (Withdraw name) sent = (Does id (Withdraw name), refl)
 calls_happen history id Close_list sent = (Does id Close_list, refl)
 calls_happen history id (Hear_list list) sent =
@@ -141,7 +144,7 @@ judgings_add history number k round ruling early missing made =
     let a = offer_by A number past.offers in
     let b = offer_by B number past.offers in
     ap (λ (t : Bool). if t && is_none (ruling_at number k past.rulings)
-    then add_ruling past.rulings (ruling_on number k round a b) else past.rulings) early
-    ∙ ap (λ (o : Option Ruling). if is_none o then add_ruling past.rulings (ruling_on number k round a b)
+    then cons_option (ruling_on number k round a b) past.rulings else past.rulings) early
+    ∙ ap (λ (o : Option Ruling). if is_none o then cons_option (ruling_on number k round a b) past.rulings
     else past.rulings) missing
-    ∙ ap (add_ruling past.rulings) made
+    ∙ ap (λ (o : Option Ruling). cons_option o past.rulings) made

@@ -1,15 +1,15 @@
 -- Each call that sends nothing keeps what fits its side.
-use Rattle.std.proofs.Common.{◌≡◌, ℕ, Bool, true, false, if◌then◌else◌, length, Option, Some, None, is_some, eqb-true, refl, sym, ap, ◌∙◌, subst, option_and_then, List}
+use Rattle.std.proofs.Common.{◌≡◌, ℕ, Bool, true, false, if◌then◌else◌, length, Option, Some, None, is_some, slice_get, eqb-true, refl, sym, ap, ◌∙◌, subst, option_and_then, List}
 use Rattle.std.proofs.lemmas.List.{length-replicate}
 use Rattle.std.proofs.lemmas.Bool.{and_parts, not-true}
 use Rattle.clash_record.specs.declared.side_id.SideId.{SideId}
 use Rattle.clash_record.specs.Name.{Name}
-use Rattle.partition_table.specs.Tables.{Clash, Row, Table}
+use Rattle.partition_table.specs.Tables.{Clash, Row, Table, clashes}
 use Rattle.exchange_law.specs.Sides.{Offer, Withdrawals, Judged, Heard, Exchange, Side, clashes_for, fit_for, clashes_heard, clashes_of, is_lawful, register, unregister, is_theirs, heard_of, hear_first, hear_in, hear, put_ruling, take_heard, take_in, take, withdraw_in, withdraw, hear_list_in, hear_list, finish, abandon}
-use Rattle.exchange_law.specs.Worlds.{Past, ruling_at}
-use Rattle.exchange_law.specs.laws.Rulings.{Lawful, lawful, has_clash_is, clashes_are}
+use Rattle.exchange_law.specs.Worlds.{Past}
+use Rattle.exchange_law.specs.laws.Rulings.{Lawful, lawful, clashes_are}
 use Rattle.exchange_law.specs.laws.Carried.{some_inj, when, when_some, Goes, goes, found}
-use Rattle.exchange_law.specs.laws.Kept.{Has, other, made, made_list, clashes_with, Taken, HeardFits, our_offer, OpenFits, SideFits, IsTold, is_idle, other_side, none_held, length-put_ruling, one_more_ruling}
+use Rattle.exchange_law.specs.laws.Kept.{Has, other, made, made_list, clashes_with, Taken, HeardFits, our_offer, OpenFits, SideFits, same_clashes, IsTold, is_idle, other_side, none_held, length-put_ruling, one_more_ruling}
 
 module _ {id : SideId} {side : Side} {past : Past} (fits : SideFits id side past) where
   -- an idle side with another table
@@ -118,7 +118,19 @@ module _ {id : SideId} {side : Side} {past : Past} (fits : SideFits id side past
         judged t h.taken;
   }
 
-  pub take_fits : (number k : ℕ) (judged : Judged) (new : Side) → IsTold side number k judged past →
+  -- a ruling of the open number is of the side's clash
+  its_clash : (exchange : Exchange) (heard : Heard) (k : ℕ) (judged : Judged)
+      (told : IsTold exchange.number k judged past) → OpenFits id side.table exchange past →
+      exchange.heard ≡ Some heard → slice_get (clashes_heard side exchange heard) k ≡ Some told.ruling.clash
+  its_clash exchange heard k judged told f is =
+      let t = told.fits in
+      let c = same_clashes told.one exchange.number k told.ruling t id exchange.seed exchange.uptime heard.uptime
+      side.table heard.table f.ours (f.heard heard is).theirs in
+      let all : clashes_heard side exchange heard ≡ clashes t.a t.uptime_a t.b t.uptime_b =
+      ap (λ j. clashes_for j side.table exchange.uptime heard.table heard.uptime) fits.same_id ∙ c.0 in
+      ap (λ (l : List Clash). slice_get l k) all ∙ t.of_clash
+
+  pub take_fits : (number k : ℕ) (judged : Judged) (new : Side) → IsTold number k judged past →
       take side number k judged ≡ Some new → SideFits id new past
   take_fits number k judged new told e =
       let g = goes side new (take_in (clashes_of side) number k judged) e in
@@ -134,18 +146,19 @@ module _ {id : SideId} {side : Side} {past : Past} (fits : SideFits id side past
       by_heard exchange after f opened same_number None is e = cc
       by_heard exchange after f opened same_number (Some heard) is e =
           let h = when _ _ _ e in
-          let at = has_clash_is side exchange heard k told.ruling.clash opened is told.has in
+          let sent = subst (λ n. IsTold n k judged past) (sym same_number) told in
+          let at = its_clash exchange heard k judged sent f is in
           let test = λ (l : List Clash). is_lawful l exchange.seed k judged in
           let passes = ap test (sym (clashes_are side exchange heard opened is)) ∙ h.0 in
-          let l = lawful (clashes_heard side exchange heard) exchange.seed k judged told.ruling.clash at passes in
+          let l = lawful (clashes_heard side exchange heard) exchange.seed k judged sent.ruling.clash at passes in
           let all = clashes_with (our_offer id side.table exchange) heard in
           let t : Taken all exchange.seed exchange.number k judged past = record {
-            ruling = told.ruling;
-            found = ap (λ n. ruling_at n k past.rulings) same_number ∙ told.found;
-            same = told.same;
+            ruling = sent.ruling;
+            found = sent.found;
+            same = sent.same;
             lawful =
                 let all = λ (j : SideId). clashes_for j side.table exchange.uptime heard.table heard.uptime in
-                subst (λ j. Lawful (all j) exchange.seed k judged told.ruling.clash) fits.same_id l;
+                subst (λ j. Lawful (all j) exchange.seed k judged sent.ruling.clash) fits.same_id l;
           } in
           subst (λ x. OpenFits id side.table x past) h.1
           (heard_fits exchange _ f (with_ruling _ heard k judged t (f.heard heard is)))

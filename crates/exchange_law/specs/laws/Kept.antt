@@ -3,8 +3,8 @@ use Rattle.std.proofs.Common.{◌≡◌, ◌⊎◌, ℕ, zero, suc, Bool, true, 
 use Rattle.clash_record.specs.declared.side_id.SideId.{SideId}
 use Rattle.clash_record.specs.declared.side_id.SideId.TheVariants.{A, B}
 use Rattle.clash_record.specs.Name.{Name}
-use Rattle.partition_table.specs.Tables.{Table, Clash}
-use Rattle.exchange_law.specs.Sides.{Offer, Withdrawals, Judged, Heard, Exchange, Side, is_side, clashes_for, fit_for, is_above, has_clash, put_ruling}
+use Rattle.partition_table.specs.Tables.{Table, Clash, clashes}
+use Rattle.exchange_law.specs.Sides.{Offer, Withdrawals, Judged, Heard, Exchange, Side, is_side, clashes_for, fit_for, is_above, is_lawful, put_ruling}
 use Rattle.exchange_law.specs.Calls.{Call, Hear, Take, Hear_list}
 use Rattle.exchange_law.specs.Worlds.{Ruling, Past, World, side_of, ruling_at}
 use Rattle.exchange_law.specs.laws.Rulings.{Lawful}
@@ -88,23 +88,71 @@ pub record OneEach (past : Past) : Type 0 where
   pub one_list : (l m : Withdrawals) → Has past.lists l → Has past.lists m → l.side ≡ m.side → l.number ≡ m.number →
       l ≡ m
 
+-- a ruling is lawful, of clash k of two offers of its number with one seed
+pub record RulingFits (number k : ℕ) (ruling : Ruling) (past : Past) : Type 0 where
+  pub seed : ℕ
+  pub a : Table
+  pub uptime_a : ℕ
+  pub b : Table
+  pub uptime_b : ℕ
+  pub made_a : Has past.offers (made A number seed uptime_a a)
+  pub made_b : Has past.offers (made B number seed uptime_b b)
+  pub of_clash : slice_get (clashes a uptime_a b uptime_b) k ≡ Some ruling.clash
+  pub lawful : is_lawful (clashes a uptime_a b uptime_b) seed k ruling.judged ≡ true
+
+pub ruling_fits_on : {number k : ℕ} {ruling : Ruling} {past more : Past} → Grows past more → RulingFits number k ruling past →
+    RulingFits number k ruling more
+ruling_fits_on g f = record {
+  seed = f.seed;
+  a = f.a;
+  uptime_a = f.uptime_a;
+  b = f.b;
+  uptime_b = f.uptime_b;
+  made_a = g.made_still _ f.made_a;
+  made_b = g.made_still _ f.made_b;
+  of_clash = f.of_clash;
+  lawful = f.lawful;
+}
+
+module _ {past : Past} (one : OneEach past) (number k : ℕ) (r : Ruling) (fits : RulingFits number k r past) where
+  -- the offers of the number are those that an open side made and heard
+  pub same_clashes : (id : SideId) (seed uptime other_uptime : ℕ) (own others : Table) →
+      Has past.offers (made id number seed uptime own) →
+      Has past.offers (made (other id) number seed other_uptime others) →
+      (clashes_for id own uptime others other_uptime ≡ clashes fits.a fits.uptime_a fits.b fits.uptime_b) ×
+      (seed ≡ fits.seed)
+  same_clashes A seed uptime other_uptime own others ours theirs =
+      let e = one.one_offer _ _ ours fits.made_a refl refl in
+      let g = one.one_offer _ _ theirs fits.made_b refl refl in
+      ((λ i. clashes (e i).table (e i).uptime (g i).table (g i).uptime), ap (λ (o : Offer). o.seed) e)
+  same_clashes B seed uptime other_uptime own others ours theirs =
+      let e = one.one_offer _ _ ours fits.made_b refl refl in
+      let g = one.one_offer _ _ theirs fits.made_a refl refl in
+      ((λ i. clashes (g i).table (g i).uptime (e i).table (e i).uptime), ap (λ (o : Offer). o.seed) e)
+
+abbrev pub RulingsFit : Past → Type 0
+RulingsFit past = (number k : ℕ) (ruling : Ruling) → ruling_at number k past.rulings ≡ Some ruling →
+    RulingFits number k ruling past
+
 pub record Sound (w : World) : Type 0 where
   pub fits : (id : SideId) → SideFits id (side_of w id) w.past
   pub one : OneEach w.past
+  pub ruled : RulingsFit w.past
 
--- a ruling that reaches a side is one of the map, and the side has its clash
-pub record IsTold (side : Side) (number k : ℕ) (judged : Judged) (past : Past) : Type 0 where
+-- a ruling that reaches a side is one of the map, of the only offers of its number
+pub record IsTold (number k : ℕ) (judged : Judged) (past : Past) : Type 0 where
   pub ruling : Ruling
   pub found : ruling_at number k past.rulings ≡ Some ruling
   pub same : ruling.judged ≡ judged
-  pub has : has_clash side k ruling.clash ≡ true
+  pub fits : RulingFits number k ruling past
+  pub one : OneEach past
 
 -- the message that a call is handed was sent
-abbrev pub IsSent : Side → Past → Call → Type 0
-IsSent side past (Hear offer) = Has past.offers offer
-IsSent side past (Take number k judged) = IsTold side number k judged past
-IsSent side past (Hear_list sent) = Has past.lists sent
-IsSent side past call = Unit {0}
+abbrev pub IsSent : Past → Call → Type 0
+IsSent past (Hear offer) = Has past.offers offer
+IsSent past (Take number k judged) = IsTold number k judged past
+IsSent past (Hear_list sent) = Has past.lists sent
+IsSent past call = Unit {0}
 
 -- tests and options
 

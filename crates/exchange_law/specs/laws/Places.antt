@@ -1,17 +1,17 @@
 -- Each message and each ruling has its place in the history.
-use Rattle.std.proofs.Common.{◌≡◌, ℕ, zero, suc, Bool, true, false, if◌then◌else◌, List, [], ◌∷◌, Option, Some, None, refl, sym, ap, ◌∙◌, subst, ⊎_elim, option_map, option_and_then}
+use Rattle.std.proofs.Common.{◌≡◌, ℕ, zero, suc, List, [], ◌∷◌, length, Option, Some, None, is_some, arith, refl, sym, ap, ◌∙◌, subst, ⊎_elim, option_map}
 use Rattle.clash_record.specs.declared.side_id.SideId.{SideId}
 use Rattle.clash_record.specs.declared.side_id.SideId.TheVariants.{A, B}
 use Rattle.clash_record.specs.Name.{Name}
 use Rattle.partition_table.specs.Tables.{Table, Clash}
-use Rattle.exchange_law.specs.Sides.{Offer, Withdrawals, Exchange, Side, has_clash, begin, close_list}
+use Rattle.exchange_law.specs.Sides.{Offer, Withdrawals, Side, begin, close_list}
 use Rattle.exchange_law.specs.Calls.{Call, Register, Unregister, Begin, Hear, Take, Withdraw, Close_list, Hear_list, Finish, Abandon, carried_out}
-use Rattle.exchange_law.specs.Worlds.{Ruling, Past, World, Event, Does, Hears, Hears_list, Tells, Judges, side_of, offer_of, list_of, past_after, with_side, called, called_if, ruling_at, taken_by, happens, world_after}
-use Rattle.exchange_law.specs.History.{Follows, number_of, BeganWith, JudgedAt, ClosedWith}
+use Rattle.exchange_law.specs.Worlds.{Ruling, Past, World, Event, Does, Hears, Hears_list, Tells, Judges, side_of, offer_of, list_of, past_after, with_side, called, called_if, ruling_at, ruling_of, judge, happens, world_after}
+use Rattle.exchange_law.specs.History.{Follows, BeganWith, JudgedAt, ClosedWith}
 use Rattle.exchange_law.specs.laws.Carried.{some_inj}
 use Rattle.exchange_law.specs.laws.Kept.{Has, made}
-use Rattle.exchange_law.specs.laws.Sent.{begun, closing, list_is}
-use Rattle.exchange_law.specs.laws.Steps.{past_is, judge_cases, at_more, step_grows, sound}
+use Rattle.exchange_law.specs.laws.Sent.{closing, list_is}
+use Rattle.exchange_law.specs.laws.Steps.{past_is, NewRuling, judge_cases, at_more, step_grows, sound}
 
 -- a place in a history is a place in a longer one
 further : {earlier history : List Event} {step : Event} (e : Event) → Follows earlier step history →
@@ -53,14 +53,10 @@ module _ (w : World) (P : Event → Type 0) (quiet : (e : Event) → (happens w 
   list_past id None = refl
   list_past id (Some l) = quiet_call id (Hear_list l) refl
 
-  told_past : (id : SideId) (o : Option Ruling) →
-      (called_if w id (option_and_then (taken_by (side_of w id)) o)).past ≡ w.past
-  told_past id None = refl
-  told_past id (Some r) = by_test (has_clash (side_of w id) r.k r.clash)
-    where
-      by_test : (b : Bool) → (called_if w id (if b then Some (Take r.number r.k r.judged) else None)).past ≡ w.past
-      by_test true = quiet_call id (Take r.number r.k r.judged) refl
-      by_test false = refl
+  told_past : (id : SideId) (number k : ℕ) (o : Option Ruling) →
+      (called_if w id (option_map (λ (ruling : Ruling). Take number k ruling.judged) o)).past ≡ w.past
+  told_past id number k None = refl
+  told_past id number k (Some r) = quiet_call id (Take number k r.judged) refl
 
   pub by_step : ((id : SideId) (number seed uptime : ℕ) → P (Does id (Begin number seed uptime))) →
       ((id : SideId) → P (Does id Close_list)) → ((number k round : ℕ) → P (Judges number k round)) → (e : Event) → P e
@@ -76,7 +72,7 @@ module _ (w : World) (P : Event → Type 0) (quiet : (e : Event) → (happens w 
   by_step begins closes judges (Does id Abandon) = quiet _ (quiet_call id Abandon refl)
   by_step begins closes judges (Hears id which) = quiet _ (heard_past id _)
   by_step begins closes judges (Hears_list id which) = quiet _ (list_past id _)
-  by_step begins closes judges (Tells id number k) = quiet _ (told_past id _)
+  by_step begins closes judges (Tells id number k) = quiet _ (told_past id number k _)
   by_step begins closes judges (Judges number k round) = judges number k round
 
 -- rulings come from judgings
@@ -87,11 +83,7 @@ judged_further e h = record {
   earlier = h.earlier;
   round = h.round;
   place = further e h.place;
-  ruling = h.ruling;
-  unjudged = h.unjudged;
-  judged = h.judged;
-  of_clash = h.of_clash;
-  at_word = h.at_word;
+  adds = h.adds;
 }
 
 -- only a judging of the clash adds its ruling
@@ -117,6 +109,22 @@ only_judge w number k r none =
     same_rulings : (rulings : List Ruling) → rulings ≡ w.past.rulings → ruling_at number k rulings ≡ Some r → ⊥
     same_rulings rulings same found = let e = ap (ruling_at number k) same in cc
 
+-- a judging after which a clash has its ruling adds that
+judging_adds : (past : Past) (number k round : ℕ) (r : Ruling) → ruling_at number k past.rulings ≡ None →
+    ruling_at number k (judge past number k round) ≡ Some r →
+    judge past number k round ≡ ruling_of number k r.judged.word r.clash ∷ past.rulings
+judging_adds past number k round r none found = ⊎_elim
+    (λ same. let e = ap (ruling_at number k) same in absurd (cc))
+    (λ new. ⊎_elim
+    (λ h.
+    let is = new.made.ruling_is ∙ h.0 in
+    new.rulings_are
+    ∙ ap (λ (x : Ruling). x ∷ past.rulings)
+    (sym new.made.ruling_is ∙ (λ i. ruling_of number k (is i).judged.word (is i).clash)))
+    (λ old. absurd (cc))
+    (at_more new.ruling past.rulings number k r (subst (λ l. ruling_at number k l ≡ Some r) new.rulings_are found)))
+    (judge_cases past number k round)
+
 pub judged_at : (history : List Event) (number k : ℕ) (r : Ruling) →
     ruling_at number k (world_after history).past.rulings ≡ Some r → JudgedAt history number k r.clash r.judged.word
 judged_at [] number k r e = cc
@@ -132,17 +140,28 @@ judged_at (step ∷ earlier) number k r e =
         let same : old ≡ r = some_inj (sym ((step_grows earlier step).found_still number k old is) ∙ e) in
         judged_further step (before r (is ∙ ap Some same))
     by_old None is before =
-        let j = only_judge (world_after earlier) number k r is step e in
+        let w = world_after earlier in
+        let j = only_judge w number k r is step e in
         record {
           earlier = earlier;
           round = j.0;
           place = ([], ap (λ s. s ∷ earlier) j.1);
-          ruling = r;
-          unjudged = is;
-          judged = ap (λ s. ruling_at number k (happens (world_after earlier) s).past.rulings) j.1 ∙ e;
-          of_clash = refl;
-          at_word = refl;
+          adds =
+              judging_adds w.past number k j.0 r is
+              (ap (λ s. ruling_at number k (happens w s).past.rulings) j.1 ∙ e);
         }
+
+first_is : {X : Type 0} {x y : X} {xs ys : List X} → x ∷ xs ≡ y ∷ ys → x ≡ y
+first_is e = cc
+
+-- what a judging that is in the history did
+pub judged_new : {history : List Event} {number k : ℕ} {clash : Clash} {word : ℕ}
+    (j : JudgedAt history number k clash word) →
+    (new : NewRuling (world_after j.earlier).past number k j.round) × (new.ruling ≡ ruling_of number k word clash)
+judged_new {history} {number} {k} {clash} {word} j = ⊎_elim
+    (λ same. absurd (omega (arith, ap length (sym same ∙ j.adds))))
+    (λ new. (new, first_is (sym new.rulings_are ∙ j.adds)))
+    (judge_cases (world_after j.earlier).past number k j.round)
 
 -- offers come from begins
 
@@ -151,8 +170,7 @@ began_further : {history : List Event} {id : SideId} {number seed uptime : ℕ} 
 began_further e h = record {
   earlier = h.earlier;
   place = further e h.place;
-  idle = h.idle;
-  opens = h.opens;
+  begins = h.begins;
   has = h.has;
 }
 
@@ -174,17 +192,7 @@ from_begin earlier id number seed uptime (Some new) is before offer has =
         let side = side_of (world_after earlier) id in
         Began (Does id (Begin number seed uptime) ∷ earlier) (made id number seed uptime side.table)
     begins =
-        let w = world_after earlier in
-        let side = side_of w id in
-        let h = begun side new number seed uptime is in
-        let now = side_now w id (left w id (Begin number seed uptime)) (begin side number seed uptime) new is in
-        record {
-          earlier = earlier;
-          place = ([], refl);
-          idle = ap (option_map (λ (x : Exchange). x.number)) h.idle;
-          opens = ap number_of now ∙ sym (ap number_of h.new_is);
-          has = refl;
-        }
+        record { earlier = earlier; place = ([], refl); begins = ap is_some is; has = refl }
 
     at : let w = world_after earlier in
         Has (offer_of (side_of w id) number seed uptime ∷ w.past.offers) offer →
@@ -216,11 +224,8 @@ closed_further : {history : List Event} {id : SideId} {number : ℕ} {names : Li
 closed_further e h = record {
   earlier = h.earlier;
   place = further e h.place;
-  exchange = h.exchange;
-  open_then = h.open_then;
-  same_number = h.same_number;
-  was_open = h.was_open;
-  has = h.has;
+  closes = h.closes;
+  sends = h.sends;
 }
 
 abbrev ClosedBy : List Event → Withdrawals → Type 0
@@ -239,17 +244,9 @@ from_close earlier id (Some new) is before l has =
         Has (list_of (side_of w id) ∷ w.past.lists) l → ClosedBy (Does id Close_list ∷ earlier) l
     at (suc k, e) = closed_further _ (before l (k, e))
     at (zero, e) =
-        let c = closing (side_of (world_after earlier) id) new is in
-        subst (ClosedBy (Does id Close_list ∷ earlier)) (sym (list_is ((sound earlier).fits id) new c) ∙ some_inj e)
-        record {
-          earlier = earlier;
-          place = ([], refl);
-          exchange = c.exchange;
-          open_then = c.opened;
-          same_number = refl;
-          was_open = c.still;
-          has = refl;
-        }
+        let sends = list_is ((sound earlier).fits id) new (closing (side_of (world_after earlier) id) new is) in
+        subst (ClosedBy (Does id Close_list ∷ earlier)) (sym sends ∙ some_inj e)
+        record { earlier = earlier; place = ([], refl); closes = ap is_some is; sends = sends }
 
 pub closed_with : (history : List Event) (l : Withdrawals) → Has (world_after history).past.lists l → ClosedBy history l
 closed_with [] l has = let e = has.1 in cc

@@ -14,6 +14,7 @@ use Rattle.exchange_law.specs.laws.Fits.{register_fits, unregister_fits, hear_fi
 pub record Keeps (id : SideId) (new : Side) (past more : Past) : Type 0 where
   pub fits : SideFits id new more
   pub grows : Grows past more
+  pub same_rulings : more.rulings ≡ past.rulings
   pub not_theirs : NothingNew (other id) past more
   pub one : OneEach past → OneEach more
 
@@ -21,6 +22,7 @@ same_past : {id : SideId} {new : Side} {past : Past} → SideFits id new past �
 same_past {id} {new} {past} fits = record {
   fits = fits;
   grows = grows_refl past;
+  same_rulings = refl;
   not_theirs = record { offers_were = λ _ h _. h; lists_were = λ _ h _. h };
   one = λ h. h;
 }
@@ -120,6 +122,7 @@ module _ {id : SideId} {side : Side} {past : Past} (fits : SideFits id side past
   begin_keeps new h = record {
     fits = subst (λ x. SideFits id x (with_offer past (offer_of side number seed uptime))) h.new_is begun_fits;
     grows = one_more (offer_of side number seed uptime) past;
+    same_rulings = refl;
     not_theirs = not_theirs;
     one = one_offer_more;
   }
@@ -211,6 +214,7 @@ module _ {id : SideId} {side : Side} {past : Past} (fits : SideFits id side past
   close_keeps = record {
     fits = subst (λ x. SideFits id x (with_list past (list_of side))) c.new_is closing_fits;
     grows = one_list_more (list_of side) past;
+    same_rulings = refl;
     not_theirs = list_not_theirs;
     one = one_list_still;
   }
@@ -218,7 +222,7 @@ module _ {id : SideId} {side : Side} {past : Past} (fits : SideFits id side past
 -- each call of a side
 
 pub call_keeps : {id : SideId} {side : Side} {past : Past} → SideFits id side past → (call : Call)
-    → IsSent side past call →
+    → IsSent past call →
     (new : Side) → carried_out side call ≡ Some new → Keeps id new past (past_after past side call)
 call_keeps fits (Register name row) sent new e = same_past (register_fits fits name row new e)
 call_keeps fits (Unregister name) sent new e = same_past (unregister_fits fits name new e)

@@ -5,12 +5,12 @@ use Rattle.builtin_resolvers.specs.declared.verdicts.Verdict3.{Verdict3}
 use Rattle.clash_record.specs.declared.side_id.SideId.{SideId}
 use Rattle.clash_record.specs.declared.side_id.SideId.TheVariants.{A, B}
 use Rattle.clash_record.specs.Name.{Name}
-use Rattle.partition_table.specs.Tables.{Table, Clash, Gone, IsOneOfFour, clashes, merge, IsMerge, fit_together}
-use Rattle.exchange_law.specs.Sides.{Offer, Withdrawals, Judged, Heard, Exchange, Side, merge_for, answer_in, finish}
+use Rattle.partition_table.specs.Tables.{Table, Clash, Gone, clashes, merge, fit_together}
+use Rattle.partition_table.specs.laws.FourWords.{four_pass}
+use Rattle.exchange_law.specs.Sides.{Offer, Withdrawals, Judged, Heard, Exchange, Side, is_one_of_four, merge_for, answer_in, finish}
 use Rattle.exchange_law.specs.Calls.{Finish}
-use Rattle.exchange_law.specs.Worlds.{Ruling, Past, World, Event, Does, side_of, with_side, world_after, clashes_between}
-use Rattle.exchange_law.specs.History.{number_of, FinishedWith, JudgedAt, IsLawfulMerge}
-use Rattle.exchange_law.specs.laws.Merges.{merge_is}
+use Rattle.exchange_law.specs.Worlds.{Ruling, Past, Event, Does, side_of, world_after, clashes_between}
+use Rattle.exchange_law.specs.History.{FinishedWith, JudgedAt, IsLawfulMerge}
 use Rattle.exchange_law.specs.laws.Carried.{some_inj, found}
 use Rattle.exchange_law.specs.laws.Words.{same_list, word_in, place_of, answers_same, length-words}
 use Rattle.exchange_law.specs.laws.Kept.{Has, other, made, made_list, Taken, taken_grows, HeardFits, our_offer, OneEach, Grows}
@@ -101,22 +101,15 @@ merged_by B own exchange heard theirs table past ours h our_list their_list full
   leaves = leaves;
 }
 
-pub side_kept : (w : World) (id : SideId) (more : Past) (o : Option Side) → o ≡ None →
-    side_of (with_side w id more o) id ≡ side_of w id
-side_kept w id more o e = ap (λ x. side_of (with_side w id more x) id) e
-
 merged_now : (earlier : List Event) (id : SideId) (number : ℕ) (table : Table) →
-    number_of (side_of (world_after earlier) id) ≡ Some number →
-    number_of (side_of (world_after (Does id Finish ∷ earlier)) id) ≡ None →
+    option_map (λ (x : Exchange). x.number) (side_of (world_after earlier) id).exchange ≡ Some number →
+    is_some (finish (side_of (world_after earlier) id)) ≡ true →
     (side_of (world_after (Does id Finish ∷ earlier)) id).table ≡ table → Merged number table (world_after earlier).past
-merged_now earlier id number table before after leaves = by_finish (finish (side_of (world_after earlier) id)) refl
+merged_now earlier id number table before finishes leaves = by_finish (finish (side_of (world_after earlier) id)) refl
   where
     by_finish : (o : Option Side) → finish (side_of (world_after earlier) id) ≡ o →
         Merged number table (world_after earlier).past
-    by_finish None is =
-        let w = world_after earlier in
-        let same = ap number_of (side_kept w id w.past (finish (side_of w id)) is) in
-        absurd (cc)
+    by_finish None is = let refused = ap is_some is in absurd (cc)
     by_finish (Some new) is =
         let w = world_after earlier in
         let side = side_of w id in
@@ -124,9 +117,9 @@ merged_now earlier id number table before after leaves = by_finish (finish (side
         let fits = (sound earlier).fits id in
         let opened = fits.open_fits f.exchange f.opened in
         let heard = opened.heard f.heard f.was_heard in
-        let now = side_now w id w.past (finish side) new is in
         let number_is : f.exchange.number ≡ number =
         some_inj (sym (ap (option_map (λ (x : Exchange). x.number)) f.opened) ∙ before) in
+        let now = side_now w id w.past (finish side) new is in
         let merges =
         λ (j : SideId). merge_for j side.table f.heard.table (map answer_in f.heard.rulings) f.exchange.withdrawn
         f.theirs in
@@ -141,7 +134,7 @@ merged history id number table h =
     subst (λ l. Merged number table (world_after l).past) h.place.1
     (merged_grows (grows_on h.place.0 (Does id Finish ∷ h.earlier))
     (merged_grows (step_grows h.earlier (Does id Finish))
-    (merged_now h.earlier id number table h.open_before h.idle_after h.leaves)))
+    (merged_now h.earlier id number table h.of_number h.finishes h.leaves)))
 
 module _ {past : Past} (one : OneEach past) (number : ℕ) where
   -- of one side and number, all offers are one
@@ -195,7 +188,10 @@ lawful_merge history number table m = record {
     one_of_four = λ k word e.
         let h = place_of m.rulings m.full k word e in
         let t = m.taken k h.0 h.1.0 in
-        subst (λ w. IsOneOfFour w m.seed (length (clashes m.a m.uptime_a m.b m.uptime_b)) k) h.1.1 t.lawful.word_is;
+        let all = clashes m.a m.uptime_a m.b m.uptime_b in
+        let w = t.lawful.word_is in
+        subst (λ w. is_one_of_four w m.seed (length all) k ≡ true) h.1.1
+        (four_pass h.0.word m.seed (length all) k w.0 w.1 w.2);
     judged = λ k word clash e at.
         let h = place_of m.rulings m.full k word e in
         let t = m.taken k h.0 h.1.0 in
@@ -208,8 +204,7 @@ lawful_merge history number table m = record {
       let e =
       answers_same (clashes m.a m.uptime_a m.b m.uptime_b) m.rulings m.places m.full
       (λ k judged at. let t = m.taken k judged at in (t.ruling.clash, (t.lawful.of_clash, t.lawful.answers))) in
-      subst (λ (x : List Verdict3 × Table). IsMerge m.a m.b x.0 m.gone x.1) (λ i. (e i, m.leaves i))
-      (merge_is m.a m.b (map answer_in m.rulings) m.gone);
+      ap (λ (x : List Verdict3). merge m.a m.b x m.gone) (sym e) ∙ m.leaves;
 }
 
 pub is_lawful_merge : (history : List Event) (number : ℕ) (i : SideId) (a : Table) → FinishedWith history i number a →
