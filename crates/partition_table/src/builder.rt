@@ -6,6 +6,7 @@ ghost use Rattle.std.specs.FinMap as map;
 ghost use Rattle.partition_table.specs.Tables.{IsNewRow, IsTable};
 
 use crate::programs::{Kept, hold_program};
+use crate::shared_registration::SharedRegistration;
 use crate::table::Table;
 use clash_record::{Name, ProgramId, Registration};
 use std::alloc::{AllocError, Global};
@@ -18,8 +19,11 @@ use verifier::Verified;
 ///
 /// Contracts see it as the table that `finish` makes of it. Rows that come in the order of names need no sorting.
 #[derive(Drop)]
+#[derive_where(Debug)]
 pub struct TableBuilder {
-    rows: Vec<(Name, Registration)>,
+    #[derive_where(skip)]
+    alloc: Global,
+    rows: Vec<(Name, SharedRegistration)>,
     programs: BTreeMap<ProgramId, Kept>,
 }
 
@@ -46,6 +50,7 @@ impl TableBuilder {
         ensures { result ≡ map.empty }
     {
         TableBuilder {
+            alloc,
             rows: Vec::new(alloc),
             programs: BTreeMap::new(alloc),
         }
@@ -56,6 +61,7 @@ impl TableBuilder {
         ensures { IfOk result (λ builder. builder ≡ map.empty) }
     {
         Ok(TableBuilder {
+            alloc,
             rows: Vec::with_capacity(alloc, rows)?,
             programs: BTreeMap::new(alloc),
         })
@@ -78,9 +84,27 @@ impl TableBuilder {
             record { registration = registration.now; code = option_map (λ p. arc_value p.now) program.entry }) }
         ensures unchanged { OnErr result (self.new ≡ self.old) }
     {
+        let registration = SharedRegistration::new(self.alloc, *registration)?;
+        self.push_shared(name, registration, program)
+    }
+
+    // Adds a row like `push`, whose registration others may share.
+    #[inline]
+    pub(crate) fn push_shared(
+        &mut self,
+        name: &Name,
+        registration: SharedRegistration,
+        program: Option<&Arc<Verified>>,
+    ) -> Result<(), AllocError>
+        requires { IsNewRow self.old name.now
+            record { registration = registration; code = option_map (λ p. arc_value p.now) program } }
+        ensures pushed { OnOk result (self.new ≡ map.insert self.old name.now
+            record { registration = registration; code = option_map (λ p. arc_value p.now) program.entry }) }
+        ensures unchanged { OnErr result (self.new ≡ self.old) }
+    {
         self.rows.reserve(1)?;
         hold_program(&mut self.programs, registration.resolver, program)?;
-        self.rows.push_reserved((*name, *registration));
+        self.rows.push_reserved((*name, registration));
         Ok(())
     }
 
@@ -96,7 +120,11 @@ impl TableBuilder {
     pub fn finish(self, alloc: Global) -> Result<Table, AllocError>
         ensures { IfOk result (λ table. table ≡ self) }
     {
-        let TableBuilder { rows, programs } = self;
+        let TableBuilder {
+            alloc: _,
+            rows,
+            programs,
+        } = self;
         Table::of_rows(alloc, rows, programs)
     }
 }

@@ -9,6 +9,7 @@ ghost use Rattle.partition_table.specs.Tables as tables;
 ghost use Rattle.partition_table.specs.model.Coding.{IsCoded};
 
 use crate::both::BothPrograms;
+use crate::shared_registration::SharedRegistration;
 use clash_record::{ClashRecord, Contender, Facts, Name, Registration, ResolverId, record};
 use interpreter::Scratch;
 use std::alloc::AllocError;
@@ -25,11 +26,29 @@ pub(crate) struct HalfFacts {
 }
 
 // The two registrations of a name, the lesser first, and whether half A has that one.
-#[derive(Clone, Copy, Debug)]
+#[derive(Debug, Drop)]
 pub(crate) struct Rivals {
-    pub(crate) first: Registration,
-    pub(crate) second: Registration,
-    pub(crate) is_first_of_a: bool,
+    first: SharedRegistration,
+    second: SharedRegistration,
+    is_first_of_a: bool,
+}
+
+impl Rivals {
+    // Adds an owner of each registration.
+    pub(crate) fn of(
+        first: &SharedRegistration,
+        second: &SharedRegistration,
+        is_first_of_a: bool,
+    ) -> Result<Rivals, AllocError>
+        ensures { IfOk result (λ rivals. rivals
+            ≡ record { first = first.now; second = second.now; is_first_of_a = is_first_of_a }) }
+    {
+        Ok(Rivals {
+            first: first.clone()?,
+            second: second.clone()?,
+            is_first_of_a,
+        })
+    }
 }
 
 /// A name that two tables register differently, with everything that judging it reads.
@@ -39,8 +58,8 @@ pub(crate) struct Rivals {
 pub struct Clash {
     name: Name,
     is_first_of_a: bool,
-    first: Registration,
-    second: Registration,
+    first: SharedRegistration,
+    second: SharedRegistration,
     facts: Arc<HalfFacts>,
     program: Option<Arc<Verified>>,
 }
@@ -98,11 +117,16 @@ impl Clash {
           code = option_map arc_value program;
         } }
     {
+        let Rivals {
+            first,
+            second,
+            is_first_of_a,
+        } = rivals;
         Clash {
             name,
-            is_first_of_a: rivals.is_first_of_a,
-            first: rivals.first,
-            second: rivals.second,
+            is_first_of_a,
+            first,
+            second,
             facts,
             program,
         }
@@ -124,6 +148,20 @@ impl Clash {
 
     /// Returns the greater registration.
     pub fn second(&self) -> &Registration
+        ensures { result.now ≡ self.now.second }
+    {
+        &self.second
+    }
+
+    // Returns the lesser registration, which the table that has it shares.
+    pub(crate) fn shared_first(&self) -> &SharedRegistration
+        ensures { result.now ≡ self.now.first }
+    {
+        &self.first
+    }
+
+    // Returns the greater registration, which the table that has it shares.
+    pub(crate) fn shared_second(&self) -> &SharedRegistration
         ensures { result.now ≡ self.now.second }
     {
         &self.second
@@ -186,11 +224,11 @@ impl Clash {
             self.now.of_second }
     {
         let first = Contender {
-            registration: self.first,
+            registration: *self.first,
             facts: self.of_first(),
         };
         let second = Contender {
-            registration: self.second,
+            registration: *self.second,
             facts: self.of_second(),
         };
         scratch.write_record(&self.name, &first, &second, word);

@@ -19,8 +19,9 @@ use crate::fitting::fit_within;
 use crate::limit::NameLimit;
 use crate::order::order;
 use crate::paired::Paired;
+use crate::shared_registration::SharedRegistration;
 use crate::table::Table;
-use clash_record::{Facts, Name, Registration};
+use clash_record::{Facts, Name};
 use std::alloc::{AllocError, Global};
 use std::cmp::Ordering;
 use std::sync::Arc;
@@ -75,8 +76,8 @@ pub struct Compared {
 
 /// Returns the clashes of two tables, in the order of names, with the uptime of each half.
 ///
-/// Walks both tables once. Allocates the list and copies of both maps of programs, and adds an owner to a program for each
-/// clash that it judges.
+/// Walks both tables once. Allocates the list and copies of both maps of programs, and adds an owner to both registrations of
+/// each clash and to the program that judges it.
 pub fn clashes(
     alloc: Global,
     a: &Table,
@@ -226,8 +227,8 @@ impl Found {
         &mut self,
         halves: &Halves<'_>,
         name: &Name,
-        mine: &Registration,
-        other: &Registration,
+        mine: &SharedRegistration,
+        other: &SharedRegistration,
     ) -> Result<(), AllocError>
         requires mine { option_map (λ row. row.registration) (get halves.now.a.now name.now) ≡ Some mine.now }
         requires other { option_map (λ row. row.registration) (get halves.now.b.now name.now) ≡ Some other.now }
@@ -244,28 +245,20 @@ impl Found {
         self.first_of_a.reserve(1)?;
         match order(mine, other) {
             Ordering::Less => {
+                let rivals = Rivals::of(mine, other, true)?;
                 let program = halves.a.program_for(mine.resolver);
                 let program = one_more_owner(program)?;
                 let facts = halves.facts.clone()?;
-                let rivals = Rivals {
-                    first: *mine,
-                    second: *other,
-                    is_first_of_a: true,
-                };
                 let clash = Clash::new(*name, rivals, facts, program);
                 self.clashes.push_reserved(clash);
                 self.first_of_a.push_reserved(true);
             }
             Ordering::Equal => {}
             Ordering::Greater => {
+                let rivals = Rivals::of(other, mine, false)?;
                 let program = halves.b.program_for(other.resolver);
                 let program = one_more_owner(program)?;
                 let facts = halves.facts.clone()?;
-                let rivals = Rivals {
-                    first: *other,
-                    second: *mine,
-                    is_first_of_a: false,
-                };
                 let clash = Clash::new(*name, rivals, facts, program);
                 self.clashes.push_reserved(clash);
                 self.first_of_a.push_reserved(false);

@@ -5,6 +5,7 @@ ghost use Rattle.std.specs.FinMap as map;
 ghost use Rattle.partition_table.specs.model.Walking.{IsPast};
 
 use crate::paired::Ahead;
+use crate::shared_registration::lent;
 use crate::table::Table;
 use clash_record::{Name, Registration};
 use std::marker::Model;
@@ -58,7 +59,7 @@ impl<'a> Finder<'a> {
         }
         let found = self.ahead.find(name);
         self.last = Some(*name);
-        found
+        lent(found)
     }
 }
 

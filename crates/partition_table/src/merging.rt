@@ -14,14 +14,15 @@ ghost use Rattle.partition_table.specs.Faults.{fit_fault, table_fault_number};
 ghost use Rattle.partition_table.specs.model.Merging.{IsRowOf, IsReady, holds_as};
 ghost use Rattle.partition_table.specs.model.Merging.{settled, put_all, each_kept};
 
+use crate::builder::TableBuilder;
 use crate::clash::ClashList;
 use crate::clashing::{Compared, HalfTable, compare_within};
 use crate::fault::TableFault;
-use crate::kept_rows::KeptRows;
 use crate::laws::{clashes_theorem, merge_theorem};
 use crate::limit::NameLimit;
 use crate::order::order;
 use crate::paired::Paired;
+use crate::shared_registration::SharedRegistration;
 use crate::table::Table;
 use crate::upcoming::Upcoming;
 use builtin_resolvers::Verdict3;
@@ -64,7 +65,7 @@ pub enum MergedTable {
 ///
 /// Refusals, the least first: 37 if the tables have more than 4,096 names together, 42 if they have two codes under one
 /// id. Returns 90 when out of memory: it allocates the clashes, the withdrawn names, the rows and one more owner of each
-/// program. Compares the tables, and then merges them like `merge_compared`.
+/// registration and program. Compares the tables, and then merges them like `merge_compared`.
 pub fn merge(
     alloc: Global,
     a: &Table,
@@ -140,7 +141,7 @@ pub fn merge_compared(
         gone_a: set_of(alloc, a.gone)?,
         gone_b: set_of(alloc, b.gone)?,
     };
-    let mut merged = KeptRows::with_capacity(alloc, a.table.len().max(b.table.len()))?;
+    let mut merged = TableBuilder::with_capacity(alloc, a.table.len().max(b.table.len()))?;
     parents.put_names_of_a(&mut merged, &compared.clashes, answers)?;
     parents.put_names_of_b_alone(&mut merged, compared.alone_b)?;
     let table = merged.finish(alloc)?;
@@ -173,7 +174,7 @@ impl<'a> Parents<'a> {
     // Puts what is kept under the names of `a`, by the clashes of the two.
     fn put_names_of_a(
         &self,
-        merged: &mut KeptRows<'a>,
+        merged: &mut TableBuilder,
         list: &'a ClashList,
         answers: &'a [Verdict3],
     ) -> Result<(), AllocError>
@@ -188,7 +189,7 @@ impl<'a> Parents<'a> {
         ensures few { OnOk result (IsReady self.now.a.now self.now.b.now [] (map.len self.now.a.now) merged.new) }
     {
         let mut upcoming = Upcoming::new(list.clashes(), answers);
-        for (name, mine) in self.a.rows() {
+        for (name, mine) in self.a.stored_rows() {
             let kept = upcoming.settle(name, mine);
             self.put(merged, name, kept)?;
         }
@@ -198,7 +199,7 @@ impl<'a> Parents<'a> {
     // Puts what is kept under the names that `b` has alone, of which there are this many.
     fn put_names_of_b_alone(
         &self,
-        merged: &mut KeptRows<'a>,
+        merged: &mut TableBuilder,
         alone: usize,
     ) -> Result<(), AllocError>
         requires counted { alone ≡ length (names_without self.now.a.now (map.keys self.now.b.now)) }
@@ -225,9 +226,9 @@ impl<'a> Parents<'a> {
     // Puts the row that one of the two has with the registration that is kept, unless it was withdrawn.
     fn put(
         &self,
-        merged: &mut KeptRows<'a>,
-        name: &'a Name,
-        kept: Option<&'a Registration>,
+        merged: &mut TableBuilder,
+        name: &Name,
+        kept: Option<&SharedRegistration>,
     ) -> Result<(), AllocError>
         requires agree { IsTrue (tables_agree self.now.a.now self.now.b.now) }
         requires tables { IsTable self.now.a.now × IsTable self.now.b.now }
@@ -250,7 +251,8 @@ impl<'a> Parents<'a> {
         if self.is_withdrawn(name, kept) {
             return Ok(());
         }
-        merged.push(name, kept, self.program_for(&kept.resolver))
+        let program = self.program_for(&kept.resolver);
+        merged.push_shared(name, kept.clone()?, program)
     }
 
     // Checks whether a side that holds the registration under the name withdrew it.

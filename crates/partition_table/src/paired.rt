@@ -6,16 +6,17 @@ ghost use Rattle.std.specs.Option.{option_map};
 ghost use Rattle.partition_table.specs.Tables.{IsTable, rows_of};
 ghost use Rattle.partition_table.specs.model.Walking.{drop_before, drop_through, first_at, rows_ahead, pairs_left, IsPaired};
 
-use crate::rows::Rows;
+use crate::shared_registration::SharedRegistration;
+use crate::stored_rows::StoredRows;
 use crate::table::Table;
-use clash_record::{Name, Registration};
+use clash_record::Name;
 use std::cmp::Ordering;
 
 // The rows of a table from some name on.
 #[derive(Drop)]
 pub(crate) struct Ahead<'a> {
-    next: Option<(&'a Name, &'a Registration)>,
-    rest: Rows<'a>,
+    next: Option<(&'a Name, &'a SharedRegistration)>,
+    rest: StoredRows<'a>,
 }
 
 impl<'a> Ahead<'a> {
@@ -23,7 +24,7 @@ impl<'a> Ahead<'a> {
         ensures kept { IsTable table.entry.now }
         ensures rows { rows_ahead result ≡ rows_of table.entry.now }
     {
-        let mut rest = table.rows();
+        let mut rest = table.stored_rows();
         Ahead {
             next: rest.next(),
             rest,
@@ -31,7 +32,7 @@ impl<'a> Ahead<'a> {
     }
 
     // What the name is registered with. Leaves what is before the name, and the name itself.
-    pub(crate) fn find(&mut self, name: &Name) -> Option<&'a Registration>
+    pub(crate) fn find(&mut self, name: &Name) -> Option<&'a SharedRegistration>
         ensures left { rows_ahead self.new ≡ drop_through name.now (rows_ahead self.old) }
         ensures found { option_map (λ r. r.now) result ≡ first_at name.now (drop_before name.now (rows_ahead self.old)) }
     {
@@ -54,7 +55,7 @@ impl<'a> Ahead<'a> {
 // It walks both tables once.
 #[derive(Drop)]
 pub(crate) struct Paired<'a> {
-    rows: Rows<'a>,
+    rows: StoredRows<'a>,
     other: Ahead<'a>,
 }
 
@@ -67,14 +68,18 @@ impl<'a> Paired<'a> {
         ensures met { AllByRecursion (IsPaired table.entry.now other.entry.now) (pairs_left result) }
     {
         Paired {
-            rows: table.rows(),
+            rows: table.stored_rows(),
             other: Ahead::new(other),
         }
     }
 }
 
 impl<'a> Iterator for Paired<'a> {
-    type Item = (&'a Name, &'a Registration, Option<&'a Registration>);
+    type Item = (
+        &'a Name,
+        &'a SharedRegistration,
+        Option<&'a SharedRegistration>,
+    );
 
     ghost use Rattle.std.specs.Iterator.{YieldsFirstBy, item_count};
     ghost use Rattle.partition_table.specs.model.Walking.{pairs_left, pair_shown};
@@ -83,7 +88,15 @@ impl<'a> Iterator for Paired<'a> {
 
     ghost remaining = { item_count pairs_left };
 
-    fn next(&mut self) -> Option<(&'a Name, &'a Registration, Option<&'a Registration>)> {
+    fn next(
+        &mut self,
+    ) -> Option<
+        (
+            &'a Name,
+            &'a SharedRegistration,
+            Option<&'a SharedRegistration>,
+        ),
+    > {
         let (name, registration) = self.rows.next()?;
         Some((name, registration, self.other.find(name)))
     }

@@ -5,18 +5,19 @@ ghost use Rattle.std.specs.Prelude as prelude;
 ghost use Rattle.std.specs.Ordering.{is_lt};
 ghost use Rattle.std.specs.List.Sorted.{IsStrictlySortedBy};
 ghost use Rattle.std.specs.Map.{keys_of, lookup};
-ghost use Rattle.std.specs.BTreeMap.{Updates, get, is_at};
+ghost use Rattle.std.specs.BTreeMap.{IsFromIterResult, Updates, get, is_at};
 ghost use Rattle.clash_record.specs.Orders.{name_cmp};
 ghost use Rattle.clash_record.specs.Name.{Name};
 ghost use Rattle.partition_table.specs.Faults.{table_fault_number};
-ghost use Rattle.partition_table.specs.declared.fault.TableFault.TheVariants.{NameTaken};
+ghost use Rattle.partition_table.specs.declared.fault.TableFault.TheVariants.{NameTaken, OutOfMemory};
 ghost use Rattle.partition_table.specs.model.Dropping.{undropped};
 ghost use Rattle.refusals.specs.Answers.{IsAnswered};
 ghost use Rattle.upload_store.specs.laws.Mapped.{ChangesAt};
 
 use crate::fault::TableFault;
-use crate::rows::Rows;
+use crate::shared_registration::{SharedRegistration, lent};
 use crate::shared_rows::SharedRows;
+use crate::stored_rows::StoredRows;
 use clash_record::{Name, Registration};
 use std::alloc::{AllocError, Global};
 use std::collections::BTreeMap;
@@ -25,7 +26,7 @@ use std::mem;
 
 #[derive(Debug, Drop)]
 pub(crate) enum Stored {
-    Own(BTreeMap<Name, Registration>),
+    Own(BTreeMap<Name, SharedRegistration>),
     Shared(SharedRows),
 }
 
@@ -60,7 +61,7 @@ impl Model for RowStore {
 
 impl RowStore {
     // Stores the rows of a map.
-    pub(crate) fn new(alloc: Global, map: BTreeMap<Name, Registration>) -> RowStore
+    pub(crate) fn new(alloc: Global, map: BTreeMap<Name, SharedRegistration>) -> RowStore
         ensures { result ≡ map.entries }
     {
         RowStore {
@@ -86,14 +87,14 @@ impl RowStore {
     {
         let (map, marks) = self.parts();
         if marks.is_empty() {
-            return map.get(name);
+            return lent(map.get(name));
         }
-        Rows::new(map, marks).find(name)
+        StoredRows::new(map, marks).find(name)
     }
 
     // Returns the map with the rows, and whether this table has dropped each of the first of them.
     #[inline]
-    fn parts(&self) -> (&BTreeMap<Name, Registration>, &[bool])
+    fn parts(&self) -> (&BTreeMap<Name, SharedRegistration>, &[bool])
         ensures { undropped result.1.now result.0.now.entries ≡ self.now }
     {
         match &self.stored {
@@ -110,23 +111,23 @@ impl RowStore {
     }
 
     // Iterates over the rows in the order of names.
-    pub(crate) fn iter(&self) -> Rows<'_>
+    pub(crate) fn iter(&self) -> StoredRows<'_>
         ensures rest { result ≡ self.now }
         ensures ordered { IsStrictlySortedBy name_cmp (keys_of self.now) }
         ensures fits { length result < 2 ^ 63 }
     {
         let (map, marks) = self.parts();
-        Rows::new(map, marks)
+        StoredRows::new(map, marks)
     }
 
     // Iterates over the rows whose names are above this one, in the order of names.
-    pub(crate) fn after(&self, name: &Name) -> Rows<'_>
+    pub(crate) fn after(&self, name: &Name) -> StoredRows<'_>
         ensures rest { result ≡ prelude.filter (λ row. is_lt (name_cmp name.now row.0)) self.now }
         ensures ordered { IsStrictlySortedBy name_cmp (keys_of self.now) }
         ensures fits { length result < 2 ^ 63 }
     {
         let (map, marks) = self.parts();
-        Rows::after(map, marks, name)
+        StoredRows::after(map, marks, name)
     }
 
     // Inserts the row, or returns 30 if the name is registered. Copies the map if other tables read it and the name is new.
@@ -142,6 +143,9 @@ impl RowStore {
         ensures inserted { OnOk result (ChangesAt name_cmp self.old self.new name (Some registration)) }
         ensures unchanged { OnErr result ((q : Name) → lookup (is_at (name_cmp q)) self.new ≡ lookup (is_at (name_cmp q)) self.old) }
     {
+        let Ok(registration) = SharedRegistration::new(self.alloc, registration) else {
+            return Err(self.refusal(&name));
+        };
         if let Stored::Own(map) = &mut self.stored {
             return insert_new(map, name, registration);
         }
@@ -154,20 +158,28 @@ impl RowStore {
         result
     }
 
+    // Returns 30 if the name is registered, and otherwise that memory ran out.
+    fn refusal(&self, name: &Name) -> TableFault
+        ensures { result ≡ (if is_some (lookup (is_at (name_cmp name.now)) self.now) then NameTaken else OutOfMemory) }
+    {
+        if self.contains_key(name) {
+            TableFault::NameTaken
+        } else {
+            TableFault::OutOfMemory
+        }
+    }
+
     // Removes the row of the name, and returns its registration. Copies the map if other tables read it and there is memory for a copy.
     pub(crate) fn remove(&mut self, name: &Name) -> Option<Registration>
         ensures value { result ≡ lookup (is_at (name_cmp name.now)) self.old }
         ensures changes { ChangesAt name_cmp self.old self.new name.now None }
         ensures unchanged { IfNone result (self.new ≡ self.old) }
     {
-        if let Stored::Own(map) = &mut self.stored {
-            return map.remove(name);
-        }
-        if self.get(name).is_some() {
+        if matches!(self.stored, Stored::Shared(_)) && self.contains_key(name) {
             self.unshare();
         }
         match &mut self.stored {
-            Stored::Own(map) => map.remove(name),
+            Stored::Own(map) => remove_row(map, name),
             Stored::Shared(shared) => shared.remove(name),
         }
     }
@@ -225,7 +237,7 @@ impl RowStore {
     }
 
     // Takes the rows out, in a map that no other table reads. Copies them if other tables read them.
-    fn take(&mut self) -> Result<BTreeMap<Name, Registration>, AllocError>
+    fn take(&mut self) -> Result<BTreeMap<Name, SharedRegistration>, AllocError>
         ensures taken { IfOk result (λ map. map.entries ≡ self.old) }
         ensures unchanged { OnErr result (self.new ≡ self.old) }
     {
@@ -242,11 +254,21 @@ impl RowStore {
     }
 }
 
+// Removes the row of the name, and returns its registration.
+fn remove_row(rows: &mut BTreeMap<Name, SharedRegistration>, name: &Name) -> Option<Registration>
+    ensures value { result ≡ get name_cmp rows.old name.now }
+    ensures removed { Updates name_cmp rows.old rows.new name.now None }
+    ensures unchanged { IfNone result (rows.new.entries ≡ rows.old.entries) }
+{
+    let registration = rows.remove(name)?;
+    Some(*registration)
+}
+
 // Inserts the row, or returns 30 if the name is registered. Walks the tree once for a new name.
 fn insert_new(
-    rows: &mut BTreeMap<Name, Registration>,
+    rows: &mut BTreeMap<Name, SharedRegistration>,
     name: Name,
-    registration: Registration,
+    registration: SharedRegistration,
 ) -> Result<(), TableFault>
     ensures answer { IsAnswered table_fault_number
         (if is_some (get name_cmp rows.old name) then Some NameTaken else None) result }
@@ -264,4 +286,14 @@ fn insert_new(
         }
         Err(_) => Err(TableFault::OutOfMemory),
     }
+}
+
+// Collects the rows into a map. The last row of a name counts.
+pub(crate) fn map_of(
+    alloc: Global,
+    rows: Vec<(Name, SharedRegistration)>,
+) -> Result<BTreeMap<Name, SharedRegistration>, AllocError>
+    ensures { IfOk result (IsFromIterResult name_cmp rows.items) }
+{
+    rows.into_iter().collect(alloc)
 }

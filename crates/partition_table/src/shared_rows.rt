@@ -9,9 +9,9 @@ ghost use Rattle.upload_store.specs.laws.Mapped.{ChangesAt};
 ghost use Rattle.partition_table.specs.model.Dropping.{undropped};
 ghost use Rattle.partition_table.specs.model.Storing.{IsShared, IsStored, rows_shared, rows_stored, place_from, marked};
 
-use crate::kept_rows::copied;
-use crate::row_store::Stored;
-use crate::rows::Rows;
+use crate::row_store::{Stored, map_of};
+use crate::shared_registration::SharedRegistration;
+use crate::stored_rows::StoredRows;
 use clash_record::{Name, Registration};
 use std::alloc::{AllocError, Global};
 use std::collections::BTreeMap;
@@ -20,7 +20,7 @@ use std::sync::Arc;
 // A map that several tables read, without the rows that this table has dropped.
 #[derive(Debug, Drop)]
 pub(crate) struct SharedRows {
-    map: Arc<BTreeMap<Name, Registration>>,
+    map: Arc<BTreeMap<Name, SharedRegistration>>,
     // Whether this table has dropped each of the first rows of the map. Has room for all, so that dropping one needs no memory.
     marks: Vec<bool>,
     // How many it has dropped.
@@ -31,8 +31,8 @@ impl SharedRows {
     // Lets several tables read the map. Returns it when out of memory.
     pub(crate) fn of_map(
         alloc: Global,
-        map: BTreeMap<Name, Registration>,
-    ) -> Result<SharedRows, BTreeMap<Name, Registration>>
+        map: BTreeMap<Name, SharedRegistration>,
+    ) -> Result<SharedRows, BTreeMap<Name, SharedRegistration>>
         ensures rows { IfOk result (λ shared. rows_shared shared ≡ map.entries) }
         ensures valid { IfOk result IsShared }
         ensures back { IfErr result (λ back. back ≡ map) }
@@ -66,7 +66,7 @@ impl SharedRows {
 
     // Returns the map with the rows, and whether this table has dropped each of the first of them.
     #[inline]
-    pub(crate) fn parts(&self) -> (&BTreeMap<Name, Registration>, &[bool])
+    pub(crate) fn parts(&self) -> (&BTreeMap<Name, SharedRegistration>, &[bool])
         ensures { undropped result.1.now result.0.now.entries ≡ rows_shared self.now }
     {
         (&self.map, &self.marks)
@@ -82,11 +82,11 @@ impl SharedRows {
     }
 
     // Iterates over the rows that are left.
-    pub(crate) fn iter(&self) -> Rows<'_>
+    pub(crate) fn iter(&self) -> StoredRows<'_>
         ensures rest { result ≡ rows_shared self.now }
         ensures ordered { IsStrictlySortedBy name_cmp (keys_of (rows_shared self.now)) }
     {
-        Rows::new(&self.map, &self.marks)
+        StoredRows::new(&self.map, &self.marks)
     }
 
     // Shares the map once more, or copies the rows that are left.
@@ -102,7 +102,10 @@ impl SharedRows {
     }
 
     // Makes a map of the rows that are left: the map itself if no other table reads it.
-    pub(crate) fn into_map(self, alloc: Global) -> Result<BTreeMap<Name, Registration>, SharedRows>
+    pub(crate) fn into_map(
+        self,
+        alloc: Global,
+    ) -> Result<BTreeMap<Name, SharedRegistration>, SharedRows>
         requires { IsShared self }
         ensures map { IfOk result (λ map. map.entries ≡ rows_shared self) }
         ensures back { IfErr result (λ shared. shared ≡ self) }
@@ -117,7 +120,7 @@ impl SharedRows {
     }
 
     // Makes a map of the rows, of which none is marked.
-    fn into_whole_map(self, alloc: Global) -> Result<BTreeMap<Name, Registration>, SharedRows>
+    fn into_whole_map(self, alloc: Global) -> Result<BTreeMap<Name, SharedRegistration>, SharedRows>
         requires { self.marks.items ≡ [] }
         ensures map { IfOk result (λ map. map.entries ≡ rows_shared self) }
         ensures back { IfErr result (λ shared. shared ≡ self) }
@@ -129,7 +132,7 @@ impl SharedRows {
         } = self;
         match Arc::try_unwrap(map) {
             Ok(map) => Ok(map),
-            Err(map) => match copied_in_order(alloc, Rows::new(&map, &[]), map.len()) {
+            Err(map) => match copied_in_order(alloc, StoredRows::new(&map, &[]), map.len()) {
                 Ok(copy) => Ok(copy),
                 Err(_) => Err(SharedRows {
                     map,
@@ -166,7 +169,7 @@ impl SharedRows {
         for (ahead, registration) in self.map.iter() {
             let is_dropped = matches!(marks.next(), Some(true));
             if !is_dropped && name.cmp(ahead).is_eq() {
-                return Some((place, *registration));
+                return Some((place, **registration));
             }
             place += 1;
         }
@@ -194,15 +197,15 @@ impl SharedRows {
 // Copies rows in the order of names, about as many as this, into a map.
 fn copied_in_order(
     alloc: Global,
-    rows: Rows<'_>,
+    rows: StoredRows<'_>,
     count: usize,
-) -> Result<BTreeMap<Name, Registration>, AllocError>
+) -> Result<BTreeMap<Name, SharedRegistration>, AllocError>
     requires { IsStrictlySortedBy name_cmp (keys_of rows) }
     ensures { IfOk result (λ map. map.entries ≡ rows.entry) }
 {
     let mut list = Vec::with_capacity(alloc, count)?;
-    for row in rows {
-        list.push(row)?;
+    for (name, registration) in rows {
+        list.push((*name, registration.clone()?))?;
     }
-    copied(alloc, list)
+    map_of(alloc, list)
 }

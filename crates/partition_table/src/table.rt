@@ -3,8 +3,6 @@ ghost use Rattle.std.specs.Prelude.{◌≡◌, ◌<◌, ◌^◌, length, if◌th
 ghost use Rattle.std.specs.Option.{option_map};
 ghost use Rattle.std.specs.Arc.{arc_value};
 ghost use Rattle.std.specs.FinMap as map;
-ghost use Rattle.std.specs.BTreeMap.{IsFromIterResult, Updates, get};
-ghost use Rattle.clash_record.specs.Orders.{name_cmp};
 ghost use Rattle.clash_record.specs.Name.{Name};
 ghost use Rattle.partition_table.specs.Tables.{IsTable, IsCodeOf, agrees_with, max_names, most_names, tables_agree, row_for, rows_above, rows_of, Row};
 ghost use Rattle.partition_table.specs.model.Coding.{AreKeptFor, HasCodesAmong, HasRoomForRows};
@@ -20,8 +18,10 @@ use crate::limit::NameLimit;
 use crate::programs::{
     Kept, copy_others, find_program, has_room, hold_program, programs_agree, release_program,
 };
-use crate::row_store::RowStore;
+use crate::row_store::{RowStore, map_of};
 use crate::rows::Rows;
+use crate::shared_registration::SharedRegistration;
+use crate::stored_rows::StoredRows;
 use clash_record::{Name, ProgramId, Registration, ResolverId};
 use std::alloc::{AllocError, Global};
 use std::collections::BTreeMap;
@@ -105,7 +105,7 @@ impl Table {
         ensures fits { length result < 2 ^ 63 }
         ensures kept { IsTable self.now }
     {
-        self.rows.iter()
+        Rows::new(self.stored_rows())
     }
 
     /// Iterates over the rows whose names are above this one, in the order of names. Allocates nothing.
@@ -115,7 +115,16 @@ impl Table {
         ensures rows { result ≡ rows_above name.now self.now }
         ensures fits { length result < 2 ^ 63 }
     {
-        self.rows.after(name)
+        Rows::new(self.rows.after(name))
+    }
+
+    // Iterates over the names and their registrations, which others may share, in the order of names.
+    pub(crate) fn stored_rows(&self) -> StoredRows<'_>
+        ensures rows { result ≡ rows_of self.now }
+        ensures fits { length result < 2 ^ 63 }
+        ensures kept { IsTable self.now }
+    {
+        self.rows.iter()
     }
 
     /// Registers the name in a table of at most 4,096 names. See `register_within`.
@@ -272,7 +281,7 @@ impl Table {
     // Returns the table of these rows and the programs that they name. The last row of a name counts.
     pub(crate) fn of_rows(
         alloc: Global,
-        rows: Vec<(Name, Registration)>,
+        rows: Vec<(Name, SharedRegistration)>,
         programs: BTreeMap<ProgramId, Kept>,
     ) -> Result<Table, AllocError>
         requires { IsKept programs.entries (table_by (programs_by kept_code programs.entries) (reverse rows.items)) }
@@ -281,19 +290,6 @@ impl Table {
     {
         let rows = RowStore::new(alloc, map_of(alloc, rows)?);
         Ok(Table { rows, programs })
-    }
-
-    // Returns the table with these rows and programs.
-    pub(crate) fn of_parts(
-        alloc: Global,
-        rows: BTreeMap<Name, Registration>,
-        programs: BTreeMap<ProgramId, Kept>,
-    ) -> Table
-        requires { IsKept programs.entries (table_by (programs_by kept_code programs.entries) rows.entries) }
-        ensures { result ≡ table_by (programs_by kept_code programs.entries) rows.entries }
-    {
-        let rows = RowStore::new(alloc, rows);
-        Table { rows, programs }
     }
 
     // Returns 30 if the name is registered, and otherwise the fault.
@@ -333,14 +329,4 @@ impl Table {
         }
         Ok(())
     }
-}
-
-// Collects the rows into a map. The last row of a name counts.
-fn map_of(
-    alloc: Global,
-    rows: Vec<(Name, Registration)>,
-) -> Result<BTreeMap<Name, Registration>, AllocError>
-    ensures { IfOk result (IsFromIterResult name_cmp rows.items) }
-{
-    rows.into_iter().collect(alloc)
 }

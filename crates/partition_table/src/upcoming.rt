@@ -6,8 +6,9 @@ ghost use Rattle.partition_table.specs.model.Listing.{clashes_ahead, clashes_beh
 ghost use Rattle.partition_table.specs.model.Merging.{first_answer};
 
 use crate::clash::Clash;
+use crate::shared_registration::SharedRegistration;
 use builtin_resolvers::Verdict3;
-use clash_record::{Name, Registration};
+use clash_record::Name;
 use std::slice;
 
 // The clashes that are ahead, in the order of names, and their answers.
@@ -33,7 +34,11 @@ impl<'a> Upcoming<'a> {
 
     // Returns what is kept under a name that the first table registers so. Takes the next clash and its answer if it is of this
     // name.
-    pub(crate) fn settle(&mut self, name: &Name, mine: &'a Registration) -> Option<&'a Registration>
+    pub(crate) fn settle(
+        &mut self,
+        name: &Name,
+        mine: &'a SharedRegistration,
+    ) -> Option<&'a SharedRegistration>
         ensures kept { option_map (λ kept. kept.now) result
             ≡ kept_of name.now mine.entry.now (clashes_ahead self.old) (first_answer (iter_rest self.old.answers)) }
         ensures clashes { clashes_ahead self.new ≡ clashes_behind name.now (clashes_ahead self.old) }
@@ -48,8 +53,8 @@ impl<'a> Upcoming<'a> {
         }
         self.next = self.rest.next();
         match self.answers.next() {
-            Some(Verdict3::First) => Some(clash.first()),
-            Some(Verdict3::Second) => Some(clash.second()),
+            Some(Verdict3::First) => Some(clash.shared_first()),
+            Some(Verdict3::Second) => Some(clash.shared_second()),
             Some(Verdict3::Neither) | None => None,
         }
     }

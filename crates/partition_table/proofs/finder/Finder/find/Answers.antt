@@ -16,7 +16,7 @@ invariant_of-self c =
 pub returns-clause-found : goal.returns-clause-found
 returns-clause-found c =
     let past = c.is_past.ensures.0 c.if-not-is_past.false in
-    c.find-found.ensures.found
+    c.lent.ensures ∙ c.find-found.ensures.found
     ∙ found_ahead c.self.inside.table.now c.self.inside.last c.args.name.now (rows_ahead c.self.inside.ahead)
     c.self.invariant past
     ∙ ap (λ (table : Table). option_map (λ (row : Row). row.registration) (get table c.args.name.now)) c.self.view_is

@@ -24,7 +24,7 @@ loop-name-init c =
     let b = p.b.now in
     let gone_a = contains name_cmp p.gone_a in
     let gone_b = contains name_cmp p.gone_b in
-    let rows = c.into_iter-name-iterator.ensures.into_iter_gives ∙ c.rows-name-items.ensures.rows in
+    let rows = c.into_iter-name-iterator.ensures.into_iter_gives ∙ c.stored_rows-name-items.ensures.rows in
     let names = ap (map (λ row. row.0)) rows ∙ rows_named a in
     record {
       told = ap (λ names. put_all (settled a b gone_a gone_b names (iter_rest c.new-upcoming.result.answers)) c.args.merged.now)

@@ -8,13 +8,13 @@ use Rattle.partition_table.proofs.paired.Paired.new.Goals as goal
 
 pub returns-clause-names : goal.returns-clause-names
 returns-clause-names c =
-    ap (λ rows. map (λ item. item.0) (walk rows (rows_ahead c.new.result))) c.rows.ensures.rows
+    ap (λ rows. map (λ item. item.0) (walk rows (rows_ahead c.new.result))) c.stored_rows.ensures.rows
     ∙ ap (λ rows. map (λ item. item.0) (walk (rows_of c.args.table.now) rows)) c.new.ensures.rows
     ∙ pairs_names c.args.table.now c.args.other.now
 
 pub returns-clause-met : goal.returns-clause-met
 returns-clause-met c =
     subst (AllByRecursion (IsPaired c.args.table.now c.args.other.now))
-    (sym (ap (λ rows. walk rows (rows_ahead c.new.result)) c.rows.ensures.rows
+    (sym (ap (λ rows. walk rows (rows_ahead c.new.result)) c.stored_rows.ensures.rows
     ∙ ap (walk (rows_of c.args.table.now)) c.new.ensures.rows))
     (pairs_met c.args.table.now c.args.other.now)

@@ -9,7 +9,7 @@ use Rattle.partition_table.proofs.table.Table.rows_after.Goals as goal
 
 pub returns-clause-rows : goal.returns-clause-rows
 returns-clause-rows c =
-    c.after.ensures.rest
+    c.new.ensures ∙ c.after.ensures.rest
     ∙ ap (filter (λ row. is_lt (name_cmp c.args.name.now row.0)))
     (rows_made (programs_by kept_code c.self.inside.programs.entries) c.self.inside.rows c.after.ensures.ordered)
     ∙ ap (rows_above c.args.name.now) c.self.view_is

@@ -4,7 +4,7 @@ use Rattle.partition_table.specs.Views.{table_by}
 use Rattle.partition_table.specs.model.Keeping.{kept_code}
 use Rattle.upload_store.specs.Programs.{programs_by}
 use Rattle.partition_table.proofs.Held.{rows_made, is_table, looked_up}
-use Rattle.partition_table.proofs.table.Table.rows.Goals as goal
+use Rattle.partition_table.proofs.table.Table.stored_rows.Goals as goal
 
 pub returns-clause-rows : goal.returns-clause-rows
 returns-clause-rows c =

@@ -3,7 +3,7 @@ use Rattle.std.specs.Ordering.{is_lt}
 use Rattle.clash_record.specs.Orders.{name_cmp}
 use Rattle.partition_table.specs.model.Dropping.{undropped}
 use Rattle.partition_table.proofs.Dropped.{at_most_all, from_name, left_after, left_sorted}
-use Rattle.partition_table.proofs.rows.Rows.after.Goals as goal
+use Rattle.partition_table.proofs.stored_rows.StoredRows.after.Goals as goal
 
 pub returns-clause-rest : goal.returns-clause-rest
 returns-clause-rest c =

@@ -2,7 +2,7 @@ use Rattle.std.proofs.Common.{◌≡◌}
 use Rattle.std.specs.Map.{lookup}
 use Rattle.std.specs.BTreeMap.{is_at}
 use Rattle.clash_record.specs.Orders.{name_cmp}
-use Rattle.partition_table.proofs.rows.Rows.find.Given as goal
+use Rattle.partition_table.proofs.stored_rows.StoredRows.find.Given as goal
 
 -- the name isn't among the rows before
 abbrev pub invariant-loop-ahead : goal.invariant-loop-ahead

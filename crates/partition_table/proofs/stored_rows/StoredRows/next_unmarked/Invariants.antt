@@ -1,6 +1,6 @@
 use Rattle.std.proofs.Common.{◌≡◌, length}
 use Rattle.partition_table.specs.model.Dropping.{undropped}
-use Rattle.partition_table.proofs.rows.Rows.next_unmarked.Given as goal
+use Rattle.partition_table.proofs.stored_rows.StoredRows.next_unmarked.Given as goal
 
 -- rows that are passed over are dropped
 abbrev pub invariant-loop-row : goal.invariant-loop-row

@@ -1,7 +1,7 @@
 use Rattle.std.proofs.Common.{ap, ◌∙◌, arith}
 use Rattle.partition_table.specs.model.Dropping.{undropped}
 use Rattle.partition_table.proofs.Dropped.{all_pass, at_most_all, left_sorted}
-use Rattle.partition_table.proofs.rows.Rows.new.Goals as goal
+use Rattle.partition_table.proofs.stored_rows.StoredRows.new.Goals as goal
 
 pub returns-clause-rest : goal.returns-clause-rest
 returns-clause-rest c =

@@ -1,6 +1,6 @@
 use Rattle.std.proofs.Common.{◌≡◌}
 use Rattle.partition_table.specs.model.Dropping.{marks_above}
-use Rattle.partition_table.proofs.rows.marks_after.Given as goal
+use Rattle.partition_table.proofs.stored_rows.marks_after.Given as goal
 
 -- the marks so far are those of rows that don't come after the name
 abbrev pub invariant-loop-ahead : goal.invariant-loop-ahead

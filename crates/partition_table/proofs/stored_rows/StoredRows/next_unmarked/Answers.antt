@@ -1,6 +1,6 @@
 use Rattle.std.proofs.Common.{sym, ◌∙◌}
 use Rattle.partition_table.proofs.Dropped.{no_rows}
-use Rattle.partition_table.proofs.rows.Rows.next_unmarked.Goals as goal
+use Rattle.partition_table.proofs.stored_rows.StoredRows.next_unmarked.Goals as goal
 
 pub returns : goal.returns
 returns c = (

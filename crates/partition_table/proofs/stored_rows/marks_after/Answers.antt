@@ -2,7 +2,7 @@ use Rattle.std.proofs.Common.{ap, sym, ◌∙◌}
 use Rattle.std.specs.Ordering.{is_lt}
 use Rattle.partition_table.specs.model.Dropping.{marks_above}
 use Rattle.partition_table.proofs.Dropped.{marks_end, marks_here}
-use Rattle.partition_table.proofs.rows.marks_after.Goals as goal
+use Rattle.partition_table.proofs.stored_rows.marks_after.Goals as goal
 
 pub returns-then-is_lt : goal.returns-then-is_lt
 returns-then-is_lt c =
