@@ -232,7 +232,8 @@ memory(Nodes, Count, Registry) ->
 
 memory() ->
     [erlang:garbage_collect(Pid) || Pid <- processes()],
-    timer:sleep(100),
+    %% Once it is quiet, the registry collects its garbage itself, which sizes its heap by what is left.
+    timer:sleep(1500),
     erlang:memory(processes_used) + erlang:memory(ets) + erlang:memory(binary).
 
 %% ---- Healing ----

@@ -7,7 +7,7 @@
 -include("heal_part.hrl").
 
 -export([claim/3, change/3, forget_kept/4, show/2, show_all/1, is_taken/3, disown/2, is_own/3, waiting/1, conflicts/2, is_conflict/3, keep_programs/1]).
--export([plan/4, changes/2, current/3, conflicts/1, swap/2, differences/1, differences/2, settle/1, restrict/2]).
+-export([plan/4, losers/1, changes/2, current/3, conflicts/1, swap/2, differences/1, differences/2, settle/1, restrict/2]).
 -export_type([changes/0, plan/0]).
 
 
@@ -214,6 +214,10 @@ current(Plan = #plan{losers = Losers, own = Own, before = Before, lacking = Lack
 is_gone({register, Name, _}, Own) -> not is_map_key(Name, Own);
 is_gone(_Change, _Own) -> false.
 
+%% Returns the losers of the exchange that a plan follows.
+-spec losers(plan()) -> heal_losers:losers().
+losers(#plan{losers = Losers}) -> Losers.
+
 %% Returns the names of this node that the half of a plan gives to another process, except those that an exchange decided.
 -spec conflicts(plan()) -> [heal:name()].
 conflicts(#plan{conflicts = Conflicts}) -> Conflicts.
@@ -291,7 +295,7 @@ uploads(Part = #part{programs = Programs}) ->
 -spec settle(#part{}) -> {[heal_edits:edit()], #part{}}.
 settle(Part = #part{own = Own, lost = Lost}) ->
     #half{names = Names} = heal_state:half(Part),
-    Settled = [{Name, map_get(Name, Own), Loss} || {Name, Loss} <- lists:sort(maps:to_list(Lost))],
+    Settled = [{Name, map_get(Name, Own), Loss} || {Name, Loss} <- maps:to_list(Lost)],
     {Free, Taken} = lists:partition(fun({Name, _, Loss}) -> is_free(Name, Loss, Names) end, Settled),
     Left = Part#part{own = without([Name || {Name, _, _} <- Taken], Own), lost = #{}},
     Restored = [{register, Name, Row} || {Name, Row, _} <- Free],

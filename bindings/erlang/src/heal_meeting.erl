@@ -185,12 +185,15 @@ continue({finish, Number, List}, Part = #part{heal = Open = #open{number = Numbe
     finish(List, Open, Part);
 continue({merge, Number}, Part = #part{heal = Open = #open{number = Number, stage = {finished, Outcome}}}) ->
     decided(merge(Outcome, Open, Part), Open, Part);
-continue({lead, Number}, Part = #part{heal = Open = #open{number = Number, stage = {merged, Merge}}}) ->
-    lead(Merge, Open, Part);
-continue({led, Number}, Part = #part{heal = Open = #open{number = Number, stage = {merged, Merge}}}) ->
-    led(Merge, Open, Part);
+continue({Step, Number}, Part = #part{heal = Open = #open{number = Number, stage = {merged, Merge}}}) when Step =:= plan; Step =:= lead ->
+    %% The version before begins to lead with this step.
+    plan(Merge, Open, Part);
+continue({led, Number}, Part = #part{heal = Open = #open{number = Number, stage = {planned, Merge, Plan}}}) ->
+    led(Merge, Plan, Open, Part);
 continue({keep, Number}, Part = #part{heal = Open = #open{number = Number, stage = {merged, Merge}}}) ->
     keep(Merge, Open, Part);
+continue({follow, Number}, Part = #part{heal = Open = #open{number = Number, stage = {done, _, _}, led = View}}) ->
+    follow(View, Open, Part);
 continue(_Step, Part) ->
     Part.
 
@@ -393,7 +396,7 @@ finish({List, Withdrawn}, Open = #open{number = Number, handle = Handle, own = O
 decided(Merge, Open = #open{number = Number, side = Side}, Part) ->
     case has_room(Merge, Open, Part) of
         true ->
-            Next = case Side of a -> lead; b -> keep end,
+            Next = case Side of a -> plan; b -> keep end,
             heal_state:later({Next, Number}, Part#part{heal = Open#open{stage = {merged, Merge}}});
         false ->
             refused(?STORE_FULL, Part)
@@ -404,24 +407,31 @@ has_room({#half{names = Names}, _, _, _}, #open{programs = Theirs}, Part) ->
     #half{programs = Ours} = heal_state:half(Part),
     map_size(maps:merge(Theirs, Ours)) =< ?MAX_PROGRAMS orelse map_size(named(Names)) =< ?MAX_PROGRAMS.
 
-%% The leader names the view that begins with the merge. A node that fails after this starts another view.
-lead({Half, _, _, _}, #open{node = Node, number = Number, from = From}, Part = #part{replica = Replica}) ->
+%% The leader computes what the merge changes on this node, like the other one.
+plan(Merge = {Half, Losers, Changes, _Facts}, Open = #open{number = Number}, Part) ->
+    Plan = heal_home:plan(Losers, Half, Changes, Part),
+    heal_state:later({led, Number}, Part#part{heal = Open#open{stage = {planned, Merge, Plan}}}).
+
+%% The leader starts the view that begins with the merge, and names it to the other node. A node that fails after this starts another view.
+led({Half, _Losers, _Changes, Facts}, Plan, Open = #open{node = Node, number = Number, from = From}, Part = #part{replica = Replica}) ->
     case heal_replica:change(From, Half, Replica) of
         {ok, Led} ->
             {View = {_, Latest}, 0} = heal_replica:position(Led),
-            Sent = heal_state:send(Node, {finished, Number, View}, heal_state:add({keep, led, Latest}, Part)),
-            heal_state:continue({led, Number}, Sent);
+            Sent = heal_state:send(Node, {finished, Number, View}, heal_state:add({keep, led, Latest}, succeeded(Node, Part))),
+            Members = united_members(Node, Open, Part),
+            heal_state:add({healed, Facts}, heal_view:start(Led, Members, Node, heal_home:current(Plan, Half, Part), Sent));
         {error, Refusal} ->
             refused(Refusal, Part)
     end.
 
-%% The other node keeps the merge until it hears of the leader's view, with what it changes on this node and what is reported of it.
-keep({Half, Losers, Changes, Facts}, Open = #open{led = Led}, Part) ->
+%% The other node keeps the merge until it hears of the leader's view, with what it changes on this node and what is reported of it. Callers
+%% that wait go first if it has heard already.
+keep({Half, Losers, Changes, Facts}, Open = #open{number = Number, led = Led}, Part) ->
     Plan = heal_home:plan(Losers, Half, Changes, Part),
-    Done = extended(Open#open{handle = {healed, Facts}, stage = {done, Half, Plan}}, Part),
+    Done = Part#part{heal = extended(Open#open{handle = {healed, Facts}, stage = {done, Half, Plan}}, Part)},
     case Led of
-        none -> Part#part{heal = Done};
-        View -> follow(View, Done, Part)
+        none -> Done;
+        _ -> heal_state:later({follow, Number}, Done)
     end.
 
 merge({{Clashes, Losses, Rulings}, Rows, Lacking, Withdrawn}, Open, Part = #part{world = World}) ->
@@ -461,12 +471,6 @@ united(OfA, OfB, Names) ->
 %% The programs that rows name.
 named(Names) ->
     maps:from_keys([Id || Row <- maps:values(Names), {program, Id} <- [heal_row:resolver(Row)]], named).
-
-%% The leader starts the view with the merge.
-led({Half, Losers, Changes, Facts}, Open = #open{node = Node, from = From}, Part = #part{replica = Replica}) ->
-    {ok, Led} = heal_replica:change(From, Half, Replica),
-    Started = heal_view:start(Led, united_members(Node, Open, Part), Node, {Losers, Changes}, succeeded(Node, Part)),
-    heal_state:add({healed, Facts}, Started).
 
 %% The members of the new view are those of both parts.
 united_members(Node, #open{members = Theirs}, Part = #part{members = Members, peers = Peers, node = Self}) ->

@@ -63,7 +63,7 @@
     | {begin_with, Reference :: term(), Greatest :: non_neg_integer(), [heal_meeting:member()]}
     | {propose, Reference :: term(), Number :: pos_integer(), Seed :: non_neg_integer(), [heal_meeting:member()]}
     | {judge, Number :: pos_integer(), Offer :: binary()}
-    | {merge | lead | led | keep, Number :: pos_integer()}
+    | {merge | plan | lead | led | keep | follow, Number :: pos_integer()}
     | welcome | settle.
 -type action() ::
     {send, node(), Body :: term()}
@@ -129,7 +129,7 @@ taken(Part = #part{out = Out}) ->
 %% Takes the state of an earlier version over: the fields that it lacks are the last ones.
 -spec upgrade(Earlier :: part()) -> part().
 upgrade(Earlier) ->
-    Part = later(Earlier, record_info(size, part), [none, none, [], none, #{}, #{}, #{}, #{}, #{}, none, heal_recent:new(), 0, 0, #{}, false, none]),
+    Part = later(Earlier, record_info(size, part), [none, none, [], none, #{}, #{}, #{}, #{}, #{}, none, heal_recent:new(), 0, 0, #{}, false, none, false]),
     #part{replica = Replica, waiting = Waiting, requested = Requested, unreleased = Unreleased, adopting = Adopting} = Part,
     #part{arriving = Arriving, leaving = Leaving, storing = Storing} = Part,
     Each = fun(_, Call) -> call(Call) end,

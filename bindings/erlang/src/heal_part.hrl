@@ -66,8 +66,9 @@
     programs = #{} :: #{binary() => binary()},
     members = [] :: [heal_meeting:member()],
     withdrawn = [] :: [heal:name()],
-    %% `done' on the node that doesn't lead.
-    stage = offered :: offered | listed | {finished, heal_meeting:outcome()} | {merged, heal_meeting:merge()} | {done, #half{}, heal_home:plan()},
+    %% `planned' on the leader, and `done' on the other node.
+    stage = offered :: offered | listed | {finished, heal_meeting:outcome()} | {merged, heal_meeting:merge()}
+        | {planned, heal_meeting:merge(), heal_home:plan()} | {done, #half{}, heal_home:plan()},
     begun :: integer(),
     deadline :: integer(),
     %% The processes of the other side by their names, once somebody registers meanwhile.
@@ -172,5 +173,7 @@
     %% Whether it is about to send a snapshot.
     is_welcoming = false :: boolean(),
     %% Of a backup: the last of its requests that its primary took before it began this view.
-    taken = none :: none | {heal_replica:view(), Last :: non_neg_integer()}
+    taken = none :: none | {heal_replica:view(), Last :: non_neg_integer()},
+    %% Whether it is about to settle its view.
+    is_settling = false :: boolean()
 }).

@@ -151,10 +151,10 @@ drop_strangers(Part = #part{members = Members}) ->
     Strange = [Name || {Name, #row{home = Home}} <- maps:to_list(Names), not is_map_key(Home, Homes)],
     heal_orders:make_all([{unregister, Name} || Name <- Strange], Part).
 
-%% All have joined, and the view is settled next: callers don't wait for the notices.
-settle(Part) ->
-    case is_settling(Part) of
-        true -> heal_state:continue(settle, Part);
+%% All have joined, and the view is settled next: callers that wait go first, and the others don't wait for the notices.
+settle(Part = #part{is_settling = IsDue}) ->
+    case not IsDue andalso is_settling(Part) of
+        true -> heal_state:later(settle, Part#part{is_settling = true});
         false -> Part
     end.
 
@@ -165,7 +165,8 @@ is_settling(#part{settle_by = SettleBy, members = Members}) ->
 
 %% Settles the view.
 -spec continue(#part{}) -> #part{}.
-continue(Part = #part{members = Members}) ->
+continue(Due = #part{members = Members}) ->
+    Part = Due#part{is_settling = false},
     case is_settling(Part) andalso heal_state:is_primary(Part) of
         true ->
             Dropped = drop_strangers(Part),
@@ -277,21 +278,18 @@ lead(Half, Members, Part) ->
 
 lead(Half, Members, Losers, Part = #part{replica = Replica}) ->
     {ok, Led} = heal_replica:change(heal_replica:position(Replica), Half, Replica),
-    start(Led, Members, none, {Losers, unknown}, Part).
+    start(Led, Members, none, heal_home:plan(Losers, Half, unknown, Part), Part).
 
-%% Starts the view of a replica that leads, whose half comes from an exchange with these losers and changes rows so, or from none. Callers
-%% that wait receive their answers before members get a snapshot (followers/1), which takes a while with a large table. One member has the
-%% half already.
--spec start(heal_replica:replica(), #{node() => #member{}}, Has :: none | node(),
-            {heal_losers:losers(), heal_home:changes() | unknown}, #part{}) -> #part{}.
-start(Led, Members, Has, {Losers, Changes}, Part = #part{peers = Peers, links = Links}) ->
+%% Starts the view of a replica that leads, with what its half changes on this node. Callers that wait receive their answers before members
+%% get a snapshot (followers/1), which takes a while with a large table. One member has the half already.
+-spec start(heal_replica:replica(), #{node() => #member{}}, Has :: none | node(), heal_home:plan(), #part{}) -> #part{}.
+start(Led, Members, Has, Plan, Part = #part{peers = Peers, links = Links}) ->
     Pending = maps:map(fun(Node, Member) -> Member#member{is_lagging = Node =/= Has} end, Members),
     %% A registry that fails before its position is kept leads no view of this number again: others may follow this one.
     Numbered = heal_state:add({keep, led, heal_replica:led(Led)}, Part),
-    Next = Numbered#part{replica = Led, members = Pending, limbo = none, losers = Losers, dropped = #{}, since = 0,
+    Next = Numbered#part{replica = Led, members = Pending, limbo = none, losers = heal_home:losers(Plan), dropped = #{}, since = 0,
                          base = heal_difference:base(Members, Has, Part)},
     Moved = Next#part{settle_by = heal_state:until_followed(Next)},
-    Plan = heal_home:plan(Losers, heal_state:half(Moved), Changes, Part),
     %% Callers read their own writes, so they are answered after the table has them.
     Swapped = heal_entries:restart(heal_home:swap(Plan, Moved)),
     Restored = heal_orders:make_each(heal_home:differences(Plan, Swapped), 0, Swapped),
@@ -442,19 +440,24 @@ caught_up(Part = #part{peers = Peers, checked = Checked, now = Now, next_want = 
         Seq =:= Checked -> Part;
         Last > Operation, Now < Next -> Noted;
         Last > Operation -> want(View, Noted);
-        IsSettled -> rejoin(settled(Primary, At, Noted));
-        true -> join_with(heal_home:differences(Noted), Noted)
+        IsSettled -> rejoin(true, settled(Primary, At, Noted));
+        true -> rejoin(false, Noted)
     end.
 
-%% A message that is lost is made good. With many names the comparison takes long, so it is made less often.
-rejoin(Part = #part{now = Now, next_check = Next}) when Now < Next ->
+%% A message that is lost is made good. Before the view is settled its primary waits for one also where it lacks nothing. With many names
+%% the comparison takes long, so it is made less often.
+rejoin(_IsSettled, Part = #part{now = Now, next_check = Next}) when Now < Next ->
     Part;
-rejoin(Part = #part{now = Now}) ->
-    Checked = Part#part{next_check = Now + heal_state:longer(heal_state:count(Part))},
-    case heal_home:differences(Checked) of
-        [] -> Checked;
-        Edits -> join_with(Edits, Checked)
+rejoin(IsSettled, Part) ->
+    Compared = compared(Part),
+    case heal_home:differences(Compared) of
+        [] when IsSettled -> Compared;
+        Edits -> join_with(Edits, Compared)
     end.
+
+%% Notes that this node has just compared its registrations with its half.
+compared(Part = #part{now = Now}) ->
+    Part#part{next_check = Now + heal_state:longer(heal_state:count(Part))}.
 
 join_with(Edits, Part = #part{seq = Seq, requests = Requests}) ->
     {Primary, _} = heal_state:primary(Part),
@@ -552,7 +555,7 @@ taken(Snapshot, Plan, Continue, Part = #part{replica = Replica}) ->
             Moved = Part#part{replica = Following, members = #{}, settle_by = none, losers = [], limbo = none, base = none, next_want = 0,
                               granted = #{}},
             Swapped = Continue(heal_home:swap(Plan, Moved)),
-            heal_peers:announce(join_with(heal_home:differences(Plan, Swapped), Swapped));
+            heal_peers:announce(join_with(heal_home:differences(Plan, Swapped), compared(Swapped)));
         _ ->
             lead_alone(Part)
     end.

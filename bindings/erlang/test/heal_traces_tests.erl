@@ -542,6 +542,54 @@ replies(Node) ->
 names_of(Node, Parts) ->
     lists:sort(maps:keys(names(Node, Parts))).
 
+%% The last steps of a heal come one by one after the messages that have arrived, so that no caller waits for two of them. The leader plans what
+%% changes before it starts the view, the other node follows in a step by itself also if it has heard of the view before, and the view is
+%% settled once.
+steps_test() ->
+    {{b, OfA}, #{a := A, b := B}} = opened(),
+    {[{send, a, List}, Finish = {continue, {finish, 1, _}}], Listed} = heal_part:handle(OfA, 2, B),
+    {[{later, {merge, 1}}], Finished} = heal_part:handle(Finish, 2, Listed),
+    {[{later, {keep, 1}}], Merged} = heal_part:handle({continue, {merge, 1}}, 2, Finished),
+    {[{later, {merge, 1}}], Heard} = heal_part:handle({message, b, List}, 2, A),
+    {[{later, {plan, 1}}], Judged} = heal_part:handle({continue, {merge, 1}}, 2, Heard),
+    {[{later, {led, 1}}], Planned} = heal_part:handle({continue, {plan, 1}}, 2, Judged),
+    {Starting, Started} = heal_part:handle({continue, {led, 1}}, 2, registered(a, 2, Planned)),
+    [View] = [Of || {send, b, {finished, 1, Of}} <- Starting],
+    ?assertEqual([<<"a1">>, <<"a2">>, <<"b1">>], names_of(a, #{a => Started})),
+    {[], Informed} = heal_part:handle({message, a, {finished, 1, View}}, 2, Merged),
+    {[{later, {follow, 1}}], Kept} = heal_part:handle({continue, {keep, 1}}, 2, Informed),
+    ?assertEqual(position(b, #{b => B}), position(b, #{b => Kept})),
+    {Following, Followed} = heal_part:handle({continue, {follow, 1}}, 2, registered(b, 3, Kept)),
+    ?assertMatch({View, _}, position(b, #{b => Followed})),
+    [Joined] = [Body || {send, a, Body = {finished, _, _, _, _}} <- Following],
+    {Joining, All} = heal_part:handle({message, b, Joined}, 2, Started),
+    ?assertEqual([settle], [Step || {later, Step} <- Joining]),
+    {Settling, Settled} = heal_part:handle({continue, settle}, 2, registered(a, 4, All)),
+    ?assertMatch([_], [At || {send, b, {settled, At}} <- Settling]),
+    ?assertEqual([<<"a1">>, <<"a2">>, <<"a4">>, <<"b1">>, <<"b3">>], names_of(a, #{a => Settled})).
+
+%% The part of a node that registers a process and answers at once, without a further step.
+registered(Node, N, Part) ->
+    Name = <<(atom_to_binary(Node))/binary, (integer_to_binary(N))/binary>>,
+    Options = #{stamp => N, weight => 0, extra => <<0:128>>, resolver => notify},
+    {Actions, Next} = heal_part:handle({call, N, {adopt, Name, Name, Options, {pid, Node, N}, Node}}, 2, Part),
+    ?assertEqual({[ok], []}, {[Answer || {reply, Of, Answer} <- Actions, Of =:= N], [Step || {later, Step} <- Actions]}),
+    Next.
+
+%% A node that has just joined a view doesn't compare its registrations with all names again before some time is over: its message may be lost.
+compares_later_test() ->
+    Filled = lists:foldl(fun(N, Sum) -> adopt(a, <<"n", (integer_to_binary(N))/binary>>, N, Sum) end,
+                         start([{Node, #{names => 100}} || Node <- [a, b]]), lists:seq(1, 100)),
+    Lost = fun(_, _, Body) -> tuple_size(Body) =:= 5 andalso element(1, Body) =:= finished end,
+    Followed = connect(a, b, Lost, Filled),
+    Joined = fun() -> length([joined || {send, a, {finished, _, _, _, _}} <- done(b)]) end,
+    ?assertEqual(1, Joined()),
+    [Here = #{seq := Seq, is_settled := false} | _] = [Of || {send, b, {here, Of}} <- done(a)],
+    Soon = event_at(3, b, {message, a, {here, Here#{seq := Seq + 1}}}, Followed),
+    ?assertEqual(1, Joined()),
+    _ = event_at(4, b, {message, a, {here, Here#{seq := Seq + 2}}}, Soon),
+    ?assertEqual(2, Joined()).
+
 %% In an open exchange a primary's process gets a name that neither side has, and may unregister it. The part has what is left when the
 %% exchange is over or abandoned. Other edits wait.
 granted_test() ->
@@ -769,8 +817,8 @@ looks_for_lost_names_test() ->
         Next = event_at(Now, b, {message, a, {here, Here#{seq := Seq + Later, at := position(a, Parts), is_settled := true}}}, Parts),
         {[finished || {send, a, {finished, _, _, _, [_]}} <- done(b)], Next}
     end,
-    {Each, _} = lists:mapfoldl(Joins, Lacking, [{10, 3}, {11, 102}, {12, 103}]),
-    ?assertEqual([[finished], [], [finished]], Each).
+    {Each, _} = lists:mapfoldl(Joins, Lacking, [{10, 3}, {11, 102}, {12, 103}, {13, 202}]),
+    ?assertEqual([[], [finished], [], [finished]], Each).
 
 %% An exchange that an earlier version of the registry began is given up. One of this version goes on.
 upgraded_exchange_test() ->
