@@ -38,8 +38,9 @@ impl Clone for Kept {
     }
 }
 
-// Counts one more row that names the program, and keeps the program where this is the first. Most rows name none.
-#[inline]
+// Counts one more row that names the program, and keeps the program where this is the first. Is kept in line, since most rows
+// name none.
+#[inline(always)]
 pub(crate) fn hold_program(
     programs: &mut BTreeMap<ProgramId, Kept>,
     resolver: ResolverId,

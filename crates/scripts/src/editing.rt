@@ -15,6 +15,7 @@ impl Machine {
     ///
     /// Returns 41 for any other resolver, then the refusals of the side, and 90 when out of memory. A refusal changes
     /// nothing.
+    #[inline]
     pub fn register(&mut self, side: SideId, name: Name, terms: Terms, resolver: &[u8]) -> Reply
         ensures { UnlessMemory (RegisterStep (machine_of self.old) side name terms
             (machines.resolver_named (machine_of self.old).labels resolver.now)) (machine_of self.old) result
